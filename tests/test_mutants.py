@@ -133,7 +133,7 @@ def asked_of_trait() -> None:
                 found += it.checked_as in own
     holds(found > 5, f"{found} methods")
     turned = edit_of("ob0_session_answers", "diagnostics_always_empty", source).turned
-    same([it.checked_as for it in turned or ()], ["diagnostics::PublishRequestDocumentRequest::answer"], "of a type with a lifetime")
+    same([it.checked_as for it in turned or ()], ["diagnostics::PublishDiagnosticsRequestDocumentRequest::answer"], "of a type with a lifetime")
 
 
 @test("mutants: a method is asked for, and named, in the module of its type")

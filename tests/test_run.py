@@ -249,5 +249,5 @@ def inlined() -> None:
         program = file.read()
     if b"ob0_run_machine::statements::run_while" not in program:
         leave_out("the program has no symbols")
-    for name in ("statements::run_statement", "statements::run_sequence_inline", "statements::run_conditional", "argument_passing::pass_arguments"):
+    for name in ("statements::run_statement", "statements::run_sequence_inline", "statements::run_conditional", "call_arguments::pass_arguments"):
         holds(f"ob0_run_machine::{name}".encode() not in program, f"{name} isn't inlined")

@@ -35,13 +35,13 @@ Size = Tuple[int, int]  # how many words, and how many lines
 # ---- what isn't in the template
 
 # (what the second page unfolds last, though the theorem names it: what values of the code mean)
-LATE: list[Key] = [("ob0_world", "Code", name) for name in ("event_of", "played_edits", "played_publications")]
-LATE += [("ob0_session", "Serving", name) for name in ("IsReadInPieces", "UsesAllReads", "max_reads", "IsFlushedAfter")]
-LATER: list[Key] = [("ob0_scan", "Classes", name) for name in ("reserved_word_text", "symbol_text")]
+LATE: list[Key] = [("ob0_world", "ModelValues", name) for name in ("event_of", "played_edits", "played_publications")]
+LATE += [("ob0_session", "Serving", name) for name in ("IsReadInPieces", "UsesAllReads", "max_reads", "LeavesWriterFlushed")]
+LATER: list[Key] = [("ob0_scan", "LexemeClasses", name) for name in ("reserved_word_text", "symbol_text")]
 # (types of the code in them)
 LATER_TYPES = [("ob0_scan", "lexeme", "ReservedWord"), ("ob0_scan", "lexeme", "Symbol")]
 # (where the part on edits begins)
-EDITS: list[Key] = [("ob0_world_rules", "Answers", name) for name in ("GivesEdits", "Refuses")]
+EDITS: list[Key] = [("ob0_world_rules", "Answers", name) for name in ("AreRequestedEdits", "RefusesAsk")]
 # (the parts of the second page, by the names that the template gives them)
 KINDS = ("exchange", "texts", "wire", "language", "edits", "steps")
 # (the sections of docs/LANGUAGE.md by which the language is ordered)
@@ -179,7 +179,7 @@ class Group:
             return len(SECTIONS)
         if not self.crate.startswith(("ob0_language", "ob0_scan", "ob0_tree")):
             return -1
-        others = {"Parts": "Scopes", "EditLaws": "Runs"}
+        others = {"BlockParts": "Scopes", "EditLaws": "Runs"}
         rule: str = self.rule() or others.get(self.file.name) or ""
         found = [(rule.find(name), at) for at, name in enumerate(SECTIONS) if name in rule]
         return min(found)[1] if found else -1
@@ -188,11 +188,11 @@ class Group:
 def kind_of(item: Item) -> str:
     """Which part of the second page an item is in that the theorem needs."""
     crate, file = (item.crate, None) if isinstance(item, Declared) else (item.file.crate, item.file.name)
-    if crate == "ob0_text" or (crate, file) == ("ob0_world_rules", "Edited"):
+    if crate == "ob0_text" or (crate, file) == ("ob0_world_rules", "TextEdits"):
         return "texts"
-    if crate in ("ob0_world_rules", "ob0_world", "ob0_world_editor") and file not in ("Language", "Worlds", "Code"):
+    if crate in ("ob0_world_rules", "ob0_world", "ob0_world_editor") and file not in ("WellTypedTexts", "Worlds", "ModelValues"):
         return "exchange"
-    return "wire" if crate.startswith(("ob0_world", "ob0_session", "ob0_rpc", "ob0_frame")) and file != "Language" else "language"
+    return "wire" if crate.startswith(("ob0_world", "ob0_session", "ob0_rpc", "ob0_frame")) and file != "WellTypedTexts" else "language"
 
 
 def by_file(items: Iterable[Item], needs: Callable[[Block], list[Item]]) -> list[Group]:

@@ -37,7 +37,7 @@ def played(out: bytes) -> list[tuple[int, ...]]:
 
 
 # the events that `play` has played, and those that were made one by one, up to the one whose allocation fails
-PLAYED, STEPPED = "world::a_refused_event_leaves_what_was_played_before", "world::a_refused_step_ends_what_was_played"
+PLAYED, STEPPED = "world::a_refused_event_keeps_earlier_results", "world::a_refused_step_keeps_earlier_results"
 
 
 def refusals(crate: str, test: str) -> list[list[tuple[int, ...]]]:

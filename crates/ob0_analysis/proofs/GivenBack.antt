@@ -1,16 +1,16 @@
 -- If a changed text has lexical faults, the old tokens are returned, and all results for the old text still hold for
 -- them.
 use Rattle.std.proofs.Common.{ℕ, IfSome, List, Option, subst, sym}
-use Rattle.ob0_scan.specs.Refused.{IsRightRescanRefusal}
+use Rattle.ob0_scan.specs.ScanRefusals.{IsRightRescanRefusal}
 use Rattle.ob0_scan.specs.TextWithTokens.{TextWithTokens}
 use Rattle.ob0_scan.specs.declared.incremental_scan.RescanRefusal.{RescanRefusal}
 use Rattle.ob0_scan.specs.declared.incremental_scan.RescanRefusal.TheVariants as rescanned
-use Rattle.ob0_parse.specs.KeptTokens.{AreKeptTreesInPlace}
+use Rattle.ob0_parse.specs.KeptTreeTokens.{AreKeptTreesInPlace}
 use Rattle.ob0_parse.specs.declared.kept.KeptTrees.{KeptTrees}
 use Rattle.ob0_parse_descent.specs.declared.refusal.ParseRefusal.{ParseRefusal}
 use Rattle.ob0_tree.specs.ParsedModule.{IsParsed, parsed_module}
 use Rattle.ob0_tree.specs.declared.tree.ModuleTree.{ModuleTree}
-use Rattle.ob0_scope_table.specs.Bindings.{resolution_with}
+use Rattle.ob0_scope_table.specs.Bindings.{resolution_with_bindings}
 use Rattle.ob0_scope_table.specs.Resolution.{IsResolution}
 use Rattle.ob0_scope_table.specs.declared.resolved.Bindings.{Bindings}
 use Rattle.ob0_types.specs.CheckedModules.{IsCheckResultOf}
@@ -32,12 +32,12 @@ refusal_given_back old text refusal kept last (rescanned.Faults faults tokens) b
 refusal_given_back old text refusal kept last rescanned.Memory by r k l = tt
 
 pub module_given_back : (old : TextWithTokens) (text : List ℕ) (tree : ModuleTree) (b : Bindings) (types : CheckResult) (unread : RescanRefusal) → IsRightRescanRefusal old text unread
-    → IsParsed (parsed_module old tree) → IsResolution (resolution_with (parsed_module old tree) b) → IsCheckResultOf (resolution_with (parsed_module old tree) b) types → IsRightScanFailureAfterModule text tree b types unread
+    → IsParsed (parsed_module old tree) → IsResolution (resolution_with_bindings (parsed_module old tree) b) → IsCheckResultOf (resolution_with_bindings (parsed_module old tree) b) types → IsRightScanFailureAfterModule text tree b types unread
 module_given_back old text tree b types (rescanned.Faults faults tokens) by p r t = (
   by.0,
   by.1,
   subst (λ (s : TextWithTokens). IsParsed (parsed_module s tree)) (sym by.2) p,
-  subst (λ (s : TextWithTokens). IsResolution (resolution_with (parsed_module s tree) b)) (sym by.2) r,
-  subst (λ (s : TextWithTokens). IsCheckResultOf (resolution_with (parsed_module s tree) b) types) (sym by.2) t,
+  subst (λ (s : TextWithTokens). IsResolution (resolution_with_bindings (parsed_module s tree) b)) (sym by.2) r,
+  subst (λ (s : TextWithTokens). IsCheckResultOf (resolution_with_bindings (parsed_module s tree) b) types) (sym by.2) t,
 )
 module_given_back old text tree b types rescanned.Memory by p r t = tt

@@ -7,11 +7,11 @@ use Rattle.ob0_scan.specs.declared.lexeme.TokenKind.{TokenKind}
 use Rattle.ob0_scan.specs.declared.lexeme.TokenKind.TheVariants as kind
 use Rattle.ob0_scan.specs.declared.lexeme.ReservedWord.TheVariants as reserved
 use Rattle.ob0_scan.specs.declared.tokens.CommonPrefixAndSuffix.{CommonPrefixAndSuffix}
-use Rattle.ob0_scan.specs.Reused.{kinds, words_of_tokens}
+use Rattle.ob0_scan.specs.ReusedLexemes.{kinds, words_of_tokens}
 use Rattle.ob0_scan.specs.SameKinds.{PrefixAndSuffixHaveSameKinds, PrefixAndSuffixHaveSameWords}
 use Rattle.ob0_scan.specs.TextWithTokens.{IsScan, TextWithTokens, Word}
 use Rattle.ob0_tree.specs.Lexeme.{EndOfText, WordOrSymbol, Name, Number, Terminal, mapped_terminal}
-use Rattle.ob0_tree.specs.Order.{names_without_roles}
+use Rattle.ob0_tree.specs.IdentifierIndexes.{names_without_roles}
 use Rattle.ob0_tree.specs.ParsedModule.{IsParsed, ParsedModule, parsed_module, tree_of}
 use Rattle.ob0_tree.specs.declared.tree.ModuleTree.{ModuleTree}
 use Rattle.ob0_tree.specs.Tree.{Tree, begins, body, identifiers, item, mapped_tree, maybe, module_text, none, one, spell}
@@ -20,19 +20,19 @@ use Rattle.ob0_tree.specs.declared.tree.Role.TheVariants as role
 use Rattle.ob0_tree.proofs.Leaves.{leaves_spelled, lexeme_names}
 use Rattle.ob0_tree.proofs.Mapped.{spell_mapped}
 use Rattle.ob0_parse_descent.proofs.Unique.{same}
-use Rattle.ob0_parse.specs.KeptTokens.{indexed_terminals_of_kinds}
+use Rattle.ob0_parse.specs.KeptTreeTokens.{indexed_terminals_of_kinds}
 use Rattle.ob0_parse.proofs.TerminalsOfKinds.{drop_terminals, moved_terminals, name_index, take_terminals, terminals_of_tokens}
-use Rattle.ob0_scope.specs.NewBody.{WasBoundBeforeNewBody}
-use Rattle.ob0_scope_table.specs.Bindings.{resolution_with}
+use Rattle.ob0_scope.specs.NewBody.{AreBindingsBeforeBodyReplacement}
+use Rattle.ob0_scope_table.specs.Bindings.{resolution_with_bindings}
 use Rattle.ob0_scope_table.specs.BodyPlaces.{body_bounds_of_range, module_tree_of}
 use Rattle.ob0_tree.specs.FirstIdentifier.{token_of_first_identifier}
-use Rattle.ob0_scope_table.specs.BodyReplaced.{IsBodyReplaced, PathToBody, body_at_path, closing_name_at_path, shifted_token_index, path_to_body_in_module, module_without_body}
+use Rattle.ob0_scope_table.specs.BodyReplacement.{ReplacesStatementsOfOneBody, PathToBody, body_at_path, closing_name_at_path, shifted_token_index, path_to_body_in_module, module_without_body}
 use Rattle.ob0_scope_table.specs.OneBody.{is_outside_range}
 use Rattle.ob0_scope_table.proofs.BodyPlaces.{body_place_read}
 use Rattle.ob0_scope_table.proofs.Moved.{moved_above, moved_below, out_cases}
 use Rattle.ob0_scope_table.specs.declared.one_body.BodyBounds.{BodyBounds}
 use Rattle.ob0_scope_table.specs.declared.resolved.Bindings.{Bindings}
-use Rattle.ob0_types.specs.NewBody.{WasCheckResultBeforeNewBody}
+use Rattle.ob0_types.specs.NewBody.{IsCheckResultBeforeBodyReplacement}
 use Rattle.ob0_analysis.specs.LastModule.{IsLastModuleOf}
 use Rattle.ob0_analysis.specs.NewBody.{IsSameBody}
 use Rattle.ob0_analysis.specs.declared.last_module.LastModule.{LastModule}
@@ -218,7 +218,7 @@ words_outside s old new written range i out = ⊎_elim
     (out_cases s.prefix s.old_suffix i out)
 
 pub body_replaced : (old new : ParsedModule) (s : CommonPrefixAndSuffix) → IsScan old.source → IsScan new.source → IsParsed old → IsParsed new → PrefixAndSuffixHaveSameKinds s old.source.tokens new.source.tokens → PrefixAndSuffixHaveSameWords s old.source new.source
-    → (was : BodyBounds) → body_bounds_of_range s.prefix s.old_suffix (tree_of old) ≡ Some was → IsSameBody was (body_bounds_of_range s.prefix s.new_suffix (tree_of new)) s → IsBodyReplaced old new (path_to_body_in_module s.prefix (tree_of old)) s
+    → (was : BodyBounds) → body_bounds_of_range s.prefix s.old_suffix (tree_of old) ≡ Some was → IsSameBody was (body_bounds_of_range s.prefix s.new_suffix (tree_of new)) s → ReplacesStatementsOfOneBody old new (path_to_body_in_module s.prefix (tree_of old)) s
 body_replaced old new s old_scan new_scan old_parsed new_parsed tokens written place placed b =
     let path : PathToBody = path_to_body_in_module s.prefix (tree_of old) in
     let new_path : PathToBody = path_to_body_in_module s.prefix (tree_of new) in
@@ -261,13 +261,13 @@ module _ (new : TextWithTokens) (tree : ModuleTree) (last : LastModule) (now : O
   abbrev before_it : ParsedModule
   before_it = parsed_module h.earlier_module.old h.tree
 
-  is_replaced : IsBodyReplaced before_it (parsed_module new tree) (path_to_body_in_module last.same.prefix (tree_of before_it)) last.same
+  is_replaced : ReplacesStatementsOfOneBody before_it (parsed_module new tree) (path_to_body_in_module last.same.prefix (tree_of before_it)) last.same
   is_replaced =
       body_replaced before_it (parsed_module new tree) last.same h.earlier_module.old_scan h.earlier_module.new_scan h.earlier_module.parsed parsed h.earlier_module.same h.earlier_module.written
       last.place h.placed (subst (λ o. IsSameBody last.place o last.same) placed one_body)
 
-  pub was_bound_elsewhere : WasBoundBeforeNewBody (parsed_module new tree) last.bindings last.same
+  pub was_bound_elsewhere : AreBindingsBeforeBodyReplacement (parsed_module new tree) last.bindings last.same
   was_bound_elsewhere = record { old = before_it; path = path_to_body_in_module last.same.prefix (tree_of before_it); replaced = is_replaced; resolved = h.earlier_module.resolved }
 
-  pub were_types_elsewhere : (c : Bindings) → WasCheckResultBeforeNewBody (resolution_with (parsed_module new tree) c) last.types last.same
-  were_types_elsewhere c = record { old = resolution_with before_it last.bindings; path = path_to_body_in_module last.same.prefix (tree_of before_it); replaced = is_replaced; types_are = h.earlier_module.types_are }
+  pub were_types_elsewhere : (c : Bindings) → IsCheckResultBeforeBodyReplacement (resolution_with_bindings (parsed_module new tree) c) last.types last.same
+  were_types_elsewhere c = record { old = resolution_with_bindings before_it last.bindings; path = path_to_body_in_module last.same.prefix (tree_of before_it); replaced = is_replaced; types_are = h.earlier_module.types_are }

@@ -13,7 +13,7 @@ use Rattle.ob0_tree.specs.declared.tree.Relation.{Relation}
 use Rattle.ob0_tree.specs.declared.tree.Relation.TheVariants as relation
 use Rattle.ob0_tree.specs.declared.tree.Sign.{Sign}
 use Rattle.ob0_tree.specs.declared.tree.Sign.TheVariants as sign
-use Rattle.ob0_tree.specs.Tree.{GrammarItem, selector, multiplier, addend, comparison, arguments, further_argument, further_statement, elsif_part, else_part, further_name, further_fields, formals, further_section, constant, constants, type_definition, type_definitions, variable, variables, procedure, body, Sort, item, items, maybe, expression, simple, term, factor, statement, sequence, names, written_type, fields, section, declarations, block, module_text, Tree, none, one, end, more, compares, relates, sum, adds, product, multiplies, designator, integer, parenthesised, negation, field, index, empty, assigns, calls, branches, while_loop, repeat_loop, no_arguments, some_arguments, then_argument, runs, then_statement, elsif_branch, else_branch, listed, then_name, named_type, array_type, record_type, no_fields, some_fields, then_fields, no_formals, some_formals, value_section, variable_section, then_section, declares_constant, declares_constants, declares_type, declares_types, declares_variable, declares_variables, declares_procedure, declares, begins, forms_block, is_module, spell}
+use Rattle.ob0_tree.specs.Tree.{GrammarItem, selector, multiplier, addend, comparison, arguments, argument_after_comma, statement_after_semicolon, elsif_part, else_part, name_after_comma, fields_after_semicolon, formals, section_after_semicolon, constant, constants, type_definition, type_definitions, variable, variables, procedure, body, Sort, item, items, maybe, expression, simple, term, factor, statement, sequence, names, written_type, fields, section, declarations, block, module_text, Tree, none, one, end, more, compares, relates, sum, adds, product, multiplies, designator, integer, parenthesised, negation, field, index, empty, assigns, calls, branches, while_loop, repeat_loop, no_arguments, some_arguments, comma_then_argument, runs, semicolon_then_statement, elsif_branch, else_branch, listed, comma_then_name, named_type, array_type, record_type, no_fields, some_fields, semicolon_then_fields, no_formals, some_formals, value_section, variable_section, semicolon_then_section, declares_constant, declares_const_section, declares_type, declares_type_section, declares_variable, declares_var_section, declares_procedure, declares, begins, forms_block, forms_module, spell}
 use Rattle.ob0_parse_descent.proofs.Unique.{head_of, tail_of}
 
 -- the token BEGIN
@@ -109,14 +109,14 @@ is_bodiless_item multiplier = true
 is_bodiless_item addend = true
 is_bodiless_item comparison = true
 is_bodiless_item arguments = true
-is_bodiless_item further_argument = true
-is_bodiless_item further_statement = true
+is_bodiless_item argument_after_comma = true
+is_bodiless_item statement_after_semicolon = true
 is_bodiless_item elsif_part = true
 is_bodiless_item else_part = true
-is_bodiless_item further_name = true
-is_bodiless_item further_fields = true
+is_bodiless_item name_after_comma = true
+is_bodiless_item fields_after_semicolon = true
 is_bodiless_item formals = true
-is_bodiless_item further_section = true
+is_bodiless_item section_after_semicolon = true
 is_bodiless_item constant = true
 is_bodiless_item constants = true
 is_bodiless_item type_definition = true
@@ -171,32 +171,32 @@ no_begin (while_loop condition s) p = put_before refl (joined (no_begin conditio
 no_begin (repeat_loop s condition) p = put_before refl (joined (no_begin s refl) (put_before refl (no_begin condition refl)))
 no_begin no_arguments p = put_before refl (put_before refl nothing)
 no_begin (some_arguments e es) p = put_before refl (joined (no_begin e refl) (joined (no_begin es refl) (put_before refl nothing)))
-no_begin (then_argument e) p = put_before refl (no_begin e refl)
+no_begin (comma_then_argument e) p = put_before refl (no_begin e refl)
 no_begin (runs first statements) p = joined (no_begin first refl) (no_begin statements refl)
-no_begin (then_statement s) p = put_before refl (no_begin s refl)
+no_begin (semicolon_then_statement s) p = put_before refl (no_begin s refl)
 no_begin (elsif_branch condition s) p = put_before refl (joined (no_begin condition refl) (put_before refl (no_begin s refl)))
 no_begin (else_branch s) p = put_before refl (no_begin s refl)
 no_begin (listed name others) p = put_before refl (no_begin others refl)
-no_begin (then_name name) p = put_before refl (put_before refl nothing)
+no_begin (comma_then_name name) p = put_before refl (put_before refl nothing)
 no_begin (named_type name) p = put_before refl nothing
 no_begin (array_type size t) p = put_before refl (joined (no_begin size refl) (put_before refl (no_begin t refl)))
 no_begin (record_type first others) p = put_before refl (joined (no_begin first refl) (joined (no_begin others refl) (put_before refl nothing)))
 no_begin no_fields p = nothing
 no_begin (some_fields ns t) p = joined (no_begin ns refl) (put_before refl (no_begin t refl))
-no_begin (then_fields f) p = put_before refl (no_begin f refl)
+no_begin (semicolon_then_fields f) p = put_before refl (no_begin f refl)
 no_begin no_formals p = put_before refl (put_before refl nothing)
 no_begin (some_formals first others) p = put_before refl (joined (no_begin first refl) (joined (no_begin others refl) (put_before refl nothing)))
 no_begin (value_section ns t) p = joined (no_begin ns refl) (put_before refl (no_begin t refl))
 no_begin (variable_section ns t) p = put_before refl (joined (no_begin ns refl) (put_before refl (no_begin t refl)))
-no_begin (then_section s) p = put_before refl (no_begin s refl)
+no_begin (semicolon_then_section s) p = put_before refl (no_begin s refl)
 no_begin (declares_constant name e) p = put_before refl (put_before refl (joined (no_begin e refl) (put_before refl nothing)))
-no_begin (declares_constants cs) p = put_before refl (no_begin cs refl)
+no_begin (declares_const_section cs) p = put_before refl (no_begin cs refl)
 no_begin (declares_type name t) p = put_before refl (put_before refl (joined (no_begin t refl) (put_before refl nothing)))
-no_begin (declares_types ts) p = put_before refl (no_begin ts refl)
+no_begin (declares_type_section ts) p = put_before refl (no_begin ts refl)
 no_begin (declares_variable ns t) p = joined (no_begin ns refl) (put_before refl (joined (no_begin t refl) (put_before refl nothing)))
-no_begin (declares_variables vs) p = put_before refl (no_begin vs refl)
+no_begin (declares_var_section vs) p = put_before refl (no_begin vs refl)
 no_begin (declares_procedure name fs b closing) p = absurd (is_not p)
 no_begin (declares cs ts vs ps) p = absurd (is_not p)
 no_begin (begins s) p = absurd (is_not p)
 no_begin (forms_block ds b) p = absurd (is_not p)
-no_begin (is_module name b closing) p = absurd (is_not p)
+no_begin (forms_module name b closing) p = absurd (is_not p)

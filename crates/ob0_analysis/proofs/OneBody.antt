@@ -3,20 +3,20 @@
 use Rattle.std.proofs.Common.{◌≡◌, ◌<◌, ◌≤◌, ℕ, zero, suc, ◌+◌, ◌-◌, ◌||◌, Bool, true, false, nat_le, nat_lt, List, [], ◌∷◌, length, take, drop, slice_get, refl, sym, ap, ◌∙◌, arith, length-drop}
 use Rattle.std.proofs.lemmas.Bool.Decides.{nat_tests}
 use Rattle.std.proofs.lemmas.List.{length-map}
-use Rattle.ob0_scan.specs.Reused.{kinds, kind_without_value, words_of_tokens}
+use Rattle.ob0_scan.specs.ReusedLexemes.{kinds, kind_without_value, words_of_tokens}
 use Rattle.ob0_scan.specs.SameKinds.{PrefixAndSuffixHaveSameKinds, PrefixAndSuffixHaveSameWords}
 use Rattle.ob0_scan.specs.TextWithTokens.{TextWithTokens, Word, word_of_token}
 use Rattle.ob0_scan.specs.declared.lexeme.Token.{Token}
 use Rattle.ob0_scan.specs.declared.tokens.CommonPrefixAndSuffix.{CommonPrefixAndSuffix}
 use Rattle.ob0_tree.specs.ParsedModule.{IsParsed, parsed_module, tree_of}
 use Rattle.ob0_tree.specs.declared.tree.ModuleTree.{ModuleTree}
-use Rattle.ob0_scope.proofs.Rebound.{ordinals_outside}
-use Rattle.ob0_scope.specs.Rebound.{WasBoundBeforeBodyChange}
-use Rattle.ob0_scope_table.specs.Bindings.{resolution_with}
-use Rattle.ob0_scope_table.specs.OneBody.{IsBodyChange, is_range_in_one_body, is_outside_range}
+use Rattle.ob0_scope.proofs.BodyChanges.{ordinals_outside}
+use Rattle.ob0_scope.specs.BodyChanges.{AreBindingsBeforeBodyChange}
+use Rattle.ob0_scope_table.specs.Bindings.{resolution_with_bindings}
+use Rattle.ob0_scope_table.specs.OneBody.{ChangesSpellingsInOneBody, is_range_in_one_body, is_outside_range}
 use Rattle.ob0_scope_table.specs.Resolution.{IsResolution}
 use Rattle.ob0_scope_table.specs.declared.resolved.Bindings.{Bindings}
-use Rattle.ob0_types.specs.OneBody.{WasCheckResultBeforeBodyChange}
+use Rattle.ob0_types.specs.OneBody.{IsCheckResultBeforeBodyChange}
 use Rattle.ob0_types.specs.declared.checked.CheckResult.{CheckResult}
 use Rattle.ob0_analysis.specs.OneBody.{IsEarlierModuleWithSameKinds}
 
@@ -68,7 +68,7 @@ module _ (s : CommonPrefixAndSuffix) (old new : TextWithTokens) (alike : kinds n
           past false f g = absurd (cc)
 
 module _ {new : TextWithTokens} {tree : ModuleTree} {b : Bindings} {types : CheckResult} {s : CommonPrefixAndSuffix} (h : IsEarlierModuleWithSameKinds new tree b types s) (lies : is_range_in_one_body s.prefix s.old_suffix (tree_of (parsed_module new tree)) ≡ true) where
-  body_change : IsBodyChange h.earlier_module.old (parsed_module new tree) s.prefix s.old_suffix
+  body_change : ChangesSpellingsInOneBody h.earlier_module.old (parsed_module new tree) s.prefix s.old_suffix
   body_change = record {
     old_scan = h.earlier_module.old_scan;
     new_scan = h.earlier_module.new_scan;
@@ -77,11 +77,11 @@ module _ {new : TextWithTokens} {tree : ModuleTree} {b : Bindings} {types : Chec
     in_body = lies;
   }
 
-  pub was_bound : IsParsed (parsed_module new tree) → WasBoundBeforeBodyChange (parsed_module new tree) b s.prefix s.old_suffix
+  pub was_bound : IsParsed (parsed_module new tree) → AreBindingsBeforeBodyChange (parsed_module new tree) b s.prefix s.old_suffix
   was_bound parsed = record { old = h.earlier_module.old; change = body_change; parsed = parsed; resolved = h.earlier_module.resolved }
 
   -- The old results for types can be reused if the names were bound again.
-  pub were_types : (c : Bindings) → IsResolution (resolution_with (parsed_module new tree) c) → WasCheckResultBeforeBodyChange (resolution_with (parsed_module new tree) c) types s.prefix
+  pub were_types : (c : Bindings) → IsResolution (resolution_with_bindings (parsed_module new tree) c) → IsCheckResultBeforeBodyChange (resolution_with_bindings (parsed_module new tree) c) types s.prefix
   were_types c resolved = record {
     high = s.old_suffix;
     old = h.earlier_module.old;
@@ -92,5 +92,5 @@ module _ {new : TextWithTokens} {tree : ModuleTree} {b : Bindings} {types : Chec
   }
 
   -- The old results for types can be reused if the bindings are kept.
-  pub kept_types : WasCheckResultBeforeBodyChange (resolution_with (parsed_module new tree) b) types s.prefix
+  pub kept_types : IsCheckResultBeforeBodyChange (resolution_with_bindings (parsed_module new tree) b) types s.prefix
   kept_types = record { high = s.old_suffix; old = h.earlier_module.old; bindings = b; change = body_change; bound = λ token e. refl; types_are = h.earlier_module.types_are }

@@ -7,7 +7,7 @@ use Rattle.ob0_parse.specs.IsRightParseRefusal.{IsRightParseRefusal}
 use Rattle.ob0_parse_descent.specs.declared.refusal.ExpectedSyntax.{ExpectedSyntax}
 use Rattle.ob0_parse_descent.specs.declared.refusal.ParseRefusal.{ParseRefusal}
 use Rattle.ob0_parse_descent.specs.declared.refusal.ParseRefusal.TheVariants.{Syntax, TooDeep, Memory}
-use Rattle.ob0_analysis.specs.Diagnosed.{ReportedDiagnosis, IsDiagnosisOfRefusal, ReportedRefusalIsUnique, syntax_error_diagnosis, depth_error_diagnosis, token_span_or_end}
+use Rattle.ob0_analysis.specs.ReportedErrors.{ReportedDiagnosis, IsDiagnosisOfRefusal, ReportedRefusalIsUnique, syntax_error_diagnosis, depth_error_diagnosis, token_span_or_end}
 use Rattle.ob0_analysis.proofs.Scanning.{OneScan}
 
 same_place : {i j : ℕ} {x y : ExpectedSyntax} → Expects i x ≡ Expects j y → (i ≡ j) × (x ≡ y)

@@ -3,7 +3,7 @@ use Rattle.std.proofs.Common.{◌≡◌, ◌⊎◌, ◌<◌, ◌∙◌, ◌+◌,
 use Rattle.std.proofs.lemmas.List.{take-append-drop}
 use Rattle.std.specs.Str.{chars, IsUtf8}
 use Rattle.std.proofs.lemmas.Str.{encodes-chars}
-use Rattle.ob0_scan.specs.Refused.{AreFaultsOfRefusedText}
+use Rattle.ob0_scan.specs.ScanRefusals.{AreFaultsOfRefusedText}
 use Rattle.ob0_scan.specs.TextWithTokens.{TextWithTokens, IsScan, IsScannable, IsScanOf}
 use Rattle.ob0_scan.specs.declared.fault.Fault.{Fault}
 use Rattle.ob0_tree.specs.Lexeme.{Terminal, EndOfText}
@@ -14,11 +14,11 @@ use Rattle.ob0_parse_descent.specs.declared.refusal.ParseRefusal.{ParseRefusal}
 use Rattle.ob0_parse_descent.specs.declared.refusal.ParseRefusal.TheVariants.{Syntax, TooDeep, Memory}
 use Rattle.ob0_scope_table.specs.Resolution.{Resolution}
 use Rattle.ob0_tree.specs.ParsedModule.{ParsedModule, named_tree_of}
-use Rattle.ob0_types.specs.CheckedModules.{CheckedModule, IsChecked, IsWellTyped}
+use Rattle.ob0_types.specs.CheckedModules.{CheckedModule, IsCorrectlyChecked, IsWellTyped}
 use Rattle.ob0_language_types.specs.WellTyped.{WellTyped}
-use Rattle.ob0_analysis.specs.Analysed.{IsResolvedWellTypedModule}
+use Rattle.ob0_analysis.specs.AnalysisAnswers.{IsResolvedWellTypedModule}
 use Rattle.ob0_analysis.specs.AnalysisInvariants.{IsNotLackOfMemory}
-use Rattle.ob0_analysis.specs.Diagnosed.{ReportedDiagnosis, IsWellTypedModule, IsDiagnosisOfRefusal, ReportsErrorsOf, ReportsFaults, reported_diagnosis_of_fault}
+use Rattle.ob0_analysis.specs.ReportedErrors.{ReportedDiagnosis, IsWellTypedModule, IsDiagnosisOfRefusal, ReportsErrorsOf, ReportsFaults, reported_diagnosis_of_fault}
 use Rattle.ob0_analysis.specs.Texts.{utf8}
 
 -- The UTF-8 bytes of a text's characters are the bytes of the text.
@@ -77,7 +77,7 @@ some_of : (faults : List Fault) → (faults ≡ [] → ⊥) → 0 < length fault
 some_of [] some = absurd (some refl)
 some_of (f ∷ fs) some = omega arith
 
-pub finds_types : (c : CheckedModule) (reported : List ReportedDiagnosis) → OneScan → OneTree → IsScan c.names.module_read.source → IsChecked c → (c.faults ≡ [] → ⊥) → reported ≡ map reported_diagnosis_of_fault c.faults
+pub finds_types : (c : CheckedModule) (reported : List ReportedDiagnosis) → OneScan → OneTree → IsScan c.names.module_read.source → IsCorrectlyChecked c → (c.faults ≡ [] → ⊥) → reported ≡ map reported_diagnosis_of_fault c.faults
     → ¬ IsWellTypedModule c.names.module_read.source.text × ReportsFaults c.names.module_read.source.text reported
 finds_types c reported one only scan checked bad is =
     let s : TextWithTokens = c.names.module_read.source in
@@ -98,7 +98,7 @@ finds_types c reported one only scan checked bad is =
     )
 
 -- If checking finds a fault in a text's module, the text isn't a well-typed module.
-pub faulty_is_none : (text : List ℕ) (c : CheckedModule) (m : Resolution) → c.names ≡ m → OneScan → OneTree → IsScanOf text m.module_read.source → IsChecked c → (c.faults ≡ [] → ⊥) → IsWellTypedModule text → ⊥
+pub faulty_is_none : (text : List ℕ) (c : CheckedModule) (m : Resolution) → c.names ≡ m → OneScan → OneTree → IsScanOf text m.module_read.source → IsCorrectlyChecked c → (c.faults ≡ [] → ⊥) → IsWellTypedModule text → ⊥
 faulty_is_none text c m is one only read checked bad =
     let s : TextWithTokens = c.names.module_read.source in
     let here : IsScanOf text s = subst (λ (r : Resolution). IsScanOf text r.module_read.source) (sym is) read in
@@ -118,7 +118,7 @@ some_or_none [] = inl refl
 some_or_none (f ∷ fs) = inr (λ e. absurd (omega (arith, ap length e)))
 
 -- The report of a text with a tree is empty exactly if the module is well-typed.
-pub reports_module : (c : CheckedModule) (reported : List ReportedDiagnosis) → OneScan → OneTree → IsScan c.names.module_read.source → IsChecked c → reported ≡ map reported_diagnosis_of_fault c.faults
+pub reports_module : (c : CheckedModule) (reported : List ReportedDiagnosis) → OneScan → OneTree → IsScan c.names.module_read.source → IsCorrectlyChecked c → reported ≡ map reported_diagnosis_of_fault c.faults
     → ReportsErrorsOf c.names.module_read.source.text reported
 reports_module c reported one only scan checked is =
     let m : ParsedModule = c.names.module_read in

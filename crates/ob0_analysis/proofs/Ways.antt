@@ -4,8 +4,8 @@ use Rattle.ob0_scan.specs.declared.lexeme.TokenKind.TheVariants as kind
 use Rattle.ob0_scan.specs.declared.lexeme.ReservedWord.TheVariants as reserved
 use Rattle.ob0_scan.specs.declared.lexeme.Symbol.TheVariants as symbol
 use Rattle.ob0_tree.specs.Lexeme.{Terminal, Name, WordOrSymbol}
-use Rattle.ob0_tree.specs.Tree.{Tree, block, body, declares, declares_procedure, end, forms_block, is_module, item, items, mapped_tree, maybe, module_text, more, one, procedure, spell}
-use Rattle.ob0_scope_table.specs.BodyReplaced.{PathToBody, block_without_body, body_at_path_in_procedures, body_at_path, body_at_path_in_block, body_at_path_in_procedure, closing_name_at_path_in_procedures, closing_name_at_path, closing_name_at_path_in_block, closing_name_at_path_in_procedure, path_after_insertion_in_front, procedure_without_body, procedures_without_body, path_to_body_in_procedures, path_to_body_in_block, path_to_body_in_module, module_without_body}
+use Rattle.ob0_tree.specs.Tree.{Tree, block, body, declares, declares_procedure, end, forms_block, forms_module, item, items, mapped_tree, maybe, module_text, more, one, procedure, spell}
+use Rattle.ob0_scope_table.specs.BodyReplacement.{PathToBody, block_without_body, body_at_path_in_procedures, body_at_path, body_at_path_in_block, body_at_path_in_procedure, closing_name_at_path_in_procedures, closing_name_at_path, closing_name_at_path_in_block, closing_name_at_path_in_procedure, path_after_insertion_in_front, procedure_without_body, procedures_without_body, path_to_body_in_procedures, path_to_body_in_block, path_to_body_in_module, module_without_body}
 
 -- Holds if `whole` and `less` are the tokens of a part with a body and without it. Both have the same tokens before the
 -- body, and the END and the closing name of its block after it.
@@ -88,7 +88,7 @@ mutual
       }
 
 pub around_body : {N : Type 0} (path : PathToBody) (t : Tree N module_text) (y : Tree N (item body)) → body_at_path path t ≡ one y → Around (spell t) (spell (module_without_body path t)) (body_at_path path t) (closing_name_at_path path t)
-around_body path (is_module n b c) y e =
+around_body path (forms_module n b c) y e =
     let h = around_block path c b (WordOrSymbol (kind.Symbol symbol.Dot) ∷ []) y e in
     record {
       front = WordOrSymbol (kind.ReservedWord reserved.Module) ∷ Name n ∷ WordOrSymbol (kind.Symbol symbol.Semicolon) ∷ h.front;
@@ -110,7 +110,7 @@ mutual
   way_less_among low (suc k) path (more (declares_procedure n fs b c) ps) = ap (λ w. if nat_lt c low then path_after_insertion_in_front w else zero ∷ path_to_body_in_block low b) (way_less_among low k path ps)
 
 pub way_less : (low : ℕ) (path : PathToBody) (t : Tree ℕ module_text) → path_to_body_in_module low (module_without_body path t) ≡ path_to_body_in_module low t
-way_less low path (is_module n b c) = way_less_block low path b
+way_less low path (forms_module n b c) = way_less_block low path b
 
 module _ (low : ℕ) (f : ℕ → ℕ) (side : (c : ℕ) → nat_lt (f c) low ≡ nat_lt c low) where
   mutual
@@ -125,4 +125,4 @@ module _ (low : ℕ) (f : ℕ → ℕ) (side : (c : ℕ) → nat_lt (f c) low �
         ∙ ap (λ w. if nat_lt c low then path_after_insertion_in_front (path_to_body_in_procedures low ps) else zero ∷ w) (way_moved_block b))
 
   pub way_moved : (t : Tree ℕ module_text) → path_to_body_in_module low (mapped_tree f f t) ≡ path_to_body_in_module low t
-  way_moved (is_module n b c) = way_moved_block b
+  way_moved (forms_module n b c) = way_moved_block b

@@ -1,15 +1,15 @@
 -- Defines the invariants of the analysis of a text.
 -- Rule: none; used in private contracts about the results that an analysis keeps.
 use Rattle.std.specs.Prelude.{ℕ, IfSome, List, string_bytes}
-use Rattle.ob0_scan.specs.Refused.{AreFaultsOfRefusedText}
+use Rattle.ob0_scan.specs.ScanRefusals.{AreFaultsOfRefusedText}
 use Rattle.ob0_scan.specs.TextWithTokens.{TextWithTokens, IsScannable}
-use Rattle.ob0_parse.specs.KeptTokens.{AreKeptTreesInPlace}
+use Rattle.ob0_parse.specs.KeptTreeTokens.{AreKeptTreesInPlace}
 use Rattle.ob0_parse.specs.IsRightParseRefusal.{IsRightParseRefusal}
 use Rattle.ob0_parse_descent.specs.declared.refusal.ParseRefusal.{ParseRefusal}
 use Rattle.ob0_parse_descent.specs.declared.refusal.ParseRefusal.TheVariants.{Syntax, TooDeep, Memory}
 use Rattle.ob0_analysis.specs.LastModule.{IsLastModuleOf}
 use Rattle.ob0_analysis.specs.declared.analysis.AnalysisResult.{AnalysisResult}
-use Rattle.ob0_analysis.specs.declared.analysis.AnalysisResult.TheVariants.{Unscannable, Read}
+use Rattle.ob0_analysis.specs.declared.analysis.AnalysisResult.TheVariants.{Unscannable, Scannable}
 use Rattle.ob0_analysis.specs.declared.scanned_text.ReanalysisFailure.{ReanalysisFailure}
 use Rattle.ob0_analysis.specs.declared.scanned_text.ReanalysisFailure.TheVariants as reanalysis_failure
 use Rattle.ob0_analysis.specs.declared.scanned_text.ParseOutcome.{ParseOutcome}
@@ -52,7 +52,7 @@ IsRightReanalysisFailure text reanalysis_failure.Memory = Unit {0}
 -- returns the text that was analysed
 abbrev pub text_of_analysis_result : AnalysisResult → List ℕ
 text_of_analysis_result (Unscannable ill) = string_bytes ill.text
-text_of_analysis_result (Read read) = read
+text_of_analysis_result (Scannable read) = read
 
 -- States that the result of analysing a text is right. If the result is lexical faults, the text
 -- can't be scanned, and these are the lexical faults to report for it (`AreFaultsOfRefusedText`).
@@ -60,4 +60,4 @@ text_of_analysis_result (Read read) = read
 abbrev pub IsValidAnalysisResult : AnalysisResult → Type 0
 IsValidAnalysisResult (Unscannable ill) =
     (IsScannable (string_bytes ill.text) → ⊥) × AreFaultsOfRefusedText (string_bytes ill.text) ill.faults.items
-IsValidAnalysisResult (Read read) = Unit {0}
+IsValidAnalysisResult (Scannable read) = Unit {0}

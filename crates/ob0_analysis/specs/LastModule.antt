@@ -6,7 +6,7 @@ use Rattle.ob0_scan.specs.TextWithTokens.{IsScan, TextWithTokens}
 use Rattle.ob0_scan.specs.declared.tokens.CommonPrefixAndSuffix.{CommonPrefixAndSuffix}
 use Rattle.ob0_tree.specs.declared.tree.ModuleTree.{ModuleTree}
 use Rattle.ob0_tree.specs.ParsedModule.{IsParsed, parsed_module}
-use Rattle.ob0_scope_table.specs.Bindings.{resolution_with}
+use Rattle.ob0_scope_table.specs.Bindings.{resolution_with_bindings}
 use Rattle.ob0_scope_table.specs.BodyPlaces.{body_bounds_of_range, module_tree_of}
 use Rattle.ob0_scope_table.specs.Resolution.{IsResolution}
 use Rattle.ob0_scope_table.specs.declared.resolved.Bindings.{Bindings}
@@ -25,8 +25,8 @@ pub record IsEarlierModule
   pub old_scan : IsScan old
   pub new_scan : IsScan new
   pub parsed : IsParsed (parsed_module old tree)
-  pub resolved : IsResolution (resolution_with (parsed_module old tree) b)
-  pub types_are : IsCheckResultOf (resolution_with (parsed_module old tree) b) types
+  pub resolved : IsResolution (resolution_with_bindings (parsed_module old tree) b)
+  pub types_are : IsCheckResultOf (resolution_with_bindings (parsed_module old tree) b) types
   pub same : PrefixAndSuffixHaveSameKinds s old.tokens new.tokens
   pub written : PrefixAndSuffixHaveSameWords s old new
 

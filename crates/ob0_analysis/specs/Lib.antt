@@ -1,10 +1,10 @@
-pub mod Analysed
-pub mod Diagnosed
+pub mod AnalysisAnswers
+pub mod ReportedErrors
 pub mod AnalysisInvariants
 pub mod ReuseConditions
 pub mod LastModule
 pub mod OneBody
 pub mod NewBody
-pub mod RunsKept
+pub mod SameRuns
 pub mod Texts
 pub use Rattle.ob0_types.specs.CheckedModules

@@ -2,7 +2,7 @@
 -- earlier module's tree is also the current text's tree.
 -- Rule: none; used in private contracts about the results that an analysis reuses.
 use Rattle.std.specs.Prelude.{◌≡◌}
-use Rattle.ob0_scan.specs.Reused.{kinds}
+use Rattle.ob0_scan.specs.ReusedLexemes.{kinds}
 use Rattle.ob0_scan.specs.TextWithTokens.{TextWithTokens}
 use Rattle.ob0_scan.specs.declared.tokens.CommonPrefixAndSuffix.{CommonPrefixAndSuffix}
 use Rattle.ob0_tree.specs.declared.tree.ModuleTree.{ModuleTree}

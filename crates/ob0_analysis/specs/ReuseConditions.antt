@@ -2,8 +2,8 @@
 -- previous text.
 -- Rule: none; used in private contracts about the results that an analysis reuses.
 use Rattle.std.specs.Prelude.{◌≡◌, ℕ, true, IfSome, List, Option}
-use Rattle.ob0_scan.specs.Refused.{AreFaultsOfRefusedText}
-use Rattle.ob0_scan.specs.Reused.{kinds, spellings_of_identifiers_in, words_of_tokens}
+use Rattle.ob0_scan.specs.ScanRefusals.{AreFaultsOfRefusedText}
+use Rattle.ob0_scan.specs.ReusedLexemes.{kinds, spellings_of_identifiers_in, words_of_tokens}
 use Rattle.ob0_scan.specs.SameKinds.{PrefixAndSuffixHaveSameKinds, PrefixAndSuffixHaveSameWords}
 use Rattle.ob0_scan.specs.TextWithTokens.{IsScan, IsScannable, TextWithTokens}
 use Rattle.ob0_scan.specs.declared.incremental_scan.RescanRefusal.{RescanRefusal}
@@ -11,10 +11,10 @@ use Rattle.ob0_scan.specs.declared.incremental_scan.RescanRefusal.TheVariants as
 use Rattle.ob0_scan.specs.declared.tokens.RescanWithComparison.{RescanWithComparison}
 use Rattle.ob0_tree.specs.declared.tree.ModuleTree.{ModuleTree}
 use Rattle.ob0_tree.specs.ParsedModule.{IsParsed, parsed_module}
-use Rattle.ob0_scope_table.specs.Bindings.{resolution_with}
+use Rattle.ob0_scope_table.specs.Bindings.{resolution_with_bindings}
 use Rattle.ob0_scope_table.specs.Resolution.{IsResolution}
 use Rattle.ob0_scope_table.specs.declared.resolved.Bindings.{Bindings}
-use Rattle.ob0_parse.specs.KeptTokens.{AreKeptTreesInPlace}
+use Rattle.ob0_parse.specs.KeptTreeTokens.{AreKeptTreesInPlace}
 use Rattle.ob0_parse.specs.declared.kept.KeptTrees.{KeptTrees}
 use Rattle.ob0_parse_descent.specs.declared.refusal.ParseRefusal.{ParseRefusal}
 use Rattle.ob0_types.specs.CheckedModules.{IsCheckResultOf}
@@ -84,6 +84,6 @@ IsRightScanFailureAfterModule text tree b types (rescanned.Faults faults tokens)
     (IsScannable text → ⊥)
     × AreFaultsOfRefusedText text faults.items
     × IsParsed (parsed_module tokens tree)
-    × IsResolution (resolution_with (parsed_module tokens tree) b)
-    × IsCheckResultOf (resolution_with (parsed_module tokens tree) b) types
+    × IsResolution (resolution_with_bindings (parsed_module tokens tree) b)
+    × IsCheckResultOf (resolution_with_bindings (parsed_module tokens tree) b) types
 IsRightScanFailureAfterModule text tree b types rescanned.Memory = Unit {0}

@@ -32,8 +32,8 @@
 //!
 //! If all tokens have the same spelling (`words_of_tokens`), for example after a change of blanks,
 //! line endings or comments, everything is kept. The tree has the same names and numbers, and the
-//! kept faults are at tokens (`bindings_depend_on_spellings` of `ob0_scope`,
-//! `types_depend_on_spellings` of `ob0_types`). Faults get their spans only when they are asked
+//! kept faults are at tokens (`bindings_depend_only_on_spellings` of `ob0_scope`,
+//! `check_result_depends_only_on_spellings` of `ob0_types`). Faults get their spans only when they are asked
 //! for.
 //!
 //! If a new text has lexical faults, all results for the last text that had lexemes are kept. This
@@ -44,9 +44,9 @@
 
 ghost use Rattle.std.specs.Prelude.{◌≡◌, ◌≤◌, IfErr, IfOk, MatchOption, length, map};
 ghost use Rattle.std.specs.Str.{IsUtf8};
-ghost use Rattle.ob0_scan.specs.Refused.{AreFaultsOfRefusedText};
+ghost use Rattle.ob0_scan.specs.ScanRefusals.{AreFaultsOfRefusedText};
 ghost use Rattle.ob0_scan.specs.TextWithTokens.{IsScannable, IsScanOf};
-ghost use Rattle.ob0_analysis.specs.Diagnosed.{IsWellTypedModule, ReportsErrorsOf, reported_diagnosis_of};
+ghost use Rattle.ob0_analysis.specs.ReportedErrors.{IsWellTypedModule, ReportsErrorsOf, reported_diagnosis_of};
 
 use crate::diagnoses::{Diagnosis, diagnoses_of_faults};
 use crate::parts::ModuleParts;
@@ -70,12 +70,12 @@ pub(crate) struct UnscannableTextAnalysis {
     last: Option<ScannedTextAnalysis>,
 }
 
-/// The result of analysing a text: `Unscannable` for a text with lexical faults, otherwise `Read`
+/// The result of analysing a text: `Unscannable` for a text with lexical faults, otherwise `Scannable`
 /// with the analysis of its tokens.
 #[derive(Drop)]
 pub(crate) enum AnalysisResult {
     Unscannable(UnscannableTextAnalysis),
-    Read(ScannedTextAnalysis),
+    Scannable(ScannedTextAnalysis),
 }
 
 /// The analysis of a text. In contracts its value is only the text, because an analysis that reuses
@@ -125,7 +125,7 @@ impl Analysis {
                     None,
                 )?;
                 Ok(Analysis {
-                    outcome: AnalysisResult::Read(read),
+                    outcome: AnalysisResult::Scannable(read),
                     room: text.len(),
                 })
             }
@@ -148,7 +148,7 @@ impl Analysis {
         let Analysis { outcome, room } = self;
         let last = match outcome {
             AnalysisResult::Unscannable(ill) => ill.last,
-            AnalysisResult::Read(read) => Some(read),
+            AnalysisResult::Scannable(read) => Some(read),
         };
         match last {
             None => Analysis::analyse_text(alloc, text),
@@ -172,7 +172,7 @@ impl Analysis {
         }
         match read.reanalyse(alloc, text) {
             Ok(read) => Ok(Analysis {
-                outcome: AnalysisResult::Read(read),
+                outcome: AnalysisResult::Scannable(read),
                 room: room.max(text.len()),
             }),
             Err(refusal) => match refusal {
@@ -211,7 +211,7 @@ impl Analysis {
     {
         match &self.outcome {
             AnalysisResult::Unscannable(ill) => ill.text.as_str(),
-            AnalysisResult::Read(read) => read.text(),
+            AnalysisResult::Scannable(read) => read.text(),
         }
     }
 
@@ -224,7 +224,7 @@ impl Analysis {
         let own = self.text().len();
         match &self.outcome {
             AnalysisResult::Unscannable(_) => own.saturating_add(self.room),
-            AnalysisResult::Read(_) => own.max(self.room),
+            AnalysisResult::Scannable(_) => own.max(self.room),
         }
     }
 
@@ -236,7 +236,7 @@ impl Analysis {
     {
         match &self.outcome {
             AnalysisResult::Unscannable(_) => None,
-            AnalysisResult::Read(read) => read.module_parts(),
+            AnalysisResult::Scannable(read) => read.module_parts(),
         }
     }
 
@@ -254,7 +254,7 @@ impl Analysis {
         let _text = self.text();
         match &self.outcome {
             AnalysisResult::Unscannable(ill) => diagnoses_of_faults(alloc, ill.faults.as_slice()),
-            AnalysisResult::Read(read) => read.diagnoses(alloc),
+            AnalysisResult::Scannable(read) => read.diagnoses(alloc),
         }
     }
 }

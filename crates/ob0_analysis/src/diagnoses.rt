@@ -2,7 +2,7 @@
 //! diagnosis for each fault, or only one diagnosis for the parser's refusal.
 
 ghost use Rattle.std.specs.Prelude.{◌≡◌, IfOk, map};
-ghost use Rattle.ob0_analysis.specs.Diagnosed.{IsDiagnosisOfRefusal, reported_diagnosis_of, reported_diagnosis_of_fault, syntax_error_diagnosis as expected_at, depth_error_diagnosis as too_deep_at, token_span_or_end as span_or_end};
+ghost use Rattle.ob0_analysis.specs.ReportedErrors.{IsDiagnosisOfRefusal, reported_diagnosis_of, reported_diagnosis_of_fault, syntax_error_diagnosis as expected_at, depth_error_diagnosis as too_deep_at, token_span_or_end as span_or_end};
 
 use ob0_parse_descent::ParseRefusal;
 use ob0_scan::{Fault, Span, Tokens};

@@ -2,7 +2,7 @@
 //! common end.
 
 ghost use Rattle.std.specs.Prelude.{◌≡◌, ◌+◌, ◌-◌, ◌<◌, ◌≤◌, true, length, take, drop};
-ghost use Rattle.ob0_scan.specs.Reused.{ReplacesRange};
+ghost use Rattle.ob0_scan.specs.ReusedLexemes.{ReplacesRange};
 
 /// A difference between two texts. The second text has `added` bytes in place of the `removed`
 /// bytes at the byte offset `start` of the first text.

@@ -1,7 +1,7 @@
 //! States the law that the parser's refusal of a text is reported in only one way. With this law,
 //! `ob0_world_determined` proves that a text determines its diagnoses.
 
-ghost use Rattle.ob0_analysis.specs.Diagnosed.{ReportedRefusalIsUnique};
+ghost use Rattle.ob0_analysis.specs.ReportedErrors.{ReportedRefusalIsUnique};
 
 use ob0_scan::laws::scan_is_unique;
 

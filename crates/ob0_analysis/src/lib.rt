@@ -3,7 +3,6 @@
 #![tactic(auto)]
 
 mod analysis;
-mod asking;
 mod diagnoses;
 mod differences;
 mod last_module;
@@ -11,10 +10,11 @@ pub mod laws;
 mod new_body;
 mod one_body;
 mod parts;
+mod questions;
 mod scanned_text;
 mod text_errors;
 
 pub use analysis::Analysis;
-pub use asking::{Question, ask};
 pub use diagnoses::Diagnosis;
 pub use ob0_types::WellTyped;
+pub use questions::{Question, ask};

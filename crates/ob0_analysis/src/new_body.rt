@@ -3,21 +3,21 @@
 
 ghost use Rattle.std.specs.Prelude.{◌≡◌, true, IfOk};
 ghost use Rattle.ob0_tree.specs.ParsedModule.{IsParsed, parsed_module};
-ghost use Rattle.ob0_scope.specs.NewBody.{WasBoundBeforeNewBody};
-ghost use Rattle.ob0_scope_table.specs.Bindings.{resolution_with};
+ghost use Rattle.ob0_scope.specs.NewBody.{AreBindingsBeforeBodyReplacement};
+ghost use Rattle.ob0_scope_table.specs.Bindings.{resolution_with_bindings};
 ghost use Rattle.ob0_scope_table.specs.Resolution.{IsResolution};
 ghost use Rattle.ob0_types.specs.CheckedModules.{IsCheckResultOf};
-ghost use Rattle.ob0_types.specs.NewBody.{WasCheckResultBeforeNewBody};
+ghost use Rattle.ob0_types.specs.NewBody.{IsCheckResultBeforeBodyReplacement};
 ghost use Rattle.ob0_analysis.specs.LastModule.{IsLastModuleOf};
 ghost use Rattle.ob0_analysis.specs.NewBody.{IsSameBody};
 
 use crate::last_module::LastModule;
 use crate::parts::ModuleParts;
 use ob0_scan::{CommonPrefixAndSuffix, Tokens};
-use ob0_scope::rebind_new_body;
+use ob0_scope::rebind_replaced_body;
 use ob0_scope_table::{Bindings, BodyBounds, Resolved, body_bounds_in_tree};
 use ob0_tree::{Module, ModuleTree};
-use ob0_types::{CheckResult, check_result_with_new_body};
+use ob0_types::{CheckResult, check_result_after_body_replacement};
 use std::alloc::{AllocError, Global};
 
 /// Analyses a module, given its tokens and tree, and reuses names and types of an earlier module
@@ -84,11 +84,11 @@ fn bind_new_body(
     same: CommonPrefixAndSuffix,
 ) -> Result<Bindings, AllocError>
     requires parsed { IsParsed (parsed_module tokens.now tree.now) }
-    requires before { WasBoundBeforeNewBody (parsed_module tokens.now tree.now) bindings same }
-    ensures { IfOk result (λ b. IsResolution (resolution_with (parsed_module tokens.now tree.now) b)) }
+    requires before { AreBindingsBeforeBodyReplacement (parsed_module tokens.now tree.now) bindings same }
+    ensures { IfOk result (λ b. IsResolution (resolution_with_bindings (parsed_module tokens.now tree.now) b)) }
 {
     let read = Module::from_parts(tokens, tree);
-    rebind_new_body(alloc, &read, bindings, same)
+    rebind_replaced_body(alloc, &read, bindings, same)
 }
 
 /// Checks the types of the body that contains all differences from the earlier module (`same`).
@@ -102,14 +102,14 @@ fn check_new_body(
     same: CommonPrefixAndSuffix,
 ) -> Result<CheckResult, AllocError>
     requires parsed { IsParsed (parsed_module tokens.now tree.now) }
-    requires resolved { IsResolution (resolution_with (parsed_module tokens.now tree.now) bindings.now) }
-    requires before { WasCheckResultBeforeNewBody
-        (resolution_with (parsed_module tokens.now tree.now) bindings.now) types same }
+    requires resolved { IsResolution (resolution_with_bindings (parsed_module tokens.now tree.now) bindings.now) }
+    requires before { IsCheckResultBeforeBodyReplacement
+        (resolution_with_bindings (parsed_module tokens.now tree.now) bindings.now) types same }
     ensures { IfOk result
-        (IsCheckResultOf (resolution_with (parsed_module tokens.now tree.now) bindings.now)) }
+        (IsCheckResultOf (resolution_with_bindings (parsed_module tokens.now tree.now) bindings.now)) }
 {
     let module = Module::from_parts(tokens, tree);
     let resolved = Resolved::from_parts(&module, bindings);
-    let again = check_result_with_new_body(alloc, &resolved, types, same)?;
+    let again = check_result_after_body_replacement(alloc, &resolved, types, same)?;
     Ok(again)
 }

@@ -3,16 +3,16 @@
 
 ghost use Rattle.std.specs.Prelude.{◌≡◌, true, IfOk};
 ghost use Rattle.ob0_tree.specs.ParsedModule.{IsParsed, parsed_module, tree_of};
-ghost use Rattle.ob0_scope.specs.Rebound.{WasBoundBeforeBodyChange};
-ghost use Rattle.ob0_scope_table.specs.Bindings.{resolution_with};
+ghost use Rattle.ob0_scope.specs.BodyChanges.{AreBindingsBeforeBodyChange};
+ghost use Rattle.ob0_scope_table.specs.Bindings.{resolution_with_bindings};
 ghost use Rattle.ob0_scope_table.specs.OneBody.{is_range_in_one_body};
 ghost use Rattle.ob0_scope_table.specs.Resolution.{IsResolution};
 ghost use Rattle.ob0_types.specs.CheckedModules.{IsCheckResultOf};
-ghost use Rattle.ob0_types.specs.OneBody.{WasCheckResultBeforeBodyChange};
+ghost use Rattle.ob0_types.specs.OneBody.{IsCheckResultBeforeBodyChange};
 
 use crate::parts::check_types;
 use ob0_scan::{CommonPrefixAndSuffix, Tokens};
-use ob0_scope::{bindings_of, rebind_body};
+use ob0_scope::{bindings_of, rebind_changed_body};
 use ob0_scope_table::{Bindings, Resolved, is_range_in_one_body};
 use ob0_tree::{Module, ModuleTree};
 use ob0_types::{CheckResult, check_result_after_body_change};
@@ -46,12 +46,12 @@ pub(crate) fn rebind_names(
 ) -> Result<Bindings, AllocError>
     requires parsed { IsParsed (parsed_module tokens.now tree.now) }
     requires before { in_body ≡ true
-        → WasBoundBeforeBodyChange (parsed_module tokens.now tree.now) bindings same.prefix same.old_suffix }
-    ensures { IfOk result (λ b. IsResolution (resolution_with (parsed_module tokens.now tree.now) b)) }
+        → AreBindingsBeforeBodyChange (parsed_module tokens.now tree.now) bindings same.prefix same.old_suffix }
+    ensures { IfOk result (λ b. IsResolution (resolution_with_bindings (parsed_module tokens.now tree.now) b)) }
 {
     let read = Module::from_parts(tokens, tree);
     if in_body {
-        rebind_body(alloc, &read, bindings, same.prefix, same.old_suffix)
+        rebind_changed_body(alloc, &read, bindings, same.prefix, same.old_suffix)
     } else {
         drop(bindings);
         bindings_of(alloc, &read)
@@ -71,11 +71,11 @@ pub(crate) fn recheck_types(
     in_body: bool,
 ) -> Result<CheckResult, AllocError>
     requires parsed { IsParsed (parsed_module tokens.now tree.now) }
-    requires resolved { IsResolution (resolution_with (parsed_module tokens.now tree.now) bindings.now) }
-    requires before { in_body ≡ true → WasCheckResultBeforeBodyChange
-        (resolution_with (parsed_module tokens.now tree.now) bindings.now) types same.prefix }
+    requires resolved { IsResolution (resolution_with_bindings (parsed_module tokens.now tree.now) bindings.now) }
+    requires before { in_body ≡ true → IsCheckResultBeforeBodyChange
+        (resolution_with_bindings (parsed_module tokens.now tree.now) bindings.now) types same.prefix }
     ensures { IfOk result
-        (IsCheckResultOf (resolution_with (parsed_module tokens.now tree.now) bindings.now)) }
+        (IsCheckResultOf (resolution_with_bindings (parsed_module tokens.now tree.now) bindings.now)) }
 {
     if !in_body {
         drop(types);

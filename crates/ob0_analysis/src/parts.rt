@@ -8,9 +8,9 @@
 
 ghost use Rattle.std.specs.Prelude.{◌≡◌, IfOk};
 ghost use Rattle.ob0_tree.specs.ParsedModule.{IsParsed, parsed_module};
-ghost use Rattle.ob0_scope_table.specs.Bindings.{resolution_with};
+ghost use Rattle.ob0_scope_table.specs.Bindings.{resolution_with_bindings};
 ghost use Rattle.ob0_scope_table.specs.Resolution.{IsResolution};
-ghost use Rattle.ob0_types.specs.CheckedModules.{IsCheckResultOf, IsChecked};
+ghost use Rattle.ob0_types.specs.CheckedModules.{IsCheckResultOf, IsCorrectlyChecked};
 
 use ob0_scan::Tokens;
 use ob0_scope::bindings_of;
@@ -32,7 +32,7 @@ pub(crate) struct ModuleParts {
 
 impl Model for ModuleParts {
     ghost use Rattle.ob0_tree.specs.ParsedModule.{IsParsed, parsed_module};
-    ghost use Rattle.ob0_scope_table.specs.Bindings.{resolution_with};
+    ghost use Rattle.ob0_scope_table.specs.Bindings.{resolution_with_bindings};
     ghost use Rattle.ob0_scope_table.specs.Resolution.{IsResolution, Resolution};
     ghost use Rattle.ob0_types.specs.CheckedModules.{IsCheckResultOf};
 
@@ -43,9 +43,9 @@ impl Model for ModuleParts {
 
     ghost coded = { Prim.hlevel (codes, block_contract.the_row.coded) };
 
-    ghost view = { λ m. resolution_with (parsed_module m.tokens m.tree) m.bindings };
+    ghost view = { λ m. resolution_with_bindings (parsed_module m.tokens m.tree) m.bindings };
 
-    ghost invariant = { λ m. let r = resolution_with (parsed_module m.tokens m.tree) m.bindings in
+    ghost invariant = { λ m. let r = resolution_with_bindings (parsed_module m.tokens m.tree) m.bindings in
         IsParsed r.module_read × (IsResolution r × IsCheckResultOf r m.types) };
 }
 
@@ -77,9 +77,9 @@ impl ModuleParts {
         types: CheckResult,
     ) -> ModuleParts
         requires parsed { IsParsed (parsed_module tokens tree) }
-        requires resolved { IsResolution (resolution_with (parsed_module tokens tree) bindings) }
-        requires types { IsCheckResultOf (resolution_with (parsed_module tokens tree) bindings) types }
-        ensures { result ≡ resolution_with (parsed_module tokens tree) bindings }
+        requires resolved { IsResolution (resolution_with_bindings (parsed_module tokens tree) bindings) }
+        requires types { IsCheckResultOf (resolution_with_bindings (parsed_module tokens tree) bindings) types }
+        ensures { result ≡ resolution_with_bindings (parsed_module tokens tree) bindings }
     {
         ModuleParts {
             tokens,
@@ -113,7 +113,7 @@ impl ModuleParts {
     ) -> Result<Checked<'a>, AllocError>
         requires { resolved.now ≡ self.now }
         ensures names { IfOk result (λ c. c.names ≡ self.now) }
-        ensures checked { IfOk result IsChecked }
+        ensures checked { IfOk result IsCorrectlyChecked }
     {
         Checked::from_parts(alloc, resolved, &self.types)
     }
@@ -129,8 +129,8 @@ impl ModuleParts {
     /// Takes the module apart and returns its parts, so that each part can be reused separately.
     pub(crate) fn into_parts(self) -> (Tokens, ModuleTree, Bindings, CheckResult)
         ensures parsed { IsParsed (parsed_module result.0 result.1) }
-        ensures resolved { IsResolution (resolution_with (parsed_module result.0 result.1) result.2) }
-        ensures types { IsCheckResultOf (resolution_with (parsed_module result.0 result.1) result.2) result.3 }
+        ensures resolved { IsResolution (resolution_with_bindings (parsed_module result.0 result.1) result.2) }
+        ensures types { IsCheckResultOf (resolution_with_bindings (parsed_module result.0 result.1) result.2) result.3 }
     {
         let ModuleParts {
             tokens,
@@ -150,9 +150,9 @@ pub(crate) fn check_types(
     bindings: &Bindings,
 ) -> Result<CheckResult, AllocError>
     requires parsed { IsParsed (parsed_module tokens.now tree.now) }
-    requires resolved { IsResolution (resolution_with (parsed_module tokens.now tree.now) bindings.now) }
+    requires resolved { IsResolution (resolution_with_bindings (parsed_module tokens.now tree.now) bindings.now) }
     ensures { IfOk result
-        (IsCheckResultOf (resolution_with (parsed_module tokens.now tree.now) bindings.now)) }
+        (IsCheckResultOf (resolution_with_bindings (parsed_module tokens.now tree.now) bindings.now)) }
 {
     let module = Module::from_parts(tokens, tree);
     let resolved = Resolved::from_parts(&module, bindings);

@@ -2,20 +2,20 @@
 //! the text's tokens, with its module or the parser's refusal.
 
 ghost use Rattle.std.specs.Prelude.{◌≡◌, [], true, IfErr, IfOk, IfSome, MatchOption, map};
-ghost use Rattle.ob0_scan.specs.Refused.{AreFaultsOfRefusedText};
+ghost use Rattle.ob0_scan.specs.ScanRefusals.{AreFaultsOfRefusedText};
 ghost use Rattle.ob0_scan.specs.TextWithTokens.{IsScan, IsScanOf};
 ghost use Rattle.ob0_tree.specs.ParsedModule.{IsParsed, parsed_module};
-ghost use Rattle.ob0_scope_table.specs.Bindings.{resolution_with};
+ghost use Rattle.ob0_scope_table.specs.Bindings.{resolution_with_bindings};
 ghost use Rattle.ob0_scope_table.specs.Resolution.{IsResolution};
-ghost use Rattle.ob0_parse.specs.KeptTokens.{AreKeptTreesInPlace};
+ghost use Rattle.ob0_parse.specs.KeptTreeTokens.{AreKeptTreesInPlace};
 ghost use Rattle.ob0_analysis.specs.AnalysisInvariants.{IsValidParseOutcome, IsRefusedByParser, IsRightReanalysisFailure};
 ghost use Rattle.ob0_analysis.specs.ReuseConditions.{AreResultsKeptForPreviousText, WasModuleBeforeChange, IsRightScanFailureAfterModule, IsRightScanFailureAfterRefusal};
 ghost use Rattle.ob0_analysis.specs.LastModule.{IsEarlierModule, IsLastModuleOf};
 ghost use Rattle.ob0_analysis.specs.declared.scanned_text.ReanalysisFailure.TheVariants as reanalysis_failure;
 ghost use Rattle.ob0_analysis.specs.declared.scanned_text.ParseOutcome.TheVariants.{NoTree};
-ghost use Rattle.ob0_analysis.specs.Diagnosed.{IsWellTypedModule, ReportsErrorsOf, reported_diagnosis_of};
+ghost use Rattle.ob0_analysis.specs.ReportedErrors.{IsWellTypedModule, ReportsErrorsOf, reported_diagnosis_of};
 ghost use Rattle.ob0_analysis.specs.OneBody.{IsEarlierModuleWithSameKinds};
-ghost use Rattle.ob0_types.specs.OneBody.{WasCheckResultBeforeBodyChange};
+ghost use Rattle.ob0_types.specs.OneBody.{IsCheckResultBeforeBodyChange};
 
 use crate::diagnoses::Diagnosis;
 use crate::differences::TextDifference;
@@ -30,11 +30,11 @@ use ob0_scan::laws::scan_is_unique;
 use ob0_scan::{
     CommonPrefixAndSuffix, Fault, RescanRefusal, RescanWithComparison, Tokens, rescan_in_place,
 };
-use ob0_scope::laws::{bindings_depend_on_spellings, bindings_depend_only_on_names};
+use ob0_scope::laws::{bindings_depend_only_on_names, bindings_depend_only_on_spellings};
 use ob0_scope_table::Bindings;
 use ob0_tree::ModuleTree;
 use ob0_types::CheckResult;
-use ob0_types::laws::types_depend_on_spellings;
+use ob0_types::laws::check_result_depends_only_on_spellings;
 use std::alloc::{AllocError, Global};
 use std::marker::Model;
 
@@ -261,7 +261,12 @@ impl ScannedTextAnalysis {
         let tokens = rescan.tokens;
         let last = LastModule::keep_optional_module_across_change(last, same);
         if !same_kinds {
-            return ScannedTextAnalysis::analyse_tokens(alloc, tokens, kept.relocate(same), last);
+            return ScannedTextAnalysis::analyse_tokens(
+                alloc,
+                tokens,
+                kept.move_to_changed_text(same),
+                last,
+            );
         }
         Ok(ScannedTextAnalysis {
             parse_outcome: ParseOutcome::NoTree(UnparsableText {
@@ -335,8 +340,8 @@ impl ScannedTextAnalysis {
         ensures { IfOk result (λ r. r ≡ changed.rescan.tokens.text) }
     {
         bindings_depend_only_on_names();
-        bindings_depend_on_spellings();
-        types_depend_on_spellings();
+        bindings_depend_only_on_spellings();
+        check_result_depends_only_on_spellings();
         let RescanWithComparison {
             rescan,
             same,
@@ -376,7 +381,7 @@ impl ScannedTextAnalysis {
     {
         let last = LastModule::keep_last_module(&tokens, &tree, bindings, types, same);
         let kept = KeptTrees::from_tree(alloc, tree)?;
-        ScannedTextAnalysis::analyse_tokens(alloc, tokens, kept.relocate(same), last)
+        ScannedTextAnalysis::analyse_tokens(alloc, tokens, kept.move_to_changed_text(same), last)
     }
 
     /// Analyses a text that has the same tree as the previous text. If the identifiers have the
@@ -395,7 +400,7 @@ impl ScannedTextAnalysis {
         requires before { IsEarlierModuleWithSameKinds tokens tree bindings types same }
         requires resolved { same_names ≡ true
             → bindings.faults.items ≡ []
-            → IsResolution (resolution_with (parsed_module tokens tree) bindings) }
+            → IsResolution (resolution_with_bindings (parsed_module tokens tree) bindings) }
         ensures { IfOk result (λ r. r ≡ tokens.text) }
     {
         let in_body = differs_only_in_one_body(&tokens, &tree, same);
@@ -423,9 +428,9 @@ impl ScannedTextAnalysis {
         in_body: bool,
     ) -> Result<ScannedTextAnalysis, AllocError>
         requires parsed { IsParsed (parsed_module tokens tree) }
-        requires resolved { IsResolution (resolution_with (parsed_module tokens tree) bindings) }
+        requires resolved { IsResolution (resolution_with_bindings (parsed_module tokens tree) bindings) }
         requires before { in_body ≡ true
-            → WasCheckResultBeforeBodyChange (resolution_with (parsed_module tokens tree) bindings) types same.prefix }
+            → IsCheckResultBeforeBodyChange (resolution_with_bindings (parsed_module tokens tree) bindings) types same.prefix }
         ensures { IfOk result (λ r. r ≡ tokens.text) }
     {
         let types = recheck_types(alloc, &tokens, &tree, &bindings, types, same, in_body)?;

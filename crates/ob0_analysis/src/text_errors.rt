@@ -2,7 +2,7 @@
 
 ghost use Rattle.std.specs.Prelude.{IfOk, map};
 ghost use Rattle.ob0_parse.specs.IsRightParseRefusal.{IsRightParseRefusal};
-ghost use Rattle.ob0_analysis.specs.Diagnosed.{ReportsErrorsOf, reported_diagnosis_of};
+ghost use Rattle.ob0_analysis.specs.ReportedErrors.{ReportsErrorsOf, reported_diagnosis_of};
 
 use crate::diagnoses::{Diagnosis, diagnoses_of_faults, diagnosis_of_refusal};
 use crate::parts::ModuleParts;

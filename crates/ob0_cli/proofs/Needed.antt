@@ -3,7 +3,7 @@ use Rattle.std.proofs.Common.{◌≡◌, ◌∙◌, ℕ, List, false, true, leng
 use Rattle.std.specs.Str.{bytes_eq}
 use Rattle.std.proofs.lemmas.Slice.Eq.{bytes_eq-Decides}
 use Rattle.clap.specs.Words.{Row, Text}
-use Rattle.ob0_cli.specs.Given.{HasBoundedValue, HasCoordinateValue, HasTextValue, HasNeededValues}
+use Rattle.ob0_cli.specs.RequestedCommands.{HasBoundedValue, HasCoordinateValue, HasTextValue, HasNeededValues}
 
 -- Returns the first letter of a name, or 0 if the name is empty. It distinguishes a name from all
 -- others except one.

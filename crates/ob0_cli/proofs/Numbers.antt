@@ -7,7 +7,7 @@ use Rattle.clap.specs.Lexer.{without_minus}
 use Rattle.clap.specs.Matches.{ReadsOne}
 use Rattle.clap.specs.Values.{IsSignedIn, IsUnsignedIn}
 use Rattle.clap.proofs.CallerReads.{signed_reads}
-use Rattle.ob0_cli.specs.Given.{max_option_value}
+use Rattle.ob0_cli.specs.RequestedCommands.{max_option_value}
 
 small : (id : List ℕ) → max_option_value id < 2 ^ 32
 small id = go (bytes_eq id (codes "calls"))

@@ -1,2 +1,2 @@
-pub mod Given
+pub mod RequestedCommands
 pub mod Lines

@@ -9,7 +9,7 @@
 //!   makes the subcommand. `add_argument` adds the arguments one after another, and needs each
 //!   argument's clause `own` (`global ≡ false`).
 //!
-//! Only the `App` of `serve` and `serve_definition` mention the options of `serve`.
+//! Only the `App` of `serve` and `serve_subcommand` mention the options of `serve`.
 //!
 //! Traps of the proofs:
 //! - No `ghost` clause can depend on a `&str` parameter. So the greatest value of an option is a
@@ -22,7 +22,7 @@
 
 ghost use Rattle.std.specs.Prelude.{◌≡◌, ◌≢◌, ◌≤◌, Some, false, true, IfOk, IfErr, MatchOption, map};
 ghost use Rattle.clap.specs.Words.{App, Rule, app_of, first_of, found_of, new_app, rows_of, rule_of, subcommand_rows_of, with_rule, with_subcommand};
-ghost use Rattle.ob0_cli.specs.Given.{SpellsCommand, IsCompleteSubcommand, HasBoundedValue, HasCoordinateValue, HasTextValue, HasFoundValues, HasNumberValue, YieldsCommandLine, HasFilePath, HasNeededValues, MayRefuseWords, max_option_value};
+ghost use Rattle.ob0_cli.specs.RequestedCommands.{SpellsCommand, IsCompleteSubcommand, HasBoundedValue, HasCoordinateValue, HasTextValue, HasFoundValues, HasNumberValue, YieldsCommandLine, HasFilePath, HasNeededValues, MayRefuseWords, max_option_value};
 ghost use Rattle.ob0_cli.specs.declared.line.CommandLine.TheVariants.{Serve};
 ghost use Rattle.ob0_cli.specs.Lines.{client_process_rule, ob0_without_subcommands, ob0_app, calls_rule, check as check_app, required_number_rule, rename as rename_app, run as run_app, serve as serve_app, serve_without_options as serve_app_without_options, stdio_rule, turns_rule, required_word_rule};
 
@@ -293,11 +293,11 @@ fn ob0_command<'a>(alloc: Global) -> Result<Command<'a>, AllocError>
 {
     let with_serve = add_subcommand(
         Ok(program_without_subcommands(alloc)),
-        serve_definition(alloc),
+        serve_subcommand(alloc),
     );
-    let with_check = add_subcommand(with_serve, check_definition(alloc));
-    let with_run = add_subcommand(with_check, run_definition(alloc));
-    add_subcommand(with_run, rename_definition(alloc))
+    let with_check = add_subcommand(with_serve, check_subcommand(alloc));
+    let with_run = add_subcommand(with_check, run_subcommand(alloc));
+    add_subcommand(with_run, rename_subcommand(alloc))
 }
 
 /// Adds the subcommand `below` to the command `above`. If one of them is an error (out of memory),
@@ -359,7 +359,7 @@ fn command_with_help<'a>(
 
 /// Makes the subcommand `serve`. The subcommand accepts the options that LSP 3.17 recommends, and
 /// ignores them.
-fn serve_definition<'a>(alloc: Global) -> Result<Command<'a>, AllocError>
+fn serve_subcommand<'a>(alloc: Global) -> Result<Command<'a>, AllocError>
     ensures { IfOk result (λ c. app_of c ≡ serve_app) }
 {
     let with_stdio = add_argument(Ok(serve_without_options(alloc)), stdio_argument(alloc));
@@ -400,7 +400,7 @@ fn client_process_argument<'a>(alloc: Global) -> Arg<'a>
         .help("Changes nothing: the client's process isn't watched")
 }
 
-fn check_definition<'a>(alloc: Global) -> Result<Command<'a>, AllocError>
+fn check_subcommand<'a>(alloc: Global) -> Result<Command<'a>, AllocError>
     ensures { IfOk result (λ c. app_of c ≡ check_app) }
 {
     let file = word_argument(alloc, "file", "FILE", "The file with the module");
@@ -413,7 +413,7 @@ fn check_definition<'a>(alloc: Global) -> Result<Command<'a>, AllocError>
     .arg(file)
 }
 
-fn run_definition<'a>(alloc: Global) -> Result<Command<'a>, AllocError>
+fn run_subcommand<'a>(alloc: Global) -> Result<Command<'a>, AllocError>
     ensures { IfOk result (λ c. app_of c ≡ run_app) }
 {
     let file = word_argument(alloc, "file", "FILE", "The file with the module");
@@ -428,7 +428,7 @@ fn run_definition<'a>(alloc: Global) -> Result<Command<'a>, AllocError>
     add_argument(with_calls, turns_argument(alloc))
 }
 
-fn rename_definition<'a>(alloc: Global) -> Result<Command<'a>, AllocError>
+fn rename_subcommand<'a>(alloc: Global) -> Result<Command<'a>, AllocError>
     ensures { IfOk result (λ c. app_of c ≡ rename_app) }
 {
     let file = word_argument(alloc, "file", "FILE", "The file with the module");

@@ -6,12 +6,12 @@ use Rattle.std.proofs.Math.Seq.{drop-cons}
 use Rattle.std.proofs.lemmas.List.{drop_all, drop-drop, length-drop, take_all}
 use Rattle.std.proofs.lemmas.List.Folds.{drop_split}
 use Rattle.ob0_commands.proofs.Words.{Begins, after_space, first_word}
-use Rattle.ob0_commands.specs.Numbers.{WordMayEndBefore, IsListOfNumbers, SpellsNumber, SpellsNumbers, nothing, number, space}
-use Rattle.ob0_scan.specs.Classes.{is_white_space}
+use Rattle.ob0_commands.specs.InputNumbers.{WordMayEndBefore, IsListOfNumbers, SpellsNumber, SpellsNumberList, nothing, number, space}
+use Rattle.ob0_scan.specs.LexemeClasses.{is_white_space}
 
 pub record Gathered (text : List ℕ) (at : ℕ) (ns : List ℤ) : Type 0 where
   pub within : at ≤ length text
-  pub goes_on : (more : List ℤ) → SpellsNumbers (drop at text) more → SpellsNumbers text (ns ++ more)
+  pub goes_on : (more : List ℤ) → SpellsNumberList (drop at text) more → SpellsNumberList text (ns ++ more)
   pub left : IsListOfNumbers text → IsListOfNumbers (drop at text)
 
 pub nothing_gathered : (text : List ℕ) → Gathered text 0 []
@@ -22,7 +22,7 @@ space_passed text at ns inside is g =
     let next : at + 1 ≡ suc at = omega arith in
     record {
       within = omega (arith, inside);
-      goes_on = λ more h. g.goes_on more (subst (λ t. SpellsNumbers t more) (sym (drop-cons text at 0 inside)) (space is (subst (λ n. SpellsNumbers (drop n text) more) next h)));
+      goes_on = λ more h. g.goes_on more (subst (λ t. SpellsNumberList t more) (sym (drop-cons text at 0 inside)) (space is (subst (λ n. SpellsNumberList (drop n text) more) next h)));
       left = λ all.
           let here = g.left all in
           subst (λ n. IsListOfNumbers (drop n text)) (sym next)
@@ -73,13 +73,13 @@ word_gathered text at end ns n begins apart forth inside is word g =
     let ends : WordMayEndBefore (drop end text) = subst WordMayEndBefore (drop-drop (position_or_len is_white_space (drop at text)) at text ∙ ap (λ i. drop i text) (sym len)) (ends_before (drop at text)) in
     record {
       within = inside;
-      goes_on = λ more h. subst (SpellsNumbers text) (sym (append_assoc ns (n ∷ []) more)) (g.goes_on (n ∷ more)
+      goes_on = λ more h. subst (SpellsNumberList text) (sym (append_assoc ns (n ∷ []) more)) (g.goes_on (n ∷ more)
           (number (slice_range text at end) (drop end text) n (drop_split text at end forth) word ends h));
       left = λ all.
           let rest = (word_here text at ns begins apart g all).rest in
           subst IsListOfNumbers (drop-drop (position_or_len is_white_space (drop at text)) at text ∙ ap (λ i. drop i text) (sym len)) rest;
     }
 
-pub all_gathered : (text : List ℕ) (at : ℕ) (ns : List ℤ) → length text ≤ at → Gathered text at ns → SpellsNumbers text ns
+pub all_gathered : (text : List ℕ) (at : ℕ) (ns : List ℤ) → length text ≤ at → Gathered text at ns → SpellsNumberList text ns
 all_gathered text at ns end g =
-    subst (SpellsNumbers text) (append-nil ns) (g.goes_on [] (subst (λ t. SpellsNumbers t []) (sym (drop_all at text end)) nothing))
+    subst (SpellsNumberList text) (append-nil ns) (g.goes_on [] (subst (λ t. SpellsNumberList t []) (sym (drop_all at text end)) nothing))

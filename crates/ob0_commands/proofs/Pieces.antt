@@ -4,7 +4,7 @@ use Rattle.std.proofs.lemmas.List.{drop_more}
 use Rattle.std.specs.Io.KnownBytes.{Appends}
 use Rattle.ob0_run.specs.Outcomes.{item_of, output_items}
 use Rattle.ob0_run_machine.specs.declared.machine.Item.{Item}
-use Rattle.ob0_commands.specs.Printed.{IsWrittenExcept, output_text, output_item_text}
+use Rattle.ob0_commands.specs.PrintedTexts.{IsWrittenExceptLastPart, output_text, output_item_text}
 
 both_appended : (a b c : Option (List ℕ)) (bs cs : List ℕ) → Appends a b bs → Appends b c cs → Appends a c (bs ++ cs)
 both_appended None b c bs cs p q = tt
@@ -15,8 +15,8 @@ both_appended (Some x) (Some y) (Some z) bs cs p q = q ∙ ap (λ l. l ++ cs) p 
 -- After the next item is appended, the written text, the waiting text and the text of the remaining
 -- items still make up the text of all items.
 pub item_written : (a b c : Option (List ℕ)) (xs : List Item) (k : ℕ) (d x : Item) (text left : List ℕ)
-    → IsWrittenExcept a b (output_text (output_items xs)) (text ++ output_text (output_items (drop k xs))) → k < length xs → x ≡ get_or xs k d
-    → IsWrittenExcept b c (text ++ output_item_text (item_of x)) left → IsWrittenExcept a c (output_text (output_items xs)) (left ++ output_text (output_items (drop (k + 1) xs)))
+    → IsWrittenExceptLastPart a b (output_text (output_items xs)) (text ++ output_text (output_items (drop k xs))) → k < length xs → x ≡ get_or xs k d
+    → IsWrittenExceptLastPart b c (text ++ output_item_text (item_of x)) left → IsWrittenExceptLastPart a c (output_text (output_items xs)) (left ++ output_text (output_items (drop (k + 1) xs)))
 item_written a b c xs k d x text left h less is m =
     let rest = output_text (output_items (drop (k + 1) xs)) in
     let next : output_text (output_items (drop k xs)) ≡ output_item_text (item_of x) ++ rest =

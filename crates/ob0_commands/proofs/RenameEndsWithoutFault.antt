@@ -11,7 +11,7 @@ use Rattle.ob0_text.specs.declared.refusals.EditRefusal.{EditRefusal}
 use Rattle.ob0_scan.specs.TextWithTokens.{IsScanOf, TextWithTokens, max_text_length}
 use Rattle.ob0_analysis.specs.Texts.{utf8}
 use Rattle.ob0_edits.specs.Renamings.{IsOptionalRenameResult}
-use Rattle.ob0_commands.specs.Renamed.{PrintsRefusal, PrintsEditedText, PrintsRenamedText, RefusesName}
+use Rattle.ob0_commands.specs.RenameOutput.{PrintsRefusal, PrintsEditedText, PrintsRenamedText, RefusesName}
 use Rattle.ob0_commands.specs.Statuses.{IsTextFile}
 
 -- A scanned text isn't too long.

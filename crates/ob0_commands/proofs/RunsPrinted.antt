@@ -2,17 +2,17 @@
 -- that text.
 use Rattle.std.proofs.Common.{◌≡◌, ◌≢◌, ℕ, ℤ, Bool, List, Option, None, Result, Ok, Err, IfOk, IfSome, OnOk, inl, inr, refl, subst, arith}
 use Rattle.std.specs.Io.KnownBytes.{Appends}
-use Rattle.ob0_analysis.specs.Diagnosed.{IsWellTypedModule}
+use Rattle.ob0_analysis.specs.ReportedErrors.{IsWellTypedModule}
 use Rattle.ob0_run_lowering.specs.declared.programs.Program.{Program}
 use Rattle.ob0_run_machine.specs.declared.machine.Item.{Item}
-use Rattle.ob0_run_machine.specs.declared.running.End.{End}
-use Rattle.ob0_run_machine.specs.declared.running.End.TheVariants as end
-use Rattle.ob0_run_machine.specs.declared.running.Outcome.{Outcome}
+use Rattle.ob0_run_machine.specs.declared.program_runs.End.{End}
+use Rattle.ob0_run_machine.specs.declared.program_runs.End.TheVariants as end
+use Rattle.ob0_run_machine.specs.declared.program_runs.Outcome.{Outcome}
 use Rattle.ob0_run.specs.Outcomes.{meaning_of_end, output_items, run_of}
 use Rattle.ob0_commands.specs.declared.faults.FileFault.{FileFault}
 use Rattle.ob0_commands.specs.declared.faults.FileFault.TheVariants as fault
-use Rattle.ob0_commands.specs.Numbers.{IsUnusableInput, IsValidInputOf}
-use Rattle.ob0_commands.specs.Printed.{PrintsDiagnostics, run_end_line, output_text}
+use Rattle.ob0_commands.specs.InputNumbers.{IsUnusableInput, IsValidInputOf}
+use Rattle.ob0_commands.specs.PrintedTexts.{PrintsDiagnostics, run_end_line, output_text}
 use Rattle.ob0_commands.specs.Statuses.{IsShortNonUtf8File, IsGivenFaultOrMemory, MayStopRun, run_end_status}
 use Rattle.ob0_commands.specs.TextRuns.{IsLoweredTo, PrintsCompleteRun, PrintsErrorsOrStoppedRun, PrintsRun, TextRunsAs}
 

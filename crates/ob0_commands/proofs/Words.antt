@@ -6,8 +6,8 @@ use Rattle.std.proofs.lemmas.Str.Parse.{digit_from_value}
 use Rattle.std.specs.Bool.{⊤}
 use Rattle.std.specs.List.{position_or_len}
 use Rattle.std.specs.Str.Parse.{AllDigits, IsNumeral}
-use Rattle.ob0_commands.specs.Numbers.{WordMayEndBefore, IsListOfNumbers, SpellsNumber, SpellsNumbers, nothing, number, space}
-use Rattle.ob0_scan.specs.Classes.{is_white_space}
+use Rattle.ob0_commands.specs.InputNumbers.{WordMayEndBefore, IsListOfNumbers, SpellsNumber, SpellsNumberList, nothing, number, space}
+use Rattle.ob0_scan.specs.LexemeClasses.{is_white_space}
 
 -- Holds if each byte is from `-` to `9`.
 abbrev pub IsOfSignsAndDigits : List ℕ → Type 0
@@ -51,11 +51,11 @@ first_is (c ∷ cs) after h e =
     counted ∙ ap (λ k. 1 + k) (first_is cs after h.2 e) ∙ omega arith
 
 -- If a list of numbers begins with a space, the text after the space is a list of numbers.
-pub after_space : (text : List ℕ) (ns : List ℤ) → SpellsNumbers text ns → (b : ℕ) (rest : List ℕ) → text ≡ b ∷ rest → is_white_space b ≡ true → IsListOfNumbers rest
+pub after_space : (text : List ℕ) (ns : List ℤ) → SpellsNumberList text ns → (b : ℕ) (rest : List ℕ) → text ≡ b ∷ rest → is_white_space b ≡ true → IsListOfNumbers rest
 after_space text ns nothing b rest e is = absurd (cc)
 after_space text ns (space {text = more} {ns = ms} s h) b rest e is =
     let same : more ≡ rest = ap (drop 1) e in
-    (ms, subst (λ t. SpellsNumbers t ms) same h)
+    (ms, subst (λ t. SpellsNumberList t ms) same h)
 after_space text ns (number [] after n cut w ends h) b rest e is = absurd (omega (arith, has_bytes [] n w))
 after_space text ns (number (c ∷ cs) after n cut w ends h) b rest e is =
     let first : b ≡ c = ap (λ t. slice_index t 0) (sym e ∙ cut) in
@@ -67,7 +67,7 @@ pub record Begins (text : List ℕ) : Type 0 where
   pub word : SpellsNumber (take (position_or_len is_white_space text) text) n
   pub rest : IsListOfNumbers (drop (position_or_len is_white_space text) text)
 
-pub first_word : (text : List ℕ) (ns : List ℤ) → SpellsNumbers text ns → 0 < length text → is_white_space (slice_index text 0) ≡ false → Begins text
+pub first_word : (text : List ℕ) (ns : List ℤ) → SpellsNumberList text ns → 0 < length text → is_white_space (slice_index text 0) ≡ false → Begins text
 first_word text ns nothing some apart = absurd (omega (arith, some))
 first_word text ns (space s h) some apart = absurd (cc)
 first_word text ns (number {ns = ms} word after n cut w ends h) some apart =
@@ -77,7 +77,7 @@ first_word text ns (number {ns = ms} word after n cut w ends h) some apart =
     record {
       n = n;
       word = subst (λ t. SpellsNumber t n) (sym front) w;
-      rest = (ms, subst (λ t. SpellsNumbers t ms) (sym left) h);
+      rest = (ms, subst (λ t. SpellsNumberList t ms) (sym left) h);
     }
 
 ascii : (word : List ℕ) → IsOfSignsAndDigits word → (i : ℕ) → slice_index word i < 128

@@ -3,9 +3,9 @@ use Rattle.std.proofs.Common.{◌≡◌, ◌∙◌, ℕ, List, [], ◌∷◌, Op
 use Rattle.std.proofs.lemmas.Str.{encodes-chars}
 use Rattle.std.specs.Io.KnownBytes.{Appends}
 use Rattle.std.specs.Str.{chars, IsUtf8}
-use Rattle.ob0_analysis.specs.Diagnosed.{IsWellTypedModule, ReportsErrorsOf, reported_diagnosis_of}
+use Rattle.ob0_analysis.specs.ReportedErrors.{IsWellTypedModule, ReportsErrorsOf, reported_diagnosis_of}
 use Rattle.ob0_analysis.specs.declared.diagnoses.Diagnosis.{Diagnosis}
-use Rattle.ob0_commands.specs.Printed.{PrintsDiagnostics, all_diagnosis_lines}
+use Rattle.ob0_commands.specs.PrintedTexts.{PrintsDiagnostics, all_diagnosis_lines}
 
 of_faults : (file : List ℕ) (reported : List Diagnosis) (before after : Option (List ℕ)) → ReportsErrorsOf file (map reported_diagnosis_of reported) → nat_eq (length reported) 0 ≡ false
     → Appends before after (all_diagnosis_lines file (map reported_diagnosis_of reported)) → PrintsDiagnostics file before after

@@ -3,14 +3,14 @@
 -- Rule: docs/PROTOCOL.md, The program 1 to 8.
 use Rattle.std.specs.Prelude.{◌≡◌, ◌⊎◌, ℕ, List, [], Option, None, Bool, true, suc}
 use Rattle.ob0_text.specs.declared.position_types.Position.{Position}
-use Rattle.ob0_analysis.specs.Diagnosed.{IsWellTypedModule, ReportsErrorsOf}
+use Rattle.ob0_analysis.specs.ReportedErrors.{IsWellTypedModule, ReportsErrorsOf}
 use Rattle.ob0_cli.specs.declared.line.CommandLine.{CommandLine}
 use Rattle.ob0_cli.specs.declared.line.CommandLine.TheVariants.{Serve, Check, Run, Rename}
-use Rattle.ob0_commands.specs.Endings.{EndsByFault, EndsWithoutFault}
-use Rattle.ob0_commands.specs.Inputs.{ConsumesAtMost}
-use Rattle.ob0_commands.specs.Numbers.{max_input_length}
-use Rattle.ob0_commands.specs.Printed.{PrintsDiagnostics}
-use Rattle.ob0_commands.specs.Renamed.{RenameEndsWithoutFault}
+use Rattle.ob0_commands.specs.CommandEndings.{EndsByFault, EndsWithoutFault}
+use Rattle.ob0_commands.specs.InputReaders.{ConsumesAtMost}
+use Rattle.ob0_commands.specs.InputNumbers.{max_input_length}
+use Rattle.ob0_commands.specs.PrintedTexts.{PrintsDiagnostics}
+use Rattle.ob0_commands.specs.RenameOutput.{RenameEndsWithoutFault}
 use Rattle.ob0_commands.specs.Statuses.{IsShortNonUtf8File, KeepsInputFailureUnlessInputFault, MayStopCommandOnFile, MayStopRun}
 use Rattle.ob0_commands.specs.TextRuns.{RunEndsWithoutFault}
 

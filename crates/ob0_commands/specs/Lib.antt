@@ -1,10 +1,10 @@
-pub mod Endings
-pub mod Inputs
-pub mod Numbers
-pub mod Outputs
+pub mod CommandEndings
+pub mod InputReaders
+pub mod InputNumbers
+pub mod OutputWriters
 pub mod CommandEffects
-pub mod Printed
-pub mod Renamed
+pub mod PrintedTexts
+pub mod RenameOutput
 pub mod StderrLines
 pub mod Statuses
 pub mod TextRuns

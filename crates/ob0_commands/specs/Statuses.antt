@@ -3,12 +3,12 @@
 use Rattle.std.specs.Prelude.{◌≡◌, ◌≢◌, ◌≤◌, ◌⊎◌, ℕ, List, Option, Bool, true, length}
 use Rattle.std.specs.Str.{IsUtf8}
 use Rattle.ob0_scan.specs.TextWithTokens.{max_text_length}
-use Rattle.ob0_analysis.specs.Diagnosed.{IsWellTypedModule}
-use Rattle.ob0_run_machine.specs.declared.running.End.{End}
-use Rattle.ob0_run_machine.specs.declared.running.End.TheVariants as end
+use Rattle.ob0_analysis.specs.ReportedErrors.{IsWellTypedModule}
+use Rattle.ob0_run_machine.specs.declared.program_runs.End.{End}
+use Rattle.ob0_run_machine.specs.declared.program_runs.End.TheVariants as end
 use Rattle.ob0_commands.specs.declared.faults.FileFault.{FileFault}
 use Rattle.ob0_commands.specs.declared.faults.FileFault.TheVariants as fault
-use Rattle.ob0_commands.specs.Numbers.{IsUnusableInput}
+use Rattle.ob0_commands.specs.InputNumbers.{IsUnusableInput}
 
 -- Returns the exit status of a fault: 5 if an allocation failed, otherwise 4.
 abbrev pub status_of : FileFault → ℕ
@@ -20,8 +20,8 @@ status_of fault.Memory = 5
 
 -- States that the fault is `Write` or `Memory`: the output can't be written, or an allocation
 -- failed.
-abbrev pub IsWriteOrMemory : FileFault → Type 0
-IsWriteOrMemory f = (f ≡ fault.Write) ⊎ (f ≡ fault.Memory)
+abbrev pub IsWriteOrMemoryFault : FileFault → Type 0
+IsWriteOrMemoryFault f = (f ≡ fault.Write) ⊎ (f ≡ fault.Memory)
 
 -- States that the file has a text: the file isn't too long, and its bytes are UTF-8.
 abbrev pub IsTextFile : List ℕ → Type 0
@@ -35,7 +35,7 @@ IsShortNonUtf8File file = (length file ≤ max_text_length) × ¬ (IsUtf8 file)
 -- UTF-8 (`IsShortNonUtf8File`). Otherwise it is `Write` or `Memory`.
 abbrev pub MayStopCommandOnFile : List ℕ → FileFault → Type 0
 MayStopCommandOnFile file f =
-    ((f ≡ fault.Utf8) × IsShortNonUtf8File file) ⊎ (IsWriteOrMemory f × ¬ (IsShortNonUtf8File file))
+    ((f ≡ fault.Utf8) × IsShortNonUtf8File file) ⊎ (IsWriteOrMemoryFault f × ¬ (IsShortNonUtf8File file))
 
 -- States that the fault `Memory` occurs only if the file isn't too long.
 abbrev pub IsMemoryFaultOnlyForShortFile : List ℕ → FileFault → Type 0

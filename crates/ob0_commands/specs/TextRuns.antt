@@ -6,15 +6,15 @@ use Rattle.ob0_tree.specs.Tree.{Tree, module_text}
 use Rattle.ob0_language_names.specs.Names.{Name}
 use Rattle.ob0_language_types.specs.WellTyped.{WellTyped}
 use Rattle.ob0_language_runs.specs.Runs.{Run, run}
-use Rattle.ob0_analysis.specs.Diagnosed.{IsTextOfTree}
+use Rattle.ob0_analysis.specs.ReportedErrors.{IsTextOfTree}
 use Rattle.ob0_run.specs.Outcomes.{meaning_of_end}
 use Rattle.ob0_run.specs.Programs as lowered
 use Rattle.ob0_run_lowering.specs.declared.programs.Program.{Program}
-use Rattle.ob0_run_machine.specs.declared.running.End.{End}
-use Rattle.ob0_run_machine.specs.declared.running.End.TheVariants as end
-use Rattle.ob0_commands.specs.Endings.{EndsWithoutFault}
-use Rattle.ob0_commands.specs.Numbers.{IsValidInputOf}
-use Rattle.ob0_commands.specs.Printed.{PrintsDiagnostics, run_end_line, output_text}
+use Rattle.ob0_run_machine.specs.declared.program_runs.End.{End}
+use Rattle.ob0_run_machine.specs.declared.program_runs.End.TheVariants as end
+use Rattle.ob0_commands.specs.CommandEndings.{EndsWithoutFault}
+use Rattle.ob0_commands.specs.InputNumbers.{IsValidInputOf}
+use Rattle.ob0_commands.specs.PrintedTexts.{PrintsDiagnostics, run_end_line, output_text}
 
 -- States that the text is a well-typed module and that `r` is its run on this input. At most `c`
 -- calls are open at a time, and each execution of a loop has at most `t` iterations.
@@ -25,12 +25,12 @@ pub record TextRunsAs (text : List ℕ) (input : List ℤ) (c t : ℕ) (r : Run)
   pub is : r ≡ run tree input c t
 
 -- States that the text is a well-typed module and that this program runs like the module
--- (`RunsAs`).
+-- (`ProgramRunsAsModule`).
 pub record IsLoweredTo (text : List ℕ) (program : Program) : Type 0 where
   pub tree : Tree Name module_text
   pub text_of : IsTextOfTree tree text
   pub well_typed : WellTyped tree
-  pub runs : lowered.RunsAs tree program
+  pub runs : lowered.ProgramRunsAsModule tree program
 
 -- States that `r` is a run of the file's module, and that the output of `r` is printed. If the
 -- reader's bytes are known (`given`), they spell the numbers of the run's input. `c` and `t` are

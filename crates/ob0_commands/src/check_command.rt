@@ -7,12 +7,12 @@ ghost use Rattle.std.specs.Prelude.{◌≡◌, ◌≢◌, ◌<◌, ◌≤◌, []
 ghost use Rattle.std.specs.Io.KnownBytes.{Appends};
 ghost use Rattle.std.specs.Mem.{manually_drop_value};
 ghost use Rattle.ob0_commands.specs.CommandEffects.{ChecksFile};
-ghost use Rattle.ob0_commands.specs.Printed.{PrintsDiagnostics, all_diagnosis_lines, diagnosis_line_at, diagnosis_lines_at, too_long_line};
+ghost use Rattle.ob0_commands.specs.PrintedTexts.{PrintsDiagnostics, all_diagnosis_lines, diagnosis_line_at, diagnosis_lines_at_positions, too_long_line};
 ghost use Rattle.ob0_commands.specs.StderrLines.{PrintsLine};
-ghost use Rattle.ob0_commands.specs.Statuses.{IsMemoryFaultOnlyForShortFile, IsShortNonUtf8File, OutputFailureMatchesFault, PrintsNothingUnlessWriteFault, IsWriteOrMemory, MayStopCommandOnFile};
+ghost use Rattle.ob0_commands.specs.Statuses.{IsMemoryFaultOnlyForShortFile, IsShortNonUtf8File, OutputFailureMatchesFault, PrintsNothingUnlessWriteFault, IsWriteOrMemoryFault, MayStopCommandOnFile};
 ghost use Rattle.ob0_commands.specs.declared.faults.FileFault.TheVariants as faults;
 ghost use Rattle.ob0_scan.specs.TextWithTokens.{max_text_length};
-ghost use Rattle.ob0_analysis.specs.Diagnosed.{ReportsErrorsOf, reported_diagnosis_of};
+ghost use Rattle.ob0_analysis.specs.ReportedErrors.{ReportsErrorsOf, reported_diagnosis_of};
 
 use crate::faults::{FileFault, print_fault};
 use crate::reading::MAX_FILE_BYTES_READ;
@@ -32,7 +32,7 @@ pub fn check_text<O: Output, E: Output>(alloc: Global, file: &[u8], out: &mut O,
     ensures { ChecksFile O.contents O.is_flushed O.has_failed out.old out.new
         (PrintsLine E.contents E.is_flushed E.has_failed err.old err.new) file.now result }
 {
-    match valid_text_or_print_diagnoses(alloc, file, out) {
+    match validate_or_print_diagnoses(alloc, file, out) {
         Ok(Some(_text)) => 0,
         Ok(None) => 1,
         Err(fault) => print_fault(fault, err),
@@ -42,7 +42,7 @@ pub fn check_text<O: Output, E: Output>(alloc: Global, file: &[u8], out: &mut O,
 /// Returns the text of a file that has no diagnostics. Otherwise prints the diagnostics, flushes
 /// and returns None. A file that has more bytes than a text may have gets only one diagnostic: it
 /// is too long. If the bytes of any other file aren't UTF-8, the fault is `Utf8`.
-pub fn valid_text_or_print_diagnoses<'f, O: Output>(
+pub fn validate_or_print_diagnoses<'f, O: Output>(
     alloc: Global,
     file: &'f [u8],
     out: &mut O,
@@ -128,23 +128,27 @@ pub fn print_diagnoses<O: Output>(
         (all_diagnosis_lines text.now (map reported_diagnosis_of reported.now))) }
     ensures flushed { OnOk result (O.is_flushed out.new ≡ true) }
     ensures unfailed { OnOk result (O.has_failed out.new ≡ O.has_failed out.old) }
-    ensures fault { IfErr result IsWriteOrMemory }
+    ensures fault { IfErr result IsWriteOrMemoryFault }
     ensures failed { IfErr result
         (OutputFailureMatchesFault (O.has_failed out.old) (O.has_failed out.new)) }
     ensures kept { IfErr result (PrintsNothingUnlessWriteFault out.old out.new) }
 {
-    print(out, diagnosis_lines(alloc, text, reported)?.as_str())
+    print(out, all_diagnosis_lines(alloc, text, reported)?.as_str())
 }
 
 /// Returns the lines that report the diagnostics of a text, in order.
-fn diagnosis_lines(alloc: Global, text: &str, reported: &[Diagnosis]) -> Result<String, AllocError>
+fn all_diagnosis_lines(
+    alloc: Global,
+    text: &str,
+    reported: &[Diagnosis],
+) -> Result<String, AllocError>
     ensures { IfOk result
         (λ lines. string_bytes lines ≡ all_diagnosis_lines text.now (map reported_diagnosis_of reported.now)) }
 {
     let store = Lines::from_str(alloc, text)?;
     let starts = diagnosis_starts(alloc, reported)?;
     let positions = store.positions(alloc, starts.as_slice())?;
-    diagnosis_lines_at(alloc, reported, positions.as_slice())
+    diagnosis_lines_at_positions(alloc, reported, positions.as_slice())
 }
 
 /// Returns the start of each diagnostic in order, as a byte offset in the text.
@@ -159,13 +163,13 @@ fn diagnosis_starts(alloc: Global, reported: &[Diagnosis]) -> Result<Vec<usize>,
 
 /// Returns the lines that report these diagnostics, in order. The n-th diagnostic starts at the
 /// n-th position.
-fn diagnosis_lines_at(
+fn diagnosis_lines_at_positions(
     alloc: Global,
     reported: &[Diagnosis],
     positions: &[Position],
 ) -> Result<String, AllocError>
     ensures { IfOk result
-        (λ lines. string_bytes lines ≡ diagnosis_lines_at positions.now (map reported_diagnosis_of reported.now)) }
+        (λ lines. string_bytes lines ≡ diagnosis_lines_at_positions positions.now (map reported_diagnosis_of reported.now)) }
 {
     let mut lines = String::new(alloc);
     for (diagnosis, position) in reported.iter().zip(positions) {

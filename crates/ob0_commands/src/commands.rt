@@ -7,8 +7,8 @@ ghost use Rattle.ob0_commands.specs.StderrLines.{PrintsLine};
 
 use crate::check_command::check_text;
 use crate::reading::Input;
-use crate::renaming::rename_text;
-use crate::running::run_text;
+use crate::rename_command::rename_text;
+use crate::run_command::run_text;
 use crate::tracked_output::Output;
 use ob0_cli::CommandLine;
 use std::alloc::Global;
@@ -16,7 +16,7 @@ use std::alloc::Global;
 /// Performs the command that a command line requests, on a file with these bytes. Returns the
 /// program's exit status. Output goes to `out`, faults and refusals go to `err`. Only `run` reads
 /// from `input`. `serve` isn't allowed here, because it isn't a command on a file.
-pub fn perform<R: Input, O: Output, E: Output>(
+pub fn perform_command<R: Input, O: Output, E: Output>(
     alloc: Global,
     line: CommandLine<'_>,
     file: &[u8],

@@ -2,7 +2,7 @@
 //! error.
 
 ghost use Rattle.std.specs.Prelude.{◌≡◌, ◌≤◌, Some};
-ghost use Rattle.ob0_commands.specs.Printed.{fault_line};
+ghost use Rattle.ob0_commands.specs.PrintedTexts.{fault_line};
 ghost use Rattle.ob0_commands.specs.StderrLines.{PrintsLine};
 ghost use Rattle.ob0_commands.specs.Statuses.{status_of};
 
@@ -38,7 +38,7 @@ impl FileFault {
     }
 
     /// Returns the line that reports the fault, including its line feed.
-    fn report_line(self) -> &'static str
+    fn fault_line(self) -> &'static str
         ensures { result.now ≡ fault_line self }
     {
         match self {
@@ -79,6 +79,6 @@ pub fn print_fault<E: Output>(fault: FileFault, err: &mut E) -> u8
     ensures said { PrintsLine E.contents E.is_flushed E.has_failed err.old err.new
         (Some (fault_line fault)) }
 {
-    let _ = print(err, fault.report_line());
+    let _ = print(err, fault.fault_line());
     fault.status()
 }

@@ -7,11 +7,11 @@ mod commands;
 mod faults;
 mod numbers;
 mod reading;
-mod renaming;
-mod running;
+mod rename_command;
+mod run_command;
 mod tracked_output;
 
-pub use commands::perform;
+pub use commands::perform_command;
 pub use faults::{FileFault, print_fault};
 pub use reading::{Input, MAX_FILE_BYTES_READ, TrackedReader, read_file};
 pub use tracked_output::{Output, TrackedWriter};

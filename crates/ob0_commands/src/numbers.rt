@@ -4,16 +4,16 @@
 //! is decoded. A word that isn't UTF-8 isn't a number. A word that begins with `+` isn't a number,
 //! although Rust's `parse` accepts it.
 //!
-//! The invariant of the loop in `parse_numbers` (`Gathered`) has two directions. If the remaining
+//! The invariant of the loop in `parse_number_list` (`Gathered`) has two directions. If the remaining
 //! text spells a list of numbers, the whole text spells the numbers found so far, followed by that
 //! list. If the whole text spells a list of numbers, the remaining text also spells one. The first
 //! word of the remaining text ends at the first white space (`first_word` of `proofs/Words`).
 
 ghost use Rattle.std.specs.Prelude.{◌≡◌, ◌≤◌, ℤ, IfOk, OnOk, IfErr, IfSome, MatchOption, length, suc};
 ghost use Rattle.std.specs.List.{position_or_len};
-ghost use Rattle.ob0_scan.specs.Classes.{is_white_space};
-ghost use Rattle.ob0_commands.specs.Inputs.{ConsumesAtMost};
-ghost use Rattle.ob0_commands.specs.Numbers.{IsUnusableInput, IsValidInputOf, IsListOfNumbers, SpellsNumber, SpellsNumbers, max_input_length};
+ghost use Rattle.ob0_scan.specs.LexemeClasses.{is_white_space};
+ghost use Rattle.ob0_commands.specs.InputReaders.{ConsumesAtMost};
+ghost use Rattle.ob0_commands.specs.InputNumbers.{IsUnusableInput, IsValidInputOf, IsListOfNumbers, SpellsNumber, SpellsNumberList, max_input_length};
 ghost use Rattle.ob0_commands.specs.Statuses.{IsGivenFaultOrMemory};
 ghost use Rattle.ob0_commands.specs.declared.faults.FileFault.TheVariants as faults;
 
@@ -35,16 +35,16 @@ pub fn read_numbers<R: Input>(alloc: Global, input: &mut R) -> Result<Vec<i32>, 
         (R.has_failed input.new ≡ R.has_failed input.old)) }
 {
     let text = read_input(alloc, input)?;
-    match parse_numbers(alloc, text.as_slice())? {
+    match parse_number_list(alloc, text.as_slice())? {
         Some(numbers) => Ok(numbers),
         None => Err(FileFault::Input),
     }
 }
 
 /// Returns the numbers of a text in order, or None if one of its words isn't a number.
-fn parse_numbers(alloc: Global, text: &[u8]) -> Result<Option<Vec<i32>>, AllocError>
+fn parse_number_list(alloc: Global, text: &[u8]) -> Result<Option<Vec<i32>>, AllocError>
     ensures { IfOk result (λ found. MatchOption found (¬ IsListOfNumbers text.now)
-        (λ numbers. SpellsNumbers text.now numbers.items)) }
+        (λ numbers. SpellsNumberList text.now numbers.items)) }
 {
     let mut numbers = Vec::new(alloc);
     let mut at = 0;
@@ -52,7 +52,7 @@ fn parse_numbers(alloc: Global, text: &[u8]) -> Result<Option<Vec<i32>>, AllocEr
         if is_white_space(text[at]) {
             at += 1;
         } else {
-            let end = at + word_len(&text[at..]);
+            let end = at + first_word_length(&text[at..]);
             let Some(number) = parse_number(&text[at..end]) else {
                 return Ok(None);
             };
@@ -65,7 +65,7 @@ fn parse_numbers(alloc: Global, text: &[u8]) -> Result<Option<Vec<i32>>, AllocEr
 
 /// Returns the length in bytes of the word with which `bytes` begins. The word ends before the first
 /// white space, or at the end of `bytes` if there is no white space.
-fn word_len(bytes: &[u8]) -> usize
+fn first_word_length(bytes: &[u8]) -> usize
     ensures is { result ≡ position_or_len is_white_space bytes.now }
     ensures inside { result ≤ length bytes.now }
 {

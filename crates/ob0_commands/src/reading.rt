@@ -9,8 +9,8 @@ ghost use Rattle.std.specs.Prelude.{◌≡◌, ◌≤◌, ◌<◌, ◌||◌, ◌
 ghost use Rattle.std.specs.Io.{ReadsAtMost};
 ghost use Rattle.std.specs.Io.KnownBytes.{Consumes, IsAtEnd, ReadConsumes};
 ghost use Rattle.ob0_scan.specs.TextWithTokens.{max_text_length};
-ghost use Rattle.ob0_commands.specs.Inputs.{ConsumesAtMost, wrapped_reader, input_failed};
-ghost use Rattle.ob0_commands.specs.Numbers.{max_input_length};
+ghost use Rattle.ob0_commands.specs.InputReaders.{ConsumesAtMost, wrapped_reader, has_input_failed};
+ghost use Rattle.ob0_commands.specs.InputNumbers.{max_input_length};
 ghost use Rattle.ob0_commands.specs.Statuses.{IsGivenFaultOrMemory};
 ghost use Rattle.ob0_commands.specs.declared.faults.FileFault.TheVariants as faults;
 
@@ -50,7 +50,7 @@ impl<R> TrackedReader<R> {
     /// Wraps a reader. No read of the wrapper has failed yet.
     pub fn new(device: R) -> TrackedReader<R>
         ensures device { wrapped_reader result ≡ device }
-        ensures works { input_failed result ≡ false }
+        ensures works { has_input_failed result ≡ false }
     {
         TrackedReader {
             device,
@@ -66,7 +66,7 @@ impl<R: Read> Read for TrackedReader<R> {
         ensures bound { ReadsAtMost result buf.new }
         ensures bytes { ReadConsumes (R.remaining (wrapped_reader self.old))
             (R.remaining (wrapped_reader self.new)) result buf.new }
-        ensures failed { input_failed self.new ≡ (input_failed self.old || is_err result) }
+        ensures failed { has_input_failed self.new ≡ (has_input_failed self.old || is_err result) }
     {
         match self.device.read(buf) {
             Ok(count) => Ok(count),
@@ -79,7 +79,7 @@ impl<R: Read> Read for TrackedReader<R> {
 }
 
 impl<R: Read> Input for TrackedReader<R> {
-    ghost has_failed = { λ input. input_failed input };
+    ghost has_failed = { λ input. has_input_failed input };
 
     fn read_noting_failure(&mut self, buf: &mut [u8]) -> io::Result<usize> {
         self.read(buf)
@@ -99,7 +99,7 @@ pub fn read_file<R: Input>(alloc: Global, file: &mut R) -> Result<Vec<u8>, FileF
     ensures fault { IfErr result (IsGivenFaultOrMemory faults.File (R.has_failed file.new ≡ true)
         (R.has_failed file.new ≡ R.has_failed file.old)) }
 {
-    read_up_to(alloc, file, MAX_FILE_BYTES_READ, FileFault::File)
+    read_up_to_limit(alloc, file, MAX_FILE_BYTES_READ, FileFault::File)
 }
 
 /// Returns all bytes of the input. If a read fails, the fault is `Input`. If the input has more
@@ -115,7 +115,7 @@ pub fn read_input<R: Input>(alloc: Global, input: &mut R) -> Result<Vec<u8>, Fil
         ⊎ IfSome (R.remaining input.old) (λ text. max_input_length < length text))
         (R.has_failed input.new ≡ R.has_failed input.old)) }
 {
-    let bytes = read_up_to(alloc, input, MAX_INPUT_LENGTH + 1, FileFault::Input)?;
+    let bytes = read_up_to_limit(alloc, input, MAX_INPUT_LENGTH + 1, FileFault::Input)?;
     if bytes.len() > MAX_INPUT_LENGTH {
         return Err(FileFault::Input);
     }
@@ -124,7 +124,7 @@ pub fn read_input<R: Input>(alloc: Global, input: &mut R) -> Result<Vec<u8>, Fil
 
 /// Returns all remaining bytes of the reader, or the first `most` if there are more. If a read
 /// fails, returns `fault`.
-fn read_up_to<R: Input>(
+fn read_up_to_limit<R: Input>(
     alloc: Global,
     reader: &mut R,
     most: usize,

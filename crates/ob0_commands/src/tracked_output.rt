@@ -16,7 +16,7 @@ ghost use Rattle.std.specs.Prelude.{◌≡◌, ◌≢◌, ◌||◌, [], Bool, So
 ghost use Rattle.std.specs.Io.{WritesAtMost};
 ghost use Rattle.std.specs.Io.KnownBytes.{Appends, Keeps, WriteAppends};
 ghost use Rattle.ob0_commands.specs.declared.faults.FileFault.TheVariants as faults;
-ghost use Rattle.ob0_commands.specs.Outputs.{wrapped_writer, output_failed, has_flushed};
+ghost use Rattle.ob0_commands.specs.OutputWriters.{wrapped_writer, has_output_failed, has_flushed};
 ghost use Rattle.ob0_commands.specs.StderrLines.{PrintsLine};
 
 use crate::faults::FileFault;
@@ -27,17 +27,17 @@ use std::io::{self, Write};
 pub(crate) const PIECE_SIZE: usize = 8192;
 
 /// A writer that remembers whether it has been flushed since the last write, and whether a call of
-/// `write_tracked` or `flush_tracked` has failed.
+/// `write_all_noting_failure` or `flush_noting_result` has failed.
 pub trait Output: Write {
-    // Returns whether a call of `flush_tracked` has succeeded since the last write. A call of
-    // `write_tracked` without any bytes doesn't count as a write.
+    // Returns whether a call of `flush_noting_result` has succeeded since the last write. A call of
+    // `write_all_noting_failure` without any bytes doesn't count as a write.
     ghost is_flushed: { Self → Bool };
 
-    // Returns whether a call of `write_tracked` or `flush_tracked` has failed.
+    // Returns whether a call of `write_all_noting_failure` or `flush_noting_result` has failed.
     ghost has_failed: { Self → Bool };
 
     /// Writes all the bytes. If that fails, the failure is remembered (`has_failed`).
-    fn write_tracked(&mut self, bytes: &[u8]) -> io::Result<()>
+    fn write_all_noting_failure(&mut self, bytes: &[u8]) -> io::Result<()>
         ensures bytes { OnOk result
             (Appends (Self.contents self.old) (Self.contents self.new) bytes.now) }
         ensures unflushed { bytes.now ≢ [] → is_flushed self.new ≡ false }
@@ -45,15 +45,15 @@ pub trait Output: Write {
         ensures failed { has_failed self.new ≡ (has_failed self.old || is_err result) };
 
     /// Flushes the writer, and remembers whether that succeeded.
-    fn flush_tracked(&mut self) -> io::Result<()>
+    fn flush_noting_result(&mut self) -> io::Result<()>
         ensures bytes { Keeps (Self.contents self.old) (Self.contents self.new) }
         ensures flushed { OnOk result (is_flushed self.new ≡ true) }
         ensures kept { OnErr result (is_flushed self.new ≡ is_flushed self.old) }
         ensures failed { has_failed self.new ≡ (has_failed self.old || is_err result) };
 }
 
-/// A wrapper that makes any writer an `Output`. It remembers whether `flush_tracked` has succeeded
-/// since the last write, and whether `write_tracked` or `flush_tracked` has failed.
+/// A wrapper that makes any writer an `Output`. It remembers whether `flush_noting_result` has succeeded
+/// since the last write, and whether `write_all_noting_failure` or `flush_noting_result` has failed.
 #[derive(Drop)]
 pub struct TrackedWriter<W> {
     device: W,
@@ -66,7 +66,7 @@ impl<W> TrackedWriter<W> {
     pub fn new(device: W) -> TrackedWriter<W>
         ensures device { wrapped_writer result ≡ device }
         ensures fresh { has_flushed result ≡ false }
-        ensures works { output_failed result ≡ false }
+        ensures works { has_output_failed result ≡ false }
     {
         TrackedWriter {
             device,
@@ -84,7 +84,7 @@ impl<W: Write> Write for TrackedWriter<W> {
         ensures bytes { WriteAppends (W.contents (wrapped_writer self.old))
             (W.contents (wrapped_writer self.new)) result buf.now }
         ensures flushed { has_flushed self.new ≡ false }
-        ensures kept { output_failed self.new ≡ output_failed self.old }
+        ensures kept { has_output_failed self.new ≡ has_output_failed self.old }
     {
         self.has_flushed = false;
         self.device.write(buf)
@@ -94,7 +94,7 @@ impl<W: Write> Write for TrackedWriter<W> {
         ensures bytes { Keeps (W.contents (wrapped_writer self.old))
             (W.contents (wrapped_writer self.new)) }
         ensures flushed { has_flushed self.new ≡ has_flushed self.old }
-        ensures kept { output_failed self.new ≡ output_failed self.old }
+        ensures kept { has_output_failed self.new ≡ has_output_failed self.old }
     {
         self.device.flush()
     }
@@ -103,9 +103,9 @@ impl<W: Write> Write for TrackedWriter<W> {
 impl<W: Write> Output for TrackedWriter<W> {
     ghost is_flushed = { λ output. has_flushed output };
 
-    ghost has_failed = { λ output. output_failed output };
+    ghost has_failed = { λ output. has_output_failed output };
 
-    fn write_tracked(&mut self, bytes: &[u8]) -> io::Result<()> {
+    fn write_all_noting_failure(&mut self, bytes: &[u8]) -> io::Result<()> {
         self.has_flushed = self.has_flushed && bytes.is_empty();
         match self.device.write_all(bytes) {
             Ok(()) => Ok(()),
@@ -116,7 +116,7 @@ impl<W: Write> Output for TrackedWriter<W> {
         }
     }
 
-    fn flush_tracked(&mut self) -> io::Result<()> {
+    fn flush_noting_result(&mut self) -> io::Result<()> {
         match self.device.flush() {
             Ok(()) => {
                 self.has_flushed = true;
@@ -137,7 +137,7 @@ pub(crate) fn write<W: Output>(out: &mut W, text: &str) -> Result<(), FileFault>
     ensures fault { IfErr result (λ fault. fault ≡ faults.Write) }
     ensures failed { OnErr result (W.has_failed out.new ≡ true) }
 {
-    match out.write_tracked(text.as_bytes()) {
+    match out.write_all_noting_failure(text.as_bytes()) {
         Ok(()) => Ok(()),
         Err(_) => Err(FileFault::Write),
     }
@@ -153,7 +153,7 @@ pub fn print<W: Output>(out: &mut W, text: &str) -> Result<(), FileFault>
     ensures said { PrintsLine W.contents W.is_flushed W.has_failed out.old out.new (Some text.now) }
 {
     write(out, text)?;
-    match out.flush_tracked() {
+    match out.flush_noting_result() {
         Ok(()) => Ok(()),
         Err(_) => Err(FileFault::Write),
     }

@@ -2,7 +2,7 @@
 use Rattle.std.proofs.Common.{◌≡◌, ℕ, List, Option, Some, None, Result, Vec, Global, inl, inr, refl, subst}
 use Rattle.std.specs.Str.{chars, IsUtf8}
 use Rattle.ob0_inline.specs.Everywhere.{tree_inlined_everywhere}
-use Rattle.ob0_inline.specs.Inlined.{EditsGiveModule}
+use Rattle.ob0_inline.specs.EditedModuleTexts.{EditsGiveModule}
 use Rattle.ob0_inline.specs.Uses.{tree_inlined_here}
 use Rattle.ob0_language_runs.specs.EditLaws.{HaveSameRuns}
 use Rattle.ob0_language_names.specs.Names.{Name}
@@ -13,13 +13,13 @@ use Rattle.ob0_text.specs.declared.refusals.EditRefusal.{EditRefusal}
 use Rattle.ob0_tree.specs.ParsedModule.{ParsedModule, named_tree_of}
 use Rattle.ob0_tree.specs.Tree.{Tree, module_text}
 use Rattle.ob0_language_types.specs.WellTyped.{WellTyped}
-use Rattle.ob0_edits.specs.Inlinings.{AnswersInlining, AreOptionalInlineResults, IsInlineResult, InlinesInText, AreEditsUnlessRefused, OffersOrRefusesInlining}
-use Rattle.ob0_analysis.specs.Analysed.{AnswersIfWellTyped, IsResolvedWellTypedModule, IsParsedWellTypedModule}
-use Rattle.ob0_analysis.specs.Diagnosed.{IsTextOfTree, IsWellTypedModule}
+use Rattle.ob0_edits.specs.InliningEdits.{AnswersInlining, AreOptionalInlineResults, IsInlineResult, InlinesInText, AreEditsUnlessRefused, IsInlineResultInText}
+use Rattle.ob0_analysis.specs.AnalysisAnswers.{AnswersIfWellTyped, IsResolvedWellTypedModule, IsParsedWellTypedModule}
+use Rattle.ob0_analysis.specs.ReportedErrors.{IsTextOfTree, IsWellTypedModule}
 use Rattle.ob0_analysis.specs.Texts.{utf8}
 use Rattle.ob0_edits.specs.declared.inlinings.Inlining.{Inlining}
 use Rattle.ob0_edits.specs.declared.inlinings.Inlining.TheVariants.{OneUse, Everywhere}
-use Rattle.ob0_edits.specs.declared.inlinings.Inlinings.{Inlinings}
+use Rattle.ob0_edits.specs.declared.inlinings.InliningEdits.{InliningEdits}
 use Rattle.ob0_analysis.proofs.Scanning.{is_module, utf8_of}
 
 -- ---- the edits that an answer offers
@@ -61,11 +61,11 @@ inlines_in Everywhere unit text offset edits names h (inl (c, at, answer)) =
 inlines_in Everywhere unit text offset edits names h (inr (is, none)) = cc
 
 offers : (how : Inlining) (unit : Unit) (text : List ℕ) (offset : ℕ) (edits : Option (Vec Edit Global)) (names : Resolution) → IsResolvedWellTypedModule (utf8 text) names
-    → IsInlineResult how unit text names.module_read offset edits → OffersOrRefusesInlining how unit text offset edits
+    → IsInlineResult how unit text names.module_read offset edits → IsInlineResultInText how unit text offset edits
 offers how unit text offset (Some edits) names h inlines = inlines_in how unit text offset edits names h inlines
 offers how unit text offset None names h refused = record { module_read = names.module_read; read = read_as (utf8 text) names h; refused = refused }
 
-pub inlinings_found : (unit : Unit) (bytes text : List ℕ) (offset : ℕ) (found : Option Inlinings) → IsUtf8 bytes → chars bytes ≡ text
+pub inlinings_found : (unit : Unit) (bytes text : List ℕ) (offset : ℕ) (found : Option InliningEdits) → IsUtf8 bytes → chars bytes ≡ text
     → AnswersIfWellTyped bytes (λ names answer. IsInlineResult OneUse unit text names.module_read offset answer.here × IsInlineResult Everywhere unit text names.module_read offset answer.everywhere) found
     → AreOptionalInlineResults unit text offset found
 inlinings_found unit bytes text offset (Some found) u is h =

@@ -13,17 +13,17 @@ use Rattle.ob0_text.specs.declared.position_types.Unit.{Unit}
 use Rattle.ob0_tree.specs.Module.{IsModuleWithTree}
 use Rattle.ob0_tree.specs.ParsedModule.{ParsedModule, named_tree_of}
 use Rattle.ob0_tree.specs.Tree.{Tree, module_text}
-use Rattle.ob0_edits_tokens.specs.ByteCuts.{edit_at_cut}
-use Rattle.ob0_edits_tokens.specs.Replaced.{range_and_text}
+use Rattle.ob0_edits_tokens.specs.ByteCuts.{edit_of_cut}
+use Rattle.ob0_edits_tokens.specs.Replacements.{range_and_text}
 use Rattle.ob0_layout.specs.Layout.{formatted_lexemes, formatted_text}
 use Rattle.ob0_layout.specs.Gaps.{changed_gaps, all_gaps}
 use Rattle.ob0_layout.specs.LineRoles.{line_roles}
 use Rattle.ob0_text.specs.declared.refusals.EditRefusal.{EditRefusal}
 use Rattle.ob0_text.specs.declared.refusals.EditRefusal.TheVariants.{TooLong, Memory}
-use Rattle.ob0_analysis.specs.Analysed.{AnswersIfWellTyped, IsResolvedWellTypedModule}
-use Rattle.ob0_analysis.specs.Diagnosed.{IsTextOfTree, IsWellTypedModule}
+use Rattle.ob0_analysis.specs.AnalysisAnswers.{AnswersIfWellTyped, IsResolvedWellTypedModule}
+use Rattle.ob0_analysis.specs.ReportedErrors.{IsTextOfTree, IsWellTypedModule}
 use Rattle.ob0_analysis.specs.Texts.{utf8}
-use Rattle.ob0_edits.specs.Layouts.{IsOptionalFormatResult, IsFormatResult, FormattedTextIsTooLong, FormatsText, edits_of_changed_gaps, formatted_text_of}
+use Rattle.ob0_edits.specs.FormattingEdits.{IsOptionalFormatResult, IsFormatResult, FormattedTextIsTooLong, FormatsText, edits_of_changed_gaps, formatted_text_of_module}
 use Rattle.ob0_analysis.proofs.Scanning.{is_module, utf8_of}
 
 abbrev pub ModuleStays : Type 0
@@ -32,27 +32,27 @@ ModuleStays =
     → (t : TextWithTokens) → IsScan t → t.text ≡ formatted_text indent tree scan.lexemes → IsModuleWithTree t tree
 
 -- If the formatted text isn't too long, it is a text of the same module.
-stays_module : (indent : Indent) (text : List ℕ) (m : IsWellTypedModule text) → IsUtf8 (formatted_text_of indent m) → LexesInto (formatted_text_of indent m) (formatted_lexemes indent m.tree m.text_of.scan.scan.lexemes)
-    → length (formatted_text_of indent m) ≤ max_text_length → ModuleStays → IsTextOfTree m.tree (utf8 (chars (formatted_text_of indent m)))
+stays_module : (indent : Indent) (text : List ℕ) (m : IsWellTypedModule text) → IsUtf8 (formatted_text_of_module indent m) → LexesInto (formatted_text_of_module indent m) (formatted_lexemes indent m.tree m.text_of.scan.scan.lexemes)
+    → length (formatted_text_of_module indent m) ≤ max_text_length → ModuleStays → IsTextOfTree m.tree (utf8 (chars (formatted_text_of_module indent m)))
 stays_module indent text m u lexed short law =
-    let laid : List ℕ = formatted_text_of indent m in
+    let laid : List ℕ = formatted_text_of_module indent m in
     let lexemes : List Lexeme = formatted_lexemes indent m.tree m.text_of.scan.scan.lexemes in
     let t : TextWithTokens = record { text = laid; tokens = tokens_of_lexemes_from 0 lexemes; comments = comments_of_lexemes_from 0 lexemes } in
     let scan : IsScan t = record { utf8 = u; short = short; lexemes = lexemes; lexed = lexed; tokens = refl; comments = refl } in
     record { scanned = t; scan = record { of = sym (encodes-chars laid u); scan = scan }; module_of = law indent m.text_of.scanned m.text_of.scan.scan m.tree m.text_of.module_of t scan refl }
 
 pub lays_out : (unit : Unit) (indent : Indent) (text : List ℕ) (edits : List Edit) (m : IsWellTypedModule (utf8 text)) → map range_and_text edits ≡ edits_of_changed_gaps unit indent text m
-    → patched_text (width_of unit) text edits ≡ Some (chars (formatted_text_of indent m)) → length (formatted_text_of indent m) ≤ max_text_length
-    → IsUtf8 (formatted_text_of indent m) → LexesInto (formatted_text_of indent m) (formatted_lexemes indent m.tree m.text_of.scan.scan.lexemes) → ModuleStays
+    → patched_text (width_of unit) text edits ≡ Some (chars (formatted_text_of_module indent m)) → length (formatted_text_of_module indent m) ≤ max_text_length
+    → IsUtf8 (formatted_text_of_module indent m) → LexesInto (formatted_text_of_module indent m) (formatted_lexemes indent m.tree m.text_of.scan.scan.lexemes) → ModuleStays
     → FormatsText unit indent text edits
 lays_out unit indent text edits m changes made short u lexed law =
-    let stays : IsTextOfTree m.tree (utf8 (chars (formatted_text_of indent m))) = stays_module indent (utf8 text) m u lexed short law in
+    let stays : IsTextOfTree m.tree (utf8 (chars (formatted_text_of_module indent m))) = stays_module indent (utf8 text) m u lexed short law in
     record {
       before = m;
       changes = changes;
-      after = chars (formatted_text_of indent m);
+      after = chars (formatted_text_of_module indent m);
       made = made;
-      is_formatted_text = encodes-chars (formatted_text_of indent m) u;
+      is_formatted_text = encodes-chars (formatted_text_of_module indent m) u;
       same_module = stays;
       runs = record { old = m; new = record { tree = m.tree; text_of = stays; well_typed = m.well_typed }; same = λ input c t. refl };
     }
@@ -60,7 +60,7 @@ lays_out unit indent text edits m changes made short u lexed law =
 -- holds if the contract of `format` holds of these edits, for a module that was read
 abbrev pub Made : Unit → Indent → List ℕ → List Edit → ParsedModule → Type 0
 Made unit indent text edits m =
-    ((scan : IsScan m.source) → map range_and_text edits ≡ map (edit_at_cut unit text) (changed_gaps m.source.text (all_gaps indent m.source.text (line_roles 0 (named_tree_of m)) scan.lexemes)))
+    ((scan : IsScan m.source) → map range_and_text edits ≡ map (edit_of_cut unit text) (changed_gaps m.source.text (all_gaps indent m.source.text (line_roles 0 (named_tree_of m)) scan.lexemes)))
     × ((scan : IsScan m.source) → length (formatted_text indent (named_tree_of m) scan.lexemes) ≤ max_text_length)
     × ((scan : IsScan m.source) → text ≡ chars m.source.text → patched_text (width_of unit) text edits ≡ Some (chars (formatted_text indent (named_tree_of m) scan.lexemes)))
 
@@ -88,7 +88,7 @@ too_long indent text names m refusal is h long (inl longer) other =
 -- If no allocation failed, the result is edits or the refusal, by the contract of `format`.
 pub formats_or_not : (unit : Unit) (indent : Indent) (text : List ℕ) (names : Resolution) (m : ParsedModule) (r : Result (Vec Edit Global) EditRefusal) → m ≡ names.module_read
     → IsResolvedWellTypedModule (utf8 text) names → text ≡ chars names.module_read.source.text
-    → ((scan : IsScan m.source) → IfOk r (λ edits. map range_and_text edits.items ≡ map (edit_at_cut unit text) (changed_gaps m.source.text (all_gaps indent m.source.text (line_roles 0 (named_tree_of m)) scan.lexemes))))
+    → ((scan : IsScan m.source) → IfOk r (λ edits. map range_and_text edits.items ≡ map (edit_of_cut unit text) (changed_gaps m.source.text (all_gaps indent m.source.text (line_roles 0 (named_tree_of m)) scan.lexemes))))
     → ((scan : IsScan m.source) → IfOk r (λ edits. length (formatted_text indent (named_tree_of m) scan.lexemes) ≤ max_text_length))
     → ((scan : IsScan m.source) → text ≡ chars m.source.text → IfOk r (λ edits. patched_text (width_of unit) text edits.items ≡ Some (chars (formatted_text indent (named_tree_of m) scan.lexemes))))
     → ((scan : IsScan m.source) → IsErrOf r TooLong → max_text_length < length (formatted_text indent (named_tree_of m) scan.lexemes))

@@ -1,7 +1,7 @@
 -- Proves that the edits of a renaming leave a text whose module has the same runs.
 use Rattle.std.proofs.Common.{◌≡◌, ◌⊎◌, ℕ, List, Option, Some, None, Result, Ok, Err, IfErr, Vec, Global, inl, inr, refl, subst, sym}
 use Rattle.std.specs.Str.{chars, IsUtf8}
-use Rattle.ob0_language_fields.specs.Renaming.{with_renamed_field}
+use Rattle.ob0_language_fields.specs.Renaming.{module_with_renamed_field}
 use Rattle.ob0_rename.specs.Answers.{AreRenameEdits, IsRenameRefusal, RenameAnswers, WritesNewName}
 use Rattle.ob0_rename.specs.Renaming.{Renaming, field_tokens_to_rename, renaming_of, tokens_to_rename}
 use Rattle.ob0_language_names.specs.Names.{Name}
@@ -14,8 +14,8 @@ use Rattle.ob0_text.specs.declared.refusals.EditRefusal.{EditRefusal}
 use Rattle.ob0_text.specs.declared.refusals.EditRefusal.TheVariants.{Memory}
 use Rattle.ob0_tree.specs.ParsedModule.{named_tree_of}
 use Rattle.ob0_tree.specs.Tree.{Tree, module_text}
-use Rattle.ob0_analysis.specs.Analysed.{AnswersIfWellTyped, IsResolvedWellTypedModule}
-use Rattle.ob0_analysis.specs.Diagnosed.{IsTextOfTree, IsWellTypedModule}
+use Rattle.ob0_analysis.specs.AnalysisAnswers.{AnswersIfWellTyped, IsResolvedWellTypedModule}
+use Rattle.ob0_analysis.specs.ReportedErrors.{IsTextOfTree, IsWellTypedModule}
 use Rattle.ob0_analysis.specs.Texts.{utf8}
 use Rattle.ob0_edits.specs.Renamings.{IsOptionalRenameResult, RenamesInText, IsRenameResult}
 use Rattle.ob0_analysis.proofs.Scanning.{is_module, utf8_of}
@@ -53,7 +53,7 @@ spellings_after_rename : (unit : Unit) (text : List ℕ) (place : Position) (new
 spellings_after_rename unit text place new edits names h (inl (d, means, renames)) =
     renames_in unit text place new edits names h (inl (d, means, renames)) (tokens_to_rename names.module_read d new) (renamed (named_tree_of names.module_read) d new) renames.writes
 spellings_after_rename unit text place new edits names h (inr (k, (f, means, renames))) =
-    renames_in unit text place new edits names h (inr (k, (f, means, renames))) (field_tokens_to_rename names k f new) (with_renamed_field (named_tree_of names.module_read) k f new) renames.writes
+    renames_in unit text place new edits names h (inr (k, (f, means, renames))) (field_tokens_to_rename names k f new) (module_with_renamed_field (named_tree_of names.module_read) k f new) renames.writes
 
 pub new_name_found : (unit : Unit) (bytes text : List ℕ) (place : Position) (new : List ℕ) (found : Option (Result (Vec Edit Global) EditRefusal)) → IsUtf8 bytes → chars bytes ≡ text
     → AnswersIfWellTyped bytes (λ names outcome. IsRenameResult (renaming_of unit text names place new) outcome) found → IsOptionalRenameResult unit text place new found

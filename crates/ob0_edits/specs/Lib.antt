@@ -1,7 +1,7 @@
-pub mod Inlinings
-pub mod Layouts
+pub mod InliningEdits
+pub mod FormattingEdits
 pub mod Renamings
-pub use Rattle.ob0_analysis.specs.Analysed
-pub use Rattle.ob0_analysis.specs.Diagnosed
-pub use Rattle.ob0_analysis.specs.RunsKept
+pub use Rattle.ob0_analysis.specs.AnalysisAnswers
+pub use Rattle.ob0_analysis.specs.ReportedErrors
+pub use Rattle.ob0_analysis.specs.SameRuns
 pub use Rattle.ob0_analysis.specs.Texts

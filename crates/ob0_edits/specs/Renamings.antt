@@ -9,9 +9,9 @@ use Rattle.ob0_text.specs.declared.position_types.Position.{Position}
 use Rattle.ob0_text.specs.declared.position_types.Unit.{Unit}
 use Rattle.ob0_text.specs.declared.refusals.EditRefusal.{EditRefusal}
 use Rattle.ob0_scope_table.specs.Resolution.{Resolution}
-use Rattle.ob0_analysis.specs.Analysed.{IsResolvedWellTypedModule}
-use Rattle.ob0_analysis.specs.Diagnosed.{IsWellTypedModule}
-use Rattle.ob0_analysis.specs.RunsKept.{RunsAsBefore}
+use Rattle.ob0_analysis.specs.AnalysisAnswers.{IsResolvedWellTypedModule}
+use Rattle.ob0_analysis.specs.ReportedErrors.{IsWellTypedModule}
+use Rattle.ob0_analysis.specs.SameRuns.{RunsAsBefore}
 use Rattle.ob0_analysis.specs.Texts.{utf8}
 use Rattle.ob0_rename.specs.Answers.{AreRenameEdits, IsRenameRefusal}
 use Rattle.ob0_rename.specs.Renaming.{Renaming, renaming_of}

@@ -3,14 +3,14 @@
 //! `InliningsQuestion` asks for the edits of both kinds of inlining. It is a `Question` of
 //! `ob0_analysis`, which is answered only for a well-typed text. `edits_unless_refused` separates a
 //! failed allocation from the refusals. To add another kind of inlining, add a variant of
-//! `Inlining`, a line in `AnswersInlining`, a field in `Inlinings`, and a case in `inlines_in` of
+//! `Inlining`, a line in `AnswersInlining`, a field in `InliningEdits`, and a case in `inlines_in` of
 //! `proofs/Inlined`.
 
 ghost use Rattle.std.specs.Prelude.{◌≡◌, IfOk};
 ghost use Rattle.std.specs.Str.{chars};
 ghost use Rattle.ob0_text.specs.Texts.{offset_of};
 ghost use Rattle.ob0_text.specs.Units.{width_of};
-ghost use Rattle.ob0_edits.specs.Inlinings.{AreOptionalInlineResults, IsInlineResult, AreEditsUnlessRefused};
+ghost use Rattle.ob0_edits.specs.InliningEdits.{AreOptionalInlineResults, IsInlineResult, AreEditsUnlessRefused};
 ghost use Rattle.ob0_edits.specs.declared.inlinings.Inlining.TheVariants as how;
 
 use crate::refusals::memory_refusal_as_error;
@@ -29,7 +29,7 @@ pub enum Inlining {
 
 /// The edits of each kind of inlining, or None for a kind that is refused.
 #[derive(Drop)]
-pub struct Inlinings {
+pub struct InliningEdits {
     pub here: Option<Vec<Edit>>,
     pub everywhere: Option<Vec<Edit>>,
 }
@@ -43,7 +43,7 @@ struct InliningsQuestion<'a, T: TextStore> {
 }
 
 impl<'a, T: TextStore> Question for InliningsQuestion<'a, T> {
-    type Answer = Inlinings;
+    type Answer = InliningEdits;
 
     ghost is_about = { λ q text. T.content q.store.now ≡ chars text };
 
@@ -55,10 +55,10 @@ impl<'a, T: TextStore> Question for InliningsQuestion<'a, T> {
         (offset_of (width_of (T.unit_of q.store.now)) (T.content q.store.now) q.place)
         found.everywhere };
 
-    fn answer(&self, alloc: Global, module: &WellTyped<'_>) -> Result<Inlinings, AllocError> {
+    fn answer(&self, alloc: Global, module: &WellTyped<'_>) -> Result<InliningEdits, AllocError> {
         let here = edits_unless_refused(inline_here(alloc, self.store, module, self.place))?;
         let everywhere = edits_unless_refused(inline_all(alloc, self.store, module, self.place))?;
-        Ok(Inlinings { here, everywhere })
+        Ok(InliningEdits { here, everywhere })
     }
 }
 
@@ -84,7 +84,7 @@ pub fn inline_edits<T: TextStore>(
     store: &T,
     analysis: &Analysis,
     place: Position,
-) -> Result<Option<Inlinings>, AllocError>
+) -> Result<Option<InliningEdits>, AllocError>
     requires { T.content store.now ≡ chars analysis.now }
     ensures { IfOk result (λ found. AreOptionalInlineResults (T.unit_of store.now) (T.content store.now)
         (offset_of (width_of (T.unit_of store.now)) (T.content store.now) place) found) }

@@ -10,10 +10,10 @@ use Rattle.ob0_scan.specs.declared.lexeme.Symbol.TheVariants as symbol
 use Rattle.ob0_scan.specs.declared.lexeme.TokenKind.TheVariants as token
 use Rattle.ob0_scan.specs.declared.lexeme.LexemeKind.{LexemeKind}
 use Rattle.ob0_scan.specs.declared.lexeme.LexemeKind.TheVariants as lexeme
-use Rattle.ob0_scan.specs.Classes.{IsLexemeOfKind, is_white_space, symbol_text}
+use Rattle.ob0_scan.specs.LexemeClasses.{IsLexemeOfKind, is_white_space, symbol_text}
 use Rattle.ob0_scan.specs.Comments.{IsComment}
 use Rattle.ob0_scan.specs.Lexed.{Lexeme, text_of_lexemes}
-use Rattle.ob0_scan.specs.Ends.{continues_lexeme, EachLexemeEndsBeforeNext}
+use Rattle.ob0_scan.specs.LexemeEnds.{continues_lexeme, EachLexemeEndsBeforeNext}
 use Rattle.ob0_scan.specs.TextWithTokens.{TextWithTokens, IsScan}
 use Rattle.ob0_scan.proofs.Borders.{cut_into_lexemes_depends_only_on_next_bytes}
 use Rattle.ob0_scan.proofs.Closings.{closing, comment_found}

@@ -5,9 +5,9 @@ use Rattle.std.proofs.Math.Bool.{and-false}
 use Rattle.std.proofs.lemmas.Bool.{false_from_ne_true, lt-leb}
 use Rattle.ob0_scan.specs.declared.lexeme.Token.{Token}
 use Rattle.ob0_scan.specs.TextWithTokens.{Word}
-use Rattle.ob0_edits_tokens.specs.Changed.{WordChanges, changed_words, changes_at, is_in_list, replacement_or_word}
-use Rattle.ob0_edits_tokens.specs.Replaced.{AreIdentifierIndexes}
-use Rattle.ob0_edits_tokens.specs.Removed.{changes_with_removal}
+use Rattle.ob0_edits_tokens.specs.WordReplacements.{WordChanges, changed_words, changes_at_indexes, is_in_list, replacement_or_word}
+use Rattle.ob0_edits_tokens.specs.Replacements.{AreIdentifierIndexes}
+use Rattle.ob0_edits_tokens.specs.Removals.{changes_with_removal}
 
 -- Changing joined lists of words changes each part.
 changed_append : (ch : WordChanges) (k : ℕ) (xs ys : List Word) → changed_words ch k (xs ++ ys) ≡ changed_words ch k xs ++ changed_words ch (k + length xs) ys
@@ -41,17 +41,17 @@ not_in_list tokens least k (p ∷ ps) names below =
     rw (other) (not_in_list tokens (suc p) k ps names.3 (omega (arith, names.0)))
 
 -- The words before the first index stay.
-pub words_before : (tokens : List Token) (least : ℕ) (indexes : List ℕ) → AreIdentifierIndexes tokens least indexes → (ws : List Word) (k : ℕ) (xs : List Word) → k + length xs ≤ least → changed_words (changes_at indexes ws) k xs ≡ xs
+pub words_before : (tokens : List Token) (least : ℕ) (indexes : List ℕ) → AreIdentifierIndexes tokens least indexes → (ws : List Word) (k : ℕ) (xs : List Word) → k + length xs ≤ least → changed_words (changes_at_indexes indexes ws) k xs ≡ xs
 words_before tokens least indexes names ws k xs low =
-    same_changes (changes_at indexes ws) (λ _. None) k xs (λ j up less. ap (λ b. if b then Some ws else None) (not_in_list tokens least j indexes names (omega (arith, less, low)))) ∙ unchanged k xs
+    same_changes (changes_at_indexes indexes ws) (λ _. None) k xs (λ j up less. ap (λ b. if b then Some ws else None) (not_in_list tokens least j indexes names (omega (arith, less, low)))) ∙ unchanged k xs
 
 -- The word at the first index changes, and the words before it stay.
 pub first_changed : (tokens : List Token) (p : ℕ) (ps : List ℕ) → AreIdentifierIndexes tokens p (p ∷ ps) → (ws : List Word) (k : ℕ) (xs : List Word) (w : Word) (ys : List Word) → k + length xs ≡ p
-    → changed_words (changes_at (p ∷ ps) ws) k (xs ++ (w ∷ ys)) ≡ xs ++ (ws ++ changed_words (changes_at ps ws) (suc p) ys)
+    → changed_words (changes_at_indexes (p ∷ ps) ws) k (xs ++ (w ∷ ys)) ≡ xs ++ (ws ++ changed_words (changes_at_indexes ps ws) (suc p) ys)
 first_changed tokens p ps names ws k xs w ys count =
-    let ch : WordChanges = changes_at (p ∷ ps) ws in
-    let after : changed_words ch (suc p) ys ≡ changed_words (changes_at ps ws) (suc p) ys =
-    same_changes ch (changes_at ps ws) (suc p) ys (λ j low high. ap (λ b. if b || is_in_list j ps then Some ws else None) (false_from_ne_true (j == p) (λ e. absurd (omega (arith, eqb-true j p e, low))))) in
+    let ch : WordChanges = changes_at_indexes (p ∷ ps) ws in
+    let after : changed_words ch (suc p) ys ≡ changed_words (changes_at_indexes ps ws) (suc p) ys =
+    same_changes ch (changes_at_indexes ps ws) (suc p) ys (λ j low high. ap (λ b. if b || is_in_list j ps then Some ws else None) (false_from_ne_true (j == p) (λ e. absurd (omega (arith, eqb-true j p e, low))))) in
     changed_append ch k xs (w ∷ ys)
     ∙ ap₂ (λ a b. a ++ b) (words_before tokens p (p ∷ ps) names ws k xs (omega (arith, count)))
     (ap (λ n. changed_words ch n (w ∷ ys)) count

@@ -11,14 +11,14 @@ use Rattle.ob0_scan.specs.declared.lexeme.Symbol.TheVariants as symbol
 use Rattle.ob0_scan.specs.declared.lexeme.TokenKind.TheVariants as token
 use Rattle.ob0_scan.specs.declared.lexeme.LexemeKind.{LexemeKind}
 use Rattle.ob0_scan.specs.declared.lexeme.LexemeKind.TheVariants as lexeme
-use Rattle.ob0_scan.specs.Classes.{IsLexemeOfKind, IsIdentifier, IsNonEmptySequenceOf, is_white_space}
+use Rattle.ob0_scan.specs.LexemeClasses.{IsLexemeOfKind, IsIdentifier, IsNonEmptySequenceOf, is_white_space}
 use Rattle.ob0_scan.specs.Lexed.{Lexeme, text_of_lexemes}
-use Rattle.ob0_scan.specs.Ends.{continues_symbol, continues_lexeme, EndsBeforeByte, EachLexemeEndsBeforeNext}
+use Rattle.ob0_scan.specs.LexemeEnds.{continues_symbol, continues_lexeme, EndsBeforeByte, EachLexemeEndsBeforeNext}
 use Rattle.ob0_scan.specs.TextWithTokens.{Word, words_of_lexeme, words_of_lexemes}
 use Rattle.ob0_scan.proofs.Cuts.{nonempty}
 use Rattle.ob0_scan.proofs.Families.{Blank, family_of, family-blank, head_family}
 use Rattle.ob0_scan.proofs.Reusing.{joined_append}
-use Rattle.ob0_edits_tokens.specs.Replaced.{LexemesEndBefore, MayReplaceIdentifier}
+use Rattle.ob0_edits_tokens.specs.Replacements.{LexemesEndBeforeByte, MayReplaceIdentifier}
 
 -- returns the first byte of some lexemes, or 0 if there is none
 abbrev pub first_byte : List Lexeme → ℕ
@@ -51,7 +51,7 @@ first_alone : (xs ys : List ℕ) → get_or (xs ++ (get_or ys 0 0 ∷ [])) 0 0 �
 first_alone [] [] = refl
 first_alone _ _ = refl
 
-append_apart : (xs ys : List Lexeme) → LexemesEndBefore xs (first_byte ys) → EachLexemeEndsBeforeNext ys → EachLexemeEndsBeforeNext (xs ++ ys)
+append_apart : (xs ys : List Lexeme) → LexemesEndBeforeByte xs (first_byte ys) → EachLexemeEndsBeforeNext ys → EachLexemeEndsBeforeNext (xs ++ ys)
 append_apart [] ys h k = k
 append_apart (x ∷ xs) ys h k =
     (subst (λ b. EndsBeforeByte x b) (first_alone (text_of_lexemes xs) (text_of_lexemes ys) ∙ ap (λ t. get_or t 0 0) (sym (joined_append xs ys))) h.0, append_apart xs ys h.1 k)

@@ -6,6 +6,6 @@ mod TokenPlaces
 mod Splices
 pub mod Names
 pub mod Values
-pub mod OfTrees
+pub mod WordsOfTrees
 pub mod Made
 pub mod Ranged

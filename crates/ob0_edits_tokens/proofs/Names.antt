@@ -9,10 +9,10 @@ use Rattle.ob0_scan.specs.declared.lexeme.Symbol.TheVariants as symbol
 use Rattle.ob0_scan.specs.declared.lexeme.TokenKind.TheVariants as token
 use Rattle.ob0_scan.specs.declared.lexeme.LexemeKind.{LexemeKind}
 use Rattle.ob0_scan.specs.declared.lexeme.LexemeKind.TheVariants as lexeme
-use Rattle.ob0_scan.specs.Classes.{IsIdentifier, is_white_space}
-use Rattle.ob0_scan.specs.Ends.{continues_symbol, continues_lexeme}
+use Rattle.ob0_scan.specs.LexemeClasses.{IsIdentifier, is_white_space}
+use Rattle.ob0_scan.specs.LexemeEnds.{continues_symbol, continues_lexeme}
 use Rattle.ob0_scan.proofs.Cuts.{nonempty}
-use Rattle.ob0_edits_tokens.specs.Replaced.{MayReplaceIdentifier}
+use Rattle.ob0_edits_tokens.specs.Replacements.{MayReplaceIdentifier}
 
 -- A byte that is neither `=` nor `*` continues no symbol.
 not_joined : (s : Symbol) (b : ℕ) → (b == 61) ≡ false → (b == 42) ≡ false → continues_symbol s b ≡ false

@@ -10,7 +10,7 @@ use Rattle.ob0_text.specs.declared.position_types.Range.{Range}
 use Rattle.ob0_text.specs.Texts.{position_of}
 use Rattle.ob0_text.specs.declared.position_types.Unit as counting
 use Rattle.ob0_text.specs.Units.{width_of}
-use Rattle.ob0_edits_tokens.specs.Replaced.{span_at, replacement_at_token}
+use Rattle.ob0_edits_tokens.specs.Replacements.{span_at, replacement_at_token}
 use Rattle.ob0_edits_tokens.specs.Ranges.{span_bounds, range_of}
 
 span_bounds-append : (xs ys : List Span) → span_bounds (xs ++ ys) ≡ span_bounds xs ++ span_bounds ys

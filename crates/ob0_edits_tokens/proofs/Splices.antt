@@ -10,17 +10,17 @@ use Rattle.ob0_scan.specs.declared.lexeme.Symbol.TheVariants as symbol
 use Rattle.ob0_scan.specs.declared.lexeme.TokenKind.TheVariants as token
 use Rattle.ob0_scan.specs.declared.lexeme.LexemeKind.TheVariants as lexeme
 use Rattle.ob0_scan.specs.declared.lexeme.Token.{Token}
-use Rattle.ob0_scan.specs.Classes.{IsLexemeOfKind, IsIdentifier}
+use Rattle.ob0_scan.specs.LexemeClasses.{IsLexemeOfKind, IsIdentifier}
 use Rattle.ob0_scan.specs.Lexed.{Lexeme, text_of_lexemes}
-use Rattle.ob0_scan.specs.Ends.{EachLexemeEndsBeforeNext}
+use Rattle.ob0_scan.specs.LexemeEnds.{EachLexemeEndsBeforeNext}
 use Rattle.ob0_scan.specs.TextWithTokens.{Word, words_of_lexeme, words_of_lexemes}
 use Rattle.ob0_scan.proofs.Cuts.{nonempty}
 use Rattle.ob0_scan.proofs.Reusing.{joined_append}
 use Rattle.ob0_scan.proofs.Runs.{letter_or_digit}
-use Rattle.ob0_text.specs.Patches.{Cut, text_with_cuts}
-use Rattle.ob0_edits_tokens.specs.Changed.{WordChanges, changed_words, changes_at}
-use Rattle.ob0_edits_tokens.specs.Removed.{changes_with_removal, MayBeConstantDeclaration, removal_cut}
-use Rattle.ob0_edits_tokens.specs.Replaced.{AreIdentifierIndexes, MayReplaceIdentifier, replacement_cut, token_or_empty}
+use Rattle.ob0_text.specs.Patches.{Cut, text_from_place_with_cuts}
+use Rattle.ob0_edits_tokens.specs.WordReplacements.{WordChanges, changed_words, changes_at_indexes}
+use Rattle.ob0_edits_tokens.specs.Removals.{changes_with_removal, MayBeConstantDeclaration, removal_cut}
+use Rattle.ob0_edits_tokens.specs.Replacements.{AreIdentifierIndexes, MayReplaceIdentifier, replacement_cut, token_at_or_empty}
 use Rattle.ob0_edits_tokens.proofs.Borders.{IsBorder}
 use Rattle.ob0_edits_tokens.proofs.ChangedWords.{first_changed, part_removed, unchanged, words_before}
 use Rattle.ob0_edits_tokens.proofs.Joints.{IsInPlaceOf, IsNoOtherSymbol, after_same, first_byte, joined, name_replaced, words_append}
@@ -39,23 +39,23 @@ module _ (text : List ℕ) (u : IsUtf8 text) (tokens : List Token) (new : List �
   -- a name. The text is the one starting at an offset, with the lexemes `ls`.
   pub record Leaves (at k : ℕ) (ls : List Lexeme) (cs : List Cut) (changes : List Word → WordChanges) : Type 0 where
     pub cuts : AreCuts text at cs
-    pub left : (ws : List Word) → MayReplaceIdentifier new ws → IsSpelled (text_with_cuts text at cs) (changed_words (changes ws) k (words_of_lexemes ls))
+    pub left : (ws : List Word) → MayReplaceIdentifier new ws → IsSpelled (text_from_place_with_cuts text at cs) (changed_words (changes ws) k (words_of_lexemes ls))
 
   abbrev cuts_at : List ℕ → List Cut
   cuts_at = map (replacement_cut tokens new)
 
   -- States that identifiers can be replaced, and that what is left may stand in the place of the
   -- lexemes `ls`.
-  pub record Replaced (at k : ℕ) (ls : List Lexeme) (indexes : List ℕ) : Type 0 where
-    pub leaves : Leaves at k ls (cuts_at indexes) (changes_at indexes)
+  pub record Replacements (at k : ℕ) (ls : List Lexeme) (indexes : List ℕ) : Type 0 where
+    pub leaves : Leaves at k ls (cuts_at indexes) (changes_at_indexes indexes)
     pub fits : (ws : List Word) (may : MayReplaceIdentifier new ws) → IsInPlaceOf ls (leaves.left ws may).lexemes
 
   -- The text before a token stays if all cuts are after it.
-  front_kept : (at k : ℕ) (ls : List Lexeme) (p : ℕ) (cs : List Cut) → AreAt text u tokens at k ls → (t : HasToken text u tokens at k ls p) → AreCuts text t.start cs → text_with_cuts text at cs ≡ text_of_lexemes t.before ++ text_with_cuts text t.start cs
+  front_kept : (at k : ℕ) (ls : List Lexeme) (p : ℕ) (cs : List Cut) → AreAt text u tokens at k ls → (t : HasToken text u tokens at k ls p) → AreCuts text t.start cs → text_from_place_with_cuts text at cs ≡ text_of_lexemes t.before ++ text_from_place_with_cuts text t.start cs
   front_kept at k ls p cs r t are =
       pieced_kept text at t.start (text_of_lexemes t.before) (text_of_lexemes (t.here ∷ t.after)) cs (r.rest.whole ∙ ap text_of_lexemes t.whole ∙ joined_append t.before (t.here ∷ t.after)) t.start_is are
 
-  pub replaced : (at k : ℕ) (ls : List Lexeme) (indexes : List ℕ) → AreAt text u tokens at k ls → AreIdentifierIndexes tokens k indexes → Replaced at k ls indexes
+  pub replaced : (at k : ℕ) (ls : List Lexeme) (indexes : List ℕ) → AreAt text u tokens at k ls → AreIdentifierIndexes tokens k indexes → Replacements at k ls indexes
   replaced at k ls [] r names = record {
     leaves = record { cuts = tt; left = λ ws may. record { lexemes = ls; apart = r.rest.apart; read = sym (unchanged k (words_of_lexemes ls)); whole = sym r.rest.whole ∙ pieced_end text at } };
     fits = λ ws may. record { apart = r.rest.apart; front = λ kind h. h };
@@ -85,7 +85,7 @@ module _ (text : List ℕ) (u : IsUtf8 text) (tokens : List Token) (new : List �
                 apart = (fits ws may).apart;
                 read = words_append t.before (may.lexemes ++ rest.lexemes)
                     ∙ ap (λ x. words_of_lexemes t.before ++ x) (words_append may.lexemes rest.lexemes ∙ ap₂ (λ a b. a ++ b) may.read rest.read)
-                    ∙ sym (ap (changed_words (changes_at (p ∷ ps) ws) k) words ∙ first_changed tokens p ps here ws k (words_of_lexemes t.before) (record { kind = token.Identifier; text = t.here.text }) (words_of_lexemes t.after) t.count);
+                    ∙ sym (ap (changed_words (changes_at_indexes (p ∷ ps) ws) k) words ∙ first_changed tokens p ps here ws k (words_of_lexemes t.before) (record { kind = token.Identifier; text = t.here.text }) (words_of_lexemes t.after) t.count);
                 whole = joined_append t.before (may.lexemes ++ rest.lexemes)
                     ∙ ap (λ x. text_of_lexemes t.before ++ x) (joined_append may.lexemes rest.lexemes ∙ ap₂ (λ a b. a ++ b) may.whole rest.whole ∙ sym (pieced_here text t.start (replacement_cut tokens new p) t.end (cuts_at ps) t.start_of t.end_of))
                     ∙ sym (front_kept at k ls p (cuts_at (p ∷ ps)) r t cuts);
@@ -96,7 +96,7 @@ module _ (text : List ℕ) (u : IsUtf8 text) (tokens : List Token) (new : List �
 
   -- A declaration can be removed, and identifiers after it can be replaced.
   pub removed : (ls : List Lexeme) (first last : ℕ) (indexes : List ℕ) → AreAt text u tokens 0 0 ls → MayBeConstantDeclaration tokens first last → AreIdentifierIndexes tokens (suc last) indexes
-      → Leaves 0 0 ls (removal_cut tokens first last ∷ cuts_at indexes) (λ ws. changes_with_removal first last (changes_at indexes ws))
+      → Leaves 0 0 ls (removal_cut tokens first last ∷ cuts_at indexes) (λ ws. changes_with_removal first last (changes_at_indexes indexes ws))
   removed ls first last indexes r declaration names =
       let a = token_in text u tokens 0 0 ls first r (omega arith) (omega (arith, declaration.order, declaration.inside)) in
       let b = token_in text u tokens a.start first (a.here ∷ a.after) last a.from (omega (arith, declaration.order)) declaration.inside in
@@ -124,9 +124,9 @@ module _ (text : List ℕ) (u : IsUtf8 text) (tokens : List Token) (new : List �
               lexemes = j.lexemes;
               apart = j.apart;
               read = j.read ∙ ap (λ x. words_of_lexemes a.before ++ x) rest.read
-                  ∙ sym (ap (changed_words (changes_with_removal first last (changes_at indexes ws)) 0) words
-                  ∙ part_removed first last (changes_at indexes ws) (words_of_lexemes a.before) gone (words_of_lexemes b.after) (omega (arith, a.count)) many
-                  ∙ ap (λ x. x ++ changed_words (changes_at indexes ws) (suc last) (words_of_lexemes b.after)) (words_before tokens (suc last) indexes names ws 0 (words_of_lexemes a.before) (omega (arith, a.count, declaration.order))));
+                  ∙ sym (ap (changed_words (changes_with_removal first last (changes_at_indexes indexes ws)) 0) words
+                  ∙ part_removed first last (changes_at_indexes indexes ws) (words_of_lexemes a.before) gone (words_of_lexemes b.after) (omega (arith, a.count)) many
+                  ∙ ap (λ x. x ++ changed_words (changes_at_indexes indexes ws) (suc last) (words_of_lexemes b.after)) (words_before tokens (suc last) indexes names ws 0 (words_of_lexemes a.before) (omega (arith, a.count, declaration.order))));
               whole = j.whole
                   ∙ ap (λ x. text_of_lexemes a.before ++ x) (rest.whole ∙ sym (pieced_here text a.start (removal_cut tokens first last) b.end (cuts_at indexes) a.start_of b.end_of))
                   ∙ sym (front_kept 0 0 ls first all r a cuts);
@@ -140,7 +140,7 @@ module _ (text : List ℕ) (u : IsUtf8 text) (tokens : List Token) (new : List �
           let at : ℕ = length (text_of_lexemes xs) in
           let all : ls ≡ xs ++ (l ∷ (a.here ∷ a.after)) = a.whole ∙ ap (λ x. x ++ (a.here ∷ a.after)) e ∙ append_assoc xs (l ∷ []) (a.here ∷ a.after) in
           let there = further_on text u tokens xs (l ∷ (a.here ∷ a.after)) 0 0 at n (subst (AreAt text u tokens 0 0) all r) (omega arith) (omega arith) in
-          let kind : (token_or_empty tokens n).kind ≡ token.Symbol s = ap (λ (t : Token). t.kind) (token_here text u tokens at n l (a.here ∷ a.after) (token.Symbol s) there is) in
+          let kind : (token_at_or_empty tokens n).kind ≡ token.Symbol s = ap (λ (t : Token). t.kind) (token_here text u tokens at n l (a.here ∷ a.after) (token.Symbol s) there is) in
           let long : length (words_of_lexemes a.before) ≡ n + length (words_of_lexeme l l.kind) =
           ap (λ x. length (words_of_lexemes x)) e ∙ ap length (words_append xs (l ∷ [])) ∙ length-append (words_of_lexemes xs) (words_of_lexemes (l ∷ [])) ∙ omega (arith, length-append (words_of_lexeme l l.kind) []) in
           ⊎_elim

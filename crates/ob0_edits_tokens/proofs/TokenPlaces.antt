@@ -9,7 +9,7 @@ use Rattle.ob0_scan.specs.declared.lexeme.Span.{Span}
 use Rattle.ob0_scan.specs.declared.lexeme.Token.{Token}
 use Rattle.ob0_scan.specs.Lexed.{Lexeme, text_of_lexemes}
 use Rattle.ob0_scan.specs.TextWithTokens.{words_of_lexeme, words_of_lexemes, span_from, tokens_of_lexeme, tokens_of_lexemes_from}
-use Rattle.ob0_edits_tokens.specs.Replaced.{token_or_empty, span_at}
+use Rattle.ob0_edits_tokens.specs.Replacements.{token_at_or_empty, span_at}
 use Rattle.ob0_edits_tokens.proofs.Borders.{IsRest, next_rest}
 
 -- States that lexemes are split at the token that n tokens precede.
@@ -75,10 +75,10 @@ module _ (text : List ℕ) (u : IsUtf8 text) (tokens : List Token) where
   further_on (x ∷ xs) ys at k n m r e f =
       further_on xs ys (at + length x.text) (k + length (words_of_lexeme x x.kind)) n m (next at k x (xs ++ ys) r) (omega (arith, e, length-append x.text (text_of_lexemes xs))) (omega (arith, f, length-append (words_of_lexeme x x.kind) (words_of_lexemes xs)))
 
-  pub token_here : (at p : ℕ) (l : Lexeme) (ls : List Lexeme) (kind : TokenKind) → AreAt at p (l ∷ ls) → l.kind ≡ lexeme.Token kind → token_or_empty tokens p ≡ record { kind = kind; span = span_from at (length l.text) }
+  pub token_here : (at p : ℕ) (l : Lexeme) (ls : List Lexeme) (kind : TokenKind) → AreAt at p (l ∷ ls) → l.kind ≡ lexeme.Token kind → token_at_or_empty tokens p ≡ record { kind = kind; span = span_from at (length l.text) }
   token_here at p l ls kind r is =
-      ap (token_or_empty tokens) (sym (add-zero p)) ∙ sym (get_or-drop p tokens 0 _)
-      ∙ ap (λ ts. token_or_empty ts 0) (r.tokens_are ∙ ap (λ k. tokens_of_lexeme k (span_from at (length l.text)) ++ tokens_of_lexemes_from (at + length l.text) ls) is)
+      ap (token_at_or_empty tokens) (sym (add-zero p)) ∙ sym (get_or-drop p tokens 0 _)
+      ∙ ap (λ ts. token_at_or_empty ts 0) (r.tokens_are ∙ ap (λ k. tokens_of_lexeme k (span_from at (length l.text)) ++ tokens_of_lexemes_from (at + length l.text) ls) is)
 
   -- States where the token with the index p is among lexemes.
   pub record HasToken (at k : ℕ) (ls : List Lexeme) (p : ℕ) : Type 0 where
@@ -93,7 +93,7 @@ module _ (text : List ℕ) (u : IsUtf8 text) (tokens : List Token) where
     pub end_is : start + length here.text ≡ end
     pub from : AreAt start p (here ∷ after)
     pub to : AreAt end (suc p) after
-    pub kind : here.kind ≡ lexeme.Token (token_or_empty tokens p).kind
+    pub kind : here.kind ≡ lexeme.Token (token_at_or_empty tokens p).kind
     pub start_of : (span_at tokens p).start ≡ start
     pub end_of : (span_at tokens p).end ≡ end
 
@@ -103,7 +103,7 @@ module _ (text : List ℕ) (u : IsUtf8 text) (tokens : List Token) where
       let start : ℕ = at + length (text_of_lexemes s.before) in
       let count : k + length (words_of_lexemes s.before) ≡ p = omega (arith, s.count, low) in
       let from : AreAt start p (s.here ∷ s.after) = further_on s.before (s.here ∷ s.after) at k start p (subst (AreAt at k) s.whole r) refl count in
-      let is : token_or_empty tokens p ≡ record { kind = s.kind; span = span_from start (length s.here.text) } = token_here start p s.here s.after s.kind from s.is_token in
+      let is : token_at_or_empty tokens p ≡ record { kind = s.kind; span = span_from start (length s.here.text) } = token_here start p s.here s.after s.kind from s.is_token in
       let one : p + length (words_of_lexeme s.here s.here.kind) ≡ suc p = omega (arith, ap (λ k. length (words_of_lexeme s.here k)) s.is_token) in
       record {
         before = s.before;

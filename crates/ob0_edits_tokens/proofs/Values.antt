@@ -11,8 +11,8 @@ use Rattle.ob0_scan.specs.declared.lexeme.ReservedWord.TheVariants as reserved
 use Rattle.ob0_scan.specs.declared.lexeme.Symbol.TheVariants as symbol
 use Rattle.ob0_scan.specs.declared.lexeme.TokenKind.TheVariants as token
 use Rattle.ob0_scan.specs.declared.lexeme.LexemeKind.TheVariants as lexeme
-use Rattle.ob0_scan.specs.Classes.{IsInteger, IsNonEmptySequenceOf, decimal_value, reserved_word_text, symbol_text, is_white_space}
-use Rattle.ob0_edits_tokens.specs.Replaced.{MayReplaceIdentifier}
+use Rattle.ob0_scan.specs.LexemeClasses.{IsInteger, IsNonEmptySequenceOf, decimal_value, reserved_word_text, symbol_text, is_white_space}
+use Rattle.ob0_edits_tokens.specs.Replacements.{MayReplaceIdentifier}
 use Rattle.ob0_edits_tokens.specs.Written.{IsInt32, number_text, number_words, truth_text, truth_words, integer_word, symbol_word}
 use Rattle.ob0_scan.proofs.Runs.{digit_or_letter}
 use Rattle.std.proofs.lemmas.List.Sums.{fold-append, AllPass-from_list_all}

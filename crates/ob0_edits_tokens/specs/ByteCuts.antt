@@ -9,8 +9,8 @@ use Rattle.ob0_edits_tokens.specs.Ranges.{range_of}
 
 -- Returns the edit, as a pair of its range and text, that makes the cut `c` in the text with the
 -- characters `text`. The cut's ends are byte offsets, and its replacement is a list of bytes.
-abbrev pub edit_at_cut : counting.Unit → List ℕ → Cut → Range × List ℕ
-edit_at_cut unit text c =
+abbrev pub edit_of_cut : counting.Unit → List ℕ → Cut → Range × List ℕ
+edit_of_cut unit text c =
     (range_of (width_of unit) text (record { start = c.from; end = c.to }), c.new)
 
 -- Returns the length in bytes of the rest of a text, starting at the offset `at`, after all cuts

@@ -1,8 +1,8 @@
-pub mod Changed
+pub mod WordReplacements
 pub mod Ranges
 pub mod ByteCuts
-pub mod Replaced
+pub mod Replacements
 pub mod Written
-pub mod OfTrees
-pub mod Removed
-pub mod Words
+pub mod WordsOfTrees
+pub mod Removals
+pub mod WordTerminals

@@ -2,9 +2,9 @@
 //! tree spells the renamed words.
 
 ghost use Rattle.std.specs.Prelude.{ℕ, List, [], ◌∷◌};
-ghost use Rattle.ob0_scan.specs.Classes.{IsIdentifier};
-ghost use Rattle.ob0_edits_tokens.specs.OfTrees.{RenamingKeepsSpelling};
-ghost use Rattle.ob0_edits_tokens.specs.Replaced.{MayReplaceIdentifier};
+ghost use Rattle.ob0_scan.specs.LexemeClasses.{IsIdentifier};
+ghost use Rattle.ob0_edits_tokens.specs.WordsOfTrees.{RenamedTreeSpellsRenamedWords};
+ghost use Rattle.ob0_edits_tokens.specs.Replacements.{MayReplaceIdentifier};
 ghost use Rattle.ob0_edits_tokens.specs.Written.{name_word};
 
 /// Proves that the identifier `new` may replace any identifier of a text: the tokens before and
@@ -16,6 +16,6 @@ pub fn identifier_may_replace_identifier()
 /// Proves that a renamed tree spells the renamed words. Assume that a tree with word indexes instead
 /// of names spells the words of a text. If the identifiers at certain indexes get a new name, both
 /// in the tree and in the words, the renamed tree spells the renamed words.
-pub fn renaming_keeps_spelling()
-    ensures { RenamingKeepsSpelling }
+pub fn renamed_tree_spells_renamed_words()
+    ensures { RenamedTreeSpellsRenamedWords }
 {}

@@ -1,7 +1,7 @@
 //! Finds the spans of tokens, and the ranges of positions that spans have in a text.
 
 ghost use Rattle.std.specs.Prelude.{◌≡◌, ◌++◌, IfOk, OnOk, map};
-ghost use Rattle.ob0_edits_tokens.specs.Replaced.{span_at};
+ghost use Rattle.ob0_edits_tokens.specs.Replacements.{span_at};
 ghost use Rattle.ob0_text.specs.Units.{width_of};
 ghost use Rattle.ob0_edits_tokens.specs.Ranges.{span_bounds, range_of};
 

@@ -5,12 +5,12 @@ ghost use Rattle.std.specs.Prelude.{◌≡◌, ◌⊎◌, ◌+◌, ◌++◌, ◌
 ghost use Rattle.std.specs.Str.{chars};
 ghost use Rattle.ob0_scan.specs.TextWithTokens.{Word, max_text_length};
 ghost use Rattle.ob0_text.specs.declared.refusals.EditRefusal.TheVariants.{TooLong, Memory};
-ghost use Rattle.ob0_edits_tokens.specs.Changed.{words_of, changed_words, changes_at};
-ghost use Rattle.ob0_edits_tokens.specs.Replaced.{AreIdentifierIndexes, replacement_cut, text_after_replacement, MayReplaceIdentifier, range_and_text, replacement_at_token, EditsGiveWords};
+ghost use Rattle.ob0_edits_tokens.specs.WordReplacements.{words_of, changed_words, changes_at_indexes};
+ghost use Rattle.ob0_edits_tokens.specs.Replacements.{AreIdentifierIndexes, replacement_cut, text_after_replacement, MayReplaceIdentifier, range_and_text, replacement_at_token, EditsGiveWords};
 ghost use Rattle.ob0_text.specs.Units.{width_of};
 ghost use Rattle.ob0_edits_tokens.specs.Ranges.{range_of};
 ghost use Rattle.ob0_edits_tokens.specs.ByteCuts.{length_with_cuts};
-ghost use Rattle.ob0_edits_tokens.specs.Removed.{changes_with_removal, MayBeConstantDeclaration, span_of_tokens, text_after_removal};
+ghost use Rattle.ob0_edits_tokens.specs.Removals.{changes_with_removal, MayBeConstantDeclaration, span_of_tokens, text_after_removal};
 
 use crate::positions::{ranges, span_at, token_spans};
 use ob0_scan::{MAX_TEXT_LENGTH, Span, Tokens};
@@ -37,7 +37,7 @@ pub fn replacement_edits<T: TextStore>(
         (λ edits. length (text_after_replacement tokens.now token_indexes.now new.now) ≤ max_text_length) }
     ensures words { (ws : List Word) → MayReplaceIdentifier new.now ws
         → IfOk result (λ edits. EditsGiveWords (T.unit_of store.now) (T.content store.now) edits.items
-        (changed_words (changes_at token_indexes.now ws) 0 (words_of tokens.now))) }
+        (changed_words (changes_at_indexes token_indexes.now ws) 0 (words_of tokens.now))) }
     ensures too_long { IsErrOf result TooLong
         → max_text_length < length (text_after_replacement tokens.now token_indexes.now new.now) }
     ensures refusals { IfErr result (λ refusal. (refusal ≡ TooLong) ⊎ (refusal ≡ Memory)) }
@@ -82,7 +82,7 @@ pub fn removal_edits<T: TextStore>(
         (λ edits. length (text_after_removal tokens.now first last token_indexes.now new.now) ≤ max_text_length) }
     ensures words { (ws : List Word) → MayReplaceIdentifier new.now ws
         → IfOk result (λ edits. EditsGiveWords (T.unit_of store.now) (T.content store.now) edits.items
-        (changed_words (changes_with_removal first last (changes_at token_indexes.now ws)) 0
+        (changed_words (changes_with_removal first last (changes_at_indexes token_indexes.now ws)) 0
         (words_of tokens.now))) }
     ensures too_long { IsErrOf result TooLong
         → max_text_length < length (text_after_removal tokens.now first last token_indexes.now new.now) }

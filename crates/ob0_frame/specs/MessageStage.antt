@@ -3,7 +3,7 @@
 use Rattle.std.specs.Prelude.{ℕ, ◌-◌, ◌<◌, ◌≤◌, List, ◌++◌, length, take, drop}
 use Rattle.ob0_frame.specs.declared.head.MessageStage.{MessageStage}
 use Rattle.ob0_frame.specs.declared.head.MessageStage.TheVariants.{Head, Content, Bad}
-use Rattle.ob0_frame.specs.Head.{AnnouncesContentSize, HasNoEmptyLine, max_head_length}
+use Rattle.ob0_frame.specs.Head.{AnnouncesContentLength, HasNoEmptyLine, max_head_length}
 use Rattle.ob0_frame.specs.Frames.{Frames, CannotBeginMessage}
 
 -- States that the bytes begin with an accepted head that ends at the byte offset `start`, and that
@@ -13,7 +13,7 @@ pub record IsContentAt (bytes : List ℕ) (start end : ℕ) : Type 0 where
   pub within : start ≤ length bytes
   pub ordered : start ≤ end
   pub head_is_nonempty : 0 < start
-  pub announces : AnnouncesContentSize (take start bytes) (end - start)
+  pub announces : AnnouncesContentLength (take start bytes) (end - start)
 
 -- States that the message at the beginning of the bytes is at this stage.
 abbrev pub IsMessageStage : List ℕ → MessageStage → Type 0

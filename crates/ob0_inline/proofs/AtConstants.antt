@@ -11,13 +11,13 @@ use Rattle.ob0_text.specs.Units.{width_of}
 use Rattle.ob0_tree.specs.ParsedModule.{ParsedModule, named_tree_of}
 use Rattle.ob0_tree.specs.Tree.{Tree, module_text}
 use Rattle.ob0_edits_tokens.specs.Ranges.{range_of}
-use Rattle.ob0_edits_tokens.specs.Removed.{span_of_tokens}
-use Rattle.ob0_edits_tokens.specs.Replaced.{replacement_at_token, range_and_text}
+use Rattle.ob0_edits_tokens.specs.Removals.{span_of_tokens}
+use Rattle.ob0_edits_tokens.specs.Replacements.{replacement_at_token, range_and_text}
 use Rattle.ob0_language_names.specs.Names.{Label, Name}
 use Rattle.ob0_language_names.specs.Occurrences.{bindings, ordinal_bound_at, label_ordinal}
 use Rattle.ob0_scope_table.specs.Resolution.{Resolution}
 use Rattle.ob0_language_names.specs.Scopes.{same_ordinal}
-use Rattle.ob0_scope.specs.declared.naming.BoundName as named
+use Rattle.ob0_scope.specs.declared.bound_names.BoundName as named
 use Rattle.ob0_scope.specs.NamesAtPlaces.{name_at_offset}
 use Rattle.ob0_types.specs.CheckedModules.{IsWellTyped}
 use Rattle.ob0_language_types.specs.EditLaws.{ConstantUsesAreFactors, IsConstantWithLiteral, Is32BitScalar, MeansPredeclaredTruth}
@@ -25,7 +25,7 @@ use Rattle.ob0_language_runs.specs.EditLaws.{InliningEverywhereKeepsTypingAndRun
 use Rattle.ob0_language_values.specs.declared.scalar.Scalar.TheVariants as scalar
 use Rattle.ob0_language_values.specs.Scalars.{scalar_value}
 use Rattle.ob0_inline.specs.declared.constants.DeclaredConstant.{DeclaredConstant}
-use Rattle.ob0_inline.specs.Everywhere.{InlinesEverywhere, IsConstant, IsConstantAt, HasNoConstantAt, UsesAreFactors, has_shadowed_use, declaration_has_comment, tree_inlined_everywhere, is_shadowed_use, refusal_of_inlining_everywhere, text_inlined_everywhere, use_tokens_of}
+use Rattle.ob0_inline.specs.Everywhere.{InlinesEverywhere, IsConstant, IsConstantAt, HasNoConstantAt, UsesAreFactors, has_shadowed_use, declaration_has_comment, tree_inlined_everywhere, is_shadowed_use, refusal_of_inlining_everywhere, text_inlined_everywhere, tokens_of_uses}
 use Rattle.ob0_inline.specs.Uses.{value_text_keeps_meaning}
 use Rattle.ob0_inline.specs.Values.{value_factor, value_text}
 use Rattle.ob0_inline.proofs.AtUses.{literal_of, shown_is}
@@ -91,7 +91,7 @@ constant_named m offset found e (Some c) h =
 -- the facts about a constant's edits, or about their refusal, for any reading of the module
 
 pub record Made (r : Resolution) (c : DeclaredConstant) (unit : counting.Unit) (text : List ℕ) (edits : List Edit) : Type 0 where
-  pub edits_are : map range_and_text edits ≡ (range_of (width_of unit) text (span_of_tokens r.module_read.source.tokens c.first c.last), []) ∷ map (replacement_at_token unit text r.module_read.source.tokens (value_text c.value)) (use_tokens_of r.module_read c.ordinal)
+  pub edits_are : map range_and_text edits ≡ (range_of (width_of unit) text (span_of_tokens r.module_read.source.tokens c.first c.last), []) ∷ map (replacement_at_token unit text r.module_read.source.tokens (value_text c.value)) (tokens_of_uses r.module_read c.ordinal)
   pub make_text : MakeText (UsesAreFactors r.module_read c.ordinal) (text_inlined_everywhere r.module_read c) (tree_inlined_everywhere r.module_read c) unit text edits
 
 abbrev pub IsRefused : Resolution → DeclaredConstant → EditRefusal → Type 0

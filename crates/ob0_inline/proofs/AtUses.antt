@@ -10,10 +10,10 @@ use Rattle.ob0_text.specs.declared.refusals.EditRefusal.{EditRefusal}
 use Rattle.ob0_text.specs.declared.refusals.EditRefusal.TheVariants.{Memory, Shadowed}
 use Rattle.ob0_tree.specs.ParsedModule.{named_tree_of}
 use Rattle.ob0_tree.specs.Tree.{Tree, module_text, spell}
-use Rattle.ob0_edits_tokens.specs.Changed.{changes_at, changed_words, words_of}
-use Rattle.ob0_edits_tokens.specs.Words.{terminal_of_word}
-use Rattle.ob0_edits_tokens.proofs.OfTrees.{all_put, put}
-use Rattle.ob0_edits_tokens.specs.Replaced.{AreIdentifierIndexes, replacement_at_token, range_and_text, text_after_replacement}
+use Rattle.ob0_edits_tokens.specs.WordReplacements.{changes_at_indexes, changed_words, words_of}
+use Rattle.ob0_edits_tokens.specs.WordTerminals.{terminal_of_word}
+use Rattle.ob0_edits_tokens.proofs.WordsOfTrees.{all_put, put}
+use Rattle.ob0_edits_tokens.specs.Replacements.{AreIdentifierIndexes, replacement_at_token, range_and_text, text_after_replacement}
 use Rattle.ob0_language_names.specs.Inlining.{single_occurrence}
 use Rattle.ob0_language_names.specs.Names.{Name}
 use Rattle.ob0_language_names.specs.Occurrences.{ordinal_bound_at}
@@ -21,8 +21,8 @@ use Rattle.ob0_language_types.proofs.Leaves.{same_ordinal-true}
 use Rattle.ob0_language_types.proofs.Literals.{some_inverse}
 use Rattle.ob0_scope_table.specs.Resolution.{IsResolution, Resolution, ordinal_in}
 use Rattle.ob0_scope_table.proofs.Bound.{bound_at}
-use Rattle.ob0_scope.specs.declared.naming.BoundName as named
-use Rattle.ob0_scope.specs.Listing.{is_identifier_at_offset}
+use Rattle.ob0_scope.specs.declared.bound_names.BoundName as named
+use Rattle.ob0_scope.specs.BoundTokens.{is_identifier_at_offset}
 use Rattle.ob0_scope.specs.NamesAtPlaces.{name_at_offset}
 use Rattle.ob0_scope.proofs.Placed.{name_found, named_so}
 use Rattle.ob0_language_types.specs.ConstantValues.{value_of_constant}
@@ -35,8 +35,8 @@ use Rattle.ob0_language_values.specs.declared.scalar.Scalar.TheVariants as scala
 use Rattle.ob0_language_values.specs.Scalars.{scalar_value}
 use Rattle.ob0_inline.specs.declared.uses.ConstantUse.{ConstantUse}
 use Rattle.ob0_inline.specs.Everywhere.{UsesAreFactors}
-use Rattle.ob0_inline.specs.Inlined.{EditsGiveModule}
-use Rattle.ob0_inline.specs.Uses.{InlinesHere, IsUse, IsUseAt, tree_inlined_here, value_text_keeps_meaning, refusal_of_inlining_here}
+use Rattle.ob0_inline.specs.EditedModuleTexts.{EditsGiveModule}
+use Rattle.ob0_inline.specs.Uses.{InlinesHere, IsConstantUse, IsConstantUseAt, tree_inlined_here, value_text_keeps_meaning, refusal_of_inlining_here}
 use Rattle.ob0_inline.specs.Values.{value_factor, value_text, value_words}
 use Rattle.ob0_inline.proofs.ModuleTexts.{spelled_by_words, value_spelled}
 use Rattle.ob0_inline.proofs.Refusals.{MakeText, Refused, other_is_first, refused_first}
@@ -66,7 +66,7 @@ some_named token ordinal (Some i) ordinals e = go (ordinal_in ordinals i) refl e
         ap (ordinal_in ordinals) (sym (ap (λ o. (elim o as (λ _. named.BoundName) [ Some n ↦ n | None ↦ record { token = 0; ordinal = 0 } ]).token) same))
         ∙ (q ∙ ap (λ o. Some ((elim o as (λ _. named.BoundName) [ Some n ↦ n | None ↦ record { token = 0; ordinal = 0 } ]).ordinal)) same)
 
-pub use_is : (r : Resolution) → IsResolution r → (offset : ℕ) (u : ConstantUse) → IsUseAt r.module_read offset u → IsUse r.module_read u
+pub use_is : (r : Resolution) → IsResolution r → (offset : ℕ) (u : ConstantUse) → IsConstantUseAt r.module_read offset u → IsConstantUse r.module_read u
 use_is r is offset u h =
     let m = r.module_read in
     let ordinal : ordinal_in r.ordinals u.token ≡ Some u.constant =
@@ -78,7 +78,7 @@ use_is r is offset u h =
       has_value = h.has_value;
     }
 
-module _ (r : Resolution) (is : IsResolution r) (u : ConstantUse) (use_so : IsUse r.module_read u) where
+module _ (r : Resolution) (is : IsResolution r) (u : ConstantUse) (use_so : IsConstantUse r.module_read u) where
   there : slice_get r.uses u.occurrence ≡ Some u.token
   there = ap (λ us. slice_get us u.occurrence) is.occurring ∙ use_so.occurs
 
@@ -94,7 +94,7 @@ module _ (r : Resolution) (is : IsResolution r) (u : ConstantUse) (use_so : IsUs
 
   -- The words, with the value's words in place of the use, spell the inlined module.
   pub here_spelled : UsesAreFactors r.module_read u.constant
-      → map terminal_of_word (changed_words (changes_at (u.token ∷ []) (value_words u.value)) 0 (words_of r.module_read.source)) ≡ spell (tree_inlined_here r.module_read u)
+      → map terminal_of_word (changed_words (changes_at_indexes (u.token ∷ []) (value_words u.value)) 0 (words_of r.module_read.source)) ≡ spell (tree_inlined_here r.module_read u)
   here_spelled alone =
       let s = r.module_read.source in
       let places = u.token ∷ [] in
@@ -103,7 +103,7 @@ module _ (r : Resolution) (is : IsResolution r) (u : ConstantUse) (use_so : IsUs
       ∙ uses_spelled r is u.constant (value_factor u.value) places are_bound (single_occurrence u.occurrence)
       (λ j i e. or-false (i == u.token) ∙ one_place 0 (length s.tokens) r.uses j u.occurrence i u.token (uses_ascend r is) e there) alone vs (value_spelled u.value)
 
-module _ (r : Resolution) (well : IsWellTyped r) (u : ConstantUse) (use_so : IsUse r.module_read u) where
+module _ (r : Resolution) (well : IsWellTyped r) (u : ConstantUse) (use_so : IsConstantUse r.module_read u) where
   written : Is32BitScalar (scalar_value u.value) → IsConstantWithLiteral (named_tree_of r.module_read) u.constant (scalar_value u.value) (value_factor u.value)
   written fits_so = record { value = use_so.has_value; scalar = fits_so; literal = literal_of u.value }
 
@@ -142,7 +142,7 @@ pub record Made (r : Resolution) (u : ConstantUse) (unit : counting.Unit) (text 
 abbrev pub IsRefused : Resolution → ConstantUse → EditRefusal → Type 0
 IsRefused r u refusal = Refused (UsesAreFactors r.module_read u.constant) (new_text r u) (tree_inlined_here r.module_read u) refusal
 
-module _ (r : Resolution) (well : IsWellTyped r) (u : ConstantUse) (use_so : IsUse r.module_read u) (law : ConstantUsesAreFactors) (scalar_so : Is32BitScalar (scalar_value u.value)) where
+module _ (r : Resolution) (well : IsWellTyped r) (u : ConstantUse) (use_so : IsConstantUse r.module_read u) (law : ConstantUsesAreFactors) (scalar_so : Is32BitScalar (scalar_value u.value)) where
   abbrev hidden : Bool → Option EditRefusal
   hidden shown = if shown then None else Some Shadowed
 
@@ -192,7 +192,7 @@ named_token found token ordinal e = ap (λ (o : Option named.BoundName). (elim o
 
 pub use_found : (r : Resolution) → IsWellTyped r → (offset : ℕ) (found : named.BoundName) (k : ℕ) (value : Scalar) → Some found ≡ name_at_offset r.module_read offset
     → position_from (λ i. i == found.token) 0 r.uses ≡ Some k → option_map scalar_value (Some value) ≡ value_of_constant (named_tree_of r.module_read) found.ordinal
-    → IsUseAt r.module_read offset (record { token = found.token; occurrence = k; constant = found.ordinal; value = value })
+    → IsConstantUseAt r.module_read offset (record { token = found.token; occurrence = k; constant = found.ordinal; value = value })
 use_found r well offset found k value e at has_value =
     let h = found_there found.token 0 k r.uses at in
     let same : k ≡ h.0 = omega (arith, h.1) in
@@ -202,12 +202,12 @@ use_found r well offset found k value e at has_value =
       has_value = sym has_value;
     }
 
-pub use_is_one : (r : Resolution) → IsWellTyped r → (offset : ℕ) (made u : ConstantUse) → IsUseAt r.module_read offset made → Some made ≡ Some u → IsUse r.module_read u
+pub use_is_one : (r : Resolution) → IsWellTyped r → (offset : ℕ) (made u : ConstantUse) → IsConstantUseAt r.module_read offset made → Some made ≡ Some u → IsConstantUse r.module_read u
 use_is_one r well offset made u h e =
-    subst (IsUse r.module_read) (ap (λ (o : Option ConstantUse). elim o as (λ _. ConstantUse) [ Some n ↦ n | None ↦ made ]) e) (use_is r well.resolved offset made h)
+    subst (IsConstantUse r.module_read) (ap (λ (o : Option ConstantUse). elim o as (λ _. ConstantUse) [ Some n ↦ n | None ↦ made ]) e) (use_is r well.resolved offset made h)
 
 pub no_use : (r : Resolution) → IsWellTyped r → (offset : ℕ) (found : named.BoundName) → Some found ≡ name_at_offset r.module_read offset
-    → position_from (λ i. i == found.token) 0 r.uses ≡ None → (u : ConstantUse) → IsUseAt r.module_read offset u → ⊥
+    → position_from (λ i. i == found.token) 0 r.uses ≡ None → (u : ConstantUse) → IsConstantUseAt r.module_read offset u → ⊥
 no_use r well offset found e none u h =
     not_there found.token 0 u.occurrence r.uses none
     (ap (λ us. slice_get us u.occurrence) well.resolved.occurring ∙ (h.occurs ∙ ap Some (sym (named_token found u.token u.constant (e ∙ h.named)))))

@@ -6,8 +6,8 @@ use Rattle.std.proofs.lemmas.Bool.{leb-true, leb-false, le-ltb, lt-ltb}
 use Rattle.std.proofs.lemmas.List.{take-append-drop}
 use Rattle.std.proofs.lemmas.Simd.{map-map}
 use Rattle.std.proofs.lemmas.Str.{encodes-chars}
-use Rattle.ob0_edits_tokens.specs.Changed.{words_of}
-use Rattle.ob0_edits_tokens.specs.Words.{terminal_of_word}
+use Rattle.ob0_edits_tokens.specs.WordReplacements.{words_of}
+use Rattle.ob0_edits_tokens.specs.WordTerminals.{terminal_of_word}
 use Rattle.ob0_tree.specs.Lexeme.{Terminal, EndOfText}
 use Rattle.ob0_scan.specs.TextWithTokens.{TextWithTokens, word_of_token}
 use Rattle.ob0_tree.specs.Module.{terminals_of_text}

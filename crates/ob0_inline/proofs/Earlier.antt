@@ -1,12 +1,12 @@
 -- Proves that names are bound to earlier declarations: each label of a part is below the first
 -- ordinal after the part.
 use Rattle.std.proofs.Common.{ℕ, suc, ◌<◌, ◌≤◌, true, false, Option, Some, None, List, [], ◌∷◌, ◌++◌, map, sym, subst, arith}
-use Rattle.ob0_tree.specs.Tree.{Sort, Tree, block, constant, constants, declares, declares_constant, declares_constants, declares_procedure, declares_type, declares_types, declares_variable, declares_variables, end, formals, further_section, forms_block, item, items, maybe, more, none, occurrences, one, procedure, section, some_formals, then_section, type_definition, type_definitions, value_section, variable, variable_section, variables}
+use Rattle.ob0_tree.specs.Tree.{Sort, Tree, block, constant, constants, declares, declares_constant, declares_const_section, declares_procedure, declares_type, declares_type_section, declares_variable, declares_var_section, end, formals, section_after_semicolon, forms_block, item, items, maybe, more, none, occurrences, one, procedure, section, some_formals, semicolon_then_section, type_definition, type_definitions, value_section, variable, variable_section, variables}
 use Rattle.ob0_language_names.specs.Names.{Name, naming_by_spelling, same_name}
-use Rattle.ob0_language_names.specs.Parts.{constant_names, formal_names, formal_sections, declared_type_names, names_in_list, procedure_name, section_constants, parameter_section_names, section_types, section_variables, variable_names}
-use Rattle.ob0_language_names.specs.Scopes.{Labelling, Scope, ordinal_after_block, ordinal_after_names, ordinal_after_procedure, ordinal_after_procedures, body_scope, declare_names, declare_procedure_names, first_procedure_ordinal, first_type_ordinal, first_variable_ordinal, label_of, ordinal_in_scope, scope_before_procedures, relabel_block, relabel_constant_section, relabel_constants, relabel_formals, relabel_procedure, relabel_procedures, relabel_parameter_section, relabel_parameter_sections, relabel_type_section, relabel_types, relabel_uses, relabel_variable_section, relabel_variables, scope_before_types, scope_before_variables}
+use Rattle.ob0_language_names.specs.BlockParts.{constant_names, formal_names, formal_sections, declared_type_names, names_in_list, procedure_name, section_constants, parameter_section_names, section_types, section_variables, variable_names}
+use Rattle.ob0_language_names.specs.Scopes.{Labelling, Scope, ordinal_after_block, ordinal_after_names, ordinal_after_procedure, ordinal_after_procedure_list, body_scope, declare_names, declare_procedure_names, first_procedure_ordinal, first_type_ordinal, first_variable_ordinal, label_of, ordinal_in_scope, scope_before_procedures, relabel_block, relabel_constant_section, relabel_constants, relabel_formals, relabel_procedure, relabel_procedure_list, relabel_parameter_section, relabel_parameter_section_list, relabel_type_section, relabel_types, relabel_uses, relabel_variable_section, relabel_variables, scope_before_types, scope_before_variables}
 use Rattle.ob0_language_names.proofs.OccurrencesMapped.{occurrences-mapped}
-use Rattle.ob0_language_names.proofs.Ordinals.{ordinal_after_names-append, le-ordinal_after_block, le-ordinal_after_names, le-ordinal_after_procedure, le-ordinal_after_procedures}
+use Rattle.ob0_language_names.proofs.Ordinals.{ordinal_after_names-append, le-ordinal_after_block, le-ordinal_after_names, le-ordinal_after_procedure, le-ordinal_after_procedure_list}
 
 -- labels that have only ordinals, and no names
 abbrev pub forget : {N : Type 0} → Labelling N (Option ℕ)
@@ -89,36 +89,36 @@ section_low : (scope : Scope Name) (k j : ℕ) (s : Tree Name section) → Scope
 section_low scope k j (value_section ns t) h = uses_low k scope t h
 section_low scope k j (variable_section ns t) h = uses_low k scope t h
 
-pub sections_low : (scope : Scope Name) (k : ℕ) (fs : Tree Name (items further_section)) → ScopeLow k scope → AllLow (ordinal_after_names k (formal_names fs)) (occurrences (relabel_parameter_sections naming_by_spelling forget scope k fs))
+pub sections_low : (scope : Scope Name) (k : ℕ) (fs : Tree Name (items section_after_semicolon)) → ScopeLow k scope → AllLow (ordinal_after_names k (formal_names fs)) (occurrences (relabel_parameter_section_list naming_by_spelling forget scope k fs))
 sections_low scope k end h = tt
-sections_low scope k (more (then_section s) fs) h =
+sections_low scope k (more (semicolon_then_section s) fs) h =
     let xs = parameter_section_names s in
     let n = ordinal_after_names k xs in
     let last = ordinal_after_names n (formal_names fs) in
     let up1 = le-ordinal_after_names k xs in
     let up2 = le-ordinal_after_names n (formal_names fs) in
-    subst (λ m. AllLow m (occurrences (relabel_parameter_sections naming_by_spelling forget scope k (more (then_section s) fs)))) (sym (ordinal_after_names-append k xs (formal_names fs)))
-    (low_append last (occurrences (relabel_parameter_section naming_by_spelling forget scope k s)) (occurrences (relabel_parameter_sections naming_by_spelling forget (declare_names k xs scope) n fs))
+    subst (λ m. AllLow m (occurrences (relabel_parameter_section_list naming_by_spelling forget scope k (more (semicolon_then_section s) fs)))) (sym (ordinal_after_names-append k xs (formal_names fs)))
+    (low_append last (occurrences (relabel_parameter_section naming_by_spelling forget scope k s)) (occurrences (relabel_parameter_section_list naming_by_spelling forget (declare_names k xs scope) n fs))
     (raised k last (occurrences (relabel_parameter_section naming_by_spelling forget scope k s)) (omega (arith, up1, up2)) (section_low scope k k s h))
     (sections_low (declare_names k xs scope) n fs (declared_low k xs scope h)))
 
 pub formals_low : (scope : Scope Name) (k : ℕ) (fs : Tree Name (maybe formals)) → ScopeLow k scope → AllLow (ordinal_after_names k (formal_names (formal_sections fs))) (occurrences (relabel_formals naming_by_spelling forget scope k fs))
-formals_low scope k (one (some_formals s fs)) h = sections_low scope k (more (then_section s) fs) h
+formals_low scope k (one (some_formals s fs)) h = sections_low scope k (more (semicolon_then_section s) fs) h
 formals_low scope k _ h = tt
 
 pub constant_section_low : (scope : Scope Name) (k : ℕ) (cs : Tree Name (maybe constants)) → ScopeLow k scope → AllLow (ordinal_after_names k (constant_names (section_constants cs))) (occurrences (relabel_constant_section naming_by_spelling forget scope k cs))
 constant_section_low scope k none h = tt
-constant_section_low scope k (one (declares_constants cs)) h = constants_low scope k cs h
+constant_section_low scope k (one (declares_const_section cs)) h = constants_low scope k cs h
 
 pub type_section_low : (scope : Scope Name) (k : ℕ) (ts : Tree Name (maybe type_definitions)) → ScopeLow k scope → AllLow (ordinal_after_names k (declared_type_names (section_types ts))) (occurrences (relabel_type_section naming_by_spelling forget scope k ts))
 type_section_low scope k none h = tt
-type_section_low scope k (one (declares_types ts)) h = types_low scope k ts h
+type_section_low scope k (one (declares_type_section ts)) h = types_low scope k ts h
 
 pub variable_section_low : (scope : Scope Name) (k : ℕ) (vs : Tree Name (maybe variables)) → ScopeLow k scope → AllLow (ordinal_after_names k (variable_names (section_variables vs))) (occurrences (relabel_variable_section naming_by_spelling forget scope k vs))
 variable_section_low scope k none h = tt
-variable_section_low scope k (one (declares_variables vs)) h = variables_low scope k vs h
+variable_section_low scope k (one (declares_var_section vs)) h = variables_low scope k vs h
 
-pub procedures_below : (k : ℕ) (ps : Tree Name (items procedure)) (scope : Scope Name) → ScopeLow k scope → ScopeLow (ordinal_after_procedures k ps) (declare_procedure_names k ps scope)
+pub procedures_below : (k : ℕ) (ps : Tree Name (items procedure)) (scope : Scope Name) → ScopeLow k scope → ScopeLow (ordinal_after_procedure_list k ps) (declare_procedure_names k ps scope)
 procedures_below k end scope h = h
 procedures_below k (more p rest) scope h =
     let up = le-ordinal_after_procedure (suc k) p in
@@ -138,11 +138,11 @@ mutual
       let h4 = procedures_below (first_procedure_ordinal k b) ps (scope_before_procedures k b scope) h3 in
       let up2 = le-ordinal_after_names (ordinal_after_names k xs) ys in
       let up3 = le-ordinal_after_names (ordinal_after_names (ordinal_after_names k xs) ys) zs in
-      let up4 = le-ordinal_after_procedures (first_procedure_ordinal k b) ps in
+      let up4 = le-ordinal_after_procedure_list (first_procedure_ordinal k b) ps in
       let lc = occurrences (relabel_constant_section naming_by_spelling forget scope k cs) in
       let lt = occurrences (relabel_type_section naming_by_spelling forget (scope_before_types k b scope) (first_type_ordinal k b) ts) in
       let lv = occurrences (relabel_variable_section naming_by_spelling forget (scope_before_variables k b scope) (first_variable_ordinal k b) vs) in
-      let lp = occurrences (relabel_procedures naming_by_spelling forget (scope_before_procedures k b scope) (first_procedure_ordinal k b) ps) in
+      let lp = occurrences (relabel_procedure_list naming_by_spelling forget (scope_before_procedures k b scope) (first_procedure_ordinal k b) ps) in
       low_append n (lc ++ (lt ++ (lv ++ lp))) (occurrences (relabel_uses naming_by_spelling forget (body_scope k b scope) statements))
       (low_append n lc (lt ++ (lv ++ lp)) (raised (ordinal_after_names k xs) n lc (omega (arith, up2, up3, up4)) (constant_section_low scope k cs h))
       (low_append n lt (lv ++ lp) (raised (ordinal_after_names (ordinal_after_names k xs) ys) n lt (omega (arith, up3, up4)) (type_section_low (scope_before_types k b scope) (first_type_ordinal k b) ts h1))
@@ -150,15 +150,15 @@ mutual
       (procedures_low (scope_before_procedures k b scope) (first_procedure_ordinal k b) ps h3))))
       (uses_low n (body_scope k b scope) statements h4)
 
-  pub procedures_low : (scope : Scope Name) (k : ℕ) (ps : Tree Name (items procedure)) → ScopeLow k scope → AllLow (ordinal_after_procedures k ps) (occurrences (relabel_procedures naming_by_spelling forget scope k ps))
+  pub procedures_low : (scope : Scope Name) (k : ℕ) (ps : Tree Name (items procedure)) → ScopeLow k scope → AllLow (ordinal_after_procedure_list k ps) (occurrences (relabel_procedure_list naming_by_spelling forget scope k ps))
   procedures_low scope k end h = tt
   procedures_low scope k (more p rest) h =
       let n = ordinal_after_procedure (suc k) p in
-      let last = ordinal_after_procedures n rest in
+      let last = ordinal_after_procedure_list n rest in
       let up = le-ordinal_after_procedure (suc k) p in
-      let up2 = le-ordinal_after_procedures n rest in
+      let up2 = le-ordinal_after_procedure_list n rest in
       let lp = occurrences (relabel_procedure naming_by_spelling forget scope k p) in
-      low_append last lp (occurrences (relabel_procedures naming_by_spelling forget ((procedure_name p, k) ∷ scope) n rest))
+      low_append last lp (occurrences (relabel_procedure_list naming_by_spelling forget ((procedure_name p, k) ∷ scope) n rest))
       (raised n last lp up2 (procedure_low scope k p h))
       (procedures_low ((procedure_name p, k) ∷ scope) n rest (omega (arith, up), scope_raised k n scope (omega (arith, up)) h))
 

@@ -17,14 +17,14 @@ use Rattle.ob0_tree.specs.ParsedModule.{ParsedModule, named_tree_of, tree_of}
 use Rattle.ob0_tree.specs.Places.{indexed_terminal}
 use Rattle.ob0_tree.specs.Places as leaf
 use Rattle.ob0_tree.specs.Tree.{identifiers, occurrences, spell}
-use Rattle.ob0_edits_tokens.specs.Changed.{changes_at, changed_words, words_of}
-use Rattle.ob0_edits_tokens.specs.OfTrees.{indexed_terminals_of_words}
-use Rattle.ob0_edits_tokens.specs.Removed.{MayBeConstantDeclaration, changes_with_removal}
-use Rattle.ob0_edits_tokens.specs.Replaced.{AreIdentifierIndexes}
-use Rattle.ob0_edits_tokens.specs.Words.{terminal_of_word}
+use Rattle.ob0_edits_tokens.specs.WordReplacements.{changes_at_indexes, changed_words, words_of}
+use Rattle.ob0_edits_tokens.specs.WordsOfTrees.{indexed_terminals_of_words}
+use Rattle.ob0_edits_tokens.specs.Removals.{MayBeConstantDeclaration, changes_with_removal}
+use Rattle.ob0_edits_tokens.specs.Replacements.{AreIdentifierIndexes}
+use Rattle.ob0_edits_tokens.specs.WordTerminals.{terminal_of_word}
 use Rattle.ob0_language_names.specs.Names.{Label, Name, naming_by_spelling, declared, same_label}
 use Rattle.ob0_language_names.specs.Occurrences.{bindings}
-use Rattle.ob0_language_names.specs.Parts.{module_block}
+use Rattle.ob0_language_names.specs.BlockParts.{module_block}
 use Rattle.ob0_language_types.proofs.Literals.{some_inverse}
 use Rattle.ob0_scope_table.specs.Resolution.{IsResolution, Resolution, declaring_names, label_from_table, ordinal_in, declaration_token}
 use Rattle.ob0_language_names.specs.Scopes.{label_from_ordinal, same_ordinal}
@@ -36,7 +36,7 @@ use Rattle.ob0_language_values.specs.Scalars.{scalar_value}
 use Rattle.ob0_language_values.specs.Values.{Value}
 use Rattle.ob0_inline.specs.declared.constants.DeclaredConstant.{DeclaredConstant}
 use Rattle.ob0_inline.specs.Declarations.{is_semicolon}
-use Rattle.ob0_inline.specs.Everywhere.{IsConstant, UsesAreFactors, tree_inlined_everywhere, use_tokens_of}
+use Rattle.ob0_inline.specs.Everywhere.{IsConstant, UsesAreFactors, tree_inlined_everywhere, tokens_of_uses}
 use Rattle.ob0_inline.specs.Values.{value_factor, value_words}
 use Rattle.ob0_inline.proofs.EverywhereAt.{bound_tokens, late_here, uses_are_names, words_everywhere}
 use Rattle.ob0_inline.proofs.ModuleTexts.{spelled_by_words, value_spelled}
@@ -63,7 +63,7 @@ uses_kept source ordinals d (i ∷ is) =
     one kept bound e true = λ j. i ∷ e j
     one kept bound e false = e
 
-pub uses_by_table : (r : Resolution) → IsResolution r → (d : ℕ) → bound_tokens r.ordinals d r.uses ≡ use_tokens_of r.module_read d
+pub uses_by_table : (r : Resolution) → IsResolution r → (d : ℕ) → bound_tokens r.ordinals d r.uses ≡ tokens_of_uses r.module_read d
 uses_by_table r is d =
     let m = r.module_read in
     ap (bound_tokens r.ordinals d) is.occurring
@@ -163,7 +163,7 @@ module _ (r : Resolution) (is : IsResolution r) (d : ℕ) (w : Value) (has_value
   pub declaration_at : MayBeConstantDeclaration r.module_read.source.tokens name_token end_token
   declaration_at = is_declaration r.module_read.source d 7 (names_in (module_block (tree_of r.module_read))) (spell (gone_module d (tree_of r.module_read))) taken
 
-  pub names_at : AreIdentifierIndexes r.module_read.source.tokens (suc end_token) (use_tokens_of r.module_read d)
+  pub names_at : AreIdentifierIndexes r.module_read.source.tokens (suc end_token) (tokens_of_uses r.module_read d)
   names_at =
       subst (AreIdentifierIndexes r.module_read.source.tokens (suc end_token)) (uses_by_table r is d)
       (uses_are_names r is d w has_value spelled declaration_at.inside)
@@ -183,12 +183,12 @@ module _ (r : Resolution) (is : IsResolution r) (c : DeclaredConstant) (constant
       (subst (MayBeConstantDeclaration r.module_read.source.tokens (name_token r is c.ordinal (scalar_value c.value) constant.has_value)) last_is
       (declaration_at r is c.ordinal (scalar_value c.value) constant.has_value))
 
-  pub are_uses : AreIdentifierIndexes r.module_read.source.tokens (suc c.last) (use_tokens_of r.module_read c.ordinal)
-  are_uses = subst (λ n. AreIdentifierIndexes r.module_read.source.tokens (suc n) (use_tokens_of r.module_read c.ordinal)) last_is (names_at r is c.ordinal (scalar_value c.value) constant.has_value)
+  pub are_uses : AreIdentifierIndexes r.module_read.source.tokens (suc c.last) (tokens_of_uses r.module_read c.ordinal)
+  are_uses = subst (λ n. AreIdentifierIndexes r.module_read.source.tokens (suc n) (tokens_of_uses r.module_read c.ordinal)) last_is (names_at r is c.ordinal (scalar_value c.value) constant.has_value)
 
   -- The remaining words spell the inlined module.
   pub left_spelled : UsesAreFactors r.module_read c.ordinal
-      → map terminal_of_word (changed_words (changes_with_removal c.first c.last (changes_at (use_tokens_of r.module_read c.ordinal) (value_words c.value))) 0 (words_of r.module_read.source)) ≡ spell (tree_inlined_everywhere r.module_read c)
+      → map terminal_of_word (changed_words (changes_with_removal c.first c.last (changes_at_indexes (tokens_of_uses r.module_read c.ordinal) (value_words c.value))) 0 (words_of r.module_read.source)) ≡ spell (tree_inlined_everywhere r.module_read c)
   left_spelled alone =
       let m = r.module_read in
       let d = c.ordinal in
@@ -198,4 +198,4 @@ module _ (r : Resolution) (is : IsResolution r) (c : DeclaredConstant) (constant
       let last = end_token r is d w constant.has_value in
       let inside_it = (declaration_at r is d w constant.has_value).inside in
       let there = words_everywhere r is d w constant.has_value spelled (value_factor c.value) (value_words c.value) (value_spelled c.value) alone (uses_are_names r is d w constant.has_value spelled inside_it) in
-      (λ i. map terminal_of_word (changed_words (changes_with_removal (sym first_is i) (sym last_is i) (changes_at (sym (uses_by_table r is d) i) (value_words c.value))) 0 (words_of m.source))) ∙ there
+      (λ i. map terminal_of_word (changed_words (changes_with_removal (sym first_is i) (sym last_is i) (changes_at_indexes (sym (uses_by_table r is d) i) (value_words c.value))) 0 (words_of m.source))) ∙ there

@@ -4,18 +4,18 @@ use Rattle.std.proofs.Common.{◌≡◌, ℕ, zero, suc, ◌+◌, ◌<◌, ◌==
 use Rattle.std.specs.List.{filter}
 use Rattle.ob0_scan.specs.declared.lexeme.Token.{Token}
 use Rattle.ob0_scan.specs.TextWithTokens.{Word}
-use Rattle.ob0_tree.specs.Order.{AreIdentifierTokens, AreAscendingWithin}
+use Rattle.ob0_tree.specs.IdentifierIndexes.{AreIdentifierTokens, AreAscendingWithin}
 use Rattle.ob0_tree.specs.ParsedModule.{named_tree_of, tree_of}
 use Rattle.ob0_tree.specs.Tree.{Tree, factor, occurrences, spell}
 use Rattle.ob0_tree.proofs.Leaves.{ascending_lower}
-use Rattle.ob0_edits_tokens.specs.Changed.{changes_at, changed_words, is_in_list, words_of}
-use Rattle.ob0_edits_tokens.specs.OfTrees.{indexed_terminals_of_words}
-use Rattle.ob0_edits_tokens.specs.Removed.{changes_with_removal}
-use Rattle.ob0_edits_tokens.specs.Replaced.{AreIdentifierIndexes}
-use Rattle.ob0_edits_tokens.specs.Words.{terminal_of_word}
+use Rattle.ob0_edits_tokens.specs.WordReplacements.{changes_at_indexes, changed_words, is_in_list, words_of}
+use Rattle.ob0_edits_tokens.specs.WordsOfTrees.{indexed_terminals_of_words}
+use Rattle.ob0_edits_tokens.specs.Removals.{changes_with_removal}
+use Rattle.ob0_edits_tokens.specs.Replacements.{AreIdentifierIndexes}
+use Rattle.ob0_edits_tokens.specs.WordTerminals.{terminal_of_word}
 use Rattle.ob0_language_names.specs.Inlining.{occurrences_bound_to, inlined_everywhere}
 use Rattle.ob0_language_names.specs.Names.{Name}
-use Rattle.ob0_language_names.specs.Parts.{module_block}
+use Rattle.ob0_language_names.specs.BlockParts.{module_block}
 use Rattle.ob0_language_types.proofs.Leaves.{same_ordinal-true}
 use Rattle.ob0_scope_table.specs.Resolution.{IsResolution, Resolution, ordinal_in}
 use Rattle.ob0_language_names.specs.Scopes.{same_ordinal}
@@ -121,7 +121,7 @@ module _ (r : Resolution) (is : IsResolution r) (d : ℕ) (w : Value) (has_value
   -- declaration.
   pub words_everywhere : (v : Tree Name factor) (vs : List Word) → map terminal_of_word vs ≡ spell v → UsesAreFactors r.module_read d
       → AreIdentifierIndexes r.module_read.source.tokens (suc (last_token late_here.taken)) (bound_tokens r.ordinals d r.uses)
-      → map terminal_of_word (changed_words (changes_with_removal (first_bound_token late_here.taken) (last_token late_here.taken) (changes_at (bound_tokens r.ordinals d r.uses) vs)) 0 (words_of r.module_read.source))
+      → map terminal_of_word (changed_words (changes_with_removal (first_bound_token late_here.taken) (last_token late_here.taken) (changes_at_indexes (bound_tokens r.ordinals d r.uses) vs)) 0 (words_of r.module_read.source))
       ≡ spell (inlined_everywhere (named_tree_of r.module_read) d v)
   words_everywhere v vs same alone are_names =
       let m = r.module_read in

@@ -11,17 +11,17 @@ use Rattle.ob0_tree.specs.declared.tree.Role.{Role}
 use Rattle.ob0_tree.specs.declared.tree.Role.TheVariants as role
 use Rattle.ob0_tree.specs.Lexeme.{Terminal, WordOrSymbol}
 use Rattle.ob0_tree.specs.Lexeme as lexeme
-use Rattle.ob0_tree.specs.Order.{names_without_roles}
-use Rattle.ob0_tree.specs.Tree.{Sort, Tree, block, body, constant, constants, declares, declares_constant, declares_constants, declares_procedure, end, formals, forms_block, identifiers, is_module, item, items, mapped_tree, maybe, module_text, more, none, occurrences, one, procedure, spell, type_definitions, variables}
+use Rattle.ob0_tree.specs.IdentifierIndexes.{names_without_roles}
+use Rattle.ob0_tree.specs.Tree.{Sort, Tree, block, body, constant, constants, declares, declares_constant, declares_const_section, declares_procedure, end, formals, forms_block, identifiers, forms_module, item, items, mapped_tree, maybe, module_text, more, none, occurrences, one, procedure, spell, type_definitions, variables}
 use Rattle.ob0_tree.proofs.Leaves.{leaves_spelled, lexeme_names, lexeme_names-append}
 use Rattle.ob0_tree.proofs.Occurring.{looked_up_only, looked_up-occurrences}
-use Rattle.ob0_edits_tokens.specs.Changed.{is_in_list}
+use Rattle.ob0_edits_tokens.specs.WordReplacements.{is_in_list}
 use Rattle.ob0_language_names.specs.Names.{Name, naming_by_spelling}
-use Rattle.ob0_language_names.specs.Parts.{constant_names, formal_names, formal_sections, module_block, declared_type_names, procedure_name, section_constants, section_types, section_variables, variable_names}
-use Rattle.ob0_language_names.specs.Scopes.{Scope, ordinal_after_names, ordinal_after_procedure, body_scope, declare_names, first_procedure_ordinal, first_type_ordinal, first_variable_ordinal, predeclared_scope, scope_before_procedures, relabel_block, relabel_constant_section, relabel_constants, relabel_formals, relabel_procedure, relabel_procedures, relabel_type_section, relabel_uses, relabel_variable_section, relabel_module, scope_before_types, scope_before_variables}
+use Rattle.ob0_language_names.specs.BlockParts.{constant_names, formal_names, formal_sections, module_block, declared_type_names, procedure_name, section_constants, section_types, section_variables, variable_names}
+use Rattle.ob0_language_names.specs.Scopes.{Scope, ordinal_after_names, ordinal_after_procedure, body_scope, declare_names, first_procedure_ordinal, first_type_ordinal, first_variable_ordinal, predeclared_scope, scope_before_procedures, relabel_block, relabel_constant_section, relabel_constants, relabel_formals, relabel_procedure, relabel_procedure_list, relabel_type_section, relabel_uses, relabel_variable_section, relabel_module, scope_before_types, scope_before_variables}
 use Rattle.ob0_language_names.proofs.OccurrenceNames.{as_many-constant_section, as_many-formals, as_many-procedure, as_many-type_section, as_many-uses, as_many-variable_section}
 use Rattle.ob0_language_names.proofs.Ordinals.{le-ordinal_after_names, le-ordinal_after_procedure}
-use Rattle.ob0_language_types.specs.ConstantValues.{ConstantEnvironment, non_constant_placeholder, predeclared_constants, value_in_constants, value_in_block, value_in_procedure, value_in_procedures, value_of_constant}
+use Rattle.ob0_language_types.specs.ConstantValues.{ConstantEnvironment, non_constant_placeholder, predeclared_constants, constant_value_in_section, constant_value_in_block, constant_value_in_procedure, constant_value_in_procedures, value_of_constant}
 use Rattle.ob0_language_types.specs.Declarations.{declare_constants}
 use Rattle.ob0_language_types.specs.Environments.{meanings}
 use Rattle.ob0_language_types.specs.Expressions.{a_constant}
@@ -161,9 +161,9 @@ late_suffix d k labels w l z occ bound zb h = late_following d k labels w l (spe
 
 module _ (f : ℕ → Name) (g : ℕ → ℕ) (d : ℕ) (w : Value) where
   late_constants : (known : ConstantEnvironment) (scope : Scope Name) (k : ℕ) (cs : Tree ℕ (items constant)) (front : List (Terminal ℕ)) (border : TokenKind)
-      → (border ≡ kind.ReservedWord reserved.Const) ⊎ (border ≡ kind.Symbol symbol.Semicolon) → ScopeLow k scope → value_in_constants known d k (mapped_tree f g cs) ≡ Some w
+      → (border ≡ kind.ReservedWord reserved.Const) ⊎ (border ≡ kind.Symbol symbol.Semicolon) → ScopeLow k scope → constant_value_in_section known d k (mapped_tree f g cs) ≡ Some w
       → Late d k (constant_names cs) (front ++ (WordOrSymbol border ∷ spell cs)) (front ++ (WordOrSymbol border ∷ spell (gone_constants d k cs))) (occurrences cs) (occurrences (relabel_constants naming_by_spelling forget scope k (mapped_tree f g cs)))
-  unfolding value_in_constants
+  unfolding constant_value_in_section
   late_constants known scope k end front border opens below e = absurd (cc)
   late_constants known scope k (more (declares_constant x a) cs) front border opens below e =
       by_value (constant_value (meanings naming_by_spelling known) (mapped_tree f g a)) e
@@ -224,8 +224,8 @@ module _ (f : ℕ → Name) (g : ℕ → ℕ) (d : ℕ) (w : Value) where
           (ap (λ z. front ++ (WordOrSymbol border ∷ spell z)) (gone_here d k (declares_constant x a) cs false q) ∙ sym (moved (spell (gone_constants d (suc k) cs))))
           (late_among d k (suc k) (constant_names cs) (x ∷ constant_names cs) w1 l1 (occurrences cs) rest_bound r (suc r.taken.place) (omega (arith, e)) refl))
 
-      by_test : (v : Value) (b : Bool) → (k == d) ≡ b → (if b then Some v else value_in_constants ((f x, a_constant v) ∷ known) d (suc k) (mapped_tree f g cs)) ≡ Some w
-          → (value_in_constants ((f x, a_constant v) ∷ known) d (suc k) (mapped_tree f g cs) ≡ Some w
+      by_test : (v : Value) (b : Bool) → (k == d) ≡ b → (if b then Some v else constant_value_in_section ((f x, a_constant v) ∷ known) d (suc k) (mapped_tree f g cs)) ≡ Some w
+          → (constant_value_in_section ((f x, a_constant v) ∷ known) d (suc k) (mapped_tree f g cs) ≡ Some w
           → Late d (suc k) (constant_names cs) ((front ++ (WordOrSymbol border ∷ lexeme.Name x ∷ WordOrSymbol (kind.Symbol symbol.Equal) ∷ spell a)) ++ (WordOrSymbol (kind.Symbol symbol.Semicolon) ∷ spell cs))
           ((front ++ (WordOrSymbol border ∷ lexeme.Name x ∷ WordOrSymbol (kind.Symbol symbol.Equal) ∷ spell a)) ++ (WordOrSymbol (kind.Symbol symbol.Semicolon) ∷ spell (gone_constants d (suc k) cs)))
           (occurrences cs) (occurrences (relabel_constants naming_by_spelling forget ((f x, k) ∷ scope) (suc k) (mapped_tree f g cs))))
@@ -234,8 +234,8 @@ module _ (f : ℕ → Name) (g : ℕ → ℕ) (d : ℕ) (w : Value) where
       by_test v true q e later = here q
       by_test v false q e later = there q (later e)
 
-      by_value : (o : Option Value) → option_and_then (λ v. if k == d then Some v else value_in_constants ((f x, a_constant v) ∷ known) d (suc k) (mapped_tree f g cs)) o ≡ Some w
-          → ((v : Value) → value_in_constants ((f x, a_constant v) ∷ known) d (suc k) (mapped_tree f g cs) ≡ Some w
+      by_value : (o : Option Value) → option_and_then (λ v. if k == d then Some v else constant_value_in_section ((f x, a_constant v) ∷ known) d (suc k) (mapped_tree f g cs)) o ≡ Some w
+          → ((v : Value) → constant_value_in_section ((f x, a_constant v) ∷ known) d (suc k) (mapped_tree f g cs) ≡ Some w
           → Late d (suc k) (constant_names cs) ((front ++ (WordOrSymbol border ∷ lexeme.Name x ∷ WordOrSymbol (kind.Symbol symbol.Equal) ∷ spell a)) ++ (WordOrSymbol (kind.Symbol symbol.Semicolon) ∷ spell cs))
           ((front ++ (WordOrSymbol border ∷ lexeme.Name x ∷ WordOrSymbol (kind.Symbol symbol.Equal) ∷ spell a)) ++ (WordOrSymbol (kind.Symbol symbol.Semicolon) ∷ spell (gone_constants d (suc k) cs)))
           (occurrences cs) (occurrences (relabel_constants naming_by_spelling forget ((f x, k) ∷ scope) (suc k) (mapped_tree f g cs))))
@@ -244,11 +244,11 @@ module _ (f : ℕ → Name) (g : ℕ → ℕ) (d : ℕ) (w : Value) where
       by_value None e later = absurd (cc)
       by_value (Some v) e later = by_test v (k == d) refl e (later v)
 
-  late_section : (known : ConstantEnvironment) (scope : Scope Name) (k : ℕ) (cs : Tree ℕ (maybe constants)) → ScopeLow k scope → value_in_constants known d k (section_constants (mapped_tree f g cs)) ≡ Some w
+  late_section : (known : ConstantEnvironment) (scope : Scope Name) (k : ℕ) (cs : Tree ℕ (maybe constants)) → ScopeLow k scope → constant_value_in_section known d k (section_constants (mapped_tree f g cs)) ≡ Some w
       → Late d k (constant_names (section_constants cs)) (spell cs) (spell (gone_section d k cs)) (occurrences cs) (occurrences (relabel_constant_section naming_by_spelling forget scope k (mapped_tree f g cs)))
-  unfolding value_in_constants
+  unfolding constant_value_in_section
   late_section known scope k none below e = absurd (cc)
-  late_section known scope k (one (declares_constants cs)) below e = late_constants known scope k cs [] (kind.ReservedWord reserved.Const) (inl refl) below e
+  late_section known scope k (one (declares_const_section cs)) below e = late_constants known scope k cs [] (kind.ReservedWord reserved.Const) (inl refl) below e
 
   joined_in : (is js : List ℕ) (xs ys : List (Terminal ℕ)) → AllIn is (lexeme_names xs) → AllIn js (lexeme_names ys) → AllIn (is ++ js) (lexeme_names (xs ++ ys))
   joined_in is js xs ys h q =
@@ -345,9 +345,9 @@ module _ (f : ℕ → Name) (g : ℕ → ℕ) (d : ℕ) (w : Value) where
       (late_before d k labels (WordOrSymbol (kind.Symbol symbol.Semicolon) ∷ []) (spell b ++ tail) (left ++ tail) [] (occurrences b) [] lb refl tt ended_so))
 
   mutual
-    unfolding value_in_block
+    unfolding constant_value_in_block
 
-    late_block : (known : ConstantEnvironment) (scope : Scope Name) (k n : ℕ) → n ≡ k → ScopeLow n scope → (b : Tree ℕ block) → value_in_block known d n (mapped_tree f g b) ≡ Some w
+    late_block : (known : ConstantEnvironment) (scope : Scope Name) (k n : ℕ) → n ≡ k → ScopeLow n scope → (b : Tree ℕ block) → constant_value_in_block known d n (mapped_tree f g b) ≡ Some w
         → Late d k (names_in b) (spell b) (spell (gone_block d k b)) (occurrences b) (occurrences (relabel_block naming_by_spelling forget scope n (mapped_tree f g b)))
     late_block known scope k n same below (forms_block (declares cs ts vs ps) statements) e =
         let b : Tree ℕ block = forms_block (declares cs ts vs ps) statements in
@@ -355,7 +355,7 @@ module _ (f : ℕ → Name) (g : ℕ → ℕ) (d : ℕ) (w : Value) where
         let lc = occurrences (relabel_constant_section naming_by_spelling forget scope n (mapped_tree f g cs)) in
         let lt = occurrences (relabel_type_section naming_by_spelling forget (scope_before_types n b' scope) (first_type_ordinal n b') (mapped_tree f g ts)) in
         let lv = occurrences (relabel_variable_section naming_by_spelling forget (scope_before_variables n b' scope) (first_variable_ordinal n b') (mapped_tree f g vs)) in
-        let lp = occurrences (relabel_procedures naming_by_spelling forget (scope_before_procedures n b' scope) (first_procedure_ordinal n b') (mapped_tree f g ps)) in
+        let lp = occurrences (relabel_procedure_list naming_by_spelling forget (scope_before_procedures n b' scope) (first_procedure_ordinal n b') (mapped_tree f g ps)) in
         let ls = occurrences (relabel_uses naming_by_spelling forget (body_scope n b' scope) (mapped_tree f g statements)) in
         let xs = constant_names (section_constants (mapped_tree f g cs)) in
         let ys = declared_type_names (section_types (mapped_tree f g ts)) in
@@ -366,9 +366,9 @@ module _ (f : ℕ → Name) (g : ℕ → ℕ) (d : ℕ) (w : Value) where
         let up2 = le-ordinal_after_names (ordinal_after_names n xs) ys in
         let up3 = le-ordinal_after_names (ordinal_after_names (ordinal_after_names n xs) ys) zs in
         elim (nat_lt d (first_type_ordinal n b')) as (λ x. nat_lt d (first_type_ordinal n b') ≡ x
-        → (if x then value_in_constants known d n (section_constants (mapped_tree f g cs))
+        → (if x then constant_value_in_section known d n (section_constants (mapped_tree f g cs))
         else if nat_lt d (first_procedure_ordinal n b') then None
-        else option_and_then (λ inner. value_in_procedures (bind_names (declared_type_names (section_types (mapped_tree f g ts)) ++ variable_names (section_variables (mapped_tree f g vs))) non_constant_placeholder inner) d (first_procedure_ordinal n b') (mapped_tree f g ps))
+        else option_and_then (λ inner. constant_value_in_procedures (bind_names (declared_type_names (section_types (mapped_tree f g ts)) ++ variable_names (section_variables (mapped_tree f g vs))) non_constant_placeholder inner) d (first_procedure_ordinal n b') (mapped_tree f g ps))
         (declare_constants naming_by_spelling known (section_constants (mapped_tree f g cs)))) ≡ Some w
         → Late d k (names_in b) (spell b) (spell (gone_block d k b)) (occurrences b) ((lc ++ (lt ++ (lv ++ lp))) ++ ls)) [
           | true ↦ λ q h.
@@ -377,13 +377,13 @@ module _ (f : ℕ → Name) (g : ℕ → ℕ) (d : ℕ) (w : Value) where
           | false ↦ λ q h.
               let high = ltb-false d (first_type_ordinal n b') q in
               elim (nat_lt d (first_procedure_ordinal n b')) as (λ y. nat_lt d (first_procedure_ordinal n b') ≡ y → (if y then None
-              else option_and_then (λ inner. value_in_procedures (bind_names (declared_type_names (section_types (mapped_tree f g ts)) ++ variable_names (section_variables (mapped_tree f g vs))) non_constant_placeholder inner) d (first_procedure_ordinal n b') (mapped_tree f g ps))
+              else option_and_then (λ inner. constant_value_in_procedures (bind_names (declared_type_names (section_types (mapped_tree f g ts)) ++ variable_names (section_variables (mapped_tree f g vs))) non_constant_placeholder inner) d (first_procedure_ordinal n b') (mapped_tree f g ps))
               (declare_constants naming_by_spelling known (section_constants (mapped_tree f g cs)))) ≡ Some w
               → Late d k (names_in b) (spell b) (spell (gone_block d k b)) (occurrences b) ((lc ++ (lt ++ (lv ++ lp))) ++ ls)) [
                 | true ↦ λ r g0. absurd (cc)
                 | false ↦ λ r.
                     let all = ltb-false d (first_procedure_ordinal n b') r in
-                    elim (declare_constants naming_by_spelling known (section_constants (mapped_tree f g cs))) as (λ o. option_and_then (λ inner. value_in_procedures (bind_names (declared_type_names (section_types (mapped_tree f g ts)) ++ variable_names (section_variables (mapped_tree f g vs))) non_constant_placeholder inner) d (first_procedure_ordinal n b') (mapped_tree f g ps)) o ≡ Some w
+                    elim (declare_constants naming_by_spelling known (section_constants (mapped_tree f g cs))) as (λ o. option_and_then (λ inner. constant_value_in_procedures (bind_names (declared_type_names (section_types (mapped_tree f g ts)) ++ variable_names (section_variables (mapped_tree f g vs))) non_constant_placeholder inner) d (first_procedure_ordinal n b') (mapped_tree f g ps)) o ≡ Some w
                     → Late d k (names_in b) (spell b) (spell (gone_block d k b)) (occurrences b) ((lc ++ (lt ++ (lv ++ lp))) ++ ls)) [
                       | None ↦ λ g0. absurd (cc)
                       | Some inner ↦ λ g0.
@@ -400,18 +400,18 @@ module _ (f : ℕ → Name) (g : ℕ → ℕ) (d : ℕ) (w : Value) where
               ] refl h
         ] refl e
 
-    late_procedures : (known : ConstantEnvironment) (scope : Scope Name) (k n : ℕ) → n ≡ k → ScopeLow n scope → (ps : Tree ℕ (items procedure)) → value_in_procedures known d n (mapped_tree f g ps) ≡ Some w
-        → Late d k (names_in_procedures ps) (spell ps) (spell (gone_procedures d k ps)) (occurrences ps) (occurrences (relabel_procedures naming_by_spelling forget scope n (mapped_tree f g ps)))
+    late_procedures : (known : ConstantEnvironment) (scope : Scope Name) (k n : ℕ) → n ≡ k → ScopeLow n scope → (ps : Tree ℕ (items procedure)) → constant_value_in_procedures known d n (mapped_tree f g ps) ≡ Some w
+        → Late d k (names_in_procedures ps) (spell ps) (spell (gone_procedures d k ps)) (occurrences ps) (occurrences (relabel_procedure_list naming_by_spelling forget scope n (mapped_tree f g ps)))
     late_procedures known scope k n same below end e = absurd (cc)
     late_procedures known scope k n same below (more q rest) e =
         let q' = mapped_tree f g q in
         let lq = occurrences (relabel_procedure naming_by_spelling forget scope n q') in
-        let lr = occurrences (relabel_procedures naming_by_spelling forget ((procedure_name q', n) ∷ scope) (ordinal_after_procedure (suc n) q') (mapped_tree f g rest)) in
+        let lr = occurrences (relabel_procedure_list naming_by_spelling forget ((procedure_name q', n) ∷ scope) (ordinal_after_procedure (suc n) q') (mapped_tree f g rest)) in
         let up = le-ordinal_after_procedure (suc n) q' in
         let counted = procedure_count f g (suc n) q ∙ ap (λ m. ordinal_after_procedure (suc m) q) same in
         elim (nat_lt d (ordinal_after_procedure (suc n) q')) as (λ x. nat_lt d (ordinal_after_procedure (suc n) q') ≡ x
-        → (if x then value_in_procedure ((procedure_name q', non_constant_placeholder) ∷ known) d (suc n) q'
-        else value_in_procedures ((procedure_name q', non_constant_placeholder) ∷ known) d (ordinal_after_procedure (suc n) q') (mapped_tree f g rest)) ≡ Some w
+        → (if x then constant_value_in_procedure ((procedure_name q', non_constant_placeholder) ∷ known) d (suc n) q'
+        else constant_value_in_procedures ((procedure_name q', non_constant_placeholder) ∷ known) d (ordinal_after_procedure (suc n) q') (mapped_tree f g rest)) ≡ Some w
         → Late d k (names_in_procedures (more q rest)) (spell (more q rest)) (spell (gone_procedures d k (more q rest))) (occurrences (more q rest)) (lq ++ lr)) [
           | true ↦ λ t h.
               late_by_procedure q rest k lq lr (subst (λ m. d < m) counted (ltb-true d (ordinal_after_procedure (suc n) q') t))
@@ -424,7 +424,7 @@ module _ (f : ℕ → Name) (g : ℕ → ℕ) (d : ℕ) (w : Value) where
               (omega (arith, up), scope_raised n (ordinal_after_procedure (suc n) q') scope (omega (arith, up)) below) rest h)
         ] refl e
 
-    late_procedure : (known : ConstantEnvironment) (scope : Scope Name) (k n : ℕ) → n ≡ k → ScopeLow n scope → (q : Tree ℕ (item procedure)) → value_in_procedure known d (suc n) (mapped_tree f g q) ≡ Some w
+    late_procedure : (known : ConstantEnvironment) (scope : Scope Name) (k n : ℕ) → n ≡ k → ScopeLow n scope → (q : Tree ℕ (item procedure)) → constant_value_in_procedure known d (suc n) (mapped_tree f g q) ≡ Some w
         → Late d k (names_in_procedure q) (spell q) (spell (gone_procedure d (suc k) q)) (occurrences q) (occurrences (relabel_procedure naming_by_spelling forget scope n (mapped_tree f g q)))
     late_procedure known scope k n same below (declares_procedure x fs b closing) e =
         let xs = formal_names (formal_sections (mapped_tree f g fs)) in
@@ -433,7 +433,7 @@ module _ (f : ℕ → Name) (g : ℕ → ℕ) (d : ℕ) (w : Value) where
         let h1 = scope_raised n (suc n) scope (omega arith) below in
         let h2 = declared_low (suc n) xs ((f x, n) ∷ scope) (omega arith, h1) in
         elim (nat_lt d first) as (λ y. nat_lt d first ≡ y → (if y then None
-        else value_in_block (bind_names xs non_constant_placeholder known) d first (mapped_tree f g b)) ≡ Some w
+        else constant_value_in_block (bind_names xs non_constant_placeholder known) d first (mapped_tree f g b)) ≡ Some w
         → Late d k (names_in_procedure (declares_procedure x fs b closing)) (spell (declares_procedure x fs b closing)) (spell (gone_procedure d (suc k) (declares_procedure x fs b closing))) (occurrences (declares_procedure x fs b closing))
         (lf ++ occurrences (relabel_block naming_by_spelling forget (declare_names (suc n) xs ((f x, n) ∷ scope)) first (mapped_tree f g b)))) [
           | true ↦ λ r h. absurd (cc)
@@ -449,14 +449,14 @@ module _ (f : ℕ → Name) (g : ℕ → ℕ) (d : ℕ) (w : Value) where
   pub late_module : (m : Tree ℕ module_text) → value_of_constant (mapped_tree f g m) d ≡ Some w
       → Late d 7 (names_in (module_block m)) (spell m) (spell (gone_module d m)) (occurrences m) (occurrences (relabel_module naming_by_spelling forget (mapped_tree f g m)))
   unfolding value_of_constant
-  late_module (is_module x b closing) e =
+  late_module (forms_module x b closing) e =
       let labels = names_in b in
       let left = spell (gone_block d 7 b) in
       let tail : List (Terminal ℕ) = WordOrSymbol (kind.ReservedWord reserved.End) ∷ lexeme.Name closing ∷ (WordOrSymbol (kind.Symbol symbol.Dot) ∷ []) in
       let lb = occurrences (relabel_block naming_by_spelling forget (predeclared_scope naming_by_spelling) 7 (mapped_tree f g b)) in
       let seven : ScopeLow 7 (predeclared_scope naming_by_spelling) = (omega arith, (omega arith, (omega arith, (omega arith, (omega arith, (omega arith, (omega arith, tt))))))) in
-      elim (nat_lt d 7) as (λ y. (if y then None else value_in_block predeclared_constants d 7 (mapped_tree f g b)) ≡ Some w
-      → Late d 7 labels (spell (is_module x b closing)) (spell (gone_module d (is_module x b closing))) (occurrences b) lb) [
+      elim (nat_lt d 7) as (λ y. (if y then None else constant_value_in_block predeclared_constants d 7 (mapped_tree f g b)) ≡ Some w
+      → Late d 7 labels (spell (forms_module x b closing)) (spell (gone_module d (forms_module x b closing))) (occurrences b) lb) [
         | true ↦ λ h. absurd (cc)
         | false ↦ λ h.
             let there = late_block predeclared_constants (predeclared_scope naming_by_spelling) 7 7 refl seven b h in

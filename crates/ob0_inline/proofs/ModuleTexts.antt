@@ -11,13 +11,13 @@ use Rattle.ob0_tree.specs.Lexeme.{EndOfText}
 use Rattle.ob0_tree.specs.ParsedModule.{ParsedModule, IsParsed, tree_of}
 use Rattle.ob0_tree.specs.Places.{indexed_terminal, indexed_terminals_from}
 use Rattle.ob0_tree.specs.Tree.{Tree, factor, module_text, nesting, spell}
-use Rattle.ob0_edits_tokens.specs.Changed.{words_of}
-use Rattle.ob0_edits_tokens.specs.OfTrees.{indexed_terminals_of_words}
-use Rattle.ob0_edits_tokens.specs.Replaced.{EditsGiveWords}
-use Rattle.ob0_edits_tokens.specs.Words.{terminal_of_word}
+use Rattle.ob0_edits_tokens.specs.WordReplacements.{words_of}
+use Rattle.ob0_edits_tokens.specs.WordsOfTrees.{indexed_terminals_of_words}
+use Rattle.ob0_edits_tokens.specs.Replacements.{EditsGiveWords}
+use Rattle.ob0_edits_tokens.specs.WordTerminals.{terminal_of_word}
 use Rattle.ob0_language_values.specs.declared.scalar.Scalar.{Scalar}
 use Rattle.ob0_language_values.specs.declared.scalar.Scalar.TheVariants as scalar
-use Rattle.ob0_inline.specs.Inlined.{EditsGiveModule}
+use Rattle.ob0_inline.specs.EditedModuleTexts.{EditsGiveModule}
 use Rattle.ob0_inline.specs.Values.{value_factor, value_words}
 use Rattle.ob0_inline.proofs.Depths.{lexemes_of_words}
 

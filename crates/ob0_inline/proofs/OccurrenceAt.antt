@@ -9,7 +9,7 @@ use Rattle.std.specs.List.Sorted.{IsBinarySearchResult}
 use Rattle.std.specs.Ordering.{nat_cmp}
 use Rattle.std.proofs.lemmas.Bool.{ltb-false, ltb-true}
 use Rattle.std.proofs.lemmas.List.Sorted.{searched}
-use Rattle.ob0_tree.specs.Order.{AreAscendingWithin}
+use Rattle.ob0_tree.specs.IdentifierIndexes.{AreAscendingWithin}
 use Rattle.ob0_inline.proofs.UsesAreIdentifiers.{not_equal}
 
 -- Each of some ascending numbers is at least the lower bound.

@@ -7,7 +7,7 @@ use Rattle.ob0_text.specs.declared.position_types.Unit as counting
 use Rattle.ob0_text.specs.declared.refusals.EditRefusal.{EditRefusal}
 use Rattle.ob0_text.specs.declared.refusals.EditRefusal.TheVariants.{Memory, TooDeep, TooLong}
 use Rattle.ob0_tree.specs.Tree.{Tree, module_text, nesting}
-use Rattle.ob0_inline.specs.Inlined.{EditsGiveModule, size_refusal_or_other}
+use Rattle.ob0_inline.specs.EditedModuleTexts.{EditsGiveModule, size_refusal_or_other}
 
 -- States that the edits leave this text. If the constant's names are factors by themselves, it is a
 -- text of the module.

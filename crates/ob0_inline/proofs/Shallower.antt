@@ -5,11 +5,11 @@ use Rattle.std.proofs.Common.{◌≡◌, ℕ, suc, ◌+◌, ◌≤◌, ◌==◌,
 use Rattle.std.specs.Prelude.{negsuc}
 use Rattle.ob0_tree.specs.ParsedModule.{ParsedModule, named_tree_of, tree_of}
 use Rattle.ob0_tree.specs.Places as leaf
-use Rattle.ob0_tree.specs.Tree.{Sort, Tree, block, constant, constants, factor, item, items, maybe, module_text, nesting, occurrences, procedure, adds, array_type, assigns, begins, branches, calls, compares, declares, declares_constant, declares_constants, declares_procedure, declares_type, declares_types, declares_variable, declares_variables, designator, else_branch, elsif_branch, end, forms_block, index, is_module, more, multiplies, negation, none, one, parenthesised, product, record_type, relates, repeat_loop, runs, some_arguments, some_fields, some_formals, sum, then_argument, then_fields, then_section, then_statement, value_section, variable_section, while_loop}
+use Rattle.ob0_tree.specs.Tree.{Sort, Tree, block, constant, constants, factor, item, items, maybe, module_text, nesting, occurrences, procedure, adds, array_type, assigns, begins, branches, calls, compares, declares, declares_constant, declares_const_section, declares_procedure, declares_type, declares_type_section, declares_variable, declares_var_section, designator, else_branch, elsif_branch, end, forms_block, index, forms_module, more, multiplies, negation, none, one, parenthesised, product, record_type, relates, repeat_loop, runs, some_arguments, some_fields, some_formals, sum, comma_then_argument, semicolon_then_fields, semicolon_then_section, semicolon_then_statement, value_section, variable_section, while_loop}
 use Rattle.ob0_tree.proofs.Mapped.{nesting_mapped}
-use Rattle.ob0_language_names.specs.Inlining.{OccurrenceSet, occurrences_bound_to, block_without_constant, inline_in_tree, inlined, module_without_constant, procedure_without_constant, procedures_without_constant, section_without_constant, constants_without_ordinal}
+use Rattle.ob0_language_names.specs.Inlining.{OccurrenceSet, occurrences_bound_to, block_without_constant, inline_in_tree, inlined, module_without_constant, procedure_without_constant, procedure_list_without_constant, section_without_constant, constants_without_ordinal}
 use Rattle.ob0_language_names.specs.Names.{Name}
-use Rattle.ob0_language_names.specs.Parts.{formal_names, formal_sections}
+use Rattle.ob0_language_names.specs.BlockParts.{formal_names, formal_sections}
 use Rattle.ob0_language_names.specs.Scopes.{ordinal_after_names, ordinal_after_procedure, first_procedure_ordinal}
 use Rattle.ob0_language_values.specs.declared.scalar.Scalar.{Scalar}
 use Rattle.ob0_language_values.specs.declared.scalar.Scalar.TheVariants as scalar
@@ -51,30 +51,30 @@ module _ (uses : OccurrenceSet) (v : Tree Name factor) where
   inlined_low k (while_loop t u) = omega (arith, inlined_low k t, inlined_low (k + length (occurrences t)) u)
   inlined_low k (repeat_loop t u) = omega (arith, inlined_low k t, inlined_low (k + length (occurrences t)) u)
   inlined_low k (some_arguments t u) = omega (arith, inlined_low k t, inlined_low (k + length (occurrences t)) u)
-  inlined_low k (then_argument t) = omega (arith, inlined_low k t)
+  inlined_low k (comma_then_argument t) = omega (arith, inlined_low k t)
   inlined_low k (runs t u) = omega (arith, inlined_low k t, inlined_low (k + length (occurrences t)) u)
-  inlined_low k (then_statement t) = omega (arith, inlined_low k t)
+  inlined_low k (semicolon_then_statement t) = omega (arith, inlined_low k t)
   inlined_low k (elsif_branch t u) = omega (arith, inlined_low k t, inlined_low (k + length (occurrences t)) u)
   inlined_low k (else_branch t) = omega (arith, inlined_low k t)
   inlined_low k (array_type t u) = omega (arith, inlined_low k t, inlined_low (k + length (occurrences t)) u)
   inlined_low k (record_type t u) = omega (arith, inlined_low k t, inlined_low (k + length (occurrences t)) u)
   inlined_low k (some_fields ns t) = omega (arith, inlined_low k t)
-  inlined_low k (then_fields t) = omega (arith, inlined_low k t)
+  inlined_low k (semicolon_then_fields t) = omega (arith, inlined_low k t)
   inlined_low k (some_formals t u) = omega (arith, inlined_low k t, inlined_low (k + length (occurrences t)) u)
   inlined_low k (value_section ns t) = omega (arith, inlined_low k t)
   inlined_low k (variable_section ns t) = omega (arith, inlined_low k t)
-  inlined_low k (then_section t) = omega (arith, inlined_low k t)
+  inlined_low k (semicolon_then_section t) = omega (arith, inlined_low k t)
   inlined_low k (declares_constant x t) = omega (arith, inlined_low k t)
-  inlined_low k (declares_constants t) = omega (arith, inlined_low k t)
+  inlined_low k (declares_const_section t) = omega (arith, inlined_low k t)
   inlined_low k (declares_type x t) = omega (arith, inlined_low k t)
-  inlined_low k (declares_types t) = omega (arith, inlined_low k t)
+  inlined_low k (declares_type_section t) = omega (arith, inlined_low k t)
   inlined_low k (declares_variable ns t) = omega (arith, inlined_low k t)
-  inlined_low k (declares_variables t) = omega (arith, inlined_low k t)
+  inlined_low k (declares_var_section t) = omega (arith, inlined_low k t)
   inlined_low k (declares_procedure x t u y) = omega (arith, inlined_low k t, inlined_low (k + length (occurrences t)) u)
   inlined_low k (declares t u w z) = omega (arith, inlined_low k t, inlined_low (k + length (occurrences t)) u, inlined_low (k + length (occurrences t) + length (occurrences u)) w, inlined_low (k + length (occurrences t) + length (occurrences u) + length (occurrences w)) z)
   inlined_low k (begins t) = omega (arith, inlined_low k t)
   inlined_low k (forms_block t u) = omega (arith, inlined_low k t, inlined_low (k + length (occurrences t)) u)
-  inlined_low k (is_module x t y) = omega (arith, inlined_low k t)
+  inlined_low k (forms_module x t y) = omega (arith, inlined_low k t)
   inlined_low k _ = omega arith
 
 pub inlined_shallow : (m : ParsedModule) (uses : OccurrenceSet) (value : Scalar) → nesting (inlined (named_tree_of m) uses (value_factor value)) ≤ nesting (tree_of m) + 1
@@ -93,7 +93,7 @@ constants_low d k (more c cs) =
 
 section_low : (d k : ℕ) (cs : Tree Name (maybe constants)) → nesting (section_without_constant d k cs) ≤ nesting cs
 section_low d k none = omega arith
-section_low d k (one (declares_constants cs)) = constants_low d k cs
+section_low d k (one (declares_const_section cs)) = constants_low d k cs
 
 mutual
   block_low : (d k : ℕ) (b : Tree Name block) → nesting (block_without_constant d k b) ≤ nesting b
@@ -102,7 +102,7 @@ mutual
       let last = procedures_low d (first_procedure_ordinal k (forms_block (declares cs ts vs ps) statements)) ps in
       omega (arith, first, last)
 
-  procedures_low : (d k : ℕ) (ps : Tree Name (items procedure)) → nesting (procedures_without_constant d k ps) ≤ nesting ps
+  procedures_low : (d k : ℕ) (ps : Tree Name (items procedure)) → nesting (procedure_list_without_constant d k ps) ≤ nesting ps
   procedures_low d k end = omega arith
   procedures_low d k (more p rest) =
       let first = procedure_low d (suc k) p in
@@ -115,7 +115,7 @@ mutual
       omega (arith, inner)
 
 module_low : (d : ℕ) (m : Tree Name module_text) → nesting (module_without_constant d m) ≤ nesting m
-module_low d (is_module x b closing) = block_low d 7 b
+module_low d (forms_module x b closing) = block_low d 7 b
 
 pub everywhere_shallow : (m : ParsedModule) (c : DeclaredConstant) → nesting (tree_inlined_everywhere m c) ≤ nesting (tree_of m) + 1
 everywhere_shallow m c =

@@ -9,13 +9,13 @@ use Rattle.std.specs.List.{flat_map}
 use Rattle.ob0_tree.specs.declared.tree.Role.{Role}
 use Rattle.ob0_tree.specs.declared.tree.Role.TheVariants as role
 use Rattle.ob0_tree.specs.Lexeme.{Terminal, Name}
-use Rattle.ob0_tree.specs.Tree.{Sort, Tree, block, constant, constants, factor, further_name, identifiers, item, items, mapped_tree, maybe, module_text, names, occurrences, procedure, spell, adds, array_type, assigns, begins, branches, calls, compares, declares, declares_constant, declares_constants, declares_procedure, declares_type, declares_types, declares_variable, declares_variables, designator, else_branch, elsif_branch, end, field, forms_block, index, is_module, listed, more, multiplies, named_type, negation, none, one, parenthesised, product, record_type, relates, repeat_loop, runs, some_arguments, some_fields, some_formals, sum, then_argument, then_fields, then_name, then_section, then_statement, value_section, variable_section, while_loop}
-use Rattle.ob0_edits_tokens.proofs.OfTrees.{replaced}
+use Rattle.ob0_tree.specs.Tree.{Sort, Tree, block, constant, constants, factor, name_after_comma, identifiers, item, items, mapped_tree, maybe, module_text, names, occurrences, procedure, spell, adds, array_type, assigns, begins, branches, calls, compares, declares, declares_constant, declares_const_section, declares_procedure, declares_type, declares_type_section, declares_variable, declares_var_section, designator, else_branch, elsif_branch, end, field, forms_block, index, forms_module, listed, more, multiplies, named_type, negation, none, one, parenthesised, product, record_type, relates, repeat_loop, runs, some_arguments, some_fields, some_formals, sum, comma_then_argument, semicolon_then_fields, comma_then_name, semicolon_then_section, semicolon_then_statement, value_section, variable_section, while_loop}
+use Rattle.ob0_edits_tokens.proofs.WordsOfTrees.{replaced}
 use Rattle.ob0_language_names.specs.NonFactorNames.{non_factor_occurrences}
 use Rattle.ob0_language_names.specs.Inlining.{OccurrenceSet, inline_in_tree, module_without_constant}
 use Rattle.ob0_language_names.specs.Names as naming
 use Rattle.ob0_language_names.specs.Names.{Label, declared}
-use Rattle.ob0_language_names.specs.Parts.{formal_names, formal_sections}
+use Rattle.ob0_language_names.specs.BlockParts.{formal_names, formal_sections}
 use Rattle.ob0_language_names.specs.Scopes.{ordinal_after_names, ordinal_after_procedure, first_procedure_ordinal}
 use Rattle.ob0_language_names.proofs.EditedTrees.{edited_block, edited_constants, edited_procedure, edited_procedures, edited_section}
 use Rattle.ob0_language_names.proofs.EverywhereTrees.{everywhere, gone-module}
@@ -90,16 +90,16 @@ module _ (gives : ℕ → Bool) (uses : OccurrenceSet) (v : Tree naming.Name fac
   abbrev pub Plain : Role → Type 0
   Plain r = (i : ℕ) → IsMarked table r i → gives i ≡ false
 
-  further_spelled : (r : Role) → Plain r → (ns : Tree ℕ (items further_name)) → AllMarked table (identifiers r ns) → spell (mapped_tree f g ns) ≡ flat_map put (spell ns)
+  further_spelled : (r : Role) → Plain r → (ns : Tree ℕ (items name_after_comma)) → AllMarked table (identifiers r ns) → spell (mapped_tree f g ns) ≡ flat_map put (spell ns)
   further_spelled r plain end h = refl
-  further_spelled r plain (more (then_name x) rest) h = simp (plain x h.0, further_spelled r plain rest h.1)
+  further_spelled r plain (more (comma_then_name x) rest) h = simp (plain x h.0, further_spelled r plain rest h.1)
 
   names_spelled : (r : Role) → Plain r → (ns : Tree ℕ names) → AllMarked table (identifiers r ns) → spell (mapped_tree f g ns) ≡ flat_map put (spell ns)
   names_spelled r plain (listed x rest) h = simp (plain x h.0, further_spelled r plain rest h.1)
 
-  further_kept : (k : ℕ) (ns : Tree ℕ (items further_name)) → inline_in_tree uses v k (mapped_tree f g ns) ≡ mapped_tree f g ns
+  further_kept : (k : ℕ) (ns : Tree ℕ (items name_after_comma)) → inline_in_tree uses v k (mapped_tree f g ns) ≡ mapped_tree f g ns
   further_kept k end = refl
-  further_kept k (more (then_name x) rest) = λ i. more (then_name (f x)) (further_kept (k + 0) rest i)
+  further_kept k (more (comma_then_name x) rest) = λ i. more (comma_then_name (f x)) (further_kept (k + 0) rest i)
 
   alone : (x : ℕ) (b : Bool) → gives x ≡ b → spell (if b then v else designator (f x) end) ≡ (if gives x then spell v else Name (f x) ∷ []) ++ []
   alone x true e = sym (append-nil (spell v)) ∙ ap (λ b. (if b then spell v else Name (f x) ∷ []) ++ []) (sym e)
@@ -133,28 +133,28 @@ module _ (gives : ℕ → Bool) (uses : OccurrenceSet) (v : Tree naming.Name fac
   spelled k r plain (while_loop t u) h = let s = both k r t u h in simp (flat_map-append, spelled k r plain t s.0, spelled (past k t) r plain u s.1)
   spelled k r plain (repeat_loop t u) h = let s = both k r t u h in simp (flat_map-append, spelled k r plain t s.0, spelled (past k t) r plain u s.1)
   spelled k r plain (some_arguments t u) h = let s = both k r t u h in simp (flat_map-append, spelled k r plain t s.0, spelled (past k t) r plain u s.1)
-  spelled k r plain (then_argument t) h = simp (spelled k r plain t h)
+  spelled k r plain (comma_then_argument t) h = simp (spelled k r plain t h)
   spelled k r plain (runs t u) h = let s = both k r t u h in simp (flat_map-append, spelled k r plain t s.0, spelled (past k t) r plain u s.1)
-  spelled k r plain (then_statement t) h = simp (spelled k r plain t h)
+  spelled k r plain (semicolon_then_statement t) h = simp (spelled k r plain t h)
   spelled k r plain (elsif_branch t u) h = let s = both k r t u h in simp (flat_map-append, spelled k r plain t s.0, spelled (past k t) r plain u s.1)
   spelled k r plain (else_branch t) h = simp (spelled k r plain t h)
   spelled k r plain (listed x rest) h = simp (plain x h.1.0, ap spell (further_kept k rest), further_spelled r plain rest h.1.1)
-  spelled k r plain (then_name x) h = simp (plain x h.1.0)
+  spelled k r plain (comma_then_name x) h = simp (plain x h.1.0)
   spelled k r plain (named_type x) h = simp (apart x h.2.0)
   spelled k r plain (array_type t u) h = let s = both k r t u h in simp (flat_map-append, spelled k r plain t s.0, spelled (past k t) r plain u s.1)
   spelled k r plain (record_type t u) h = let s = both k r t u h in simp (flat_map-append, spelled k r plain t s.0, spelled (past k t) r plain u s.1)
   spelled k r plain (some_fields ns t) h = let s = cut_roles table (identifiers role.FieldName ns) (identifiers r t) h.1 in simp (flat_map-append, names_spelled role.FieldName others ns s.0, spelled k r plain t (h.0, s.1, h.2))
-  spelled k r plain (then_fields t) h = simp (spelled k r plain t h)
+  spelled k r plain (semicolon_then_fields t) h = simp (spelled k r plain t h)
   spelled k r plain (some_formals t u) h = let s = both k r t u h in simp (flat_map-append, spelled k r plain t s.0, spelled (past k t) r plain u s.1)
   spelled k r plain (value_section ns t) h = let s = cut_roles table (identifiers role.Declaring ns) (identifiers r t) h.1 in simp (flat_map-append, names_spelled role.Declaring others ns s.0, spelled k r plain t (h.0, s.1, h.2))
   spelled k r plain (variable_section ns t) h = let s = cut_roles table (identifiers role.Declaring ns) (identifiers r t) h.1 in simp (flat_map-append, names_spelled role.Declaring others ns s.0, spelled k r plain t (h.0, s.1, h.2))
-  spelled k r plain (then_section t) h = simp (spelled k r plain t h)
+  spelled k r plain (semicolon_then_section t) h = simp (spelled k r plain t h)
   spelled k r plain (declares_constant x t) h = simp (flat_map-append, others x h.1.0, spelled k r plain t (h.0, h.1.1, h.2))
-  spelled k r plain (declares_constants t) h = simp (spelled k r plain t h)
+  spelled k r plain (declares_const_section t) h = simp (spelled k r plain t h)
   spelled k r plain (declares_type x t) h = simp (flat_map-append, others x h.1.0, spelled k r plain t (h.0, h.1.1, h.2))
-  spelled k r plain (declares_types t) h = simp (spelled k r plain t h)
+  spelled k r plain (declares_type_section t) h = simp (spelled k r plain t h)
   spelled k r plain (declares_variable ns t) h = let s = cut_roles table (identifiers role.Declaring ns) (identifiers r t) h.1 in simp (flat_map-append, names_spelled role.Declaring others ns s.0, spelled k r plain t (h.0, s.1, h.2))
-  spelled k r plain (declares_variables t) h = simp (spelled k r plain t h)
+  spelled k r plain (declares_var_section t) h = simp (spelled k r plain t h)
   spelled k r plain (declares_procedure x t u y) h =
       let a = cut k r t (occurrences u) (identifiers r u ++ ((role.ClosingName, y) ∷ [])) (non_factor_occurrences (mapped_tree label g u)) (h.0, h.1.1, h.2) in
       let b = cut_roles table (identifiers r u) ((role.ClosingName, y) ∷ []) a.1.1 in
@@ -166,7 +166,7 @@ module _ (gives : ℕ → Bool) (uses : OccurrenceSet) (v : Tree naming.Name fac
       simp (flat_map-append, spelled k r plain t a.0, spelled (past k t) r plain u b.0, spelled (past (past k t) u) r plain w c.0, spelled (past (past (past k t) u) w) r plain z c.1)
   spelled k r plain (begins t) h = simp (spelled k r plain t h)
   spelled k r plain (forms_block t u) h = let s = both k r t u h in simp (flat_map-append, spelled k r plain t s.0, spelled (past k t) r plain u s.1)
-  spelled k r plain (is_module x t y) h =
+  spelled k r plain (forms_module x t y) h =
       let b = cut_roles table (identifiers r t) ((role.ModuleName, y) ∷ []) h.1.1 in
       simp (flat_map-append, others x h.1.0, others y b.1.0, spelled k r plain t (h.0, b.0, h.2))
   spelled k r plain _ h = refl
@@ -192,7 +192,7 @@ module _ (gives : ℕ → Bool) (uses : OccurrenceSet) (v : Tree naming.Name fac
 
   section_spelled : (c n k : ℕ) (cs : Tree ℕ (maybe constants)) → Fits k role.Declaring cs → spell (edited_section (everywhere uses v c) k n (mapped_tree f g cs)) ≡ flat_map put (spell (gone_section c n cs))
   section_spelled c n k none h = refl
-  section_spelled c n k (one (declares_constants cs)) h = simp (constants_spelled c n k cs h)
+  section_spelled c n k (one (declares_const_section cs)) h = simp (constants_spelled c n k cs h)
 
   mutual
     block_spelled : (c n k : ℕ) (b : Tree ℕ block) → Fits k role.Declaring b → spell (edited_block (everywhere uses v c) k n (mapped_tree f g b)) ≡ flat_map put (spell (gone_block c n b))
@@ -229,8 +229,8 @@ module _ (gives : ℕ → Bool) (uses : OccurrenceSet) (v : Tree naming.Name fac
         simp (flat_map-append, others x h.1.0, others y q.1.0, spelled k r others u a.0, inner)
 
   pub module_spelled : (c : ℕ) (m : Tree ℕ module_text) → Fits 0 role.Declaring m → spell (module_without_constant c (inline_in_tree uses v 0 (mapped_tree f g m))) ≡ flat_map put (spell (gone_module c m))
-  module_spelled c (is_module x b y) h =
+  module_spelled c (forms_module x b y) h =
       let q = cut_roles table (identifiers role.Declaring b) ((role.ModuleName, y) ∷ []) h.1.1 in
       let inner = block_spelled c 7 0 b (h.0, q.0, h.2) in
-      let edited_is : spell (is_module (f x) (edited_block (everywhere uses v c) 0 7 (mapped_tree f g b)) (f y)) ≡ flat_map put (spell (gone_module c (is_module x b y))) = simp (flat_map-append, others x h.1.0, others y q.1.0, inner) in
-      ap spell (sym (gone-module uses v c (mapped_tree f g (is_module x b y)))) ∙ edited_is
+      let edited_is : spell (forms_module (f x) (edited_block (everywhere uses v c) 0 7 (mapped_tree f g b)) (f y)) ≡ flat_map put (spell (gone_module c (forms_module x b y))) = simp (flat_map-append, others x h.1.0, others y q.1.0, inner) in
+      ap spell (sym (gone-module uses v c (mapped_tree f g (forms_module x b y)))) ∙ edited_is

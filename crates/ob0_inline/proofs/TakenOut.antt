@@ -18,12 +18,12 @@ use Rattle.ob0_tree.specs.declared.tree.Sign.{Sign}
 use Rattle.ob0_tree.specs.declared.tree.Sign.TheVariants as sign
 use Rattle.ob0_tree.specs.Lexeme.{Terminal, WordOrSymbol, add_operator_token_kind, multiply_operator_token_kind, relation_token_kind, sign_tokens}
 use Rattle.ob0_tree.specs.Lexeme as lexeme
-use Rattle.ob0_tree.specs.Tree.{Tree, addend, adds, compares, designator, expression, factor, field, index, integer, multiplier, multiplies, negation, parenthesised, product, relates, selector, simple, sum, term, block, constant, constants, declares, declares_constant, declares_constants, declares_procedure, end, formals, forms_block, is_module, item, items, mapped_tree, maybe, module_text, more, none, one, procedure, spell}
+use Rattle.ob0_tree.specs.Tree.{Tree, addend, adds, compares, designator, expression, factor, field, index, integer, multiplier, multiplies, negation, parenthesised, product, relates, selector, simple, sum, term, block, constant, constants, declares, declares_constant, declares_const_section, declares_procedure, end, formals, forms_block, forms_module, item, items, mapped_tree, maybe, module_text, more, none, one, procedure, spell}
 use Rattle.ob0_language_names.specs.Names.{Name}
-use Rattle.ob0_language_names.specs.Parts.{constant_names, formal_names, formal_sections, declared_type_names, section_constants, section_types, section_variables, variable_names}
-use Rattle.ob0_language_names.specs.Scopes.{ordinal_after_block, ordinal_after_names, ordinal_after_procedure, ordinal_after_procedures, first_procedure_ordinal, first_type_ordinal}
+use Rattle.ob0_language_names.specs.BlockParts.{constant_names, formal_names, formal_sections, declared_type_names, section_constants, section_types, section_variables, variable_names}
+use Rattle.ob0_language_names.specs.Scopes.{ordinal_after_block, ordinal_after_names, ordinal_after_procedure, ordinal_after_procedure_list, first_procedure_ordinal, first_type_ordinal}
 use Rattle.ob0_types_check.proofs.DeclaredNames.{ordinal_after_block-mapped_tree, ordinal_after_names-map, ordinal_after_procedure-mapped_tree, formals-names}
-use Rattle.ob0_language_names.proofs.Ordinals.{le-ordinal_after_names, le-ordinal_after_procedure, le-ordinal_after_procedures}
+use Rattle.ob0_language_names.proofs.Ordinals.{le-ordinal_after_names, le-ordinal_after_procedure, le-ordinal_after_procedure_list}
 
 -- returns constants without the declaration with ordinal d, over any names
 abbrev pub gone_constants : {N : Type 0} → ℕ → ℕ → Tree N (items constant) → Tree N (items constant)
@@ -32,7 +32,7 @@ gone_constants d k (more c cs) = if k == d then cs else more c (gone_constants d
 
 abbrev pub gone_section : {N : Type 0} → ℕ → ℕ → Tree N (maybe constants) → Tree N (maybe constants)
 gone_section d k none = none
-gone_section d k (one (declares_constants cs)) = one (declares_constants (gone_constants d k cs))
+gone_section d k (one (declares_const_section cs)) = one (declares_const_section (gone_constants d k cs))
 
 abbrev mutual
   pub gone_block : {N : Type 0} → ℕ → ℕ → Tree N block → Tree N block
@@ -47,7 +47,7 @@ abbrev mutual
   gone_procedure d k (declares_procedure x fs b closing) = declares_procedure x fs (gone_block d (ordinal_after_names k (formal_names (formal_sections fs))) b) closing
 
 abbrev pub gone_module : {N : Type 0} → ℕ → Tree N module_text → Tree N module_text
-gone_module d (is_module x b closing) = is_module x (gone_block d 7 b) closing
+gone_module d (forms_module x b closing) = forms_module x (gone_block d 7 b) closing
 
 -- A tree declares as much with other names. Its sections are counted like the sections of a block
 -- without other parts.
@@ -168,7 +168,7 @@ kept_constants d k (more (declares_constant x e) cs) h =
 
 pub kept_section : {N : Type 0} (d k : ℕ) (cs : Tree N (maybe constants)) → Outside d k (ordinal_after_names k (constant_names (section_constants cs))) → gone_section d k cs ≡ cs
 kept_section d k none h = refl
-kept_section d k (one (declares_constants cs)) h = λ i. one (declares_constants (kept_constants d k cs h i))
+kept_section d k (one (declares_const_section cs)) h = λ i. one (declares_const_section (kept_constants d k cs h i))
 
 mutual
   kept_block : {N : Type 0} (d k : ℕ) (b : Tree N block) → Outside d k (ordinal_after_block k b) → gone_block d k b ≡ b
@@ -177,17 +177,17 @@ mutual
       let up = le-ordinal_after_names k (constant_names (section_constants cs)) in
       let up2 = le-ordinal_after_names (ordinal_after_names k (constant_names (section_constants cs))) (declared_type_names (section_types ts)) in
       let up3 = le-ordinal_after_names (ordinal_after_names (ordinal_after_names k (constant_names (section_constants cs))) (declared_type_names (section_types ts))) (variable_names (section_variables vs)) in
-      let up4 = le-ordinal_after_procedures (first_procedure_ordinal k b) ps in
+      let up4 = le-ordinal_after_procedure_list (first_procedure_ordinal k b) ps in
       λ i. forms_block
       (declares (kept_section d k cs (λ j l u. h j l (omega (arith, u, up2, up3, up4))) i) ts vs
       (kept_procedures d (first_procedure_ordinal k b) ps (λ j l u. h j (omega (arith, l, up, up2, up3)) u) i))
       statements
 
-  pub kept_procedures : {N : Type 0} (d k : ℕ) (ps : Tree N (items procedure)) → Outside d k (ordinal_after_procedures k ps) → gone_procedures d k ps ≡ ps
+  pub kept_procedures : {N : Type 0} (d k : ℕ) (ps : Tree N (items procedure)) → Outside d k (ordinal_after_procedure_list k ps) → gone_procedures d k ps ≡ ps
   kept_procedures d k end h = refl
   kept_procedures d k (more p rest) h =
       let up = le-ordinal_after_procedure (suc k) p in
-      let up2 = le-ordinal_after_procedures (ordinal_after_procedure (suc k) p) rest in
+      let up2 = le-ordinal_after_procedure_list (ordinal_after_procedure (suc k) p) rest in
       λ i. more (kept_procedure d (suc k) p (λ j l u. h j (omega (arith, l)) (omega (arith, u, up2))) i)
       (kept_procedures d (ordinal_after_procedure (suc k) p) rest (λ j l u. h j (omega (arith, l, up)) u) i)
 

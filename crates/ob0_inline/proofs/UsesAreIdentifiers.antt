@@ -7,18 +7,18 @@ use Rattle.ob0_scan.specs.declared.lexeme.Token.{Token}
 use Rattle.ob0_scan.specs.TextWithTokens.{Word, word_of_token}
 use Rattle.ob0_tree.specs.declared.tree.Role.{Role}
 use Rattle.ob0_tree.specs.declared.tree.Role.TheVariants as role
-use Rattle.ob0_tree.specs.Order.{AreIdentifierTokens, AreAscendingWithin, IsIdentifierToken, names_without_roles}
+use Rattle.ob0_tree.specs.IdentifierIndexes.{AreIdentifierTokens, AreAscendingWithin, IsIdentifierToken, names_without_roles}
 use Rattle.ob0_tree.specs.ParsedModule.{named_tree_of, tree_of}
 use Rattle.ob0_tree.specs.Places as leaf
 use Rattle.ob0_tree.specs.Lexeme.{Terminal}
 use Rattle.ob0_tree.specs.Tree.{Tree, factor, identifiers, mapped_tree, occurrences, spell}
 use Rattle.ob0_tree.proofs.Leaves.{leaves_are_identifiers, leaves_ascend, ascending_lower}
 use Rattle.ob0_tree.proofs.Occurring.{looked_up_only, looked_up-occurrences}
-use Rattle.ob0_edits_tokens.specs.Changed.{is_in_list}
-use Rattle.ob0_edits_tokens.specs.OfTrees.{number_at, word_text_at}
-use Rattle.ob0_edits_tokens.specs.Replaced.{AreIdentifierIndexes}
-use Rattle.ob0_edits_tokens.specs.Words.{terminal_of_word}
-use Rattle.ob0_edits_tokens.proofs.OfTrees.{put, replaced}
+use Rattle.ob0_edits_tokens.specs.WordReplacements.{is_in_list}
+use Rattle.ob0_edits_tokens.specs.WordsOfTrees.{integer_value_at, word_text_at}
+use Rattle.ob0_edits_tokens.specs.Replacements.{AreIdentifierIndexes}
+use Rattle.ob0_edits_tokens.specs.WordTerminals.{terminal_of_word}
+use Rattle.ob0_edits_tokens.proofs.WordsOfTrees.{put, replaced}
 use Rattle.ob0_language_names.specs.NonFactorNames.{non_factor_occurrences}
 use Rattle.ob0_language_names.specs.Inlining.{OccurrenceSet, inline_in_tree, module_without_constant}
 use Rattle.ob0_language_names.specs.Names.{Label, Name, naming_by_spelling, declared}
@@ -110,7 +110,7 @@ word_text : (text : List ℕ) (ts : List Token) (k : ℕ) → word_text_at (map 
 word_text text (t ∷ ts) (suc k) = word_text text ts k
 word_text text _ _ = refl
 
-word_number : (text : List ℕ) (ts : List Token) (k : ℕ) → number_at (map (word_of_token text) ts) k ≡ leaf.token_value_or_zero (slice_get ts k)
+word_number : (text : List ℕ) (ts : List Token) (k : ℕ) → integer_value_at (map (word_of_token text) ts) k ≡ leaf.token_value_or_zero (slice_get ts k)
 word_number text (t ∷ ts) (suc k) = word_number text ts k
 word_number text _ _ = refl
 

@@ -11,10 +11,10 @@ use Rattle.ob0_tree.specs.Places as leaf
 use Rattle.ob0_tree.specs.Places.{indexed_terminal}
 use Rattle.ob0_tree.specs.Tree.{mapped_tree, occurrences, spell}
 use Rattle.ob0_tree.proofs.Leaves.{lexeme_names}
-use Rattle.ob0_edits_tokens.specs.Changed.{is_in_list, words_of}
-use Rattle.ob0_edits_tokens.specs.OfTrees.{indexed_terminals_of_words}
+use Rattle.ob0_edits_tokens.specs.WordReplacements.{is_in_list, words_of}
+use Rattle.ob0_edits_tokens.specs.WordsOfTrees.{indexed_terminals_of_words}
 use Rattle.ob0_language_names.specs.Names.{Name, naming_by_spelling}
-use Rattle.ob0_language_names.specs.Parts.{module_block}
+use Rattle.ob0_language_names.specs.BlockParts.{module_block}
 use Rattle.ob0_scope_table.specs.Resolution.{IsResolution, Resolution, ordinal_and_spelling_at, ordinal_in, ordinal_and_spelling}
 use Rattle.ob0_language_names.specs.Scopes.{relabel_module}
 use Rattle.ob0_scope.proofs.Fused.{relabel_module-mapped_tree}

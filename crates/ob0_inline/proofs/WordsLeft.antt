@@ -12,13 +12,13 @@ use Rattle.ob0_scan.specs.TextWithTokens.{TextWithTokens, Word, word_of_token}
 use Rattle.ob0_tree.specs.Lexeme.{Terminal, WordOrSymbol}
 use Rattle.ob0_tree.specs.Lexeme as lexeme
 use Rattle.ob0_tree.specs.Places.{indexed_terminal}
-use Rattle.ob0_edits_tokens.specs.Changed.{WordChanges, changes_at, changed_words, words_of}
-use Rattle.ob0_edits_tokens.specs.OfTrees.{indexed_terminals_of_words, word_at}
-use Rattle.ob0_edits_tokens.specs.Removed.{MayBeConstantDeclaration, changes_with_removal}
-use Rattle.ob0_edits_tokens.specs.Replaced as place
-use Rattle.ob0_edits_tokens.specs.Replaced.{AreIdentifierIndexes}
-use Rattle.ob0_edits_tokens.specs.Words.{terminal_of_word}
-use Rattle.ob0_edits_tokens.proofs.OfTrees.{each_put, of_each, put, word_kind}
+use Rattle.ob0_edits_tokens.specs.WordReplacements.{WordChanges, changes_at_indexes, changed_words, words_of}
+use Rattle.ob0_edits_tokens.specs.WordsOfTrees.{indexed_terminals_of_words, word_at}
+use Rattle.ob0_edits_tokens.specs.Removals.{MayBeConstantDeclaration, changes_with_removal}
+use Rattle.ob0_edits_tokens.specs.Replacements as place
+use Rattle.ob0_edits_tokens.specs.Replacements.{AreIdentifierIndexes}
+use Rattle.ob0_edits_tokens.specs.WordTerminals.{terminal_of_word}
+use Rattle.ob0_edits_tokens.proofs.WordsOfTrees.{each_put, of_each, put, word_kind}
 use Rattle.ob0_edits_tokens.proofs.ChangedWords.{part_removed}
 use Rattle.ob0_language_names.proofs.Peeling.{heads}
 use Rattle.ob0_inline.proofs.TakenOut.{Taken}
@@ -114,7 +114,7 @@ module _ (s : TextWithTokens) (d k : ℕ) (labels : List ℕ) (left : List (Term
             ∙ (ap (λ n. (word_at (words_of s) n).kind) (sym same) ∙ mark_kind (0 + length (front ++ inner)) (word_at (words_of s) (length (front ++ inner))).kind (kind.Symbol symbol.Semicolon) a.1);
         preceded = λ j e.
             let there : j ≡ length t.before = omega (arith, e, length-append t.before (WordOrSymbol t.border ∷ [])) in
-            let kind_is : (place.token_or_empty s.tokens j).kind ≡ t.border =
+            let kind_is : (place.token_at_or_empty s.tokens j).kind ≡ t.border =
             sym (word_kind s j) ∙ (ap (λ n. (word_at (words_of s) n).kind) there ∙ mark_kind (0 + length t.before) (word_at (words_of s) (length t.before)).kind t.border at_border.1) in
             elim t.opens [ inl o ↦ inl (kind_is ∙ o) | inr o ↦ inr (kind_is ∙ o) ];
       }
@@ -123,13 +123,13 @@ module _ (s : TextWithTokens) (least : ℕ) (places : List ℕ) (names : AreIden
   -- The words without the declaration, with other words at the places, are the remaining tokens
   -- with the replacements.
   pub words_left : (d k : ℕ) (labels : List ℕ) (left : List (Terminal ℕ)) (t : Taken d k labels (indexed_terminals_of_words 0 (words_of s)) left)
-      → map terminal_of_word (changed_words (changes_with_removal (first_bound_token t) (last_token t) (changes_at places vs)) 0 (words_of s)) ≡ flat_map (put s places vs) left
+      → map terminal_of_word (changed_words (changes_with_removal (first_bound_token t) (last_token t) (changes_at_indexes places vs)) 0 (words_of s)) ≡ flat_map (put s places vs) left
   words_left d k labels left t =
       let front : List (Terminal ℕ) = t.before ++ (WordOrSymbol t.border ∷ []) in
       let declaration : List (Terminal ℕ) = lexeme.Name t.name ∷ WordOrSymbol (kind.Symbol symbol.Equal) ∷ (t.right ++ (WordOrSymbol (kind.Symbol symbol.Semicolon) ∷ [])) in
       let first = first_bound_token t in
       let last = last_token t in
-      let ch : WordChanges = changes_at places vs in
+      let ch : WordChanges = changes_at_indexes places vs in
       let put_so = put s places vs in
       let part_put = of_each (words_of s) ch put_so (each_put s places vs least names) in
       let a = cut_words 0 (words_of s) front (declaration ++ t.after) t.whole_is in

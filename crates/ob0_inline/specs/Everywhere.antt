@@ -13,8 +13,8 @@ use Rattle.ob0_tree.specs.declared.tree.Role.TheVariants as role
 use Rattle.ob0_tree.specs.ParsedModule.{ParsedModule, named_tree_of, tree_of}
 use Rattle.ob0_tree.specs.Tree.{Tree, identifiers, module_text, occurrences}
 use Rattle.ob0_edits_tokens.specs.Ranges.{range_of}
-use Rattle.ob0_edits_tokens.specs.Removed.{span_of_tokens, text_after_removal}
-use Rattle.ob0_edits_tokens.specs.Replaced.{replacement_at_token, range_and_text}
+use Rattle.ob0_edits_tokens.specs.Removals.{span_of_tokens, text_after_removal}
+use Rattle.ob0_edits_tokens.specs.Replacements.{replacement_at_token, range_and_text}
 use Rattle.ob0_language_names.specs.NonFactorNames.{non_factor_occurrences}
 use Rattle.ob0_language_names.specs.Inlining.{inlined_everywhere}
 use Rattle.ob0_language_names.specs.Names.{Name, declared, same_label}
@@ -22,14 +22,14 @@ use Rattle.ob0_language_names.specs.Occurrences.{bindings, ordinal_bound_at}
 use Rattle.ob0_scope_table.specs.Resolution.{declaring_names, declaration_token}
 use Rattle.ob0_language_names.specs.Scopes.{numbered, same_ordinal}
 use Rattle.ob0_language_values.specs.Scalars.{scalar_value}
-use Rattle.ob0_scope.specs.declared.naming.BoundName as named
+use Rattle.ob0_scope.specs.declared.bound_names.BoundName as named
 use Rattle.ob0_scope.specs.NamesAtPlaces.{name_at_offset}
 use Rattle.ob0_language_types.specs.ConstantValues.{value_of_constant}
 use Rattle.ob0_language_types.specs.WellTyped.{WellTyped}
 use Rattle.ob0_language_runs.specs.EditLaws.{HaveSameRuns}
 use Rattle.ob0_inline.specs.declared.constants.DeclaredConstant.{DeclaredConstant}
 use Rattle.ob0_inline.specs.Declarations.{contains_span, is_semicolon}
-use Rattle.ob0_inline.specs.Inlined.{EditsGiveModule, size_refusal_or_other}
+use Rattle.ob0_inline.specs.EditedModuleTexts.{EditsGiveModule, size_refusal_or_other}
 use Rattle.ob0_inline.specs.Uses.{value_text_keeps_meaning}
 use Rattle.ob0_inline.specs.Values.{value_factor, value_text}
 
@@ -59,8 +59,8 @@ HasNoConstantAt m offset =
 
 -- Returns the token indexes of the occurrences that are bound to the declaration with the ordinal
 -- `d`, in text order.
-abbrev pub use_tokens_of : ParsedModule → ℕ → List ℕ
-use_tokens_of m d =
+abbrev pub tokens_of_uses : ParsedModule → ℕ → List ℕ
+tokens_of_uses m d =
     map (λ u. u.0) (filter (λ u. same_label u.1 (declared d))
     (zip (occurrences (tree_of m)) (bindings (named_tree_of m))))
 
@@ -76,7 +76,7 @@ tree_inlined_everywhere m c = inlined_everywhere (named_tree_of m) c.ordinal (va
 
 -- Returns the module's text, in bytes, after the constant `c` is inlined everywhere.
 abbrev pub text_inlined_everywhere : ParsedModule → DeclaredConstant → List ℕ
-text_inlined_everywhere m c = text_after_removal m.source c.first c.last (use_tokens_of m c.ordinal) (value_text c.value)
+text_inlined_everywhere m c = text_after_removal m.source c.first c.last (tokens_of_uses m c.ordinal) (value_text c.value)
 
 -- Returns whether the occurrence with the number `k` is a use of the constant `c` at which TRUE or
 -- FALSE, written for the constant's value, wouldn't mean the predeclared name.
@@ -109,7 +109,7 @@ pub record InlinesEverywhere (unit : counting.Unit) (text : List ℕ) (m : Parse
     (c : DeclaredConstant) (edits : List Edit) : Type 0 where
   pub everywhere : map range_and_text edits
       ≡ (range_of (width_of unit) text (span_of_tokens m.source.tokens c.first c.last), [])
-      ∷ map (replacement_at_token unit text m.source.tokens (value_text c.value)) (use_tokens_of m c.ordinal)
+      ∷ map (replacement_at_token unit text m.source.tokens (value_text c.value)) (tokens_of_uses m c.ordinal)
   pub leaves : EditsGiveModule unit text edits (tree_inlined_everywhere m c)
   pub well_typed : WellTyped (tree_inlined_everywhere m c)
   pub same_runs : HaveSameRuns (tree_inlined_everywhere m c) (named_tree_of m)
@@ -131,12 +131,12 @@ AnswersInliningOfConstant unit text m c (Err refusal) =
 -- States that the answer to inlining everywhere is right for the constant whose name is at the byte
 -- offset (`AnswersInliningOfConstant`). If the offset isn't on the name of a constant, the answer
 -- is the refusal `NoName`.
-abbrev pub AnswersInlineEverywhere : counting.Unit
+abbrev pub AnswersInliningEverywhere : counting.Unit
     → List ℕ
     → ParsedModule
     → ℕ
     → Result (Vec Edit Global) EditRefusal
     → Type 0
-AnswersInlineEverywhere unit text m offset answer =
+AnswersInliningEverywhere unit text m offset answer =
     ((c : DeclaredConstant) × IsConstantAt m offset c × AnswersInliningOfConstant unit text m c answer)
     ⊎ ((answer ≡ Err NoName) × HasNoConstantAt m offset)

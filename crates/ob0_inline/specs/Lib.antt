@@ -1,5 +1,5 @@
 pub mod Values
-pub mod Inlined
+pub mod EditedModuleTexts
 pub mod Declarations
 pub mod Uses
 pub mod Everywhere

@@ -9,7 +9,7 @@ use Rattle.ob0_text.specs.declared.refusals.EditRefusal.{EditRefusal}
 use Rattle.ob0_text.specs.declared.refusals.EditRefusal.TheVariants.{Memory, NoName, Shadowed}
 use Rattle.ob0_tree.specs.ParsedModule.{ParsedModule, named_tree_of, tree_of}
 use Rattle.ob0_tree.specs.Tree.{Tree, module_text, occurrences}
-use Rattle.ob0_edits_tokens.specs.Replaced.{replacement_at_token, range_and_text, text_after_replacement}
+use Rattle.ob0_edits_tokens.specs.Replacements.{replacement_at_token, range_and_text, text_after_replacement}
 use Rattle.ob0_edits_tokens.specs.Written.{truth_text}
 use Rattle.ob0_language_names.specs.Inlining.{inlined, single_occurrence}
 use Rattle.ob0_language_names.specs.Names.{Name}
@@ -24,13 +24,13 @@ use Rattle.ob0_language_types.specs.ConstantValues.{value_of_constant}
 use Rattle.ob0_language_types.specs.WellTyped.{WellTyped}
 use Rattle.ob0_language_runs.specs.EditLaws.{HaveSameRuns}
 use Rattle.ob0_inline.specs.declared.uses.ConstantUse.{ConstantUse}
-use Rattle.ob0_inline.specs.Inlined.{EditsGiveModule, size_refusal_or_other}
+use Rattle.ob0_inline.specs.EditedModuleTexts.{EditsGiveModule, size_refusal_or_other}
 use Rattle.ob0_inline.specs.Values.{value_factor, value_text}
 
 -- States that the byte offset is on a use of a constant of a CONST section, and that `u` is this
 -- use. So `u` has the use's token index, its number among the occurrences, and the constant's
 -- ordinal and value.
-pub record IsUseAt (m : ParsedModule) (offset : ℕ) (u : ConstantUse) : Type 0 where
+pub record IsConstantUseAt (m : ParsedModule) (offset : ℕ) (u : ConstantUse) : Type 0 where
   pub named : name_at_offset m offset ≡ Some (record { token = u.token; ordinal = u.constant })
   pub occurs : slice_get (occurrences (tree_of m)) u.occurrence ≡ Some u.token
   pub has_value : value_of_constant (named_tree_of m) u.constant ≡ Some (scalar_value u.value)
@@ -38,7 +38,7 @@ pub record IsUseAt (m : ParsedModule) (offset : ℕ) (u : ConstantUse) : Type 0 
 -- States that `u` is a use of a constant of a CONST section. The occurrence with the number
 -- `u.occurrence` has the token `u.token`, and it is bound to the constant with the ordinal and the
 -- value of `u`.
-pub record IsUse (m : ParsedModule) (u : ConstantUse) : Type 0 where
+pub record IsConstantUse (m : ParsedModule) (u : ConstantUse) : Type 0 where
   pub occurs : slice_get (occurrences (tree_of m)) u.occurrence ≡ Some u.token
   pub bound : ordinal_bound_at (named_tree_of m) u.occurrence ≡ Some u.constant
   pub has_value : value_of_constant (named_tree_of m) u.constant ≡ Some (scalar_value u.value)
@@ -94,12 +94,12 @@ AnswersInliningOfUse unit text m u (Err refusal) = (refusal_of_inlining_here m u
 -- States that the answer to inlining at one use is right for the use at the byte offset
 -- (`AnswersInliningOfUse`). If the offset isn't on a use of a constant, the answer is the refusal
 -- `NoName`.
-abbrev pub AnswersInlineHere : counting.Unit
+abbrev pub AnswersInliningHere : counting.Unit
     → List ℕ
     → ParsedModule
     → ℕ
     → Result (Vec Edit Global) EditRefusal
     → Type 0
-AnswersInlineHere unit text m offset answer =
-    ((u : ConstantUse) × IsUseAt m offset u × AnswersInliningOfUse unit text m u answer)
-    ⊎ ((answer ≡ Err NoName) × ((u : ConstantUse) → IsUseAt m offset u → ⊥))
+AnswersInliningHere unit text m offset answer =
+    ((u : ConstantUse) × IsConstantUseAt m offset u × AnswersInliningOfUse unit text m u answer)
+    ⊎ ((answer ≡ Err NoName) × ((u : ConstantUse) → IsConstantUseAt m offset u → ⊥))

@@ -11,7 +11,7 @@ ghost use Rattle.ob0_inline.specs.Everywhere.{IsConstant, IsConstantAt, HasNoCon
 
 use ob0_language_values::Scalar;
 use ob0_scan::{Symbol, Token, TokenKind};
-use ob0_scope::name_at;
+use ob0_scope::name_at_offset;
 use ob0_scope_table::Resolved;
 use ob0_types::WellTyped;
 
@@ -34,7 +34,7 @@ pub(crate) fn constant_at(module: &WellTyped, offset: usize) -> Option<DeclaredC
         (λ c. IsConstantAt «module».now.module_read offset c) }
 {
     let names = module.resolved();
-    match name_at(names, offset) {
+    match name_at_offset(names, offset) {
         Some(found) => match module.constant(found.ordinal) {
             Some(value) => constant_with_tokens(names, found.ordinal, value),
             None => None,

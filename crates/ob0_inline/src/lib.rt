@@ -4,15 +4,15 @@
 #![tactic(auto)]
 
 mod constants;
-mod depth;
-mod everywhere;
-mod one_use;
+mod edit_at_use;
+mod inlining_everywhere;
+mod inlining_one_use;
+mod nesting_limit;
 mod truth_names;
-mod use_edit;
 mod uses;
 mod written;
 
 pub use constants::DeclaredConstant;
-pub use everywhere::inline_all;
-pub use one_use::inline_here;
+pub use inlining_everywhere::inline_all;
+pub use inlining_one_use::inline_here;
 pub use uses::ConstantUse;

@@ -12,7 +12,7 @@ ghost use Rattle.ob0_inline.specs.Uses.{value_text_keeps_meaning};
 
 use crate::constants::DeclaredConstant;
 use ob0_language_values::Scalar;
-use ob0_scope::resolve_name_at_occurrences;
+use ob0_scope::resolve_name_at_each_occurrence;
 use ob0_scope_table::{FALSE_ORDINAL, Resolved, TRUE_ORDINAL, same_ordinal};
 use std::alloc::{AllocError, Global};
 
@@ -52,7 +52,7 @@ fn name_would_be_bound_to(
     ensures { IfOk result (λ is. is
         ≡ same_ordinal (resolve_name_at_occurrence (named_tree_of names.now.module_read) occurrence name.now) ordinal) }
 {
-    let bound = resolve_name_at_occurrences(alloc, names, name)?;
+    let bound = resolve_name_at_each_occurrence(alloc, names, name)?;
     Ok(has_ordinal_at(&bound, occurrence, ordinal))
 }
 
@@ -82,14 +82,14 @@ pub(crate) fn has_shadowed_use(
     let value = constant.value;
     match value {
         Scalar::Number(_) => Ok(false),
-        Scalar::Truth(true) => any_use_would_be_bound_elsewhere(
+        Scalar::Truth(true) => is_name_shadowed_at_some_use(
             alloc,
             names,
             constant.ordinal,
             "TRUE",
             TRUE_ORDINAL,
         ),
-        Scalar::Truth(false) => any_use_would_be_bound_elsewhere(
+        Scalar::Truth(false) => is_name_shadowed_at_some_use(
             alloc,
             names,
             constant.ordinal,
@@ -102,7 +102,7 @@ pub(crate) fn has_shadowed_use(
 /// Returns whether `name` is shadowed at some use of the constant with the ordinal `constant`. It is
 /// shadowed there if, written in place of the use, it wouldn't be bound to the declaration with the
 /// ordinal `ordinal`.
-fn any_use_would_be_bound_elsewhere(
+fn is_name_shadowed_at_some_use(
     alloc: Global,
     names: &Resolved,
     constant: usize,
@@ -117,14 +117,14 @@ fn any_use_would_be_bound_elsewhere(
 {
     // The proof needs the contract of this call.
     let _module = names.module();
-    let bound = resolve_name_at_occurrences(alloc, names, name)?;
-    Ok(any_use_has_other_ordinal(names, &bound, constant, ordinal))
+    let bound = resolve_name_at_each_occurrence(alloc, names, name)?;
+    Ok(has_use_with_other_binding(names, &bound, constant, ordinal))
 }
 
 /// Returns whether the item in `bound` for some use of the constant with the ordinal `constant`
 /// isn't `ordinal`. `bound` has an item for each occurrence, in text order: the ordinal of a
 /// declaration, or None.
-fn any_use_has_other_ordinal(
+fn has_use_with_other_binding(
     names: &Resolved,
     bound: &[Option<usize>],
     constant: usize,
@@ -136,7 +136,7 @@ fn any_use_has_other_ordinal(
         (range_with_len 0 (length names.now.uses)) }
 {
     for occurrence in 0..names.occurrences().len() {
-        if is_use_with_other_ordinal(names, bound, occurrence, constant, ordinal) {
+        if is_use_with_other_binding(names, bound, occurrence, constant, ordinal) {
             return true;
         }
     }
@@ -146,7 +146,7 @@ fn any_use_has_other_ordinal(
 /// Returns whether the occurrence with the number `occurrence` is a use of the constant with the
 /// ordinal `constant`, and its item in `bound` isn't `ordinal`. `bound` has an item for each
 /// occurrence, in text order: the ordinal of a declaration, or None.
-fn is_use_with_other_ordinal(
+fn is_use_with_other_binding(
     names: &Resolved,
     bound: &[Option<usize>],
     occurrence: usize,

@@ -2,10 +2,10 @@
 
 ghost use Rattle.std.specs.Prelude.{◌≡◌, ◌==◌, MatchOption, Some};
 ghost use Rattle.std.specs.List.{position_from};
-ghost use Rattle.ob0_inline.specs.Uses.{IsUse, IsUseAt};
+ghost use Rattle.ob0_inline.specs.Uses.{IsConstantUse, IsConstantUseAt};
 
 use ob0_language_values::Scalar;
-use ob0_scope::name_at;
+use ob0_scope::name_at_offset;
 use ob0_scope_table::Resolved;
 use ob0_types::WellTyped;
 
@@ -24,12 +24,12 @@ pub struct ConstantUse {
 /// Returns the use of a constant at a byte offset, or None if the offset isn't on a use of a
 /// constant.
 pub(crate) fn constant_use_at(module: &WellTyped, offset: usize) -> Option<ConstantUse>
-    ensures at { MatchOption result ((u : ConstantUse) → IsUseAt «module».now.module_read offset u → ⊥)
-        (λ u. IsUseAt «module».now.module_read offset u) }
-    ensures is_use { (u : ConstantUse) → result ≡ Some u → IsUse «module».now.module_read u }
+    ensures at { MatchOption result ((u : ConstantUse) → IsConstantUseAt «module».now.module_read offset u → ⊥)
+        (λ u. IsConstantUseAt «module».now.module_read offset u) }
+    ensures is_use { (u : ConstantUse) → result ≡ Some u → IsConstantUse «module».now.module_read u }
 {
     let names = module.resolved();
-    match name_at(names, offset) {
+    match name_at_offset(names, offset) {
         Some(found) => match module.constant(found.ordinal) {
             Some(value) => match occurrence_number_of_token(names, found.token) {
                 Some(occurrence) => Some(ConstantUse {

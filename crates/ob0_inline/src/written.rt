@@ -1,7 +1,7 @@
 //! Computes the text that an inlining writes for a constant's value.
 
 ghost use Rattle.std.specs.Prelude.{◌≡◌, IfOk, IsTrue, string_bytes};
-ghost use Rattle.ob0_edits_tokens.specs.Replaced.{MayReplaceIdentifier};
+ghost use Rattle.ob0_edits_tokens.specs.Replacements.{MayReplaceIdentifier};
 ghost use Rattle.ob0_edits_tokens.specs.Written.{number_text, number_words};
 ghost use Rattle.ob0_language_types.specs.EditLaws.{Is32BitScalar};
 ghost use Rattle.ob0_language_values.specs.Scalars.{scalar_value};
@@ -20,7 +20,7 @@ pub(crate) fn value_text(alloc: Global, value: Scalar) -> Result<String, AllocEr
 {
     match value {
         Scalar::Number(number) => {
-            number_text_may_replace_name(number);
+            number_text_may_replace_identifier(number);
             number_text(alloc, number)
         }
         Scalar::Truth(true) => String::from_str(alloc, "TRUE"),
@@ -44,12 +44,12 @@ fn number_text(alloc: Global, number: i32) -> Result<String, AllocError>
 
 /// Proves that the text of a 32-bit number may replace any identifier (`MayReplaceIdentifier`). The
 /// function has no effect.
-fn number_text_may_replace_name(number: i32)
+fn number_text_may_replace_identifier(number: i32)
     ensures { MayReplaceIdentifier (number_text number) (number_words number) }
 {}
 
 /// Proves that each `Scalar` is a 32-bit number or a truth value. The function has no effect.
-pub(crate) fn value_is_scalar(value: Scalar)
+pub(crate) fn scalar_is_32_bit(value: Scalar)
     ensures { Is32BitScalar (scalar_value value) }
 {
     if let Scalar::Number(number) = value {

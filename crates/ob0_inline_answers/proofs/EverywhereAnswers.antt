@@ -13,32 +13,32 @@ use Rattle.ob0_text.specs.Units.{width_of}
 use Rattle.ob0_tree.specs.ParsedModule.{named_tree_of, tree_of}
 use Rattle.ob0_tree.specs.Tree.{nesting}
 use Rattle.ob0_tree_values.proofs.TreeValues.{vec_of}
-use Rattle.ob0_edits_tokens.specs.Changed.{changes_at, changed_words, words_of}
+use Rattle.ob0_edits_tokens.specs.WordReplacements.{changes_at_indexes, changed_words, words_of}
 use Rattle.ob0_edits_tokens.specs.Ranges.{range_of}
-use Rattle.ob0_edits_tokens.specs.Removed.{MayBeConstantDeclaration, span_of_tokens, changes_with_removal}
-use Rattle.ob0_edits_tokens.specs.Replaced.{AreIdentifierIndexes, EditsGiveWords, replacement_at_token, range_and_text}
+use Rattle.ob0_edits_tokens.specs.Removals.{MayBeConstantDeclaration, span_of_tokens, changes_with_removal}
+use Rattle.ob0_edits_tokens.specs.Replacements.{AreIdentifierIndexes, EditsGiveWords, replacement_at_token, range_and_text}
 use Rattle.ob0_edits_tokens.proofs.Made.{leaves_words_without}
 use Rattle.ob0_scope_table.specs.Resolution.{Resolution}
-use Rattle.ob0_scope.specs.declared.naming.BoundName as named
+use Rattle.ob0_scope.specs.declared.bound_names.BoundName as named
 use Rattle.ob0_scope.specs.NamesAtPlaces.{name_at_offset}
 use Rattle.ob0_language_types.specs.ConstantValues.{value_of_constant}
 use Rattle.ob0_language_types.specs.EditLaws.{ConstantUsesAreFactors, Is32BitScalar}
 use Rattle.ob0_language_runs.specs.EditLaws.{InliningEverywhereKeepsTypingAndRuns}
 use Rattle.ob0_language_values.specs.Scalars.{scalar_value}
 use Rattle.ob0_language_values.specs.Values.{Value}
-use Rattle.ob0_analysis.specs.Analysed.{IsResolvedWellTypedModule}
+use Rattle.ob0_analysis.specs.AnalysisAnswers.{IsResolvedWellTypedModule}
 use Rattle.ob0_analysis.specs.Texts.{utf8}
 use Rattle.ob0_inline.specs.declared.constants.DeclaredConstant.{DeclaredConstant}
-use Rattle.ob0_inline.specs.Everywhere.{AnswersInlineEverywhere, IsConstant, IsConstantAt, HasNoConstantAt, has_shadowed_use, declaration_has_comment, tree_inlined_everywhere, refusal_of_inlining_everywhere, text_inlined_everywhere, use_tokens_of}
+use Rattle.ob0_inline.specs.Everywhere.{AnswersInliningEverywhere, IsConstant, IsConstantAt, HasNoConstantAt, has_shadowed_use, declaration_has_comment, tree_inlined_everywhere, refusal_of_inlining_everywhere, text_inlined_everywhere, tokens_of_uses}
 use Rattle.ob0_inline.specs.Values.{value_text, value_words}
 use Rattle.ob0_inline.proofs.AtConstants.{Made, answer_made}
 use Rattle.ob0_inline.proofs.Ended.{are_uses, begins_at, end_token, ends_at, is_taken, left_spelled, name_token}
 use Rattle.ob0_inline.proofs.ModuleTexts.{leaves_module}
 use Rattle.ob0_edits.specs.declared.inlinings.Inlining.TheVariants.{Everywhere}
-use Rattle.ob0_edits.specs.Inlinings.{InlinesInText, IsInliningRefusedInText}
+use Rattle.ob0_edits.specs.InliningEdits.{InlinesInText, IsInliningRefusedInText}
 use Rattle.ob0_world_rules.specs.Answers.{position_offset}
-use Rattle.ob0_world_rules.specs.Edited.{replacements}
-use Rattle.ob0_world_rules.specs.Language.{WellTypedText}
+use Rattle.ob0_world_rules.specs.TextEdits.{replacements}
+use Rattle.ob0_world_rules.specs.WellTypedTexts.{WellTypedText}
 use Rattle.ob0_inline_answers.specs.InlineAnswers.{InliningEverywhereAlwaysHasAnswer}
 use Rattle.ob0_inline_answers.proofs.ModuleNames.{named_module}
 use Rattle.ob0_inline_answers.proofs.ScalarConstants.{constant_scalar, scalar_of}
@@ -53,7 +53,7 @@ module _ (unit : Unit) (text : List ℕ) (r : Resolution) (module_in : IsResolve
   s = r.module_read.source
 
   abbrev places : List ℕ
-  places = use_tokens_of r.module_read c.ordinal
+  places = tokens_of_uses r.module_read c.ordinal
 
   declaration : MayBeConstantDeclaration s.tokens c.first c.last
   declaration = is_taken r module_in.well_typed.resolved c constant
@@ -65,7 +65,7 @@ module _ (unit : Unit) (text : List ℕ) (r : Resolution) (module_in : IsResolve
   all_edits = removal_value unit text s.tokens c.first c.last ∷ map (edit_value unit text s.tokens (value_text c.value) w.utf8 w.short) places
 
   abbrev all_words : List Word
-  all_words = changed_words (changes_with_removal c.first c.last (changes_at places (value_words c.value))) 0 (words_of s)
+  all_words = changed_words (changes_with_removal c.first c.last (changes_at_indexes places (value_words c.value))) 0 (words_of s)
 
   all_are : map range_and_text all_edits ≡ (range_of (width_of unit) text (span_of_tokens s.tokens c.first c.last), []) ∷ map (replacement_at_token unit text s.tokens (value_text c.value)) places
   all_are = ap (λ es. (range_of (width_of unit) text (span_of_tokens s.tokens c.first c.last), []) ∷ es) (values_are unit text s.tokens (value_text c.value) w.utf8 w.short places)
@@ -98,7 +98,7 @@ module _ (unit : Unit) (text : List ℕ) (r : Resolution) (module_in : IsResolve
 
 module _ (alone : ConstantUsesAreFactors) (keeps : InliningEverywhereKeepsTypingAndRuns) (unit : Unit) (text : List ℕ) (r : Resolution) (module_in : IsResolvedWellTypedModule (utf8 text) r) (offset : ℕ)
     (refused : IsInliningRefusedInText Everywhere unit text offset → ⊥) (given : (edits : Vec Edit Global) → InlinesInText Everywhere unit text offset edits → ⊥) where
-  refuse : (refusal : EditRefusal) → (refusal ≡ Memory → ⊥) → AnswersInlineEverywhere unit text r.module_read offset (Err refusal) → ⊥
+  refuse : (refusal : EditRefusal) → (refusal ≡ Memory → ⊥) → AnswersInliningEverywhere unit text r.module_read offset (Err refusal) → ⊥
   refuse refusal other h = refused (not_inlined unit text r module_in Everywhere offset (refusal, other, h))
 
   no_name : HasNoConstantAt r.module_read offset → ⊥

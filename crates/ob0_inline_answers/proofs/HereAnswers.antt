@@ -14,12 +14,12 @@ use Rattle.ob0_text.specs.declared.refusals.EditRefusal.TheVariants.{Memory, NoN
 use Rattle.ob0_tree.specs.ParsedModule.{named_tree_of, tree_of}
 use Rattle.ob0_tree.specs.Tree.{Tree, module_text, nesting}
 use Rattle.ob0_tree_values.proofs.TreeValues.{vec_of}
-use Rattle.ob0_edits_tokens.specs.Changed.{changes_at, changed_words, words_of}
-use Rattle.ob0_edits_tokens.specs.Replaced.{EditsGiveWords, replacement_at_token, range_and_text, text_after_replacement}
+use Rattle.ob0_edits_tokens.specs.WordReplacements.{changes_at_indexes, changed_words, words_of}
+use Rattle.ob0_edits_tokens.specs.Replacements.{EditsGiveWords, replacement_at_token, range_and_text, text_after_replacement}
 use Rattle.ob0_edits_tokens.proofs.Made.{leaves_words}
 use Rattle.ob0_language_names.specs.Names.{Name}
 use Rattle.ob0_scope_table.specs.Resolution.{Resolution}
-use Rattle.ob0_scope.specs.declared.naming.BoundName as named
+use Rattle.ob0_scope.specs.declared.bound_names.BoundName as named
 use Rattle.ob0_scope.specs.NamesAtPlaces.{name_at_offset}
 use Rattle.ob0_language_types.specs.ConstantValues.{value_of_constant}
 use Rattle.ob0_language_types.specs.EditLaws.{ConstantUsesAreFactors, Is32BitScalar}
@@ -28,22 +28,22 @@ use Rattle.ob0_language_runs.specs.EditLaws.{InliningKeepsTypingAndRuns, HaveSam
 use Rattle.ob0_language_values.specs.declared.scalar.Scalar.{Scalar}
 use Rattle.ob0_language_values.specs.Scalars.{scalar_value}
 use Rattle.ob0_language_values.specs.Values.{Value}
-use Rattle.ob0_analysis.specs.Analysed.{IsResolvedWellTypedModule}
-use Rattle.ob0_analysis.specs.Diagnosed.{IsTextOfTree}
+use Rattle.ob0_analysis.specs.AnalysisAnswers.{IsResolvedWellTypedModule}
+use Rattle.ob0_analysis.specs.ReportedErrors.{IsTextOfTree}
 use Rattle.ob0_analysis.specs.Texts.{utf8}
 use Rattle.ob0_analysis.proofs.Scanning.{is_module, utf8_of}
 use Rattle.ob0_inline.specs.declared.uses.ConstantUse.{ConstantUse}
-use Rattle.ob0_inline.specs.Inlined.{EditsGiveModule}
-use Rattle.ob0_inline.specs.Uses.{AnswersInlineHere, IsUse, IsUseAt, tree_inlined_here, value_text_keeps_meaning, refusal_of_inlining_here}
+use Rattle.ob0_inline.specs.EditedModuleTexts.{EditsGiveModule}
+use Rattle.ob0_inline.specs.Uses.{AnswersInliningHere, IsConstantUse, IsConstantUseAt, tree_inlined_here, value_text_keeps_meaning, refusal_of_inlining_here}
 use Rattle.ob0_inline.specs.Values.{value_text, value_words}
 use Rattle.ob0_inline.proofs.AtUses.{Made, answer_ok, are_names, here_spelled, no_use, use_found, use_is}
 use Rattle.ob0_inline.proofs.ModuleTexts.{leaves_module}
 use Rattle.ob0_edits.specs.declared.inlinings.Inlining.{Inlining}
 use Rattle.ob0_edits.specs.declared.inlinings.Inlining.TheVariants.{OneUse}
-use Rattle.ob0_edits.specs.Inlinings.{IsInlineResult, InlinesInText, IsInliningRefusedInText}
+use Rattle.ob0_edits.specs.InliningEdits.{IsInlineResult, InlinesInText, IsInliningRefusedInText}
 use Rattle.ob0_world_rules.specs.Answers.{position_offset}
-use Rattle.ob0_world_rules.specs.Edited.{replacements}
-use Rattle.ob0_world_rules.specs.Language.{WellTypedText}
+use Rattle.ob0_world_rules.specs.TextEdits.{replacements}
+use Rattle.ob0_world_rules.specs.WellTypedTexts.{WellTypedText}
 use Rattle.ob0_inline_answers.specs.InlineAnswers.{InliningHereAlwaysHasAnswer}
 use Rattle.ob0_inline_answers.proofs.ModuleNames.{named_module}
 use Rattle.ob0_inline_answers.proofs.ScalarConstants.{constant_scalar, scalar_of}
@@ -88,7 +88,7 @@ same_ordinal_named found token ordinal e = ap (λ (o : Option named.BoundName). 
 
 -- ---- the edit at a use
 
-module _ (unit : Unit) (text : List ℕ) (r : Resolution) (module_in : IsResolvedWellTypedModule (utf8 text) r) (u : ConstantUse) (use_so : IsUse r.module_read u) (w : IsWritable u.value) where
+module _ (unit : Unit) (text : List ℕ) (r : Resolution) (module_in : IsResolvedWellTypedModule (utf8 text) r) (u : ConstantUse) (use_so : IsConstantUse r.module_read u) (w : IsWritable u.value) where
   abbrev s : TextWithTokens
   s = r.module_read.source
 
@@ -96,7 +96,7 @@ module _ (unit : Unit) (text : List ℕ) (r : Resolution) (module_in : IsResolve
   here_edits = map (edit_value unit text s.tokens (value_text u.value) w.utf8 w.short) (u.token ∷ [])
 
   abbrev here_words : List Word
-  here_words = changed_words (changes_at (u.token ∷ []) (value_words u.value)) 0 (words_of s)
+  here_words = changed_words (changes_at_indexes (u.token ∷ []) (value_words u.value)) 0 (words_of s)
 
   here_are : map range_and_text here_edits ≡ map (replacement_at_token unit text s.tokens (value_text u.value)) (u.token ∷ [])
   here_are = values_are unit text s.tokens (value_text u.value) w.utf8 w.short (u.token ∷ [])
@@ -121,13 +121,13 @@ module _ (unit : Unit) (text : List ℕ) (r : Resolution) (module_in : IsResolve
 
 module _ (alone : ConstantUsesAreFactors) (keeps : InliningKeepsTypingAndRuns) (unit : Unit) (text : List ℕ) (r : Resolution) (module_in : IsResolvedWellTypedModule (utf8 text) r) (offset : ℕ)
     (refused : IsInliningRefusedInText OneUse unit text offset → ⊥) (given : (edits : Vec Edit Global) → InlinesInText OneUse unit text offset edits → ⊥) where
-  refuse : (refusal : EditRefusal) → (refusal ≡ Memory → ⊥) → AnswersInlineHere unit text r.module_read offset (Err refusal) → ⊥
+  refuse : (refusal : EditRefusal) → (refusal ≡ Memory → ⊥) → AnswersInliningHere unit text r.module_read offset (Err refusal) → ⊥
   refuse refusal other h = refused (not_inlined unit text r module_in OneUse offset (refusal, other, h))
 
-  no_name : ((u : ConstantUse) → IsUseAt r.module_read offset u → ⊥) → ⊥
+  no_name : ((u : ConstantUse) → IsConstantUseAt r.module_read offset u → ⊥) → ⊥
   no_name nowhere = refuse NoName (λ e. cc) (inr (refl, nowhere))
 
-  module _ (u : ConstantUse) (at : IsUseAt r.module_read offset u) (scalar_so : Is32BitScalar (scalar_value u.value)) where
+  module _ (u : ConstantUse) (at : IsConstantUseAt r.module_read offset u) (scalar_so : Is32BitScalar (scalar_value u.value)) where
     abbrev long : ℕ
     long = length (text_after_replacement r.module_read.source (u.token ∷ []) (value_text u.value))
 

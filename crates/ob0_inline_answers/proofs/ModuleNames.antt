@@ -5,7 +5,7 @@ use Rattle.ob0_tree.specs.ParsedModule.{ParsedModule, named_tree_of}
 use Rattle.ob0_language_types.specs.WellTyped.{WellTyped}
 use Rattle.ob0_scope_table.specs.Resolution.{Resolution}
 use Rattle.ob0_module_values.proofs.ModuleValues.{resolution_of}
-use Rattle.ob0_analysis.specs.Analysed.{IsResolvedWellTypedModule, IsParsedWellTypedModule}
+use Rattle.ob0_analysis.specs.AnalysisAnswers.{IsResolvedWellTypedModule, IsParsedWellTypedModule}
 
 pub named_module : (text : List ℕ) (m : ParsedModule) → IsParsedWellTypedModule text m → (r : Resolution) × IsResolvedWellTypedModule text r
 named_module text m read =

@@ -14,19 +14,19 @@ use Rattle.ob0_tree.specs.declared.tree.AddOperator.TheVariants as add_operator
 use Rattle.ob0_tree.specs.declared.tree.MultiplyOperator.{MultiplyOperator}
 use Rattle.ob0_tree.specs.declared.tree.MultiplyOperator.TheVariants as multiply_operator
 use Rattle.ob0_tree.specs.Places.{token_text_at, token_value_at}
-use Rattle.ob0_tree.specs.Tree.{Tree, addend, adds, block, compares, constant, constants, declares, declares_constant, declares_constants, declares_procedure, designator, end, expression, factor, forms_block, integer, is_module, item, items, mapped_tree, maybe, module_text, more, multiplier, multiplies, negation, none, one, parenthesised, procedure, product, relates, simple, sum, term}
+use Rattle.ob0_tree.specs.Tree.{Tree, addend, adds, block, compares, constant, constants, declares, declares_constant, declares_const_section, declares_procedure, designator, end, expression, factor, forms_block, integer, forms_module, item, items, mapped_tree, maybe, module_text, more, multiplier, multiplies, negation, none, one, parenthesised, procedure, product, relates, simple, sum, term}
 use Rattle.ob0_language_names.specs.Names.{Name, naming_by_spelling, same_name}
-use Rattle.ob0_language_names.specs.Parts.{formal_names, formal_sections, declared_type_names, procedure_name, section_constants, section_types, section_variables, variable_names}
+use Rattle.ob0_language_names.specs.BlockParts.{formal_names, formal_sections, declared_type_names, procedure_name, section_constants, section_types, section_variables, variable_names}
 use Rattle.ob0_language_names.specs.Scopes.{ordinal_after_names, ordinal_after_procedure, first_procedure_ordinal, first_type_ordinal}
 use Rattle.ob0_language_values.specs.declared.scalar.Scalar.{Scalar}
 use Rattle.ob0_language_values.specs.declared.scalar.Scalar.TheVariants as scalar
 use Rattle.ob0_language_values.specs.Scalars.{scalar_value}
-use Rattle.ob0_language_values.specs.Values.{Outcome, Overflow, Place, Step, Value, add, add_short_circuits, apply_sign, at_field, at_index, value_at_path, checked_division, division_outcome, elements, ends_run_with, fits_in_32_bits, succeeds_with, checked_number, members, multiply, multiply_short_circuits, negate, number, or_stuck, quotient, apply_relation, remainder, truth, ◌>>=◌}
-use Rattle.ob0_language_types.specs.ConstantValues.{ConstantEnvironment, non_constant_placeholder, predeclared_constants, value_in_constants, value_in_block, value_in_procedure, value_in_procedures, value_of_constant}
+use Rattle.ob0_language_values.specs.Values.{Outcome, Overflow, Place, Step, Value, add, add_operator_short_circuits, apply_sign, at_field, at_index, value_at_path, checked_division, division_outcome, elements, ends_run_with, fits_in_32_bits, succeeds_with, checked_number, members, multiply, multiply_operator_short_circuits, negate, number, or_stuck, quotient, apply_relation, remainder, truth, ◌>>=◌}
+use Rattle.ob0_language_types.specs.ConstantValues.{ConstantEnvironment, non_constant_placeholder, predeclared_constants, constant_value_in_section, constant_value_in_block, constant_value_in_procedure, constant_value_in_procedures, value_of_constant}
 use Rattle.ob0_language_types.specs.Declarations.{declare_constants}
 use Rattle.ob0_language_types.specs.EditLaws.{Is32BitScalar}
 use Rattle.ob0_language_types.specs.Environments.{environment_from_binding, meanings, newest_object}
-use Rattle.ob0_language_types.specs.Expressions.{Meanings, Object, a_constant, a_procedure, a_standard, a_type, a_variable, evaluate, evaluate_addends, evaluate_factor, evaluate_multipliers, evaluate_simple, evaluate_term, evaluate_selectors, object_value}
+use Rattle.ob0_language_types.specs.Expressions.{Meanings, Object, a_constant, a_procedure, a_standard_procedure, a_type, a_variable, evaluate, evaluate_addends, evaluate_factor, evaluate_multipliers, evaluate_simple, evaluate_term, evaluate_selectors, object_value}
 use Rattle.ob0_language_types.specs.Typing.{constant_of, constant_value, constant_meanings, outcome_value, type_of}
 use Rattle.ob0_language_types.specs.WellTyped.{bind_names}
 use Rattle.ob0_language_types.proofs.Literals.{some_inverse}
@@ -107,7 +107,7 @@ HasScalar (Some (a_constant v)) = Is32BitScalar v
 HasScalar (Some (a_type s)) = ⊥
 HasScalar (Some (a_variable p)) = ⊥
 HasScalar (Some (a_procedure p)) = ⊥
-HasScalar (Some (a_standard p)) = ⊥
+HasScalar (Some (a_standard_procedure p)) = ⊥
 
 object-scalar : (o : Option (Object Place (Unit {0}))) → HasScalar o → GivesScalar (object_value {P = Unit {0}} [] o)
 object-scalar None h = tt
@@ -115,7 +115,7 @@ object-scalar (Some (a_constant v)) h = h
 object-scalar (Some (a_type s)) h = absurd h
 object-scalar (Some (a_variable p)) h = absurd h
 object-scalar (Some (a_procedure p)) h = absurd h
-object-scalar (Some (a_standard p)) h = absurd h
+object-scalar (Some (a_standard_procedure p)) h = absurd h
 
 small-scalar : (n : ℕ) → n ≤ 2147483647 → Is32BitScalar (number (pos n))
 small-scalar n low = lt-ltb n 2147483648 (omega (arith, low))
@@ -139,8 +139,8 @@ module _ (f : ℕ → Name) (g : ℕ → ℕ) (small : (i : ℕ) → g i ≤ 214
       addends-scalar : (x : Value) → Is32BitScalar x → (a : Tree ℕ (items addend)) → GivesScalar (evaluate_addends meaning [] x (mapped_tree f g a))
       addends-scalar x h end = h
       addends-scalar x h (more (adds o t) rest) =
-          scalar-then (elim (add_short_circuits o x) [ true ↦ succeeds_with x | false ↦ evaluate_term meaning [] (mapped_tree f g t) >>= add o x ]) (λ y. evaluate_addends meaning [] y (mapped_tree f g rest))
-          (settled-scalar (add_short_circuits o x) x (evaluate_term meaning [] (mapped_tree f g t) >>= add o x) h (scalar-then (evaluate_term meaning [] (mapped_tree f g t)) (add o x) (term-scalar t) (λ y k. add-scalar o x y)))
+          scalar-then (elim (add_operator_short_circuits o x) [ true ↦ succeeds_with x | false ↦ evaluate_term meaning [] (mapped_tree f g t) >>= add o x ]) (λ y. evaluate_addends meaning [] y (mapped_tree f g rest))
+          (settled-scalar (add_operator_short_circuits o x) x (evaluate_term meaning [] (mapped_tree f g t) >>= add o x) h (scalar-then (evaluate_term meaning [] (mapped_tree f g t)) (add o x) (term-scalar t) (λ y k. add-scalar o x y)))
           (λ y k. addends-scalar y k rest)
 
       term-scalar : (t : Tree ℕ term) → GivesScalar (evaluate_term meaning [] (mapped_tree f g t))
@@ -150,8 +150,8 @@ module _ (f : ℕ → Name) (g : ℕ → ℕ) (small : (i : ℕ) → g i ≤ 214
       multipliers-scalar : (x : Value) → Is32BitScalar x → (a : Tree ℕ (items multiplier)) → GivesScalar (evaluate_multipliers meaning [] x (mapped_tree f g a))
       multipliers-scalar x h end = h
       multipliers-scalar x h (more (multiplies o a) rest) =
-          scalar-then (elim (multiply_short_circuits o x) [ true ↦ succeeds_with x | false ↦ evaluate_factor meaning [] (mapped_tree f g a) >>= multiply o x ]) (λ y. evaluate_multipliers meaning [] y (mapped_tree f g rest))
-          (settled-scalar (multiply_short_circuits o x) x (evaluate_factor meaning [] (mapped_tree f g a) >>= multiply o x) h (scalar-then (evaluate_factor meaning [] (mapped_tree f g a)) (multiply o x) (factor-scalar a) (λ y k. multiply-scalar o x y)))
+          scalar-then (elim (multiply_operator_short_circuits o x) [ true ↦ succeeds_with x | false ↦ evaluate_factor meaning [] (mapped_tree f g a) >>= multiply o x ]) (λ y. evaluate_multipliers meaning [] y (mapped_tree f g rest))
+          (settled-scalar (multiply_operator_short_circuits o x) x (evaluate_factor meaning [] (mapped_tree f g a) >>= multiply o x) h (scalar-then (evaluate_factor meaning [] (mapped_tree f g a)) (multiply o x) (factor-scalar a) (λ y k. multiply-scalar o x y)))
           (λ y k. multipliers-scalar y k rest)
 
       factor-scalar : (a : Tree ℕ factor) → GivesScalar (evaluate_factor meaning [] (mapped_tree f g a))
@@ -170,7 +170,7 @@ module _ (f : ℕ → Name) (g : ℕ → ℕ) (small : (i : ℕ) → g i ≤ 214
   ScalarObject (a_type s) = Unit {0}
   ScalarObject (a_variable p) = Unit {0}
   ScalarObject (a_procedure p) = Unit {0}
-  ScalarObject (a_standard p) = Unit {0}
+  ScalarObject (a_standard_procedure p) = Unit {0}
 
   -- holds if all constants of an environment have scalar values
   abbrev AllScalar : ConstantEnvironment → Type 0
@@ -182,7 +182,7 @@ module _ (f : ℕ → Name) (g : ℕ → ℕ) (small : (i : ℕ) → g i ≤ 214
   only-scalar (a_type s) h = tt
   only-scalar (a_variable p) h = tt
   only-scalar (a_procedure p) h = tt
-  only-scalar (a_standard p) h = tt
+  only-scalar (a_standard_procedure p) h = tt
 
   looked-up : (known : ConstantEnvironment) → AllScalar known → (x : Name) → HasScalar ((constant_meanings {W = Place} {Q = Unit {0}} (meanings naming_by_spelling known)).object_for x)
   looked-up [] h x = tt
@@ -212,22 +212,22 @@ module _ (f : ℕ → Name) (g : ℕ → ℕ) (small : (i : ℕ) → g i ≤ 214
       let found = then_some (constant_value (meanings naming_by_spelling known) (mapped_tree f g e)) (λ v. declare_constants naming_by_spelling ((f x, a_constant v) ∷ known) (mapped_tree f g cs)) inner q in
       declared-scalar cs ((f x, a_constant found.0) ∷ known) inner (constant-scalar known h e found.0 found.1, h) found.2
 
-  among-scalar : (cs : Tree ℕ (items constant)) (known : ConstantEnvironment) (d k : ℕ) (w : Value) → AllScalar known → value_in_constants known d k (mapped_tree f g cs) ≡ Some w → Is32BitScalar w
-  unfolding value_in_constants
+  among-scalar : (cs : Tree ℕ (items constant)) (known : ConstantEnvironment) (d k : ℕ) (w : Value) → AllScalar known → constant_value_in_section known d k (mapped_tree f g cs) ≡ Some w → Is32BitScalar w
+  unfolding constant_value_in_section
   among-scalar end known d k w h q = absurd (cc)
   among-scalar (more (declares_constant x e) cs) known d k w h q =
-      let found = then_some (constant_value (meanings naming_by_spelling known) (mapped_tree f g e)) (λ v. if k == d then Some v else value_in_constants ((f x, a_constant v) ∷ known) d (suc k) (mapped_tree f g cs)) w q in
+      let found = then_some (constant_value (meanings naming_by_spelling known) (mapped_tree f g e)) (λ v. if k == d then Some v else constant_value_in_section ((f x, a_constant v) ∷ known) d (suc k) (mapped_tree f g cs)) w q in
       let scalar_so = constant-scalar known h e found.0 found.1 in
-      (elim (k == d) as (λ b. (if b then Some found.0 else value_in_constants ((f x, a_constant found.0) ∷ known) d (suc k) (mapped_tree f g cs)) ≡ Some w → Is32BitScalar w)
+      (elim (k == d) as (λ b. (if b then Some found.0 else constant_value_in_section ((f x, a_constant found.0) ∷ known) d (suc k) (mapped_tree f g cs)) ≡ Some w → Is32BitScalar w)
       [ true ↦ λ e. subst Is32BitScalar (some_inverse e) scalar_so | false ↦ λ e. among-scalar cs ((f x, a_constant found.0) ∷ known) d (suc k) w (scalar_so, h) e ]) found.2
 
-  section-scalar : (cs : Tree ℕ (maybe constants)) (known : ConstantEnvironment) (d k : ℕ) (w : Value) → AllScalar known → value_in_constants known d k (section_constants (mapped_tree f g cs)) ≡ Some w → Is32BitScalar w
+  section-scalar : (cs : Tree ℕ (maybe constants)) (known : ConstantEnvironment) (d k : ℕ) (w : Value) → AllScalar known → constant_value_in_section known d k (section_constants (mapped_tree f g cs)) ≡ Some w → Is32BitScalar w
   section-scalar none known d k w h q = among-scalar end known d k w h q
-  section-scalar (one (declares_constants cs)) known d k w h q = among-scalar cs known d k w h q
+  section-scalar (one (declares_const_section cs)) known d k w h q = among-scalar cs known d k w h q
 
   section-declared : (cs : Tree ℕ (maybe constants)) (known inner : ConstantEnvironment) → AllScalar known → declare_constants naming_by_spelling known (section_constants (mapped_tree f g cs)) ≡ Some inner → AllScalar inner
   section-declared none known inner h q = declared-scalar end known inner h q
-  section-declared (one (declares_constants cs)) known inner h q = declared-scalar cs known inner h q
+  section-declared (one (declares_const_section cs)) known inner h q = declared-scalar cs known inner h q
 
   chosen : {A : Type 0} (b : Bool) (x y : Option A) (P : A → Type 0) (a : A) → ((a : A) → x ≡ Some a → P a) → ((a : A) → y ≡ Some a → P a) → (if b then x else y) ≡ Some a → P a
   chosen true x y P a h k e = h a e
@@ -237,40 +237,40 @@ module _ (f : ℕ → Name) (g : ℕ → ℕ) (small : (i : ℕ) → g i ≤ 214
   nothing w e = absurd (cc)
 
   mutual
-    unfolding value_in_block
+    unfolding constant_value_in_block
 
-    block-scalar : (b : Tree ℕ block) (known : ConstantEnvironment) (d k : ℕ) (w : Value) → AllScalar known → value_in_block known d k (mapped_tree f g b) ≡ Some w → Is32BitScalar w
+    block-scalar : (b : Tree ℕ block) (known : ConstantEnvironment) (d k : ℕ) (w : Value) → AllScalar known → constant_value_in_block known d k (mapped_tree f g b) ≡ Some w → Is32BitScalar w
     block-scalar (forms_block (declares cs ts vs ps) statements) known d k w h q =
         let whole = mapped_tree f g (forms_block (declares cs ts vs ps) statements) in
         let more_names = declared_type_names (section_types (mapped_tree f g ts)) ++ variable_names (section_variables (mapped_tree f g vs)) in
-        let others = option_and_then (λ inner. value_in_procedures (bind_names more_names non_constant_placeholder inner) d (first_procedure_ordinal k whole) (mapped_tree f g ps)) (declare_constants naming_by_spelling known (section_constants (mapped_tree f g cs))) in
-        chosen (nat_lt d (first_type_ordinal k whole)) (value_in_constants known d k (section_constants (mapped_tree f g cs))) (if nat_lt d (first_procedure_ordinal k whole) then None else others) Is32BitScalar w
+        let others = option_and_then (λ inner. constant_value_in_procedures (bind_names more_names non_constant_placeholder inner) d (first_procedure_ordinal k whole) (mapped_tree f g ps)) (declare_constants naming_by_spelling known (section_constants (mapped_tree f g cs))) in
+        chosen (nat_lt d (first_type_ordinal k whole)) (constant_value_in_section known d k (section_constants (mapped_tree f g cs))) (if nat_lt d (first_procedure_ordinal k whole) then None else others) Is32BitScalar w
         (λ v e. section-scalar cs known d k v h e)
         (λ v e. chosen (nat_lt d (first_procedure_ordinal k whole)) None others Is32BitScalar v nothing
         (λ u p.
-        let found = then_some (declare_constants naming_by_spelling known (section_constants (mapped_tree f g cs))) (λ inner. value_in_procedures (bind_names more_names non_constant_placeholder inner) d (first_procedure_ordinal k whole) (mapped_tree f g ps)) u p in
+        let found = then_some (declare_constants naming_by_spelling known (section_constants (mapped_tree f g cs))) (λ inner. constant_value_in_procedures (bind_names more_names non_constant_placeholder inner) d (first_procedure_ordinal k whole) (mapped_tree f g ps)) u p in
         procedures-scalar ps (bind_names more_names non_constant_placeholder found.0) d (first_procedure_ordinal k whole) u (bound-scalar more_names found.0 (section-declared cs known found.0 h found.1)) found.2)
         e) q
 
-    procedures-scalar : (ps : Tree ℕ (items procedure)) (known : ConstantEnvironment) (d k : ℕ) (w : Value) → AllScalar known → value_in_procedures known d k (mapped_tree f g ps) ≡ Some w → Is32BitScalar w
+    procedures-scalar : (ps : Tree ℕ (items procedure)) (known : ConstantEnvironment) (d k : ℕ) (w : Value) → AllScalar known → constant_value_in_procedures known d k (mapped_tree f g ps) ≡ Some w → Is32BitScalar w
     procedures-scalar end known d k w h q = absurd (cc)
     procedures-scalar (more p rest) known d k w h q =
         let inner : ConstantEnvironment = (procedure_name (mapped_tree f g p), non_constant_placeholder) ∷ known in
-        chosen (nat_lt d (ordinal_after_procedure (suc k) (mapped_tree f g p))) (value_in_procedure inner d (suc k) (mapped_tree f g p)) (value_in_procedures inner d (ordinal_after_procedure (suc k) (mapped_tree f g p)) (mapped_tree f g rest)) Is32BitScalar w
+        chosen (nat_lt d (ordinal_after_procedure (suc k) (mapped_tree f g p))) (constant_value_in_procedure inner d (suc k) (mapped_tree f g p)) (constant_value_in_procedures inner d (ordinal_after_procedure (suc k) (mapped_tree f g p)) (mapped_tree f g rest)) Is32BitScalar w
         (λ v e. procedure-scalar p inner d (suc k) v (tt, h) e)
         (λ v e. procedures-scalar rest inner d (ordinal_after_procedure (suc k) (mapped_tree f g p)) v (tt, h) e) q
 
-    procedure-scalar : (p : Tree ℕ (item procedure)) (known : ConstantEnvironment) (d k : ℕ) (w : Value) → AllScalar known → value_in_procedure known d k (mapped_tree f g p) ≡ Some w → Is32BitScalar w
+    procedure-scalar : (p : Tree ℕ (item procedure)) (known : ConstantEnvironment) (d k : ℕ) (w : Value) → AllScalar known → constant_value_in_procedure known d k (mapped_tree f g p) ≡ Some w → Is32BitScalar w
     procedure-scalar (declares_procedure x fs b closing) known d k w h q =
         let ns = formal_names (formal_sections (mapped_tree f g fs)) in
-        chosen (nat_lt d (ordinal_after_names k ns)) None (value_in_block (bind_names ns non_constant_placeholder known) d (ordinal_after_names k ns) (mapped_tree f g b)) Is32BitScalar w
+        chosen (nat_lt d (ordinal_after_names k ns)) None (constant_value_in_block (bind_names ns non_constant_placeholder known) d (ordinal_after_names k ns) (mapped_tree f g b)) Is32BitScalar w
         nothing
         (λ v e. block-scalar b (bind_names ns non_constant_placeholder known) d (ordinal_after_names k ns) v (bound-scalar ns known h) e) q
 
   module-scalar : (m : Tree ℕ module_text) (d : ℕ) (w : Value) → value_of_constant (mapped_tree f g m) d ≡ Some w → Is32BitScalar w
   unfolding value_of_constant
-  module-scalar (is_module x b closing) d w q =
-      chosen (nat_lt d 7) None (value_in_block predeclared_constants d 7 (mapped_tree f g b)) Is32BitScalar w nothing
+  module-scalar (forms_module x b closing) d w q =
+      chosen (nat_lt d 7) None (constant_value_in_block predeclared_constants d 7 (mapped_tree f g b)) Is32BitScalar w nothing
       (λ v e. block-scalar b predeclared_constants d 7 v (tt, (tt, (tt, (tt, (tt, (tt, (tt, tt))))))) e) q
 
 -- ---- texts

@@ -7,7 +7,7 @@ use Rattle.std.specs.Str.{IsAscii, IsUtf8}
 use Rattle.std.proofs.lemmas.Bool.{and_parts, ltb-true}
 use Rattle.std.proofs.lemmas.Fmt.{IsAscii-decimal, length-decimal-le}
 use Rattle.std.proofs.lemmas.Str.{IsAscii-append, IsUtf8-from_ascii}
-use Rattle.ob0_edits_tokens.specs.Replaced.{MayReplaceIdentifier}
+use Rattle.ob0_edits_tokens.specs.Replacements.{MayReplaceIdentifier}
 use Rattle.ob0_edits_tokens.specs.Written.{IsInt32, number_text}
 use Rattle.ob0_edits_tokens.proofs.Values.{a_truth, a_value}
 use Rattle.ob0_language_types.specs.EditLaws.{Is32BitScalar}

@@ -5,10 +5,10 @@
 use Rattle.std.specs.Prelude.{ℕ, List}
 use Rattle.ob0_text.specs.declared.position_types.Position.{Position}
 use Rattle.ob0_tree.specs.ParsedModule.{ParsedModule}
-use Rattle.ob0_analysis.specs.Analysed.{IsParsedWellTypedModule}
+use Rattle.ob0_analysis.specs.AnalysisAnswers.{IsParsedWellTypedModule}
 use Rattle.ob0_analysis.specs.Texts.{utf8}
 use Rattle.ob0_world_rules.specs.Asks.{inline_here, inline_all}
-use Rattle.ob0_world_rules.specs.Language.{WellTypedText}
+use Rattle.ob0_world_rules.specs.WellTypedTexts.{WellTypedText}
 use Rattle.ob0_world_rules.specs.Laws.{AlwaysHasAnswer}
 
 -- States that the parser accepts each well-typed text: the text is read as some parsed module.

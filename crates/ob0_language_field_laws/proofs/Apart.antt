@@ -9,7 +9,7 @@ use Rattle.ob0_tree.specs.declared.tree.AddOperator.TheVariants as add_operator
 use Rattle.ob0_tree.specs.declared.tree.MultiplyOperator.{MultiplyOperator}
 use Rattle.ob0_tree.specs.declared.tree.MultiplyOperator.TheVariants as multiply_operator
 use Rattle.ob0_language_names.specs.Names.{Name, same_name}
-use Rattle.ob0_language_types.specs.Expressions.{Object, a_constant, a_procedure, a_standard, a_type, a_variable, read_procedure}
+use Rattle.ob0_language_types.specs.Expressions.{Object, a_constant, a_procedure, a_standard_procedure, a_type, a_variable, read_procedure}
 use Rattle.ob0_language_types.specs.Typing.{addition_type, negation_type, constant_of, depth, field_depth, field_scalars, field_type, multiplication_type, type_of_variable_or_constant, relation_type, scalars, shape_of_field, sign_type, type_of_type_object, value_type, prepend_fields, type_within_limits}
 use Rattle.ob0_language_types.specs.WellTyped.{FormalParameter, Signature, TypeMeanings, same_known_shape, same_fields, same_shape, signature_of}
 use Rattle.ob0_language_values.specs.Values.{FieldShapes, Shape, Value, array_shape, boolean_shape, integer_shape, next_field_shape, no_field_shape, number, record_shape}
@@ -156,7 +156,7 @@ object_by l (a_type s) = a_type (shape_by l s)
 object_by l (a_constant v) = a_constant v
 object_by l (a_variable s) = a_variable (shape_by l s)
 object_by l (a_procedure signature) = a_procedure (map (formal_by l) signature)
-object_by l (a_standard p) = a_standard p
+object_by l (a_standard_procedure p) = a_standard_procedure p
 
 abbrev pub named_by : FieldRenaming → (Name → Option (Object Shape Signature)) → TypeMeanings Name
 named_by l objects = named (λ x. option_map (object_by l) (objects x))
@@ -178,5 +178,5 @@ type_of_type_object-by l (Some (a_type s)) = refl
 type_of_type_object-by l _ = refl
 
 pub signature_of-by : (l : FieldRenaming) (o : Option (Object Shape Signature)) → signature_of (option_map (object_by l) o) ≡ option_map (map (formal_by l)) (signature_of o)
-signature_of-by l (Some (a_standard read_procedure)) = refl
+signature_of-by l (Some (a_standard_procedure read_procedure)) = refl
 signature_of-by l _ = refl

@@ -14,7 +14,7 @@ use Rattle.ob0_language_types.specs.WellTyped.{WellTyped}
 use Rattle.ob0_language_runs.specs.EditLaws.{HaveSameRuns}
 use Rattle.ob0_language_fields.specs.Fields.{FieldRenaming, rename_fields_in_module}
 use Rattle.ob0_language_field_laws.specs.FieldLaws.{FreeFieldRenamingKeepsTypingAndRuns, KeepsFieldsDistinct}
-use Rattle.ob0_language_fields.specs.Renaming.{IsFreeFieldName, RecordFields, with_renamed_field, another_field_has_name, single_field_renaming, records}
+use Rattle.ob0_language_fields.specs.Renaming.{IsFreeFieldName, RecordFields, module_with_renamed_field, has_another_field_named, single_field_renaming, records}
 use Rattle.ob0_language_fields.proofs.AgreeingFields.{NamesAgree, RecordsAgree}
 use Rattle.ob0_language_fields.proofs.AgreeingModules.{module-alike}
 use Rattle.ob0_language_field_laws.proofs.Proved.{field_renaming_keeps_typing_and_runs-holds}
@@ -77,19 +77,19 @@ and-or-false true true q h = absurd (cc)
 and-or-false true false q h = (refl, h)
 and-or-false false p q h = (refl, refl)
 
-names-agree : (r : ℕ) (f new : Name) (k : ℕ) (xs : List Name) → ((k == r) && another_field_has_name xs f new) ≡ false → NamesAgree (single_field_renaming r f new) (exchanged r f new) k xs
+names-agree : (r : ℕ) (f new : Name) (k : ℕ) (xs : List Name) → ((k == r) && has_another_field_named xs f new) ≡ false → NamesAgree (single_field_renaming r f new) (exchanged r f new) k xs
 names-agree r f new k [] h = tt
 names-agree r f new k (x ∷ xs) h =
-    let g = and-or-false (k == r) (same_name x new && not (same_name x f)) (another_field_has_name xs f new) h in
+    let g = and-or-false (k == r) (same_name x new && not (same_name x f)) (has_another_field_named xs f new) h in
     (agree-cases f new x (k == r) (same_name x f) (same_name x new) g.0, names-agree r f new k xs g.1)
 
-records-agree : (r : ℕ) (f new : Name) (ts : List RecordFields) → list_any (λ t. (t.ordinal == r) && another_field_has_name t.declared f new) ts ≡ false → RecordsAgree (single_field_renaming r f new) (exchanged r f new) ts
+records-agree : (r : ℕ) (f new : Name) (ts : List RecordFields) → list_any (λ t. (t.ordinal == r) && has_another_field_named t.declared f new) ts ≡ false → RecordsAgree (single_field_renaming r f new) (exchanged r f new) ts
 records-agree r f new [] h = tt
 records-agree r f new (t ∷ ts) h =
-    let g = or_parts ((t.ordinal == r) && another_field_has_name t.declared f new) (list_any (λ t. (t.ordinal == r) && another_field_has_name t.declared f new) ts) h in
+    let g = or_parts ((t.ordinal == r) && has_another_field_named t.declared f new) (list_any (λ t. (t.ordinal == r) && has_another_field_named t.declared f new) ts) h in
     (names-agree r f new t.ordinal t.declared g.0, records-agree r f new ts g.1)
 
-pub renamed-exchanged : (m : Tree Name module_text) (r : ℕ) (f new : Name) → IsFreeFieldName m r f new → WellTyped m → with_renamed_field m r f new ≡ rename_fields_in_module (exchanged r f new) m
+pub renamed-exchanged : (m : Tree Name module_text) (r : ℕ) (f new : Name) → IsFreeFieldName m r f new → WellTyped m → module_with_renamed_field m r f new ≡ rename_fields_in_module (exchanged r f new) m
 unfolding WellTyped
 renamed-exchanged m r f new free well = module-alike (single_field_renaming r f new) (exchanged r f new) m (records-agree r f new (records m) free) well.1
 

@@ -1,17 +1,17 @@
 -- Declarations do the same in two runs: one with tagged fields, the other with fields under other names.
 use Rattle.std.proofs.Common.{◌≡◌, ℕ, zero, suc, ◌+◌, true, false, List, [], ◌∷◌, ◌++◌, map, length, Some, None, Option, option_map, option_and_then, sym, refl, ap, ◌∙◌, subst₂}
 use Rattle.std.proofs.lemmas.List.{length-map, map-append}
-use Rattle.ob0_tree.specs.Tree.{Tree, block, body, constant, constants, declares, declares_constant, declares_type, declares_variable, end, expression, further_section, forms_block, item, items, maybe, more, procedure, then_section, type_definition, type_definitions, variable, variables, written_type}
+use Rattle.ob0_tree.specs.Tree.{Tree, block, body, constant, constants, declares, declares_constant, declares_type, declares_variable, end, expression, section_after_semicolon, forms_block, item, items, maybe, more, procedure, semicolon_then_section, type_definition, type_definitions, variable, variables, written_type}
 use Rattle.ob0_language_names.specs.Names.{Name, naming_by_spelling, same_name}
-use Rattle.ob0_language_names.specs.Parts.{names_in_list, procedure_formals, procedure_name, section_constants, parameter_section_type, section_types, section_variables}
+use Rattle.ob0_language_names.specs.BlockParts.{names_in_list, procedure_formals, procedure_name, section_constants, parameter_section_type, section_types, section_variables}
 use Rattle.ob0_language_types.specs.Declarations.{constructors_before_variables, constructors_before_procedures, declare_constants, declare_types, procedure_constructor_count}
 use Rattle.ob0_language_types.specs.Environments.{environment_from_binding, meanings, newest_object}
-use Rattle.ob0_language_types.specs.Expressions.{Object, a_constant, a_procedure, a_standard, a_type, a_variable}
+use Rattle.ob0_language_types.specs.Expressions.{Object, a_constant, a_procedure, a_standard_procedure, a_type, a_variable}
 use Rattle.ob0_language_types.specs.Typing.{constant_of, constant_value, constructor_count, denoted_type, type_of_type_object}
-use Rattle.ob0_language_types.specs.WellTyped.{Mode, TypeEnvironment, bind_typed_parameters, by_place, by_value}
+use Rattle.ob0_language_types.specs.WellTyped.{ParameterMode, TypeEnvironment, bind_typed_parameters, by_place, by_value}
 use Rattle.ob0_language_values.specs.Values.{FieldShapes, Shape, Store, Value, array_shape, copies, elements, initial_value, initial_members, members, next_field_shape, next_member, next_value, no_field_shape, record_shape}
 use Rattle.ob0_language_runs.specs.Runs.{Activation, ProcedureText, Frame, Parameter, add_variables_to_frame, bind_parameter, bind_parameters, declare_block, declare_procedures, declare_variables, formal_modes, parameters, object_for_statements, meanings_for_statements, declare_procedures_in_frame}
-use Rattle.ob0_language_fields.specs.Fields.{FieldRenaming, environment_after_heading, environment_after_variables, typed_parameters_of_procedure, rename_fields_in_block, rename_fields_in_procedure, rename_fields_in_procedures, rename_fields_in_parameter_sections, rename_fields_in_type, rename_fields_in_types, rename_fields_in_variables}
+use Rattle.ob0_language_fields.specs.Fields.{FieldRenaming, environment_after_heading, environment_after_variables, typed_parameters_of_procedure, rename_fields_in_block, rename_fields_in_procedure, rename_fields_in_procedure_list, rename_fields_in_further_parameter_sections, rename_fields_in_type, rename_fields_in_type_definitions, rename_fields_in_variables}
 use Rattle.ob0_language_fields.proofs.MeaningsByName.{named}
 use Rattle.ob0_language_field_laws.proofs.Apart.{fields_by, shape_by}
 use Rattle.ob0_language_field_laws.proofs.FieldRenamedExecution.{Given, Modes, argument_by, place_given, value_given}
@@ -62,9 +62,9 @@ object-as l scene x = ap newest_object (environment_from_binding-as l scene x) �
 
 -- The modes of a procedure's parameters are the same if fields have other names.
 
-pub formal_modes-rename_fields : (l : FieldRenaming) (k : ℕ) (fs : Tree Name (items further_section)) → formal_modes (rename_fields_in_parameter_sections l k fs) ≡ formal_modes fs
+pub formal_modes-rename_fields : (l : FieldRenaming) (k : ℕ) (fs : Tree Name (items section_after_semicolon)) → formal_modes (rename_fields_in_further_parameter_sections l k fs) ≡ formal_modes fs
 formal_modes-rename_fields l k end = refl
-formal_modes-rename_fields l k (more (then_section f) fs) = λ i. map (λ x. parameter_section_mode-rename_fields l k f i) (parameter_section_names-rename_fields l k f i) ++ formal_modes-rename_fields l (k + constructor_count (parameter_section_type f)) fs i
+formal_modes-rename_fields l k (more (semicolon_then_section f) fs) = λ i. map (λ x. parameter_section_mode-rename_fields l k f i) (parameter_section_names-rename_fields l k f i) ++ formal_modes-rename_fields l (k + constructor_count (parameter_section_type f)) fs i
 
 abbrev pub thing_modes : Thing Text → Thing Modes
 thing_modes (type_thing s) = type_thing s
@@ -90,7 +90,7 @@ bare_object (type_thing s) = a_type s
 bare_object (constant_thing c) = a_constant (scalar_value c)
 bare_object (variable_thing p) = a_variable p
 bare_object (procedure_thing c) = a_procedure c
-bare_object (standard_thing p) = a_standard p
+bare_object (standard_thing p) = a_standard_procedure p
 
 abbrev pub objects_in : Scene → Name → Option (Object Spot Text)
 objects_in scene x = option_map bare_object (newest_thing (scene_from scene x))
@@ -160,14 +160,14 @@ declare_constants-both l scene (more (declares_constant x e) cs) =
     (constant_value (meanings naming_by_spelling (env_as tagged scene)) e) (constant_value (meanings naming_by_spelling (env_as l scene)) e) (value-both l scene e)
     (λ c. declare_constants-both l ((x, constant_thing c) ∷ scene) cs)
 
-pub declare_types-both : (l : FieldRenaming) (scene : Scene) (k : ℕ) (ds : Tree Name (items type_definition)) → Both (env_as tagged) (env_as l) (declare_types naming_by_spelling (env_as tagged scene) k (rename_fields_in_types tagged k ds)) (declare_types naming_by_spelling (env_as l scene) k (rename_fields_in_types l k ds))
+pub declare_types-both : (l : FieldRenaming) (scene : Scene) (k : ℕ) (ds : Tree Name (items type_definition)) → Both (env_as tagged) (env_as l) (declare_types naming_by_spelling (env_as tagged scene) k (rename_fields_in_type_definitions tagged k ds)) (declare_types naming_by_spelling (env_as l scene) k (rename_fields_in_type_definitions l k ds))
 unfolding declare_types
 declare_types-both l scene k end = (Some scene, refl, refl)
 declare_types-both l scene k (more (declares_type x u) ds) =
-    subst₂ (λ m n. Both (env_as tagged) (env_as l) (option_and_then (λ s. declare_types naming_by_spelling ((x, a_type s) ∷ env_as tagged scene) (k + m) (rename_fields_in_types tagged (k + constructor_count u) ds)) (denoted_type (meanings naming_by_spelling (env_as tagged scene)) k (rename_fields_in_type tagged k u)))
-    (option_and_then (λ s. declare_types naming_by_spelling ((x, a_type s) ∷ env_as l scene) (k + n) (rename_fields_in_types l (k + constructor_count u) ds)) (denoted_type (meanings naming_by_spelling (env_as l scene)) k (rename_fields_in_type l k u))))
+    subst₂ (λ m n. Both (env_as tagged) (env_as l) (option_and_then (λ s. declare_types naming_by_spelling ((x, a_type s) ∷ env_as tagged scene) (k + m) (rename_fields_in_type_definitions tagged (k + constructor_count u) ds)) (denoted_type (meanings naming_by_spelling (env_as tagged scene)) k (rename_fields_in_type tagged k u)))
+    (option_and_then (λ s. declare_types naming_by_spelling ((x, a_type s) ∷ env_as l scene) (k + n) (rename_fields_in_type_definitions l (k + constructor_count u) ds)) (denoted_type (meanings naming_by_spelling (env_as l scene)) k (rename_fields_in_type l k u))))
     (sym (constructor_count-rename_fields tagged k u)) (sym (constructor_count-rename_fields l k u))
-    (both-then (shape_by tagged) (shape_by l) (env_as tagged) (env_as l) (λ s. declare_types naming_by_spelling ((x, a_type s) ∷ env_as tagged scene) (k + constructor_count u) (rename_fields_in_types tagged (k + constructor_count u) ds)) (λ s. declare_types naming_by_spelling ((x, a_type s) ∷ env_as l scene) (k + constructor_count u) (rename_fields_in_types l (k + constructor_count u) ds))
+    (both-then (shape_by tagged) (shape_by l) (env_as tagged) (env_as l) (λ s. declare_types naming_by_spelling ((x, a_type s) ∷ env_as tagged scene) (k + constructor_count u) (rename_fields_in_type_definitions tagged (k + constructor_count u) ds)) (λ s. declare_types naming_by_spelling ((x, a_type s) ∷ env_as l scene) (k + constructor_count u) (rename_fields_in_type_definitions l (k + constructor_count u) ds))
     (denoted_type (meanings naming_by_spelling (env_as tagged scene)) k (rename_fields_in_type tagged k u)) (denoted_type (meanings naming_by_spelling (env_as l scene)) k (rename_fields_in_type l k u)) (denoted_type-both l scene k u)
     (λ s. declare_types-both l ((x, type_thing s) ∷ scene) (k + constructor_count u) ds))
 
@@ -234,11 +234,11 @@ declared_procedures k (more p rest) env scene =
     ((procedure_name p, procedure_thing record { first = k; checked = bind_typed_parameters (typed_parameters_of_procedure env k p) (environment_after_heading env k p); text = p }) ∷ scene)
 
 pub declare_procedures-by : (l : FieldRenaming) (k : ℕ) (ps : Tree Name (items procedure)) (env : TypeEnvironment Name) (scene : Scene)
-    → declare_procedures k (rename_fields_in_procedures l env k ps) (env_as l scene) ≡ env_as l (declared_procedures k ps env scene)
+    → declare_procedures k (rename_fields_in_procedure_list l env k ps) (env_as l scene) ≡ env_as l (declared_procedures k ps env scene)
 declare_procedures-by l k end env scene = refl
 declare_procedures-by l k (more p rest) env scene =
     let e : TypeEnvironment Name = bind_typed_parameters (typed_parameters_of_procedure env k p) (environment_after_heading env k p) in
-    (λ i. declare_procedures (k + procedure_constructor_count-rename_fields l e k p i) (rename_fields_in_procedures l (environment_after_heading env k p) (k + procedure_constructor_count p) rest)
+    (λ i. declare_procedures (k + procedure_constructor_count-rename_fields l e k p i) (rename_fields_in_procedure_list l (environment_after_heading env k p) (k + procedure_constructor_count p) rest)
     ((procedure_name-rename_fields l e k p i, a_procedure record { constructors_before = k; text = rename_fields_in_procedure l e k p }) ∷ env_as l scene))
     ∙ declare_procedures-by l (k + procedure_constructor_count p) rest (environment_after_heading env k p) ((procedure_name p, procedure_thing record { first = k; checked = e; text = p }) ∷ scene)
 
@@ -246,19 +246,19 @@ declare_procedures-by l k (more p rest) env scene =
 
 abbrev declared_parts : FieldRenaming → ℕ → ℕ → ℕ → Tree Name (items constant) → Tree Name (items type_definition) → Tree Name (items variable) → Tree Name (items procedure) → TypeEnvironment Name → Stage → Option (Frame Name)
 declared_parts l k j n cs ts vs ps inner f =
-    option_and_then (λ env. option_map (declare_procedures_in_frame n (rename_fields_in_procedures l inner n ps)) (declare_variables naming_by_spelling j (rename_fields_in_variables l j vs) record { env = env; store = store_by l f.store }))
-    (option_and_then (λ env. declare_types naming_by_spelling env k (rename_fields_in_types l k ts)) (declare_constants naming_by_spelling (env_as l f.scene) cs))
+    option_and_then (λ env. option_map (declare_procedures_in_frame n (rename_fields_in_procedure_list l inner n ps)) (declare_variables naming_by_spelling j (rename_fields_in_variables l j vs) record { env = env; store = store_by l f.store }))
+    (option_and_then (λ env. declare_types naming_by_spelling env k (rename_fields_in_type_definitions l k ts)) (declare_constants naming_by_spelling (env_as l f.scene) cs))
 
 declared_parts-both : (l : FieldRenaming) (k j n : ℕ) (cs : Tree Name (items constant)) (ts : Tree Name (items type_definition)) (vs : Tree Name (items variable)) (ps : Tree Name (items procedure)) (inner : TypeEnvironment Name) (f : Stage)
     → FramesBoth l (declared_parts tagged k j n cs ts vs ps inner f) (declared_parts l k j n cs ts vs ps inner f)
 declared_parts-both l k j n cs ts vs ps inner f =
     both-then (env_as tagged) (env_as l) (frame_by tagged) (frame_by l)
-    (λ env. option_map (declare_procedures_in_frame n (rename_fields_in_procedures tagged inner n ps)) (declare_variables naming_by_spelling j (rename_fields_in_variables tagged j vs) record { env = env; store = store_by tagged f.store }))
-    (λ env. option_map (declare_procedures_in_frame n (rename_fields_in_procedures l inner n ps)) (declare_variables naming_by_spelling j (rename_fields_in_variables l j vs) record { env = env; store = store_by l f.store }))
-    (option_and_then (λ env. declare_types naming_by_spelling env k (rename_fields_in_types tagged k ts)) (declare_constants naming_by_spelling (env_as tagged f.scene) cs)) (option_and_then (λ env. declare_types naming_by_spelling env k (rename_fields_in_types l k ts)) (declare_constants naming_by_spelling (env_as l f.scene) cs))
-    (both-then (env_as tagged) (env_as l) (env_as tagged) (env_as l) (λ env. declare_types naming_by_spelling env k (rename_fields_in_types tagged k ts)) (λ env. declare_types naming_by_spelling env k (rename_fields_in_types l k ts))
+    (λ env. option_map (declare_procedures_in_frame n (rename_fields_in_procedure_list tagged inner n ps)) (declare_variables naming_by_spelling j (rename_fields_in_variables tagged j vs) record { env = env; store = store_by tagged f.store }))
+    (λ env. option_map (declare_procedures_in_frame n (rename_fields_in_procedure_list l inner n ps)) (declare_variables naming_by_spelling j (rename_fields_in_variables l j vs) record { env = env; store = store_by l f.store }))
+    (option_and_then (λ env. declare_types naming_by_spelling env k (rename_fields_in_type_definitions tagged k ts)) (declare_constants naming_by_spelling (env_as tagged f.scene) cs)) (option_and_then (λ env. declare_types naming_by_spelling env k (rename_fields_in_type_definitions l k ts)) (declare_constants naming_by_spelling (env_as l f.scene) cs))
+    (both-then (env_as tagged) (env_as l) (env_as tagged) (env_as l) (λ env. declare_types naming_by_spelling env k (rename_fields_in_type_definitions tagged k ts)) (λ env. declare_types naming_by_spelling env k (rename_fields_in_type_definitions l k ts))
     (declare_constants naming_by_spelling (env_as tagged f.scene) cs) (declare_constants naming_by_spelling (env_as l f.scene) cs) (declare_constants-both l f.scene cs) (λ scene. declare_types-both l scene k ts))
-    (λ scene. both-made (frame_by tagged) (frame_by l) (frame_by tagged) (frame_by l) (declare_procedures_in_frame n (rename_fields_in_procedures tagged inner n ps)) (declare_procedures_in_frame n (rename_fields_in_procedures l inner n ps)) (λ g. record { scene = declared_procedures n ps inner g.scene; store = g.store })
+    (λ scene. both-made (frame_by tagged) (frame_by l) (frame_by tagged) (frame_by l) (declare_procedures_in_frame n (rename_fields_in_procedure_list tagged inner n ps)) (declare_procedures_in_frame n (rename_fields_in_procedure_list l inner n ps)) (λ g. record { scene = declared_procedures n ps inner g.scene; store = g.store })
     (declare_variables naming_by_spelling j (rename_fields_in_variables tagged j vs) record { env = env_as tagged scene; store = store_by tagged f.store }) (declare_variables naming_by_spelling j (rename_fields_in_variables l j vs) record { env = env_as l scene; store = store_by l f.store })
     (declare_variables-both l j vs record { scene = scene; store = f.store })
     (λ g i. record { env = declare_procedures-by tagged n ps inner g.scene i; store = store_by tagged g.store }) (λ g i. record { env = declare_procedures-by l n ps inner g.scene i; store = store_by l g.store }))
@@ -269,7 +269,7 @@ declare_block-parts : (l : FieldRenaming) (checked : TypeEnvironment Name) (k : 
 unfolding declare_block
 declare_block-parts l checked k cs ts vs ps statements f = λ i.
     let b : Tree Name block = forms_block (declares cs ts vs ps) statements in
-    option_and_then (λ env. option_map (declare_procedures_in_frame (k + types_count-rename_fields l k ts i + variables_count-rename_fields l (constructors_before_variables k b) vs i) (rename_fields_in_procedures l (environment_after_variables checked k b) (constructors_before_procedures k b) ps))
+    option_and_then (λ env. option_map (declare_procedures_in_frame (k + types_count-rename_fields l k ts i + variables_count-rename_fields l (constructors_before_variables k b) vs i) (rename_fields_in_procedure_list l (environment_after_variables checked k b) (constructors_before_procedures k b) ps))
     (declare_variables naming_by_spelling (k + types_count-rename_fields l k ts i) (section_variables-rename_fields l (constructors_before_variables k b) vs i) record { env = env; store = store_by l f.store }))
     (option_and_then (λ env. declare_types naming_by_spelling env k (section_types-rename_fields l k ts i)) (declare_constants naming_by_spelling (env_as l f.scene) (section_constants cs)))
 
@@ -281,11 +281,11 @@ declare_block-both l checked k (forms_block (declares cs ts vs ps) statements) f
 
 -- Binding parameters to arguments does the same in both runs.
 
-pub parameters-rename_fields : (l : FieldRenaming) (k : ℕ) (fs : Tree Name (items further_section)) → parameters (rename_fields_in_parameter_sections l k fs) ≡ parameters fs
+pub parameters-rename_fields : (l : FieldRenaming) (k : ℕ) (fs : Tree Name (items section_after_semicolon)) → parameters (rename_fields_in_further_parameter_sections l k fs) ≡ parameters fs
 parameters-rename_fields l k end = refl
-parameters-rename_fields l k (more (then_section f) fs) = λ i. map (λ x. record { mode = parameter_section_mode-rename_fields l k f i; name = x }) (parameter_section_names-rename_fields l k f i) ++ parameters-rename_fields l (k + constructor_count (parameter_section_type f)) fs i
+parameters-rename_fields l k (more (semicolon_then_section f) fs) = λ i. map (λ x. record { mode = parameter_section_mode-rename_fields l k f i; name = x }) (parameter_section_names-rename_fields l k f i) ++ parameters-rename_fields l (k + constructor_count (parameter_section_type f)) fs i
 
-bind_parameter-both : (l : FieldRenaming) (m : Mode) (x : Name) (a : Given) (f : Stage) → FramesBoth l (bind_parameter m x (argument_by tagged a) (frame_by tagged f)) (bind_parameter m x (argument_by l a) (frame_by l f))
+bind_parameter-both : (l : FieldRenaming) (m : ParameterMode) (x : Name) (a : Given) (f : Stage) → FramesBoth l (bind_parameter m x (argument_by tagged a) (frame_by tagged f)) (bind_parameter m x (argument_by l a) (frame_by l f))
 bind_parameter-both l by_place x (place_given p) f = (Some record { scene = (x, variable_thing p) ∷ f.scene; store = f.store }, refl, refl)
 bind_parameter-both l by_value x (value_given v) f = (Some (allocated (x ∷ []) v f), ap Some (add_variables_to_frame-by tagged (x ∷ []) v f), ap Some (add_variables_to_frame-by l (x ∷ []) v f))
 bind_parameter-both l _ x _ f = (None, refl, refl)

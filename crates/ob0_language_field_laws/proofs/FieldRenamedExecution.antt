@@ -1,11 +1,11 @@
 -- A statement does the same in two runs: one with tagged fields, the other with fields under other names.
 use Rattle.std.proofs.Common.{◌≡◌, ℕ, zero, suc, ◌-◌, List, [], ◌∷◌, map, ℤ, ◌⊎◌, inl, inr, true, false, Some, None, Option, option_map, sym, refl, ap, subst₂}
-use Rattle.ob0_tree.specs.Tree.{Tree, assigns, branches, calls, else_branch, else_part, elsif_branch, elsif_part, empty, end, expression, further_statement, items, maybe, more, none, one, repeat_loop, runs, selector, sequence, statement, then_statement, while_loop}
+use Rattle.ob0_tree.specs.Tree.{Tree, assigns, branches, calls, else_branch, else_part, elsif_branch, elsif_part, empty, end, expression, statement_after_semicolon, items, maybe, more, none, one, repeat_loop, runs, selector, sequence, statement, semicolon_then_statement, while_loop}
 use Rattle.ob0_language_names.specs.Names.{Name}
 use Rattle.ob0_language_types.specs.Arguments.{call_arguments}
 use Rattle.ob0_language_types.specs.Expressions.{designated_place, evaluate, read_procedure, write_procedure, write_line_procedure}
 use Rattle.ob0_language_types.specs.Typing.{lone_designator, type_of_variable_or_constant}
-use Rattle.ob0_language_types.specs.WellTyped.{Mode, TypeMeanings, by_place, by_value}
+use Rattle.ob0_language_types.specs.WellTyped.{ParameterMode, TypeMeanings, by_place, by_value}
 use Rattle.ob0_language_values.specs.Values.{Outcome, Store, Stuck, TurnBound, Value, ends_run_with, succeeds_with, number, or_stuck, truth, write_place, ◌>>=◌}
 use Rattle.ob0_language_runs.specs.Runs.{Argument, CallFunction, Progress, State, choose_by_truth, evaluate_argument, evaluate_arguments, execute, execute_sequence, execute_else, execute_elsifs, execute_further_statements, continue_with, line_out, argument_modes_of, number_out, perform_call, place_argument, append_output, read_number, running, stopped, store_at, execute_while, execute_repeat, continue_with_result, value_argument}
 use Rattle.ob0_language_fields.specs.Fields.{FieldRenaming, rename_fields}
@@ -96,7 +96,7 @@ abbrev pub argument_by : FieldRenaming → Given → Argument
 argument_by l (place_given p) = place_argument (place_by l p)
 argument_by l (value_given v) = value_argument (value_by l v)
 
-pub evaluate_argument-follows : {P : Type 0} (l : FieldRenaming) → KeepsFieldsDistinct l → (things : Things P) (checked : TypeMeanings Name) (store : Store) (m : Mode) (e : Tree Name expression)
+pub evaluate_argument-follows : {P : Type 0} (l : FieldRenaming) → KeepsFieldsDistinct l → (things : Things P) (checked : TypeMeanings Name) (store : Store) (m : ParameterMode) (e : Tree Name expression)
     → Follows (argument_by tagged) (argument_by l) (evaluate_argument (active tagged things) (store_by tagged store) m (rename_fields tagged checked None e)) (evaluate_argument (active l things) (store_by l store) m (rename_fields l checked None e))
 unfolding evaluate_argument
 evaluate_argument-follows l apart things checked store by_value e =
@@ -111,7 +111,7 @@ evaluate_argument-follows l apart things checked store by_place e =
     go (Some (x, path)) =
         follows-then (place_by tagged) (place_by l) (argument_by tagged) (argument_by l) _ _ (λ p. succeeds_with (place_argument p)) (λ p. succeeds_with (place_argument p)) (designated_place-follows l apart things checked store (type_of_variable_or_constant (checked.object_for x)) x path) (λ p. (place_given p, refl, refl))
 
-pub evaluate_arguments-follows : {P : Type 0} (l : FieldRenaming) → KeepsFieldsDistinct l → (things : Things P) (checked : TypeMeanings Name) (store : Store) (ms : List Mode) (es : List (Tree Name expression))
+pub evaluate_arguments-follows : {P : Type 0} (l : FieldRenaming) → KeepsFieldsDistinct l → (things : Things P) (checked : TypeMeanings Name) (store : Store) (ms : List ParameterMode) (es : List (Tree Name expression))
     → Follows (map (argument_by tagged)) (map (argument_by l)) (evaluate_arguments (active tagged things) (store_by tagged store) ms (map (rename_fields tagged checked None) es)) (evaluate_arguments (active l things) (store_by l store) ms (map (rename_fields l checked None) es))
 unfolding evaluate_arguments
 evaluate_arguments-follows l apart things checked store [] [] = ([], refl, refl)
@@ -126,7 +126,7 @@ evaluate_arguments-follows l apart things checked store _ _ = inl refl
 -- The modes and the arguments of a call are the same in both runs.
 
 abbrev pub Modes : Type 0
-Modes = List Mode
+Modes = List ParameterMode
 
 argument_modes_of-follows : (l : FieldRenaming) (o : Option (Thing Modes)) → Follows (λ ms. ms) (λ ms. ms) (argument_modes_of (option_map (thing_by tagged (λ p. p)) o)) (argument_modes_of (option_map (thing_by l (λ p. p)) o))
 argument_modes_of-follows l (Some (procedure_thing ms)) = (ms, refl, refl)
@@ -207,10 +207,10 @@ mutual
   execute_sequence-alike l apart things checked e₁ e₂ calls-alike t (runs a rest) s =
       go_on-goes l _ _ _ _ (execute-alike l apart things checked e₁ e₂ calls-alike t a s) (execute_further_statements-alike l apart things checked e₁ e₂ calls-alike t rest)
 
-  pub execute_further_statements-alike : (l : FieldRenaming) → KeepsFieldsDistinct l → (things : Things Modes) (checked : TypeMeanings Name) (e₁ e₂ : CallFunction Name) → CallsAlike l e₁ e₂ → (t : ℕ) (a : Tree Name (items further_statement))
+  pub execute_further_statements-alike : (l : FieldRenaming) → KeepsFieldsDistinct l → (things : Things Modes) (checked : TypeMeanings Name) (e₁ e₂ : CallFunction Name) → CallsAlike l e₁ e₂ → (t : ℕ) (a : Tree Name (items statement_after_semicolon))
       → Alike l (execute_further_statements (active tagged things) e₁ t (rename_fields tagged checked None a)) (execute_further_statements (active l things) e₂ t (rename_fields l checked None a))
   execute_further_statements-alike l apart things checked e₁ e₂ calls-alike t end s = (s, refl, refl)
-  execute_further_statements-alike l apart things checked e₁ e₂ calls-alike t (more (then_statement a) rest) s =
+  execute_further_statements-alike l apart things checked e₁ e₂ calls-alike t (more (semicolon_then_statement a) rest) s =
       go_on-goes l _ _ _ _ (execute-alike l apart things checked e₁ e₂ calls-alike t a s) (execute_further_statements-alike l apart things checked e₁ e₂ calls-alike t rest)
 
   pub execute_elsifs-alike : (l : FieldRenaming) → KeepsFieldsDistinct l → (things : Things Modes) (checked : TypeMeanings Name) (e₁ e₂ : CallFunction Name) → CallsAlike l e₁ e₂ → (t : ℕ) (a : Tree Name (items elsif_part)) (n₁ n₂ : State → Progress) → Alike l n₁ n₂

@@ -3,15 +3,15 @@ use Rattle.std.proofs.Common.{◌≡◌, ℤ, Bool, List, [], ◌∷◌, ◌++�
 use Rattle.std.proofs.lemmas.List.{map-append}
 use Rattle.ob0_tree.specs.Tree.{Tree, addend, adds, compares, designator, end, expression, factor, field, index, integer, items, more, multiplier, multiplies, negation, none, one, parenthesised, product, relates, selector, simple, sum, term}
 use Rattle.ob0_language_names.specs.Names.{Name}
-use Rattle.ob0_language_types.specs.Expressions.{Meanings, Object, StandardProcedure, a_constant, a_procedure, a_standard, a_type, a_variable, designated_place, element_step, evaluate, evaluate_addends, evaluate_factor, evaluate_multipliers, evaluate_simple, evaluate_term, evaluate_selectors, object_place, object_value}
+use Rattle.ob0_language_types.specs.Expressions.{Meanings, Object, StandardProcedure, a_constant, a_procedure, a_standard_procedure, a_type, a_variable, designated_place, element_step, evaluate, evaluate_addends, evaluate_factor, evaluate_multipliers, evaluate_simple, evaluate_term, evaluate_selectors, object_place, object_value}
 use Rattle.ob0_language_types.specs.Typing.{type_of_variable_or_constant}
 use Rattle.ob0_language_types.specs.WellTyped.{TypeMeanings}
-use Rattle.ob0_language_values.specs.Values.{Outcome, Place, Shape, Step, Store, Value, add, add_short_circuits, value_at_path, succeeds_with, multiply, multiply_short_circuits, negate, number, or_stuck, value_at_step, read_place, apply_relation, apply_sign, truth, ◌>>=◌}
-use Rattle.ob0_language_fields.specs.Fields.{FieldRenaming, type_including_selector, record_ordinal, rename_fields}
+use Rattle.ob0_language_values.specs.Values.{Outcome, Place, Shape, Step, Store, Value, add, add_operator_short_circuits, value_at_path, succeeds_with, multiply, multiply_operator_short_circuits, negate, number, or_stuck, value_at_step, read_place, apply_relation, apply_sign, truth, ◌>>=◌}
+use Rattle.ob0_language_fields.specs.Fields.{FieldRenaming, shape_after_selector, record_ordinal, rename_fields}
 use Rattle.ob0_language_fields.proofs.MeaningsByName.{named}
 use Rattle.ob0_language_field_laws.specs.FieldLaws.{KeepsFieldsDistinct}
 use Rattle.ob0_language_field_laws.proofs.Apart.{shape_by}
-use Rattle.ob0_language_field_laws.proofs.Outcomes.{Follows, ValuesFollow, add-follows, add_short_circuits-by, element_step-follows, follows-then, multiply-follows, multiply_short_circuits-by, negate-follows, or_stuck-follows, apply_relation-follows, settled-follows, apply_sign-follows}
+use Rattle.ob0_language_field_laws.proofs.Outcomes.{Follows, ValuesFollow, add-follows, add_operator_short_circuits-by, element_step-follows, follows-then, multiply-follows, multiply_operator_short_circuits-by, negate-follows, or_stuck-follows, apply_relation-follows, settled-follows, apply_sign-follows}
 use Rattle.ob0_language_field_laws.proofs.Values.{Move, Spot, value_at_path-finds, value_at_step-finds, place_by, read_place-finds, step_by, store_by, tagged, to_field, value_by}
 
 -- the value of a constant: a number or a truth value
@@ -36,7 +36,7 @@ thing_by l f (type_thing s) = a_type (shape_by l s)
 thing_by l f (constant_thing c) = a_constant (scalar_value c)
 thing_by l f (variable_thing p) = a_variable (place_by l p)
 thing_by l f (procedure_thing p) = a_procedure (f p)
-thing_by l f (standard_thing p) = a_standard p
+thing_by l f (standard_thing p) = a_standard_procedure p
 
 abbrev pub Things : Type 0 → Type 0
 Things P = Name → Option (Thing P)
@@ -99,10 +99,10 @@ mutual
   evaluate_addends-follows l apart things checked store v end = (v, refl, refl)
   evaluate_addends-follows l apart things checked store v (more (adds o t) rest) =
       follows-then (value_by tagged) (value_by l) (value_by tagged) (value_by l)
-      (elim (add_short_circuits o (value_by tagged v)) [ true ↦ succeeds_with (value_by tagged v) | false ↦ evaluate_term (active tagged things) (store_by tagged store) (rename_fields tagged checked None t) >>= add o (value_by tagged v) ])
-      (elim (add_short_circuits o (value_by l v)) [ true ↦ succeeds_with (value_by l v) | false ↦ evaluate_term (active l things) (store_by l store) (rename_fields l checked None t) >>= add o (value_by l v) ])
+      (elim (add_operator_short_circuits o (value_by tagged v)) [ true ↦ succeeds_with (value_by tagged v) | false ↦ evaluate_term (active tagged things) (store_by tagged store) (rename_fields tagged checked None t) >>= add o (value_by tagged v) ])
+      (elim (add_operator_short_circuits o (value_by l v)) [ true ↦ succeeds_with (value_by l v) | false ↦ evaluate_term (active l things) (store_by l store) (rename_fields l checked None t) >>= add o (value_by l v) ])
       (λ y. evaluate_addends (active tagged things) (store_by tagged store) y (rename_fields tagged checked None rest)) (λ y. evaluate_addends (active l things) (store_by l store) y (rename_fields l checked None rest))
-      (settled-follows l (add_short_circuits o v) (add_short_circuits o (value_by tagged v)) (add_short_circuits o (value_by l v)) v _ _ (add_short_circuits-by tagged o v) (add_short_circuits-by l o v)
+      (settled-follows l (add_operator_short_circuits o v) (add_operator_short_circuits o (value_by tagged v)) (add_operator_short_circuits o (value_by l v)) v _ _ (add_operator_short_circuits-by tagged o v) (add_operator_short_circuits-by l o v)
       (follows-then (value_by tagged) (value_by l) (value_by tagged) (value_by l) _ _ (add o (value_by tagged v)) (add o (value_by l v)) (evaluate_term-follows l apart things checked store t) (add-follows l o v)))
       (λ y. evaluate_addends-follows l apart things checked store y rest)
 
@@ -118,10 +118,10 @@ mutual
   evaluate_multipliers-follows l apart things checked store v end = (v, refl, refl)
   evaluate_multipliers-follows l apart things checked store v (more (multiplies o t) rest) =
       follows-then (value_by tagged) (value_by l) (value_by tagged) (value_by l)
-      (elim (multiply_short_circuits o (value_by tagged v)) [ true ↦ succeeds_with (value_by tagged v) | false ↦ evaluate_factor (active tagged things) (store_by tagged store) (rename_fields tagged checked None t) >>= multiply o (value_by tagged v) ])
-      (elim (multiply_short_circuits o (value_by l v)) [ true ↦ succeeds_with (value_by l v) | false ↦ evaluate_factor (active l things) (store_by l store) (rename_fields l checked None t) >>= multiply o (value_by l v) ])
+      (elim (multiply_operator_short_circuits o (value_by tagged v)) [ true ↦ succeeds_with (value_by tagged v) | false ↦ evaluate_factor (active tagged things) (store_by tagged store) (rename_fields tagged checked None t) >>= multiply o (value_by tagged v) ])
+      (elim (multiply_operator_short_circuits o (value_by l v)) [ true ↦ succeeds_with (value_by l v) | false ↦ evaluate_factor (active l things) (store_by l store) (rename_fields l checked None t) >>= multiply o (value_by l v) ])
       (λ y. evaluate_multipliers (active tagged things) (store_by tagged store) y (rename_fields tagged checked None rest)) (λ y. evaluate_multipliers (active l things) (store_by l store) y (rename_fields l checked None rest))
-      (settled-follows l (multiply_short_circuits o v) (multiply_short_circuits o (value_by tagged v)) (multiply_short_circuits o (value_by l v)) v _ _ (multiply_short_circuits-by tagged o v) (multiply_short_circuits-by l o v)
+      (settled-follows l (multiply_operator_short_circuits o v) (multiply_operator_short_circuits o (value_by tagged v)) (multiply_operator_short_circuits o (value_by l v)) v _ _ (multiply_operator_short_circuits-by tagged o v) (multiply_operator_short_circuits-by l o v)
       (follows-then (value_by tagged) (value_by l) (value_by tagged) (value_by l) _ _ (multiply o (value_by tagged v)) (multiply o (value_by l v)) (evaluate_factor-follows l apart things checked store t) (multiply-follows l o v)))
       (λ y. evaluate_multipliers-follows l apart things checked store y rest)
 
@@ -145,18 +145,18 @@ mutual
       → PathsFollow l (evaluate_selectors (active tagged things) (store_by tagged store) (value_by tagged v) (rename_fields tagged checked s path)) (evaluate_selectors (active l things) (store_by l store) (value_by l v) (rename_fields l checked s path))
   follow-follows l apart things checked store s v end = ([], refl, refl)
   follow-follows l apart things checked store s v (more (field x) rest) =
-      follow_on-follows l apart (λ w. evaluate_selectors (active tagged things) (store_by tagged store) w (rename_fields tagged checked (type_including_selector s (field x)) rest)) (λ w. evaluate_selectors (active l things) (store_by l store) w (rename_fields l checked (type_including_selector s (field x)) rest))
-      (λ w. follow-follows l apart things checked store (type_including_selector s (field x)) w rest) v (to_field (record_ordinal s) x)
+      follow_on-follows l apart (λ w. evaluate_selectors (active tagged things) (store_by tagged store) w (rename_fields tagged checked (shape_after_selector s (field x)) rest)) (λ w. evaluate_selectors (active l things) (store_by l store) w (rename_fields l checked (shape_after_selector s (field x)) rest))
+      (λ w. follow-follows l apart things checked store (shape_after_selector s (field x)) w rest) v (to_field (record_ordinal s) x)
   follow-follows l apart things checked store s v (more (index e) rest) =
       follows-then (value_by tagged) (value_by l) (map (step_by tagged)) (map (step_by l)) _ _
-      (λ i. element_step (value_by tagged v) i >>= follow_on (λ w. evaluate_selectors (active tagged things) (store_by tagged store) w (rename_fields tagged checked (type_including_selector s (index e)) rest)) (value_by tagged v))
-      (λ i. element_step (value_by l v) i >>= follow_on (λ w. evaluate_selectors (active l things) (store_by l store) w (rename_fields l checked (type_including_selector s (index e)) rest)) (value_by l v))
+      (λ i. element_step (value_by tagged v) i >>= follow_on (λ w. evaluate_selectors (active tagged things) (store_by tagged store) w (rename_fields tagged checked (shape_after_selector s (index e)) rest)) (value_by tagged v))
+      (λ i. element_step (value_by l v) i >>= follow_on (λ w. evaluate_selectors (active l things) (store_by l store) w (rename_fields l checked (shape_after_selector s (index e)) rest)) (value_by l v))
       (evaluate-follows l apart things checked store e)
       (λ i. follows-then (step_by tagged) (step_by l) (map (step_by tagged)) (map (step_by l)) (element_step (value_by tagged v) (value_by tagged i)) (element_step (value_by l v) (value_by l i))
-      (follow_on (λ w. evaluate_selectors (active tagged things) (store_by tagged store) w (rename_fields tagged checked (type_including_selector s (index e)) rest)) (value_by tagged v)) (follow_on (λ w. evaluate_selectors (active l things) (store_by l store) w (rename_fields l checked (type_including_selector s (index e)) rest)) (value_by l v))
+      (follow_on (λ w. evaluate_selectors (active tagged things) (store_by tagged store) w (rename_fields tagged checked (shape_after_selector s (index e)) rest)) (value_by tagged v)) (follow_on (λ w. evaluate_selectors (active l things) (store_by l store) w (rename_fields l checked (shape_after_selector s (index e)) rest)) (value_by l v))
       (element_step-follows l v i)
-      (λ m. follow_on-follows l apart (λ w. evaluate_selectors (active tagged things) (store_by tagged store) w (rename_fields tagged checked (type_including_selector s (index e)) rest)) (λ w. evaluate_selectors (active l things) (store_by l store) w (rename_fields l checked (type_including_selector s (index e)) rest))
-      (λ w. follow-follows l apart things checked store (type_including_selector s (index e)) w rest) v m))
+      (λ m. follow_on-follows l apart (λ w. evaluate_selectors (active tagged things) (store_by tagged store) w (rename_fields tagged checked (shape_after_selector s (index e)) rest)) (λ w. evaluate_selectors (active l things) (store_by l store) w (rename_fields l checked (shape_after_selector s (index e)) rest))
+      (λ w. follow-follows l apart things checked store (shape_after_selector s (index e)) w rest) v m))
 
 -- holds if two outcomes give places that stand for the same place
 

@@ -1,15 +1,15 @@
 -- A module's declarations and statements are well-typed exactly if they are with the fields under other names.
 use Rattle.std.proofs.Common.{◌≡◌, ℕ, ◌+◌, true, false, ◌&&◌, List, [], ◌∷◌, ◌++◌, map, Some, None, Option, option_map, option_and_then, unwrap_or, refl, ap, ◌∙◌}
-use Rattle.ob0_tree.specs.Tree.{Tree, begins, block, body, constant, declares, declares_constant, declares_procedure, declares_type, declares_types, declares_variable, declares_variables, end, formals, further_section, forms_block, is_module, item, items, maybe, more, no_formals, none, one, procedure, section, then_section, type_definition, type_definitions, value_section, variable, variable_section, variables, written_type}
+use Rattle.ob0_tree.specs.Tree.{Tree, begins, block, body, constant, declares, declares_constant, declares_procedure, declares_type, declares_type_section, declares_variable, declares_var_section, end, formals, section_after_semicolon, forms_block, forms_module, item, items, maybe, more, no_formals, none, one, procedure, section, semicolon_then_section, type_definition, type_definitions, value_section, variable, variable_section, variables, written_type}
 use Rattle.ob0_language_names.specs.Names.{Name, naming_by_spelling, same_name}
-use Rattle.ob0_language_names.specs.Parts.{formal_sections, names_in_list, procedure_formals, procedure_name, section_constants, parameter_section_names, parameter_section_type, section_types, section_variables}
+use Rattle.ob0_language_names.specs.BlockParts.{formal_sections, names_in_list, procedure_formals, procedure_name, section_constants, parameter_section_names, parameter_section_type, section_types, section_variables}
 use Rattle.ob0_language_types.specs.Declarations.{constructors_before_procedure_block, constructors_before_variables, constructors_before_procedures, block_constructor_count, declare_constants, declare_constants_and_types, declare_types, formals_constructor_count, procedure_constructor_count, procedures_constructor_count, types_constructor_count, variables_constructor_count}
 use Rattle.ob0_language_types.specs.Environments.{environment_from_binding, meanings, newest_object, outermost_environment}
 use Rattle.ob0_language_types.specs.Expressions.{Object, a_constant, a_procedure, a_type, a_variable}
 use Rattle.ob0_language_types.specs.Typing.{constant_of, constant_value, constructor_count, denoted_type, type_of_type_object}
-use Rattle.ob0_language_types.specs.WellTyped.{Mode, Signature, TypeEnvironment, TypedParameter, bind_names, bind_typed_parameters, block_is_well_typed, body_is_well_typed, declare_typed_variables, passes_type_check, bind_procedure, option_satisfies, procedure_is_well_typed, procedures_are_well_typed, parameter_section_mode, sequence_is_well_typed, typed_parameters}
+use Rattle.ob0_language_types.specs.WellTyped.{ParameterMode, Signature, TypeEnvironment, TypedParameter, bind_names, bind_typed_parameters, block_is_well_typed, body_is_well_typed, declare_typed_variables, passes_type_check, bind_procedure, option_satisfies, procedure_is_well_typed, procedures_are_well_typed, parameter_section_mode, sequence_is_well_typed, typed_parameters}
 use Rattle.ob0_language_values.specs.Values.{Shape}
-use Rattle.ob0_language_fields.specs.Fields.{FieldRenaming, environment_after_heading, environment_after_procedures, environment_after_variables, typed_parameters_of_procedure, rename_fields, rename_fields_in_block, rename_fields_in_formals, rename_fields_in_procedure, rename_fields_in_procedures, rename_fields_in_parameter_section, rename_fields_in_parameter_sections, rename_fields_in_type, rename_fields_in_type_section, rename_fields_in_types, rename_fields_in_variable_section, rename_fields_in_variables}
+use Rattle.ob0_language_fields.specs.Fields.{FieldRenaming, environment_after_heading, environment_after_procedures, environment_after_variables, typed_parameters_of_procedure, rename_fields, rename_fields_in_block, rename_fields_in_formals, rename_fields_in_procedure, rename_fields_in_procedure_list, rename_fields_in_parameter_section, rename_fields_in_further_parameter_sections, rename_fields_in_type, rename_fields_in_type_section, rename_fields_in_type_definitions, rename_fields_in_variable_section, rename_fields_in_variables}
 use Rattle.ob0_language_fields.proofs.MeaningsByName.{named, parameter_of, object_in}
 use Rattle.ob0_language_field_laws.specs.FieldLaws.{KeepsFieldsDistinct, FieldRenamingKeepsTypeCheck}
 use Rattle.ob0_language_field_laws.proofs.Apart.{constant_of-by, each-then, formal_by, map-then, object_by, shape_by, type_of_type_object-by}
@@ -57,15 +57,15 @@ bind_procedure-by l x ps env = λ i. (x, a_procedure (formals-by l ps i)) ∷ en
 
 -- The sections of a block with its fields under other names are the sections with theirs.
 
-pub section_types-rename_fields : (l : FieldRenaming) (k : ℕ) (ts : Tree Name (maybe type_definitions)) → section_types (rename_fields_in_type_section l k ts) ≡ rename_fields_in_types l k (section_types ts)
+pub section_types-rename_fields : (l : FieldRenaming) (k : ℕ) (ts : Tree Name (maybe type_definitions)) → section_types (rename_fields_in_type_section l k ts) ≡ rename_fields_in_type_definitions l k (section_types ts)
 section_types-rename_fields l k none = refl
-section_types-rename_fields l k (one (declares_types ts)) = refl
+section_types-rename_fields l k (one (declares_type_section ts)) = refl
 
 pub section_variables-rename_fields : (l : FieldRenaming) (k : ℕ) (vs : Tree Name (maybe variables)) → section_variables (rename_fields_in_variable_section l k vs) ≡ rename_fields_in_variables l k (section_variables vs)
 section_variables-rename_fields l k none = refl
-section_variables-rename_fields l k (one (declares_variables vs)) = refl
+section_variables-rename_fields l k (one (declares_var_section vs)) = refl
 
-pub formal_sections-rename_fields : (l : FieldRenaming) (k : ℕ) (fs : Tree Name (maybe formals)) → formal_sections (rename_fields_in_formals l k fs) ≡ rename_fields_in_parameter_sections l k (formal_sections fs)
+pub formal_sections-rename_fields : (l : FieldRenaming) (k : ℕ) (fs : Tree Name (maybe formals)) → formal_sections (rename_fields_in_formals l k fs) ≡ rename_fields_in_further_parameter_sections l k (formal_sections fs)
 formal_sections-rename_fields l k (one no_formals) = refl
 formal_sections-rename_fields l k _ = refl
 
@@ -81,7 +81,7 @@ pub parameter_section_mode-rename_fields : (l : FieldRenaming) (k : ℕ) (f : Tr
 parameter_section_mode-rename_fields l k (value_section ns u) = refl
 parameter_section_mode-rename_fields l k (variable_section ns u) = refl
 
-pub procedure_formals-rename_fields : (l : FieldRenaming) (env : TypeEnvironment Name) (k : ℕ) (p : Tree Name (item procedure)) → procedure_formals (rename_fields_in_procedure l env k p) ≡ rename_fields_in_parameter_sections l k (procedure_formals p)
+pub procedure_formals-rename_fields : (l : FieldRenaming) (env : TypeEnvironment Name) (k : ℕ) (p : Tree Name (item procedure)) → procedure_formals (rename_fields_in_procedure l env k p) ≡ rename_fields_in_further_parameter_sections l k (procedure_formals p)
 procedure_formals-rename_fields l env k (declares_procedure x fs b closing) = formal_sections-rename_fields l k fs
 
 pub procedure_name-rename_fields : (l : FieldRenaming) (env : TypeEnvironment Name) (k : ℕ) (p : Tree Name (item procedure)) → procedure_name (rename_fields_in_procedure l env k p) ≡ procedure_name p
@@ -92,7 +92,7 @@ procedure_name-rename_fields l env k (declares_procedure x fs b closing) = refl
 pub section_constructors-rename_fields : (l : FieldRenaming) (k : ℕ) (f : Tree Name section) → constructor_count (parameter_section_type (rename_fields_in_parameter_section l k f)) ≡ constructor_count (parameter_section_type f)
 section_constructors-rename_fields l k f = ap constructor_count (parameter_section_type-rename_fields l k f) ∙ constructor_count-rename_fields l k (parameter_section_type f)
 
-pub types_constructor_count-rename_fields : (l : FieldRenaming) (k : ℕ) (ds : Tree Name (items type_definition)) → types_constructor_count (rename_fields_in_types l k ds) ≡ types_constructor_count ds
+pub types_constructor_count-rename_fields : (l : FieldRenaming) (k : ℕ) (ds : Tree Name (items type_definition)) → types_constructor_count (rename_fields_in_type_definitions l k ds) ≡ types_constructor_count ds
 types_constructor_count-rename_fields l k end = refl
 types_constructor_count-rename_fields l k (more (declares_type x u) ds) = λ i. constructor_count-rename_fields l k u i + types_constructor_count-rename_fields l (k + constructor_count u) ds i
 
@@ -100,9 +100,9 @@ pub variables_constructor_count-rename_fields : (l : FieldRenaming) (k : ℕ) (g
 variables_constructor_count-rename_fields l k end = refl
 variables_constructor_count-rename_fields l k (more (declares_variable ns u) gs) = λ i. constructor_count-rename_fields l k u i + variables_constructor_count-rename_fields l (k + constructor_count u) gs i
 
-pub sections_constructors-rename_fields : (l : FieldRenaming) (k : ℕ) (fs : Tree Name (items further_section)) → formals_constructor_count (rename_fields_in_parameter_sections l k fs) ≡ formals_constructor_count fs
+pub sections_constructors-rename_fields : (l : FieldRenaming) (k : ℕ) (fs : Tree Name (items section_after_semicolon)) → formals_constructor_count (rename_fields_in_further_parameter_sections l k fs) ≡ formals_constructor_count fs
 sections_constructors-rename_fields l k end = refl
-sections_constructors-rename_fields l k (more (then_section f) fs) = λ i. section_constructors-rename_fields l k f i + sections_constructors-rename_fields l (k + constructor_count (parameter_section_type f)) fs i
+sections_constructors-rename_fields l k (more (semicolon_then_section f) fs) = λ i. section_constructors-rename_fields l k f i + sections_constructors-rename_fields l (k + constructor_count (parameter_section_type f)) fs i
 
 pub types_count-rename_fields : (l : FieldRenaming) (k : ℕ) (ts : Tree Name (maybe type_definitions)) → types_constructor_count (section_types (rename_fields_in_type_section l k ts)) ≡ types_constructor_count (section_types ts)
 types_count-rename_fields l k ts = ap types_constructor_count (section_types-rename_fields l k ts) ∙ types_constructor_count-rename_fields l k (section_types ts)
@@ -120,7 +120,7 @@ mutual
       + (variables_count-rename_fields l (constructors_before_variables k (forms_block (declares cs ts vs ps) statements)) vs i
       + procedures_constructor_count-rename_fields l (environment_after_variables env k (forms_block (declares cs ts vs ps) statements)) (constructors_before_procedures k (forms_block (declares cs ts vs ps) statements)) ps i)
 
-  pub procedures_constructor_count-rename_fields : (l : FieldRenaming) (env : TypeEnvironment Name) (k : ℕ) (ps : Tree Name (items procedure)) → procedures_constructor_count (rename_fields_in_procedures l env k ps) ≡ procedures_constructor_count ps
+  pub procedures_constructor_count-rename_fields : (l : FieldRenaming) (env : TypeEnvironment Name) (k : ℕ) (ps : Tree Name (items procedure)) → procedures_constructor_count (rename_fields_in_procedure_list l env k ps) ≡ procedures_constructor_count ps
   procedures_constructor_count-rename_fields l env k end = refl
   procedures_constructor_count-rename_fields l env k (more p rest) = λ i.
       procedure_constructor_count-rename_fields l (bind_typed_parameters (typed_parameters_of_procedure env k p) (environment_after_heading env k p)) k p i
@@ -140,13 +140,13 @@ declare_constants-by l env (more (declares_constant x e) cs) =
     ∙ each-then (env_by l) (constant_value (meanings naming_by_spelling env) e) (λ v. declare_constants naming_by_spelling ((x, a_constant v) ∷ env) cs) (λ v. declare_constants naming_by_spelling ((x, a_constant v) ∷ env_by l env) cs)
     (λ v. declare_constants-by l ((x, a_constant v) ∷ env) cs)
 
-pub declare_types-by : (l : FieldRenaming) (env : TypeEnvironment Name) (k : ℕ) (ds : Tree Name (items type_definition)) → declare_types naming_by_spelling (env_by l env) k (rename_fields_in_types l k ds) ≡ option_map (env_by l) (declare_types naming_by_spelling env k ds)
+pub declare_types-by : (l : FieldRenaming) (env : TypeEnvironment Name) (k : ℕ) (ds : Tree Name (items type_definition)) → declare_types naming_by_spelling (env_by l env) k (rename_fields_in_type_definitions l k ds) ≡ option_map (env_by l) (declare_types naming_by_spelling env k ds)
 unfolding declare_types
 declare_types-by l env k end = refl
 declare_types-by l env k (more (declares_type x u) ds) =
-    ap (λ n. option_and_then (λ s. declare_types naming_by_spelling ((x, a_type s) ∷ env_by l env) (k + n) (rename_fields_in_types l (k + constructor_count u) ds)) (denoted_type (meanings naming_by_spelling (env_by l env)) k (rename_fields_in_type l k u))) (constructor_count-rename_fields l k u)
+    ap (λ n. option_and_then (λ s. declare_types naming_by_spelling ((x, a_type s) ∷ env_by l env) (k + n) (rename_fields_in_type_definitions l (k + constructor_count u) ds)) (denoted_type (meanings naming_by_spelling (env_by l env)) k (rename_fields_in_type l k u))) (constructor_count-rename_fields l k u)
     ∙ map-then (shape_by l) (env_by l) (denoted_type (meanings naming_by_spelling env) k u) (denoted_type (meanings naming_by_spelling (env_by l env)) k (rename_fields_in_type l k u)) (λ s. declare_types naming_by_spelling ((x, a_type s) ∷ env) (k + constructor_count u) ds)
-    (λ s. declare_types naming_by_spelling ((x, a_type s) ∷ env_by l env) (k + constructor_count u) (rename_fields_in_types l (k + constructor_count u) ds)) (denoted_type-by l env k u) (λ s. declare_types-by l ((x, a_type s) ∷ env) (k + constructor_count u) ds)
+    (λ s. declare_types naming_by_spelling ((x, a_type s) ∷ env_by l env) (k + constructor_count u) (rename_fields_in_type_definitions l (k + constructor_count u) ds)) (denoted_type-by l env k u) (λ s. declare_types-by l ((x, a_type s) ∷ env) (k + constructor_count u) ds)
 
 pub declare_typed_variables-by : (l : FieldRenaming) (env : TypeEnvironment Name) (k : ℕ) (gs : Tree Name (items variable)) → declare_typed_variables naming_by_spelling k (rename_fields_in_variables l k gs) (env_by l env) ≡ option_map (env_by l) (declare_typed_variables naming_by_spelling k gs env)
 unfolding declare_typed_variables
@@ -159,24 +159,24 @@ declare_typed_variables-by l env k (more (declares_variable ns u) gs) =
 
 -- If fields get other names, only these names change in the types of a heading's parameters.
 
-parameters-by : (l : FieldRenaming) (m : Mode) (s : Shape) (xs : List Name) (rest : List (TypedParameter Name)) → map (parameter_of m (shape_by l s)) xs ++ map (parameter_by l) rest ≡ map (parameter_by l) (map (parameter_of m s) xs ++ rest)
+parameters-by : (l : FieldRenaming) (m : ParameterMode) (s : Shape) (xs : List Name) (rest : List (TypedParameter Name)) → map (parameter_of m (shape_by l s)) xs ++ map (parameter_by l) rest ≡ map (parameter_by l) (map (parameter_of m s) xs ++ rest)
 parameters-by l m s [] rest = refl
 parameters-by l m s (x ∷ xs) rest = λ i. parameter_of m (shape_by l s) x ∷ parameters-by l m s xs rest i
 
-pub typed_parameters-by : (l : FieldRenaming) (env : TypeEnvironment Name) (k : ℕ) (fs : Tree Name (items further_section)) → typed_parameters naming_by_spelling (env_by l env) k (rename_fields_in_parameter_sections l k fs) ≡ option_map (map (parameter_by l)) (typed_parameters naming_by_spelling env k fs)
+pub typed_parameters-by : (l : FieldRenaming) (env : TypeEnvironment Name) (k : ℕ) (fs : Tree Name (items section_after_semicolon)) → typed_parameters naming_by_spelling (env_by l env) k (rename_fields_in_further_parameter_sections l k fs) ≡ option_map (map (parameter_by l)) (typed_parameters naming_by_spelling env k fs)
 unfolding typed_parameters
 typed_parameters-by l env k end = refl
-typed_parameters-by l env k (more (then_section f) fs) =
+typed_parameters-by l env k (more (semicolon_then_section f) fs) =
     (λ i. option_and_then (λ s. option_and_then (λ rest. Some (map (parameter_of (parameter_section_mode-rename_fields l k f i) s) (parameter_section_names-rename_fields l k f i) ++ rest))
-    (typed_parameters naming_by_spelling (bind_names (parameter_section_names-rename_fields l k f i) (a_variable s) (env_by l env)) (k + section_constructors-rename_fields l k f i) (rename_fields_in_parameter_sections l (k + constructor_count (parameter_section_type f)) fs))) (denoted_type (meanings naming_by_spelling (env_by l env)) k (parameter_section_type-rename_fields l k f i)))
+    (typed_parameters naming_by_spelling (bind_names (parameter_section_names-rename_fields l k f i) (a_variable s) (env_by l env)) (k + section_constructors-rename_fields l k f i) (rename_fields_in_further_parameter_sections l (k + constructor_count (parameter_section_type f)) fs))) (denoted_type (meanings naming_by_spelling (env_by l env)) k (parameter_section_type-rename_fields l k f i)))
     ∙ map-then (shape_by l) (map (parameter_by l)) (denoted_type (meanings naming_by_spelling env) k (parameter_section_type f)) (denoted_type (meanings naming_by_spelling (env_by l env)) k (rename_fields_in_type l k (parameter_section_type f)))
     (λ s. option_and_then (λ rest. Some (map (parameter_of (parameter_section_mode f) s) (parameter_section_names f) ++ rest)) (typed_parameters naming_by_spelling (bind_names (parameter_section_names f) (a_variable s) env) (k + constructor_count (parameter_section_type f)) fs))
-    (λ s. option_and_then (λ rest. Some (map (parameter_of (parameter_section_mode f) s) (parameter_section_names f) ++ rest)) (typed_parameters naming_by_spelling (bind_names (parameter_section_names f) (a_variable s) (env_by l env)) (k + constructor_count (parameter_section_type f)) (rename_fields_in_parameter_sections l (k + constructor_count (parameter_section_type f)) fs)))
+    (λ s. option_and_then (λ rest. Some (map (parameter_of (parameter_section_mode f) s) (parameter_section_names f) ++ rest)) (typed_parameters naming_by_spelling (bind_names (parameter_section_names f) (a_variable s) (env_by l env)) (k + constructor_count (parameter_section_type f)) (rename_fields_in_further_parameter_sections l (k + constructor_count (parameter_section_type f)) fs)))
     (denoted_type-by l env k (parameter_section_type f))
     (λ s. map-then (map (parameter_by l)) (map (parameter_by l)) (typed_parameters naming_by_spelling (bind_names (parameter_section_names f) (a_variable s) env) (k + constructor_count (parameter_section_type f)) fs)
-    (typed_parameters naming_by_spelling (bind_names (parameter_section_names f) (a_variable (shape_by l s)) (env_by l env)) (k + constructor_count (parameter_section_type f)) (rename_fields_in_parameter_sections l (k + constructor_count (parameter_section_type f)) fs))
+    (typed_parameters naming_by_spelling (bind_names (parameter_section_names f) (a_variable (shape_by l s)) (env_by l env)) (k + constructor_count (parameter_section_type f)) (rename_fields_in_further_parameter_sections l (k + constructor_count (parameter_section_type f)) fs))
     (λ rest. Some (map (parameter_of (parameter_section_mode f) s) (parameter_section_names f) ++ rest)) (λ rest. Some (map (parameter_of (parameter_section_mode f) (shape_by l s)) (parameter_section_names f) ++ rest))
-    (ap (λ inner. typed_parameters naming_by_spelling inner (k + constructor_count (parameter_section_type f)) (rename_fields_in_parameter_sections l (k + constructor_count (parameter_section_type f)) fs)) (bind_names-by l (parameter_section_names f) (a_variable s) env) ∙ typed_parameters-by l (bind_names (parameter_section_names f) (a_variable s) env) (k + constructor_count (parameter_section_type f)) fs)
+    (ap (λ inner. typed_parameters naming_by_spelling inner (k + constructor_count (parameter_section_type f)) (rename_fields_in_further_parameter_sections l (k + constructor_count (parameter_section_type f)) fs)) (bind_names-by l (parameter_section_names f) (a_variable s) env) ∙ typed_parameters-by l (bind_names (parameter_section_names f) (a_variable s) env) (k + constructor_count (parameter_section_type f)) fs)
     (λ rest i. Some (parameters-by l (parameter_section_mode f) s (parameter_section_names f) rest i)))
 
 -- A block is well-typed exactly if it is with its fields under other names.
@@ -188,12 +188,12 @@ body_is_well_typed-rename_fields l apart env (one (begins a)) =
     (λ i. sequence_is_well_typed (named (λ x. newest_object-by l env x i)) (rename_fields l (meanings naming_by_spelling env) None a)) ∙ sequence_is_well_typed-rename_fields l apart (object_in env) a
 
 pub declared-by : (l : FieldRenaming) (env : TypeEnvironment Name) (k j : ℕ) (cs : Tree Name (items constant)) (ts : Tree Name (items type_definition)) (vs : Tree Name (items variable))
-    → option_and_then (declare_typed_variables naming_by_spelling j (rename_fields_in_variables l j vs)) (option_and_then (λ env. declare_types naming_by_spelling env k (rename_fields_in_types l k ts)) (declare_constants naming_by_spelling (env_by l env) cs))
+    → option_and_then (declare_typed_variables naming_by_spelling j (rename_fields_in_variables l j vs)) (option_and_then (λ env. declare_types naming_by_spelling env k (rename_fields_in_type_definitions l k ts)) (declare_constants naming_by_spelling (env_by l env) cs))
     ≡ option_map (env_by l) (option_and_then (declare_typed_variables naming_by_spelling j vs) (option_and_then (λ env. declare_types naming_by_spelling env k ts) (declare_constants naming_by_spelling env cs)))
 declared-by l env k j cs ts vs =
-    map-then (env_by l) (env_by l) (option_and_then (λ env. declare_types naming_by_spelling env k ts) (declare_constants naming_by_spelling env cs)) (option_and_then (λ env. declare_types naming_by_spelling env k (rename_fields_in_types l k ts)) (declare_constants naming_by_spelling (env_by l env) cs))
+    map-then (env_by l) (env_by l) (option_and_then (λ env. declare_types naming_by_spelling env k ts) (declare_constants naming_by_spelling env cs)) (option_and_then (λ env. declare_types naming_by_spelling env k (rename_fields_in_type_definitions l k ts)) (declare_constants naming_by_spelling (env_by l env) cs))
     (declare_typed_variables naming_by_spelling j vs) (declare_typed_variables naming_by_spelling j (rename_fields_in_variables l j vs))
-    (map-then (env_by l) (env_by l) (declare_constants naming_by_spelling env cs) (declare_constants naming_by_spelling (env_by l env) cs) (λ env. declare_types naming_by_spelling env k ts) (λ env. declare_types naming_by_spelling env k (rename_fields_in_types l k ts)) (declare_constants-by l env cs) (λ env. declare_types-by l env k ts))
+    (map-then (env_by l) (env_by l) (declare_constants naming_by_spelling env cs) (declare_constants naming_by_spelling (env_by l env) cs) (λ env. declare_types naming_by_spelling env k ts) (λ env. declare_types naming_by_spelling env k (rename_fields_in_type_definitions l k ts)) (declare_constants-by l env cs) (λ env. declare_types-by l env k ts))
     (λ env. declare_typed_variables-by l env j vs)
 
 mutual
@@ -204,30 +204,30 @@ mutual
       let b : Tree Name block = forms_block (declares cs ts vs ps) statements in
       let o : Option (TypeEnvironment Name) = option_and_then (declare_typed_variables naming_by_spelling (constructors_before_variables k b) (section_variables vs)) (declare_constants_and_types naming_by_spelling env k b) in
       (λ i. option_satisfies (option_and_then (declare_typed_variables naming_by_spelling (k + types_count-rename_fields l k ts i) (section_variables-rename_fields l (constructors_before_variables k b) vs i)) (option_and_then (λ env. declare_types naming_by_spelling env k (section_types-rename_fields l k ts i)) (declare_constants naming_by_spelling (env_by l env) (section_constants cs))))
-      (λ inner. procedures_are_well_typed naming_by_spelling inner (k + types_count-rename_fields l k ts i + variables_count-rename_fields l (constructors_before_variables k b) vs i) (rename_fields l (meanings naming_by_spelling (environment_after_procedures (environment_after_variables env k b) (constructors_before_procedures k b) ps)) None statements) (rename_fields_in_procedures l (environment_after_variables env k b) (constructors_before_procedures k b) ps)))
-      ∙ (ap (λ o. option_satisfies o (λ inner. procedures_are_well_typed naming_by_spelling inner (constructors_before_procedures k b) (rename_fields l (meanings naming_by_spelling (environment_after_procedures (environment_after_variables env k b) (constructors_before_procedures k b) ps)) None statements) (rename_fields_in_procedures l (environment_after_variables env k b) (constructors_before_procedures k b) ps)))
+      (λ inner. procedures_are_well_typed naming_by_spelling inner (k + types_count-rename_fields l k ts i + variables_count-rename_fields l (constructors_before_variables k b) vs i) (rename_fields l (meanings naming_by_spelling (environment_after_procedures (environment_after_variables env k b) (constructors_before_procedures k b) ps)) None statements) (rename_fields_in_procedure_list l (environment_after_variables env k b) (constructors_before_procedures k b) ps)))
+      ∙ (ap (λ o. option_satisfies o (λ inner. procedures_are_well_typed naming_by_spelling inner (constructors_before_procedures k b) (rename_fields l (meanings naming_by_spelling (environment_after_procedures (environment_after_variables env k b) (constructors_before_procedures k b) ps)) None statements) (rename_fields_in_procedure_list l (environment_after_variables env k b) (constructors_before_procedures k b) ps)))
       (declared-by l env k (constructors_before_variables k b) (section_constants cs) (section_types ts) (section_variables vs))
-      ∙ (elim o as (λ o. option_satisfies (option_map (env_by l) o) (λ inner. procedures_are_well_typed naming_by_spelling inner (constructors_before_procedures k b) (rename_fields l (meanings naming_by_spelling (environment_after_procedures (unwrap_or o env) (constructors_before_procedures k b) ps)) None statements) (rename_fields_in_procedures l (unwrap_or o env) (constructors_before_procedures k b) ps))
+      ∙ (elim o as (λ o. option_satisfies (option_map (env_by l) o) (λ inner. procedures_are_well_typed naming_by_spelling inner (constructors_before_procedures k b) (rename_fields l (meanings naming_by_spelling (environment_after_procedures (unwrap_or o env) (constructors_before_procedures k b) ps)) None statements) (rename_fields_in_procedure_list l (unwrap_or o env) (constructors_before_procedures k b) ps))
       ≡ option_satisfies o (λ inner. procedures_are_well_typed naming_by_spelling inner (constructors_before_procedures k b) statements ps))
       [ None ↦ refl | Some inner ↦ procedures_are_well_typed-rename_fields l apart inner (constructors_before_procedures k b) statements ps ]))
 
   pub procedures_are_well_typed-rename_fields : (l : FieldRenaming) → KeepsFieldsDistinct l → (env : TypeEnvironment Name) (k : ℕ) (statements : Tree Name (maybe body)) (ps : Tree Name (items procedure))
-      → procedures_are_well_typed naming_by_spelling (env_by l env) k (rename_fields l (meanings naming_by_spelling (environment_after_procedures env k ps)) None statements) (rename_fields_in_procedures l env k ps) ≡ procedures_are_well_typed naming_by_spelling env k statements ps
+      → procedures_are_well_typed naming_by_spelling (env_by l env) k (rename_fields l (meanings naming_by_spelling (environment_after_procedures env k ps)) None statements) (rename_fields_in_procedure_list l env k ps) ≡ procedures_are_well_typed naming_by_spelling env k statements ps
   procedures_are_well_typed-rename_fields l apart env k statements end = body_is_well_typed-rename_fields l apart env statements
   procedures_are_well_typed-rename_fields l apart env k statements (more p rest) =
       let e : TypeEnvironment Name = bind_typed_parameters (typed_parameters_of_procedure env k p) (environment_after_heading env k p) in
       (λ i. option_satisfies (typed_parameters naming_by_spelling (env_by l env) k (procedure_formals-rename_fields l e k p i)) (λ qs. procedure_is_well_typed naming_by_spelling (bind_typed_parameters qs (bind_procedure (procedure_name-rename_fields l e k p i) qs (env_by l env))) k (rename_fields_in_procedure l e k p)
-      && procedures_are_well_typed naming_by_spelling (bind_procedure (procedure_name-rename_fields l e k p i) qs (env_by l env)) (k + procedure_constructor_count-rename_fields l e k p i) (rename_fields l (meanings naming_by_spelling (environment_after_procedures (environment_after_heading env k p) (k + procedure_constructor_count p) rest)) None statements) (rename_fields_in_procedures l (environment_after_heading env k p) (k + procedure_constructor_count p) rest)))
+      && procedures_are_well_typed naming_by_spelling (bind_procedure (procedure_name-rename_fields l e k p i) qs (env_by l env)) (k + procedure_constructor_count-rename_fields l e k p i) (rename_fields l (meanings naming_by_spelling (environment_after_procedures (environment_after_heading env k p) (k + procedure_constructor_count p) rest)) None statements) (rename_fields_in_procedure_list l (environment_after_heading env k p) (k + procedure_constructor_count p) rest)))
       ∙ (ap (λ o. option_satisfies o (λ qs. procedure_is_well_typed naming_by_spelling (bind_typed_parameters qs (bind_procedure (procedure_name p) qs (env_by l env))) k (rename_fields_in_procedure l e k p)
-      && procedures_are_well_typed naming_by_spelling (bind_procedure (procedure_name p) qs (env_by l env)) (k + procedure_constructor_count p) (rename_fields l (meanings naming_by_spelling (environment_after_procedures (environment_after_heading env k p) (k + procedure_constructor_count p) rest)) None statements) (rename_fields_in_procedures l (environment_after_heading env k p) (k + procedure_constructor_count p) rest)))
+      && procedures_are_well_typed naming_by_spelling (bind_procedure (procedure_name p) qs (env_by l env)) (k + procedure_constructor_count p) (rename_fields l (meanings naming_by_spelling (environment_after_procedures (environment_after_heading env k p) (k + procedure_constructor_count p) rest)) None statements) (rename_fields_in_procedure_list l (environment_after_heading env k p) (k + procedure_constructor_count p) rest)))
       (typed_parameters-by l env k (procedure_formals p))
       ∙ (elim (typed_parameters naming_by_spelling env k (procedure_formals p)) as (λ o. option_satisfies (option_map (map (parameter_by l)) o) (λ qs. procedure_is_well_typed naming_by_spelling (bind_typed_parameters qs (bind_procedure (procedure_name p) qs (env_by l env))) k (rename_fields_in_procedure l (bind_typed_parameters (unwrap_or o []) (bind_procedure (procedure_name p) (unwrap_or o []) env)) k p)
-      && procedures_are_well_typed naming_by_spelling (bind_procedure (procedure_name p) qs (env_by l env)) (k + procedure_constructor_count p) (rename_fields l (meanings naming_by_spelling (environment_after_procedures (bind_procedure (procedure_name p) (unwrap_or o []) env) (k + procedure_constructor_count p) rest)) None statements) (rename_fields_in_procedures l (bind_procedure (procedure_name p) (unwrap_or o []) env) (k + procedure_constructor_count p) rest))
+      && procedures_are_well_typed naming_by_spelling (bind_procedure (procedure_name p) qs (env_by l env)) (k + procedure_constructor_count p) (rename_fields l (meanings naming_by_spelling (environment_after_procedures (bind_procedure (procedure_name p) (unwrap_or o []) env) (k + procedure_constructor_count p) rest)) None statements) (rename_fields_in_procedure_list l (bind_procedure (procedure_name p) (unwrap_or o []) env) (k + procedure_constructor_count p) rest))
       ≡ option_satisfies o (λ qs. procedure_is_well_typed naming_by_spelling (bind_typed_parameters qs (bind_procedure (procedure_name p) qs env)) k p && procedures_are_well_typed naming_by_spelling (bind_procedure (procedure_name p) qs env) (k + procedure_constructor_count p) statements rest)) [
         | None ↦ refl
         | Some qs ↦
             (λ i. procedure_is_well_typed naming_by_spelling ((ap (bind_typed_parameters (map (parameter_by l) qs)) (bind_procedure-by l (procedure_name p) qs env) ∙ bind_typed_parameters-by l qs (bind_procedure (procedure_name p) qs env)) i) k (rename_fields_in_procedure l (bind_typed_parameters qs (bind_procedure (procedure_name p) qs env)) k p)
-            && procedures_are_well_typed naming_by_spelling (bind_procedure-by l (procedure_name p) qs env i) (k + procedure_constructor_count p) (rename_fields l (meanings naming_by_spelling (environment_after_procedures (bind_procedure (procedure_name p) qs env) (k + procedure_constructor_count p) rest)) None statements) (rename_fields_in_procedures l (bind_procedure (procedure_name p) qs env) (k + procedure_constructor_count p) rest))
+            && procedures_are_well_typed naming_by_spelling (bind_procedure-by l (procedure_name p) qs env i) (k + procedure_constructor_count p) (rename_fields l (meanings naming_by_spelling (environment_after_procedures (bind_procedure (procedure_name p) qs env) (k + procedure_constructor_count p) rest)) None statements) (rename_fields_in_procedure_list l (bind_procedure (procedure_name p) qs env) (k + procedure_constructor_count p) rest))
             ∙ (λ i. procedure_is_well_typed-rename_fields l apart (bind_typed_parameters qs (bind_procedure (procedure_name p) qs env)) k p i && procedures_are_well_typed-rename_fields l apart (bind_procedure (procedure_name p) qs env) (k + procedure_constructor_count p) statements rest i)
       ]))
 
@@ -238,4 +238,4 @@ mutual
 
 pub field_renaming_keeps_type_check-holds : FieldRenamingKeepsTypeCheck
 unfolding passes_type_check
-field_renaming_keeps_type_check-holds l (is_module x b closing) apart = block_is_well_typed-rename_fields l apart (outermost_environment naming_by_spelling) 0 b
+field_renaming_keeps_type_check-holds l (forms_module x b closing) apart = block_is_well_typed-rename_fields l apart (outermost_environment naming_by_spelling) 0 b

@@ -1,8 +1,8 @@
 -- A module has the same run with tagged fields and with fields under other names.
 use Rattle.std.proofs.Common.{◌≡◌, ℕ, zero, suc, ◌+◌, ◌≢◌, true, false, List, [], ◌∷◌, map, ℤ, ◌⊎◌, inl, inr, Some, None, Option, option_map, option_and_then, sym, refl, ap, ◌∙◌, subst, subst₂}
-use Rattle.ob0_tree.specs.Tree.{Tree, begins, block, body, declares, declares_procedure, formals, forms_block, is_module, item, maybe, module_text, none, one, procedure}
+use Rattle.ob0_tree.specs.Tree.{Tree, begins, block, body, declares, declares_procedure, formals, forms_block, forms_module, item, maybe, module_text, none, one, procedure}
 use Rattle.ob0_language_names.specs.Names.{Name, naming_by_spelling}
-use Rattle.ob0_language_names.specs.Parts.{block_procedures, block_statements, formal_sections}
+use Rattle.ob0_language_names.specs.BlockParts.{block_procedures, block_statements, formal_sections}
 use Rattle.ob0_language_types.specs.Declarations.{constructors_before_procedures, formals_constructor_count}
 use Rattle.ob0_language_types.specs.Environments.{meanings, outermost_environment}
 use Rattle.ob0_language_types.specs.Expressions.{read_procedure, write_procedure, write_line_procedure}
@@ -122,16 +122,16 @@ same-finish l (stopped e out) p₂ h free = go h
 abbrev run_parts : FieldRenaming → Tree Name block → List ℤ → ℕ → ℕ → Progress
 run_parts l b input c t = entered l 0 (outermost_environment naming_by_spelling) b (call naming_by_spelling c t) t (Some (frame_by l record { scene = outermost_scene; store = [] })) (state_by l record { store = []; input = input; output = [] })
 
-run-parts : (l : FieldRenaming) (x closing : Name) (b : Tree Name block) (input : List ℤ) (c t : ℕ) → run_with_naming naming_by_spelling (rename_fields_in_module l (is_module x b closing)) input c t ≡ run_result (run_parts l b input c t)
+run-parts : (l : FieldRenaming) (x closing : Name) (b : Tree Name block) (input : List ℤ) (c t : ℕ) → run_with_naming naming_by_spelling (rename_fields_in_module l (forms_module x b closing)) input c t ≡ run_result (run_parts l b input c t)
 unfolding run_with_naming
 run-parts l x closing b input c t = refl
 
 -- A well-typed module has the same run with tagged fields and with fields under other names.
 pub run-tagged : (l : FieldRenaming) → KeepsFieldsDistinct l → (m : Tree Name module_text) → passes_type_check naming_by_spelling m ≡ true → (input : List ℤ) (c t : ℕ) → run_with_naming naming_by_spelling (rename_fields_in_module tagged m) input c t ≡ run_with_naming naming_by_spelling (rename_fields_in_module l m) input c t
-run-tagged l apart (is_module x b closing) fits input c t =
+run-tagged l apart (forms_module x b closing) fits input c t =
     run-parts tagged x closing b input c t
     ∙ (same-finish l (run_parts tagged b input c t) (run_parts l b input c t)
     (entered-goes l apart 0 (outermost_environment naming_by_spelling) b (call naming_by_spelling c t) (call naming_by_spelling c t) (calls-alike l apart c t) t (Some (frame_by tagged record { scene = outermost_scene; store = [] })) (Some (frame_by l record { scene = outermost_scene; store = [] }))
     (Some record { scene = outermost_scene; store = [] }, refl, refl) record { store = []; input = input; output = [] })
-    (subst (λ r. r.ending ≢ Stuck) (run-parts tagged x closing b input c t) (fitting-run naming_by_spelling (rename_fields_in_module tagged (is_module x b closing)) input c t (field_renaming_keeps_type_check-holds tagged (is_module x b closing) tagged-apart ∙ fits)))
+    (subst (λ r. r.ending ≢ Stuck) (run-parts tagged x closing b input c t) (fitting-run naming_by_spelling (rename_fields_in_module tagged (forms_module x b closing)) input c t (field_renaming_keeps_type_check-holds tagged (forms_module x b closing) tagged-apart ∙ fits)))
     ∙ sym (run-parts l x closing b input c t))

@@ -1,11 +1,11 @@
 -- Statements are well-typed exactly if they are with the fields under other names.
 use Rattle.std.proofs.Common.{◌≡◌, ◌&&◌, List, [], ◌∷◌, map, Some, None, Option, option_map, refl, ap, ◌∙◌}
-use Rattle.ob0_tree.specs.Tree.{Tree, arguments, assigns, branches, calls, compares, designator, else_branch, else_part, elsif_branch, elsif_part, empty, end, expression, further_argument, further_statement, items, maybe, more, none, one, product, repeat_loop, runs, selector, sequence, some_arguments, statement, sum, then_argument, then_statement, while_loop}
+use Rattle.ob0_tree.specs.Tree.{Tree, arguments, assigns, branches, calls, compares, designator, else_branch, else_part, elsif_branch, elsif_part, empty, end, expression, argument_after_comma, statement_after_semicolon, items, maybe, more, none, one, product, repeat_loop, runs, selector, sequence, some_arguments, statement, sum, comma_then_argument, semicolon_then_statement, while_loop}
 use Rattle.ob0_language_names.specs.Names.{Name}
 use Rattle.ob0_language_types.specs.Arguments.{call_arguments, further_arguments}
-use Rattle.ob0_language_types.specs.Expressions.{Object, a_constant, a_procedure, a_standard, a_type, a_variable}
+use Rattle.ob0_language_types.specs.Expressions.{Object, a_constant, a_procedure, a_standard_procedure, a_type, a_variable}
 use Rattle.ob0_language_types.specs.Typing.{lone_designator, type_of_variable_or_constant, type_after_selectors, type_of}
-use Rattle.ob0_language_types.specs.WellTyped.{FormalParameter, Mode, Signature, TypeMeanings, same_known_shape, argument_matches, arguments_match, by_place, by_value, call_is_well_typed, condition_is_boolean, else_is_well_typed, elsifs_are_well_typed, sequence_is_well_typed, signature_of, statement_is_well_typed, further_statements_are_well_typed, variable_type}
+use Rattle.ob0_language_types.specs.WellTyped.{FormalParameter, ParameterMode, Signature, TypeMeanings, same_known_shape, argument_matches, arguments_match, by_place, by_value, call_is_well_typed, condition_is_boolean, else_is_well_typed, elsifs_are_well_typed, sequence_is_well_typed, signature_of, statement_is_well_typed, further_statements_are_well_typed, variable_type}
 use Rattle.ob0_language_values.specs.Values.{Shape, boolean_shape}
 use Rattle.ob0_language_fields.specs.Fields.{FieldRenaming, rename_fields}
 use Rattle.ob0_language_fields.proofs.MeaningsByName.{named}
@@ -20,9 +20,9 @@ pub lone_designator-rename_fields : (l : FieldRenaming) (meaning : TypeMeanings 
 lone_designator-rename_fields l meaning (compares (sum None (product (designator x path) end) end) none) = refl
 lone_designator-rename_fields l meaning _ = refl
 
-pub further_arguments-rename_fields : (l : FieldRenaming) (meaning : TypeMeanings Name) (es : Tree Name (items further_argument)) → further_arguments (rename_fields l meaning None es) ≡ map (rename_fields l meaning None) (further_arguments es)
+pub further_arguments-rename_fields : (l : FieldRenaming) (meaning : TypeMeanings Name) (es : Tree Name (items argument_after_comma)) → further_arguments (rename_fields l meaning None es) ≡ map (rename_fields l meaning None) (further_arguments es)
 further_arguments-rename_fields l meaning end = refl
-further_arguments-rename_fields l meaning (more (then_argument e) es) = λ i. rename_fields l meaning None e ∷ further_arguments-rename_fields l meaning es i
+further_arguments-rename_fields l meaning (more (comma_then_argument e) es) = λ i. rename_fields l meaning None e ∷ further_arguments-rename_fields l meaning es i
 
 pub arguments-rename_fields : (l : FieldRenaming) (meaning : TypeMeanings Name) (es : Tree Name (maybe arguments)) → call_arguments (rename_fields l meaning None es) ≡ map (rename_fields l meaning None) (call_arguments es)
 arguments-rename_fields l meaning (one (some_arguments e es)) = λ i. rename_fields l meaning None e ∷ further_arguments-rename_fields l meaning es i
@@ -41,14 +41,14 @@ variable_type-rename_fields l apart objects (Some (x, path)) = go (objects x)
     go (Some (a_constant v)) = refl
     go (Some (a_variable s)) = type_after_selectors-rename_fields l apart objects s path
     go (Some (a_procedure p)) = refl
-    go (Some (a_standard p)) = refl
+    go (Some (a_standard_procedure p)) = refl
 
 pub argument_matches-rename_fields : (l : FieldRenaming) → KeepsFieldsDistinct l → (objects : Name → Option (Object Shape Signature)) (f : FormalParameter) (e : Tree Name expression)
     → argument_matches (named_by l objects) (formal_by l f) (rename_fields l (named objects) None e) ≡ argument_matches (named objects) f e
 unfolding argument_matches
 argument_matches-rename_fields l apart objects f e = go f.mode
   where
-    go : (m : Mode) → same_known_shape (Some (shape_by l f.shape)) (elim m [ by_value ↦ type_of (named_by l objects) (rename_fields l (named objects) None e) | by_place ↦ variable_type (named_by l objects) (lone_designator (rename_fields l (named objects) None e)) ])
+    go : (m : ParameterMode) → same_known_shape (Some (shape_by l f.shape)) (elim m [ by_value ↦ type_of (named_by l objects) (rename_fields l (named objects) None e) | by_place ↦ variable_type (named_by l objects) (lone_designator (rename_fields l (named objects) None e)) ])
         ≡ same_known_shape (Some f.shape) (elim m [ by_value ↦ type_of (named objects) e | by_place ↦ variable_type (named objects) (lone_designator e) ])
     go by_value = ap (same_known_shape (Some (shape_by l f.shape))) (type_of-rename_fields l apart objects e) ∙ same_known_shape-by l apart (Some f.shape) (type_of (named objects) e)
     go by_place =
@@ -89,9 +89,9 @@ mutual
   pub sequence_is_well_typed-rename_fields : (l : FieldRenaming) → KeepsFieldsDistinct l → (objects : Name → Option (Object Shape Signature)) (a : Tree Name sequence) → sequence_is_well_typed (named_by l objects) (rename_fields l (named objects) None a) ≡ sequence_is_well_typed (named objects) a
   sequence_is_well_typed-rename_fields l apart objects (runs a rest) = λ i. statement_is_well_typed-rename_fields l apart objects a i && further_statements_are_well_typed-rename_fields l apart objects rest i
 
-  pub further_statements_are_well_typed-rename_fields : (l : FieldRenaming) → KeepsFieldsDistinct l → (objects : Name → Option (Object Shape Signature)) (a : Tree Name (items further_statement)) → further_statements_are_well_typed (named_by l objects) (rename_fields l (named objects) None a) ≡ further_statements_are_well_typed (named objects) a
+  pub further_statements_are_well_typed-rename_fields : (l : FieldRenaming) → KeepsFieldsDistinct l → (objects : Name → Option (Object Shape Signature)) (a : Tree Name (items statement_after_semicolon)) → further_statements_are_well_typed (named_by l objects) (rename_fields l (named objects) None a) ≡ further_statements_are_well_typed (named objects) a
   further_statements_are_well_typed-rename_fields l apart objects end = refl
-  further_statements_are_well_typed-rename_fields l apart objects (more (then_statement a) rest) = λ i. statement_is_well_typed-rename_fields l apart objects a i && further_statements_are_well_typed-rename_fields l apart objects rest i
+  further_statements_are_well_typed-rename_fields l apart objects (more (semicolon_then_statement a) rest) = λ i. statement_is_well_typed-rename_fields l apart objects a i && further_statements_are_well_typed-rename_fields l apart objects rest i
 
   pub elsifs_are_well_typed-rename_fields : (l : FieldRenaming) → KeepsFieldsDistinct l → (objects : Name → Option (Object Shape Signature)) (a : Tree Name (items elsif_part)) → elsifs_are_well_typed (named_by l objects) (rename_fields l (named objects) None a) ≡ elsifs_are_well_typed (named objects) a
   elsifs_are_well_typed-rename_fields l apart objects end = refl

@@ -1,17 +1,17 @@
 -- If the fields of an environment's types and of a tree get other names, the tree's type is the old type with the same
 -- new names. Each step is an equation, so no premise is needed.
 use Rattle.std.proofs.Common.{◌≡◌, ℕ, suc, ◌+◌, ◌∷◌, map, Some, None, Option, option_map, option_and_then, refl, ap, ◌∙◌, sym}
-use Rattle.ob0_tree.specs.Tree.{Tree, addend, adds, array_type, compares, designator, end, expression, factor, field, fields, further_fields, further_name, index, integer, items, listed, more, multiplier, multiplies, named_type, names, negation, no_fields, none, one, parenthesised, product, record_type, relates, selector, simple, some_fields, sum, term, then_fields, then_name, written_type}
-use Rattle.ob0_language_names.specs.Mapping.{map_names}
+use Rattle.ob0_tree.specs.Tree.{Tree, addend, adds, array_type, compares, designator, end, expression, factor, field, fields, fields_after_semicolon, name_after_comma, index, integer, items, listed, more, multiplier, multiplies, named_type, names, negation, no_fields, none, one, parenthesised, product, record_type, relates, selector, simple, some_fields, sum, term, semicolon_then_fields, comma_then_name, written_type}
+use Rattle.ob0_language_names.specs.MappedNames.{map_names}
 use Rattle.ob0_language_names.specs.Names.{Name}
-use Rattle.ob0_language_names.specs.Parts.{further_names, names_in_list}
+use Rattle.ob0_language_names.specs.BlockParts.{names_after_first, names_in_list}
 use Rattle.ob0_language_names.proofs.SameNames.{map_names-id}
 use Rattle.ob0_language_types.specs.Expressions.{Object}
 use Rattle.ob0_language_types.specs.Typing.{addition_type, array_length, negation_type, constant_of, constant_value, constructor_count, denoted_type, denoted_group_fields, denoted_further_fields, element_type, field_type, group_constructor_count, groups_constructor_count, multiplication_type, type_of_variable_or_constant, relation_type, sign_type, type_after_selectors, type_of, type_of_addends, type_of_factor, type_of_multipliers, type_of_type_object, type_of_simple, type_of_term, prepend_fields, type_within_limits}
 use Rattle.ob0_language_types.specs.WellTyped.{Signature}
 use Rattle.ob0_language_types.proofs.TypeNaturality.{constant_value-map}
 use Rattle.ob0_language_values.specs.Values.{FieldShapes, Shape, array_shape, integer_shape, record_shape}
-use Rattle.ob0_language_fields.specs.Fields.{FieldRenaming, rename_fields, rename_fields_in_group, rename_fields_in_groups, rename_fields_in_type}
+use Rattle.ob0_language_fields.specs.Fields.{FieldRenaming, rename_fields, rename_fields_in_group, rename_fields_in_further_groups, rename_fields_in_type}
 use Rattle.ob0_language_fields.proofs.MeaningsByName.{named}
 use Rattle.ob0_language_field_laws.specs.FieldLaws.{KeepsFieldsDistinct}
 use Rattle.ob0_language_field_laws.proofs.Apart.{addition_type-by, negation_type-by, each-then, field_type-by, fields_by, map-then, multiplication_type-by, named_by, type_of_variable_or_constant-by, relation_type-by, shape_by, sign_type-by, prepend_fields-by, type_within_limits-by}
@@ -83,13 +83,13 @@ mutual
   group_constructor_count-rename_fields l r k no_fields = refl
   group_constructor_count-rename_fields l r k (some_fields ns t) = constructor_count-rename_fields l k t
 
-  pub groups_constructor_count-rename_fields : (l : FieldRenaming) (r k : ℕ) (gs : Tree Name (items further_fields)) → groups_constructor_count (rename_fields_in_groups l r k gs) ≡ groups_constructor_count gs
+  pub groups_constructor_count-rename_fields : (l : FieldRenaming) (r k : ℕ) (gs : Tree Name (items fields_after_semicolon)) → groups_constructor_count (rename_fields_in_further_groups l r k gs) ≡ groups_constructor_count gs
   groups_constructor_count-rename_fields l r k end = refl
-  groups_constructor_count-rename_fields l r k (more (then_fields g) rest) = λ i. group_constructor_count-rename_fields l r k g i + groups_constructor_count-rename_fields l r (k + group_constructor_count g) rest i
+  groups_constructor_count-rename_fields l r k (more (semicolon_then_fields g) rest) = λ i. group_constructor_count-rename_fields l r k g i + groups_constructor_count-rename_fields l r (k + group_constructor_count g) rest i
 
-pub further-rename_fields : (h : Name → Name) (xs : Tree Name (items further_name)) → map (λ x. x) (further_names (map_names (λ x. x) h xs)) ≡ map h (map (λ x. x) (further_names xs))
+pub further-rename_fields : (h : Name → Name) (xs : Tree Name (items name_after_comma)) → map (λ x. x) (names_after_first (map_names (λ x. x) h xs)) ≡ map h (map (λ x. x) (names_after_first xs))
 further-rename_fields h end = refl
-further-rename_fields h (more (then_name x) xs) = λ i. h x ∷ further-rename_fields h xs i
+further-rename_fields h (more (comma_then_name x) xs) = λ i. h x ∷ further-rename_fields h xs i
 
 pub names-rename_fields : (h : Name → Name) (ns : Tree Name names) → map (λ x. x) (names_in_list (map_names (λ x. x) h ns)) ≡ map h (map (λ x. x) (names_in_list ns))
 names-rename_fields h (listed x xs) = λ i. h x ∷ further-rename_fields h xs i
@@ -114,8 +114,8 @@ mutual
       (λ v. each-then (shape_by l) (array_length v) (λ n. option_and_then (λ s. type_within_limits (array_shape k n s)) (denoted_type (named here) (suc k) t)) (λ n. option_and_then (λ s. type_within_limits (array_shape k n s)) (denoted_type (named there) (suc k) (rename_fields_in_type l (suc k) t)))
       (λ n. map-then (shape_by l) (shape_by l) (denoted_type (named here) (suc k) t) (denoted_type (named there) (suc k) (rename_fields_in_type l (suc k) t)) (λ s. type_within_limits (array_shape k n s)) (λ s. type_within_limits (array_shape k n s)) (denoted_type-rename_fields l there here hc ht (suc k) t) (λ s. type_within_limits-by l (array_shape k n s))))
   denoted_type-rename_fields l there here hc ht k (record_type g rest) =
-      ap (λ n. option_and_then (λ later. option_and_then (λ fs. type_within_limits (record_shape k fs)) (denoted_group_fields (named there) (suc k) later (rename_fields_in_group l k (suc k) g))) (denoted_further_fields (named there) (suc k + n) (rename_fields_in_groups l k (suc k + group_constructor_count g) rest))) (group_constructor_count-rename_fields l k (suc k) g)
-      ∙ map-then (fields_by l k) (shape_by l) (denoted_further_fields (named here) (suc k + group_constructor_count g) rest) (denoted_further_fields (named there) (suc k + group_constructor_count g) (rename_fields_in_groups l k (suc k + group_constructor_count g) rest))
+      ap (λ n. option_and_then (λ later. option_and_then (λ fs. type_within_limits (record_shape k fs)) (denoted_group_fields (named there) (suc k) later (rename_fields_in_group l k (suc k) g))) (denoted_further_fields (named there) (suc k + n) (rename_fields_in_further_groups l k (suc k + group_constructor_count g) rest))) (group_constructor_count-rename_fields l k (suc k) g)
+      ∙ map-then (fields_by l k) (shape_by l) (denoted_further_fields (named here) (suc k + group_constructor_count g) rest) (denoted_further_fields (named there) (suc k + group_constructor_count g) (rename_fields_in_further_groups l k (suc k + group_constructor_count g) rest))
       (λ later. option_and_then (λ fs. type_within_limits (record_shape k fs)) (denoted_group_fields (named here) (suc k) later g)) (λ later. option_and_then (λ fs. type_within_limits (record_shape k fs)) (denoted_group_fields (named there) (suc k) later (rename_fields_in_group l k (suc k) g)))
       (denoted_further_fields-rename_fields l there here hc ht k (suc k + group_constructor_count g) rest)
       (λ later. map-then (fields_by l k) (shape_by l) (denoted_group_fields (named here) (suc k) later g) (denoted_group_fields (named there) (suc k) (fields_by l k later) (rename_fields_in_group l k (suc k) g)) (λ fs. type_within_limits (record_shape k fs)) (λ fs. type_within_limits (record_shape k fs))
@@ -132,10 +132,10 @@ mutual
 
   pub denoted_further_fields-rename_fields : {V P W Q : Type 0} (l : FieldRenaming) (there : Name → Option (Object V P)) (here : Name → Option (Object W Q))
       → ((x : Name) → constant_of (there x) ≡ constant_of (here x)) → ((x : Name) → type_of_type_object (there x) ≡ option_map (shape_by l) (type_of_type_object (here x)))
-      → (r k : ℕ) (gs : Tree Name (items further_fields)) → denoted_further_fields (named there) k (rename_fields_in_groups l r k gs) ≡ option_map (fields_by l r) (denoted_further_fields (named here) k gs)
+      → (r k : ℕ) (gs : Tree Name (items fields_after_semicolon)) → denoted_further_fields (named there) k (rename_fields_in_further_groups l r k gs) ≡ option_map (fields_by l r) (denoted_further_fields (named here) k gs)
   denoted_further_fields-rename_fields l there here hc ht r k end = refl
-  denoted_further_fields-rename_fields l there here hc ht r k (more (then_fields g) rest) =
-      ap (λ n. option_and_then (λ later. denoted_group_fields (named there) k later (rename_fields_in_group l r k g)) (denoted_further_fields (named there) (k + n) (rename_fields_in_groups l r (k + group_constructor_count g) rest))) (group_constructor_count-rename_fields l r k g)
-      ∙ map-then (fields_by l r) (fields_by l r) (denoted_further_fields (named here) (k + group_constructor_count g) rest) (denoted_further_fields (named there) (k + group_constructor_count g) (rename_fields_in_groups l r (k + group_constructor_count g) rest))
+  denoted_further_fields-rename_fields l there here hc ht r k (more (semicolon_then_fields g) rest) =
+      ap (λ n. option_and_then (λ later. denoted_group_fields (named there) k later (rename_fields_in_group l r k g)) (denoted_further_fields (named there) (k + n) (rename_fields_in_further_groups l r (k + group_constructor_count g) rest))) (group_constructor_count-rename_fields l r k g)
+      ∙ map-then (fields_by l r) (fields_by l r) (denoted_further_fields (named here) (k + group_constructor_count g) rest) (denoted_further_fields (named there) (k + group_constructor_count g) (rename_fields_in_further_groups l r (k + group_constructor_count g) rest))
       (λ later. denoted_group_fields (named here) k later g) (λ later. denoted_group_fields (named there) k later (rename_fields_in_group l r k g)) (denoted_further_fields-rename_fields l there here hc ht r (k + group_constructor_count g) rest)
       (λ later. denoted_group_fields-rename_fields l there here hc ht r k later g)

@@ -10,7 +10,7 @@ use Rattle.ob0_tree.specs.declared.tree.AddOperator.TheVariants as add_operator
 use Rattle.ob0_tree.specs.declared.tree.MultiplyOperator.{MultiplyOperator}
 use Rattle.ob0_tree.specs.declared.tree.MultiplyOperator.TheVariants as multiply_operator
 use Rattle.ob0_language_types.specs.Expressions.{element_step}
-use Rattle.ob0_language_values.specs.Values.{Index, Outcome, Overflow, Step, Stuck, Value, add, add_short_circuits, at_index, compare_numbers, count_values, checked_division, division_outcome, elements, ends_run_with, fits_in_32_bits, succeeds_with, checked_number, multiply, multiply_short_circuits, negate, number, or_stuck, quotient, apply_relation, remainder, same_truth, apply_sign, truth, ◌>>=◌}
+use Rattle.ob0_language_values.specs.Values.{Index, Outcome, Overflow, Step, Stuck, Value, add, add_operator_short_circuits, at_index, compare_numbers, count_values, checked_division, division_outcome, elements, ends_run_with, fits_in_32_bits, succeeds_with, checked_number, multiply, multiply_operator_short_circuits, negate, number, or_stuck, quotient, apply_relation, remainder, same_truth, apply_sign, truth, ◌>>=◌}
 use Rattle.ob0_language_fields.specs.Fields.{FieldRenaming}
 use Rattle.ob0_language_field_laws.proofs.Values.{Finds, count_values-by, step_by, tagged, to_index, value_by}
 
@@ -76,13 +76,13 @@ negate-follows l _ = inl refl
 
 -- If the left operand settles an operation in one run, it does in the other.
 
-pub add_short_circuits-by : (l : FieldRenaming) (o : AddOperator) (v : Value) → add_short_circuits o (value_by l v) ≡ add_short_circuits o v
-add_short_circuits-by l add_operator.Or (truth true) = refl
-add_short_circuits-by l _ _ = refl
+pub add_operator_short_circuits-by : (l : FieldRenaming) (o : AddOperator) (v : Value) → add_operator_short_circuits o (value_by l v) ≡ add_operator_short_circuits o v
+add_operator_short_circuits-by l add_operator.Or (truth true) = refl
+add_operator_short_circuits-by l _ _ = refl
 
-pub multiply_short_circuits-by : (l : FieldRenaming) (o : MultiplyOperator) (v : Value) → multiply_short_circuits o (value_by l v) ≡ multiply_short_circuits o v
-multiply_short_circuits-by l multiply_operator.And (truth false) = refl
-multiply_short_circuits-by l _ _ = refl
+pub multiply_operator_short_circuits-by : (l : FieldRenaming) (o : MultiplyOperator) (v : Value) → multiply_operator_short_circuits o (value_by l v) ≡ multiply_operator_short_circuits o v
+multiply_operator_short_circuits-by l multiply_operator.And (truth false) = refl
+multiply_operator_short_circuits-by l _ _ = refl
 
 pub settled-follows : (l : FieldRenaming) (b b₁ b₂ : Bool) (v : Value) (o₁ o₂ : Outcome Value) → b₁ ≡ b → b₂ ≡ b → ValuesFollow l o₁ o₂
     → ValuesFollow l (elim b₁ [ true ↦ succeeds_with (value_by tagged v) | false ↦ o₁ ]) (elim b₂ [ true ↦ succeeds_with (value_by l v) | false ↦ o₂ ])

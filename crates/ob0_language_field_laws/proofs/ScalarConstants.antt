@@ -12,7 +12,7 @@ use Rattle.ob0_tree.specs.Tree.{Tree, addend, adds, compares, designator, end, e
 use Rattle.ob0_language_names.specs.Names.{Name}
 use Rattle.ob0_language_types.specs.Expressions.{Meanings, Object, a_constant, evaluate, evaluate_addends, evaluate_factor, evaluate_multipliers, evaluate_simple, evaluate_term, evaluate_selectors, object_value}
 use Rattle.ob0_language_types.specs.Typing.{constant_of, constant_value, constant_meanings, outcome_value, type_of}
-use Rattle.ob0_language_values.specs.Values.{Outcome, Overflow, Place, Shape, Step, Value, add, add_short_circuits, value_at_path, checked_division, division_outcome, elements, ends_run_with, fits_in_32_bits, succeeds_with, checked_number, members, multiply, multiply_short_circuits, negate, number, or_stuck, quotient, apply_relation, remainder, apply_sign, truth, ◌>>=◌}
+use Rattle.ob0_language_values.specs.Values.{Outcome, Overflow, Place, Shape, Step, Value, add, add_operator_short_circuits, value_at_path, checked_division, division_outcome, elements, ends_run_with, fits_in_32_bits, succeeds_with, checked_number, members, multiply, multiply_operator_short_circuits, negate, number, or_stuck, quotient, apply_relation, remainder, apply_sign, truth, ◌>>=◌}
 use Rattle.ob0_language_field_laws.proofs.FieldRenamedExpressions.{Scalar, logical, scalar_value, whole}
 use Rattle.ob0_language_fields.proofs.MeaningsByName.{named}
 
@@ -109,8 +109,8 @@ mutual
   evaluate_addends-scalar : (cs : Constants) (v : Value) (a : Tree Name (items addend)) → IsScalarValue v → Holds IsScalarValue (evaluate_addends {P = Unit {0}} (constant_meaning cs) [] v a)
   evaluate_addends-scalar cs v end h = h
   evaluate_addends-scalar cs v (more (adds o t) rest) h =
-      holds-with IsScalarValue IsScalarValue (elim (add_short_circuits o v) [ true ↦ succeeds_with v | false ↦ evaluate_term {P = Unit {0}} (constant_meaning cs) [] t >>= add o v ]) (λ y. evaluate_addends {P = Unit {0}} (constant_meaning cs) [] y rest)
-      (settled-scalar (add_short_circuits o v) v (evaluate_term {P = Unit {0}} (constant_meaning cs) [] t >>= add o v) h (holds-then IsScalarValue (evaluate_term {P = Unit {0}} (constant_meaning cs) [] t) (add o v) (add-scalar o v)))
+      holds-with IsScalarValue IsScalarValue (elim (add_operator_short_circuits o v) [ true ↦ succeeds_with v | false ↦ evaluate_term {P = Unit {0}} (constant_meaning cs) [] t >>= add o v ]) (λ y. evaluate_addends {P = Unit {0}} (constant_meaning cs) [] y rest)
+      (settled-scalar (add_operator_short_circuits o v) v (evaluate_term {P = Unit {0}} (constant_meaning cs) [] t >>= add o v) h (holds-then IsScalarValue (evaluate_term {P = Unit {0}} (constant_meaning cs) [] t) (add o v) (add-scalar o v)))
       (λ y hy. evaluate_addends-scalar cs y rest hy)
 
   evaluate_term-scalar : (cs : Constants) (a : Tree Name term) → Holds IsScalarValue (evaluate_term {P = Unit {0}} (constant_meaning cs) [] a)
@@ -120,8 +120,8 @@ mutual
   evaluate_multipliers-scalar : (cs : Constants) (v : Value) (a : Tree Name (items multiplier)) → IsScalarValue v → Holds IsScalarValue (evaluate_multipliers {P = Unit {0}} (constant_meaning cs) [] v a)
   evaluate_multipliers-scalar cs v end h = h
   evaluate_multipliers-scalar cs v (more (multiplies o t) rest) h =
-      holds-with IsScalarValue IsScalarValue (elim (multiply_short_circuits o v) [ true ↦ succeeds_with v | false ↦ evaluate_factor {P = Unit {0}} (constant_meaning cs) [] t >>= multiply o v ]) (λ y. evaluate_multipliers {P = Unit {0}} (constant_meaning cs) [] y rest)
-      (settled-scalar (multiply_short_circuits o v) v (evaluate_factor {P = Unit {0}} (constant_meaning cs) [] t >>= multiply o v) h (holds-then IsScalarValue (evaluate_factor {P = Unit {0}} (constant_meaning cs) [] t) (multiply o v) (multiply-scalar o v)))
+      holds-with IsScalarValue IsScalarValue (elim (multiply_operator_short_circuits o v) [ true ↦ succeeds_with v | false ↦ evaluate_factor {P = Unit {0}} (constant_meaning cs) [] t >>= multiply o v ]) (λ y. evaluate_multipliers {P = Unit {0}} (constant_meaning cs) [] y rest)
+      (settled-scalar (multiply_operator_short_circuits o v) v (evaluate_factor {P = Unit {0}} (constant_meaning cs) [] t >>= multiply o v) h (holds-then IsScalarValue (evaluate_factor {P = Unit {0}} (constant_meaning cs) [] t) (multiply o v) (multiply-scalar o v)))
       (λ y hy. evaluate_multipliers-scalar cs y rest hy)
 
   evaluate_factor-scalar : (cs : Constants) (a : Tree Name factor) → Holds IsScalarValue (evaluate_factor {P = Unit {0}} (constant_meaning cs) [] a)

@@ -7,7 +7,7 @@ use Rattle.ob0_language_names.specs.Names.{Name, naming_by_spelling, same_name}
 use Rattle.ob0_language_types.specs.WellTyped.{WellTyped, passes_type_check}
 use Rattle.ob0_language_runs.specs.EditLaws.{HaveSameRuns}
 use Rattle.ob0_language_fields.specs.Fields.{FieldRenaming, rename_fields_in_module}
-use Rattle.ob0_language_fields.specs.Renaming.{IsFreeFieldName, with_renamed_field}
+use Rattle.ob0_language_fields.specs.Renaming.{IsFreeFieldName, module_with_renamed_field}
 
 -- states that a renaming of fields gives two fields of the same record the same name exactly if their old names are
 -- equal
@@ -38,4 +38,4 @@ FreeFieldRenamingKeepsTypingAndRuns =
     (m : Tree Name module_text) (r : ℕ) (f new : Name)
     → IsFreeFieldName m r f new
     → WellTyped m
-    → WellTyped (with_renamed_field m r f new) × HaveSameRuns (with_renamed_field m r f new) m
+    → WellTyped (module_with_renamed_field m r f new) × HaveSameRuns (module_with_renamed_field m r f new) m

@@ -1,21 +1,21 @@
 -- Two functions for the names of fields give the same module, if the module is well-typed and both agree on each field
 -- that its records declare.
 use Rattle.std.proofs.Common.{◌≡◌, ℕ, suc, ◌+◌, true, false, ◌&&◌, List, [], ◌∷◌, ◌++◌, map, if◌then◌else◌, nat_le, Some, None, Option, option_and_then, sym, refl, ap, ◌∙◌, subst}
-use Rattle.ob0_tree.specs.Tree.{Tree, addend, adds, arguments, array_type, assigns, branches, calls, compares, designator, else_branch, else_part, elsif_branch, elsif_part, empty, end, expression, factor, field, fields, further_argument, further_fields, further_name, further_statement, index, integer, items, listed, maybe, more, multiplier, multiplies, named_type, names, negation, no_arguments, no_fields, none, one, parenthesised, product, record_type, relates, repeat_loop, runs, selector, sequence, simple, some_arguments, some_fields, statement, sum, term, then_argument, then_fields, then_name, then_statement, while_loop, written_type}
-use Rattle.ob0_language_names.specs.ConsistentNames.{group_field_names, further_field_names}
-use Rattle.ob0_language_names.specs.Mapping.{map_names}
+use Rattle.ob0_tree.specs.Tree.{Tree, addend, adds, arguments, array_type, assigns, branches, calls, compares, designator, else_branch, else_part, elsif_branch, elsif_part, empty, end, expression, factor, field, fields, argument_after_comma, fields_after_semicolon, name_after_comma, statement_after_semicolon, index, integer, items, listed, maybe, more, multiplier, multiplies, named_type, names, negation, no_arguments, no_fields, none, one, parenthesised, product, record_type, relates, repeat_loop, runs, selector, sequence, simple, some_arguments, some_fields, statement, sum, term, comma_then_argument, semicolon_then_fields, comma_then_name, semicolon_then_statement, while_loop, written_type}
+use Rattle.ob0_language_names.specs.ConsistentNames.{group_field_names, field_names_after_first_group}
+use Rattle.ob0_language_names.specs.MappedNames.{map_names}
 use Rattle.ob0_language_names.specs.Names.{Name, same_name}
-use Rattle.ob0_language_names.specs.Parts.{further_names, names_in_list}
+use Rattle.ob0_language_names.specs.BlockParts.{names_after_first, names_in_list}
 use Rattle.ob0_language_types.specs.Arguments.{call_arguments, further_arguments}
-use Rattle.ob0_language_types.specs.Expressions.{Object, a_constant, a_procedure, a_standard, a_type, a_variable}
+use Rattle.ob0_language_types.specs.Expressions.{Object, a_constant, a_procedure, a_standard_procedure, a_type, a_variable}
 use Rattle.ob0_language_types.specs.Typing.{addition_type, array_length, negation_type, constant_value, denoted_type, denoted_group_fields, denoted_further_fields, depth, lone_designator, element_type, field_type, group_constructor_count, multiplication_type, type_of_variable_or_constant, relation_type, scalars, shape_of_field, sign_type, type_after_selectors, type_of, type_of_addends, type_of_factor, type_of_multipliers, type_of_type_object, type_of_simple, type_of_term, value_type, prepend_fields, type_within_limits}
-use Rattle.ob0_language_types.specs.WellTyped.{FormalParameter, Mode, Signature, TypeMeanings, same_known_shape, argument_matches, arguments_match, by_place, by_value, condition_is_boolean, else_is_well_typed, elsifs_are_well_typed, sequence_is_well_typed, signature_of, statement_is_well_typed, further_statements_are_well_typed, variable_type}
+use Rattle.ob0_language_types.specs.WellTyped.{FormalParameter, ParameterMode, Signature, TypeMeanings, same_known_shape, argument_matches, arguments_match, by_place, by_value, condition_is_boolean, else_is_well_typed, elsifs_are_well_typed, sequence_is_well_typed, signature_of, statement_is_well_typed, further_statements_are_well_typed, variable_type}
 use Rattle.ob0_language_types.proofs.Conditions.{same_known_shape-true, both_true, call-typed, of_some, same_name-true, variable-typed}
 use Rattle.ob0_language_types.proofs.Literals.{some_inverse}
 use Rattle.ob0_language_types.proofs.TypedElsewhere.{then_some}
 use Rattle.ob0_language_values.specs.Values.{FieldShapes, Shape, Value, array_shape, boolean_shape, elements, integer_shape, members, next_field_shape, no_field_shape, number, record_shape, truth}
-use Rattle.ob0_language_fields.specs.Fields.{FieldRenaming, record_ordinal, rename_fields, rename_fields_in_group, rename_fields_in_groups, rename_fields_in_type}
-use Rattle.ob0_language_fields.specs.Renaming.{RecordFields, records_in_group, records_in_groups, records_in_type}
+use Rattle.ob0_language_fields.specs.Fields.{FieldRenaming, record_ordinal, rename_fields, rename_fields_in_group, rename_fields_in_further_groups, rename_fields_in_type}
+use Rattle.ob0_language_fields.specs.Renaming.{RecordFields, records_in_group, records_in_further_groups, records_in_type}
 use Rattle.ob0_language_fields.proofs.MeaningsByName.{named}
 
 -- Holds if two functions for the names of fields agree: on the fields of a list, of the records of a text, and of the
@@ -75,7 +75,7 @@ ObjectAgrees p q (a_type s) = ShapeAgrees p q s
 ObjectAgrees p q (a_constant v) = Unit {0}
 ObjectAgrees p q (a_variable s) = ShapeAgrees p q s
 ObjectAgrees p q (a_procedure signature) = Unit {0}
-ObjectAgrees p q (a_standard o) = Unit {0}
+ObjectAgrees p q (a_standard_procedure o) = Unit {0}
 
 abbrev pub OptionAgrees : FieldRenaming → FieldRenaming → Option (Object Shape Signature) → Type 0
 OptionAgrees p q None = Unit {0}
@@ -96,7 +96,7 @@ type_of_variable_or_constant-agrees p q (Some (a_constant v)) s agrees h = value
 type_of_variable_or_constant-agrees p q None s agrees h = absurd (cc)
 type_of_variable_or_constant-agrees p q (Some (a_type t)) s agrees h = absurd (cc)
 type_of_variable_or_constant-agrees p q (Some (a_procedure t)) s agrees h = absurd (cc)
-type_of_variable_or_constant-agrees p q (Some (a_standard t)) s agrees h = absurd (cc)
+type_of_variable_or_constant-agrees p q (Some (a_standard_procedure t)) s agrees h = absurd (cc)
 
 pub type_of_type_object-agrees : (p q : FieldRenaming) (o : Option (Object Shape Signature)) (s : Shape) → OptionAgrees p q o → type_of_type_object o ≡ Some s → ShapeAgrees p q s
 type_of_type_object-agrees p q (Some (a_type t)) s agrees h = of_some (ShapeAgrees p q) h agrees
@@ -104,7 +104,7 @@ type_of_type_object-agrees p q None s agrees h = absurd (cc)
 type_of_type_object-agrees p q (Some (a_constant t)) s agrees h = absurd (cc)
 type_of_type_object-agrees p q (Some (a_variable t)) s agrees h = absurd (cc)
 type_of_type_object-agrees p q (Some (a_procedure t)) s agrees h = absurd (cc)
-type_of_type_object-agrees p q (Some (a_standard t)) s agrees h = absurd (cc)
+type_of_type_object-agrees p q (Some (a_standard_procedure t)) s agrees h = absurd (cc)
 
 -- An expression that has a type is the same under two functions that agree on the meanings of its names.
 
@@ -179,7 +179,7 @@ argument-alike : (p q : FieldRenaming) (objects : Name → Option (Object Shape 
 unfolding argument_matches
 argument-alike p q objects known f e h = go f.mode h
   where
-    go : (m : Mode) → same_known_shape (Some f.shape) (elim m [ by_value ↦ type_of (named objects) e | by_place ↦ variable_type (named objects) (lone_designator e) ]) ≡ true → rename_fields p (named objects) None e ≡ rename_fields q (named objects) None e
+    go : (m : ParameterMode) → same_known_shape (Some f.shape) (elim m [ by_value ↦ type_of (named objects) e | by_place ↦ variable_type (named objects) (lone_designator e) ]) ≡ true → rename_fields p (named objects) None e ≡ rename_fields q (named objects) None e
     go by_value h = let (t, et, ht) = same_known_shape-true (Some f.shape) (type_of (named objects) e) h in expression-alike p q objects known e t ht
     go by_place h = let (t, et, ht) = same_known_shape-true (Some f.shape) (variable_type (named objects) (lone_designator e)) h in expression-alike p q objects known e t (lone_designator-typed objects e t ht)
 
@@ -195,9 +195,9 @@ each-alike p q objects known (f ∷ fs) [] h = tt
 each-alike p q objects known (f ∷ fs) (e ∷ es) h =
     let g = both_true (argument_matches (named objects) f e) (arguments_match (named objects) fs es) h in (argument-alike p q objects known f e g.0, each-alike p q objects known fs es g.1)
 
-further-alike : (p q : FieldRenaming) (meaning : TypeMeanings Name) (es : Tree Name (items further_argument)) → EachAlike p q meaning (further_arguments es) → rename_fields p meaning None es ≡ rename_fields q meaning None es
+further-alike : (p q : FieldRenaming) (meaning : TypeMeanings Name) (es : Tree Name (items argument_after_comma)) → EachAlike p q meaning (further_arguments es) → rename_fields p meaning None es ≡ rename_fields q meaning None es
 further-alike p q meaning end h = refl
-further-alike p q meaning (more (then_argument e) es) h = λ i. more (then_argument (h.0 i)) (further-alike p q meaning es h.1 i)
+further-alike p q meaning (more (comma_then_argument e) es) h = λ i. more (comma_then_argument (h.0 i)) (further-alike p q meaning es h.1 i)
 
 arguments-alike : (p q : FieldRenaming) (meaning : TypeMeanings Name) (es : Tree Name (maybe arguments)) → EachAlike p q meaning (call_arguments es) → rename_fields p meaning None es ≡ rename_fields q meaning None es
 arguments-alike p q meaning none h = refl
@@ -239,10 +239,10 @@ mutual
   sequence-alike p q objects known (runs a rest) h =
       let h₁ = both_true (statement_is_well_typed (named objects) a) (further_statements_are_well_typed (named objects) rest) h in λ i. runs (statement-alike p q objects known a h₁.0 i) (statements-alike p q objects known rest h₁.1 i)
 
-  pub statements-alike : (p q : FieldRenaming) (objects : Name → Option (Object Shape Signature)) → ObjectsAgree p q objects → (a : Tree Name (items further_statement)) → further_statements_are_well_typed (named objects) a ≡ true → rename_fields p (named objects) None a ≡ rename_fields q (named objects) None a
+  pub statements-alike : (p q : FieldRenaming) (objects : Name → Option (Object Shape Signature)) → ObjectsAgree p q objects → (a : Tree Name (items statement_after_semicolon)) → further_statements_are_well_typed (named objects) a ≡ true → rename_fields p (named objects) None a ≡ rename_fields q (named objects) None a
   statements-alike p q objects known end h = refl
-  statements-alike p q objects known (more (then_statement a) rest) h =
-      let h₁ = both_true (statement_is_well_typed (named objects) a) (further_statements_are_well_typed (named objects) rest) h in λ i. more (then_statement (statement-alike p q objects known a h₁.0 i)) (statements-alike p q objects known rest h₁.1 i)
+  statements-alike p q objects known (more (semicolon_then_statement a) rest) h =
+      let h₁ = both_true (statement_is_well_typed (named objects) a) (further_statements_are_well_typed (named objects) rest) h in λ i. more (semicolon_then_statement (statement-alike p q objects known a h₁.0 i)) (statements-alike p q objects known rest h₁.1 i)
 
   pub elsifs-alike : (p q : FieldRenaming) (objects : Name → Option (Object Shape Signature)) → ObjectsAgree p q objects → (a : Tree Name (items elsif_part)) → elsifs_are_well_typed (named objects) a ≡ true → rename_fields p (named objects) None a ≡ rename_fields q (named objects) None a
   elsifs-alike p q objects known end h = refl
@@ -257,32 +257,32 @@ mutual
 
 -- The text of a type is the same under two functions that agree on its records.
 
-further_names-alike : (p q : FieldRenaming) (k : ℕ) (xs : Tree Name (items further_name)) → NamesAgree p q k (further_names xs) → map_names (λ x. x) (p (Some k)) xs ≡ map_names (λ x. x) (q (Some k)) xs
-further_names-alike p q k end h = refl
-further_names-alike p q k (more (then_name x) xs) h = λ i. more (then_name (h.0 i)) (further_names-alike p q k xs h.1 i)
+names_after_first-alike : (p q : FieldRenaming) (k : ℕ) (xs : Tree Name (items name_after_comma)) → NamesAgree p q k (names_after_first xs) → map_names (λ x. x) (p (Some k)) xs ≡ map_names (λ x. x) (q (Some k)) xs
+names_after_first-alike p q k end h = refl
+names_after_first-alike p q k (more (comma_then_name x) xs) h = λ i. more (comma_then_name (h.0 i)) (names_after_first-alike p q k xs h.1 i)
 
 names-alike : (p q : FieldRenaming) (k : ℕ) (ns : Tree Name names) → NamesAgree p q k (names_in_list ns) → map_names (λ x. x) (p (Some k)) ns ≡ map_names (λ x. x) (q (Some k)) ns
-names-alike p q k (listed x xs) h = λ i. listed (h.0 i) (further_names-alike p q k xs h.1 i)
+names-alike p q k (listed x xs) h = λ i. listed (h.0 i) (names_after_first-alike p q k xs h.1 i)
 
 mutual
   pub type-alike : (p q : FieldRenaming) (k : ℕ) (t : Tree Name written_type) → RecordsAgree p q (records_in_type k t) → rename_fields_in_type p k t ≡ rename_fields_in_type q k t
   type-alike p q k (named_type x) h = refl
   type-alike p q k (array_type e t) h = λ i. array_type e (type-alike p q (suc k) t h i)
   type-alike p q k (record_type g rest) h =
-      let h₁ = names-split p q k (group_field_names g) (further_field_names rest) h.0 in
-      let h₂ = records-split p q (records_in_group (suc k) g) (records_in_groups (suc k + group_constructor_count g) rest) h.1 in
+      let h₁ = names-split p q k (group_field_names g) (field_names_after_first_group rest) h.0 in
+      let h₂ = records-split p q (records_in_group (suc k) g) (records_in_further_groups (suc k + group_constructor_count g) rest) h.1 in
       λ i. record_type (group-alike p q k (suc k) g h₁.0 h₂.0 i) (groups-alike p q k (suc k + group_constructor_count g) rest h₁.1 h₂.1 i)
 
   pub group-alike : (p q : FieldRenaming) (r k : ℕ) (g : Tree Name fields) → NamesAgree p q r (group_field_names g) → RecordsAgree p q (records_in_group k g) → rename_fields_in_group p r k g ≡ rename_fields_in_group q r k g
   group-alike p q r k no_fields h h' = refl
   group-alike p q r k (some_fields ns t) h h' = λ i. some_fields (names-alike p q r ns h i) (type-alike p q k t h' i)
 
-  pub groups-alike : (p q : FieldRenaming) (r k : ℕ) (gs : Tree Name (items further_fields)) → NamesAgree p q r (further_field_names gs) → RecordsAgree p q (records_in_groups k gs) → rename_fields_in_groups p r k gs ≡ rename_fields_in_groups q r k gs
+  pub groups-alike : (p q : FieldRenaming) (r k : ℕ) (gs : Tree Name (items fields_after_semicolon)) → NamesAgree p q r (field_names_after_first_group gs) → RecordsAgree p q (records_in_further_groups k gs) → rename_fields_in_further_groups p r k gs ≡ rename_fields_in_further_groups q r k gs
   groups-alike p q r k end h h' = refl
-  groups-alike p q r k (more (then_fields g) rest) h h' =
-      let h₁ = names-split p q r (group_field_names g) (further_field_names rest) h in
-      let h₂ = records-split p q (records_in_group k g) (records_in_groups (k + group_constructor_count g) rest) h' in
-      λ i. more (then_fields (group-alike p q r k g h₁.0 h₂.0 i)) (groups-alike p q r (k + group_constructor_count g) rest h₁.1 h₂.1 i)
+  groups-alike p q r k (more (semicolon_then_fields g) rest) h h' =
+      let h₁ = names-split p q r (group_field_names g) (field_names_after_first_group rest) h in
+      let h₂ = records-split p q (records_in_group k g) (records_in_further_groups (k + group_constructor_count g) rest) h' in
+      λ i. more (semicolon_then_fields (group-alike p q r k g h₁.0 h₂.0 i)) (groups-alike p q r (k + group_constructor_count g) rest h₁.1 h₂.1 i)
 
 within-is : (s t : Shape) → type_within_limits s ≡ Some t → s ≡ t
 within-is s t = elim (nat_le (scalars s) 65536 && nat_le (depth s) 100) as (λ b. (if b then Some s else None) ≡ Some t → s ≡ t) [ true ↦ λ h. some_inverse {a = s} {b = t} h | false ↦ λ h. absurd (cc) ]
@@ -302,8 +302,8 @@ mutual
       let (u, eu, e₃) = then_some (denoted_type (named objects) (suc k) t) (λ u. type_within_limits (array_shape k n u)) s e₂ in
       subst (ShapeAgrees p q) (within-is (array_shape k n u) s e₃) (denoted_type-agrees p q objects known (suc k) t u h eu)
   denoted_type-agrees p q objects known k (record_type g rest) s h e =
-      let h₁ = names-split p q k (group_field_names g) (further_field_names rest) h.0 in
-      let h₂ = records-split p q (records_in_group (suc k) g) (records_in_groups (suc k + group_constructor_count g) rest) h.1 in
+      let h₁ = names-split p q k (group_field_names g) (field_names_after_first_group rest) h.0 in
+      let h₂ = records-split p q (records_in_group (suc k) g) (records_in_further_groups (suc k + group_constructor_count g) rest) h.1 in
       let (later, el, e₁) = then_some (denoted_further_fields (named objects) (suc k + group_constructor_count g) rest) (λ later. option_and_then (λ fs. type_within_limits (record_shape k fs)) (denoted_group_fields (named objects) (suc k) later g)) s e in
       let (fs, ef, e₂) = then_some (denoted_group_fields (named objects) (suc k) later g) (λ fs. type_within_limits (record_shape k fs)) s e₁ in
       subst (ShapeAgrees p q) (within-is (record_shape k fs) s e₂)
@@ -316,11 +316,11 @@ mutual
       let (u, eu, e₁) = then_some (denoted_type (named objects) k t) (λ s. Some (prepend_fields (map (λ x. x) (names_in_list ns)) s later)) fs e in
       subst (FieldsAgree p q r) (some_inverse {a = prepend_fields (map (λ x. x) (names_in_list ns)) u later} {b = fs} e₁) (prepend_fields-same_known_shape p q r (names_in_list ns) u later h (denoted_type-agrees p q objects known k t u h' eu) hl)
 
-  pub denoted_further_fields-same_known_shape : (p q : FieldRenaming) (objects : Name → Option (Object Shape Signature)) → ObjectsAgree p q objects → (r k : ℕ) (gs : Tree Name (items further_fields)) (fs : FieldShapes) → NamesAgree p q r (further_field_names gs) → RecordsAgree p q (records_in_groups k gs)
+  pub denoted_further_fields-same_known_shape : (p q : FieldRenaming) (objects : Name → Option (Object Shape Signature)) → ObjectsAgree p q objects → (r k : ℕ) (gs : Tree Name (items fields_after_semicolon)) (fs : FieldShapes) → NamesAgree p q r (field_names_after_first_group gs) → RecordsAgree p q (records_in_further_groups k gs)
       → denoted_further_fields (named objects) k gs ≡ Some fs → FieldsAgree p q r fs
   denoted_further_fields-same_known_shape p q objects known r k end fs h h' e = subst (FieldsAgree p q r) (some_inverse {a = no_field_shape} {b = fs} e) tt
-  denoted_further_fields-same_known_shape p q objects known r k (more (then_fields g) rest) fs h h' e =
-      let h₁ = names-split p q r (group_field_names g) (further_field_names rest) h in
-      let h₂ = records-split p q (records_in_group k g) (records_in_groups (k + group_constructor_count g) rest) h' in
+  denoted_further_fields-same_known_shape p q objects known r k (more (semicolon_then_fields g) rest) fs h h' e =
+      let h₁ = names-split p q r (group_field_names g) (field_names_after_first_group rest) h in
+      let h₂ = records-split p q (records_in_group k g) (records_in_further_groups (k + group_constructor_count g) rest) h' in
       let (later, el, e₁) = then_some (denoted_further_fields (named objects) (k + group_constructor_count g) rest) (λ later. denoted_group_fields (named objects) k later g) fs e in
       denoted_group_fields-agrees p q objects known r k later g fs h₁.0 h₂.0 (denoted_further_fields-same_known_shape p q objects known r (k + group_constructor_count g) rest later h₁.1 h₂.1 el) e₁

@@ -3,7 +3,7 @@ use Rattle.std.specs.Prelude.{Option}
 use Rattle.ob0_language_names.specs.Names.{Name, naming_by_spelling}
 use Rattle.ob0_language_types.specs.Environments.{environment_from_binding, newest_object}
 use Rattle.ob0_language_types.specs.Expressions.{Meanings, Object}
-use Rattle.ob0_language_types.specs.WellTyped.{Mode, Signature, TypeEnvironment, TypedParameter}
+use Rattle.ob0_language_types.specs.WellTyped.{ParameterMode, Signature, TypeEnvironment, TypedParameter}
 use Rattle.ob0_language_values.specs.Values.{Shape}
 
 -- makes meanings from a function; fields are spelled as they are written
@@ -15,5 +15,5 @@ abbrev pub object_in : TypeEnvironment Name → Name → Option (Object Shape Si
 object_in env x = newest_object (environment_from_binding naming_by_spelling env x)
 
 -- returns a parameter with this mode, type and name
-abbrev pub parameter_of : Mode → Shape → Name → TypedParameter Name
+abbrev pub parameter_of : ParameterMode → Shape → Name → TypedParameter Name
 parameter_of m s x = record { name = x; formal = record { mode = m; shape = s } }

@@ -2,10 +2,10 @@
 -- selector that selects this field.
 -- Rule: docs/LANGUAGE.md, Scopes 7.
 use Rattle.std.specs.Prelude.{ℕ, suc, ◌+◌, List, [], Some, None, Option, option_and_then, unwrap_or}
-use Rattle.ob0_tree.specs.Tree.{GrammarItem, Sort, Tree, adds, array_type, assigns, begins, block, branches, calls, compares, declares, declares_procedure, declares_type, declares_types, declares_variable, declares_variables, designator, else_branch, elsif_branch, end, field, fields, formals, further_fields, further_section, forms_block, index, is_module, item, items, maybe, module_text, more, multiplies, named_type, negation, no_fields, no_formals, none, one, parenthesised, procedure, product, record_type, relates, repeat_loop, runs, section, some_arguments, some_fields, some_formals, sum, then_argument, then_fields, then_section, then_statement, type_definition, type_definitions, value_section, variable, variable_section, variables, while_loop, written_type}
-use Rattle.ob0_language_names.specs.Mapping.{map_names}
+use Rattle.ob0_tree.specs.Tree.{GrammarItem, Sort, Tree, adds, array_type, assigns, begins, block, branches, calls, compares, declares, declares_procedure, declares_type, declares_type_section, declares_variable, declares_var_section, designator, else_branch, elsif_branch, end, field, fields, formals, fields_after_semicolon, section_after_semicolon, forms_block, index, forms_module, item, items, maybe, module_text, more, multiplies, named_type, negation, no_fields, no_formals, none, one, parenthesised, procedure, product, record_type, relates, repeat_loop, runs, section, some_arguments, some_fields, some_formals, sum, comma_then_argument, semicolon_then_fields, semicolon_then_section, semicolon_then_statement, type_definition, type_definitions, value_section, variable, variable_section, variables, while_loop, written_type}
+use Rattle.ob0_language_names.specs.MappedNames.{map_names}
 use Rattle.ob0_language_names.specs.Names.{Name, naming_by_spelling}
-use Rattle.ob0_language_names.specs.Parts.{block_variables, procedure_formals, procedure_name, parameter_section_type}
+use Rattle.ob0_language_names.specs.BlockParts.{block_variables, procedure_formals, procedure_name, parameter_section_type}
 use Rattle.ob0_language_types.specs.Declarations.{constructors_before_procedure_block, constructors_before_variables, constructors_before_procedures, declare_constants_and_types, procedure_constructor_count}
 use Rattle.ob0_language_types.specs.Environments.{meanings, outermost_environment}
 use Rattle.ob0_language_types.specs.Typing.{constructor_count, element_type, field_type, group_constructor_count, type_of_variable_or_constant}
@@ -30,17 +30,17 @@ record_ordinal (Some (record_shape k fs)) = Some k
 -- returns the type of a designator including one more selector, given the type `s` before this
 -- selector; returns None if `s` is unknown (None) or has no such field or element; for a tree that
 -- isn't a selector, returns `s`
-abbrev pub type_including_selector : {i : GrammarItem} → Option Shape → Tree Name (item i) → Option Shape
-type_including_selector s (field x) = option_and_then (λ t. field_type t x) s
-type_including_selector s (index e) = option_and_then (λ t. element_type t integer_shape) s
-type_including_selector s _ = s
+abbrev pub shape_after_selector : {i : GrammarItem} → Option Shape → Tree Name (item i) → Option Shape
+shape_after_selector s (field x) = option_and_then (λ t. field_type t x) s
+shape_after_selector s (index e) = option_and_then (λ t. element_type t integer_shape) s
+shape_after_selector s _ = s
 
 -- Returns a statement, or a construct within a statement, with the selected fields renamed by `l`.
 -- A field belongs to the record from which it is selected. If the construct is a selector or a list
 -- of selectors, `s` is the type of the designator before it.
 abbrev pub rename_fields : {s : Sort} → FieldRenaming → TypeMeanings Name → Option Shape → Tree Name s → Tree Name s
 rename_fields l meaning s (more t ts) =
-    more (rename_fields l meaning s t) (rename_fields l meaning (type_including_selector s t) ts)
+    more (rename_fields l meaning s t) (rename_fields l meaning (shape_after_selector s t) ts)
 rename_fields l meaning s (field x) = field (l (record_ordinal s) x)
 rename_fields l meaning s (index e) = index (rename_fields l meaning None e)
 rename_fields l meaning s (designator x path) =
@@ -70,10 +70,10 @@ rename_fields l meaning s (repeat_loop a condition) =
     repeat_loop (rename_fields l meaning None a) (rename_fields l meaning None condition)
 rename_fields l meaning s (some_arguments e es) =
     some_arguments (rename_fields l meaning None e) (rename_fields l meaning None es)
-rename_fields l meaning s (then_argument e) = then_argument (rename_fields l meaning None e)
+rename_fields l meaning s (comma_then_argument e) = comma_then_argument (rename_fields l meaning None e)
 rename_fields l meaning s (runs first statements) =
     runs (rename_fields l meaning None first) (rename_fields l meaning None statements)
-rename_fields l meaning s (then_statement a) = then_statement (rename_fields l meaning None a)
+rename_fields l meaning s (semicolon_then_statement a) = semicolon_then_statement (rename_fields l meaning None a)
 rename_fields l meaning s (elsif_branch condition a) =
     elsif_branch (rename_fields l meaning None condition) (rename_fields l meaning None a)
 rename_fields l meaning s (else_branch a) = else_branch (rename_fields l meaning None a)
@@ -92,7 +92,7 @@ abbrev mutual
   rename_fields_in_type l k (array_type e t) = array_type e (rename_fields_in_type l (suc k) t)
   rename_fields_in_type l k (record_type g rest) =
       record_type (rename_fields_in_group l k (suc k) g)
-      (rename_fields_in_groups l k (suc k + group_constructor_count g) rest)
+      (rename_fields_in_further_groups l k (suc k + group_constructor_count g) rest)
 
   -- returns a group of fields of the record with ordinal `r`, with its fields and the fields in its
   -- type renamed; `k` is the number of words ARRAY and RECORD before that type
@@ -103,25 +103,25 @@ abbrev mutual
 
   -- returns the groups of the record with ordinal `r` after its first group, with all fields
   -- renamed; `k` is the number of words ARRAY and RECORD before these groups
-  pub rename_fields_in_groups : FieldRenaming
+  pub rename_fields_in_further_groups : FieldRenaming
       → ℕ
       → ℕ
-      → Tree Name (items further_fields)
-      → Tree Name (items further_fields)
-  rename_fields_in_groups l r k end = end
-  rename_fields_in_groups l r k (more (then_fields g) rest) =
-      more (then_fields (rename_fields_in_group l r k g))
-      (rename_fields_in_groups l r (k + group_constructor_count g) rest)
+      → Tree Name (items fields_after_semicolon)
+      → Tree Name (items fields_after_semicolon)
+  rename_fields_in_further_groups l r k end = end
+  rename_fields_in_further_groups l r k (more (semicolon_then_fields g) rest) =
+      more (semicolon_then_fields (rename_fields_in_group l r k g))
+      (rename_fields_in_further_groups l r (k + group_constructor_count g) rest)
 
 -- returns declarations of types with the fields in these types renamed; `k` is the number of words
 -- ARRAY and RECORD before these declarations
-abbrev pub rename_fields_in_types : FieldRenaming
+abbrev pub rename_fields_in_type_definitions : FieldRenaming
     → ℕ
     → Tree Name (items type_definition)
     → Tree Name (items type_definition)
-rename_fields_in_types l k end = end
-rename_fields_in_types l k (more (declares_type x u) ds) =
-    more (declares_type x (rename_fields_in_type l k u)) (rename_fields_in_types l (k + constructor_count u) ds)
+rename_fields_in_type_definitions l k end = end
+rename_fields_in_type_definitions l k (more (declares_type x u) ds) =
+    more (declares_type x (rename_fields_in_type l k u)) (rename_fields_in_type_definitions l (k + constructor_count u) ds)
 
 -- returns a TYPE section with the fields in its types renamed; `k` is the number of words ARRAY and
 -- RECORD before the section
@@ -130,7 +130,7 @@ abbrev pub rename_fields_in_type_section : FieldRenaming
     → Tree Name (maybe type_definitions)
     → Tree Name (maybe type_definitions)
 rename_fields_in_type_section l k none = none
-rename_fields_in_type_section l k (one (declares_types ts)) = one (declares_types (rename_fields_in_types l k ts))
+rename_fields_in_type_section l k (one (declares_type_section ts)) = one (declares_type_section (rename_fields_in_type_definitions l k ts))
 
 -- returns declarations of variables with the fields in their types renamed; `k` is the number of
 -- words ARRAY and RECORD before these declarations
@@ -149,8 +149,8 @@ abbrev pub rename_fields_in_variable_section : FieldRenaming
     → Tree Name (maybe variables)
     → Tree Name (maybe variables)
 rename_fields_in_variable_section l k none = none
-rename_fields_in_variable_section l k (one (declares_variables vs)) =
-    one (declares_variables (rename_fields_in_variables l k vs))
+rename_fields_in_variable_section l k (one (declares_var_section vs)) =
+    one (declares_var_section (rename_fields_in_variables l k vs))
 
 -- returns a section of parameters with the fields in its type renamed; `k` is the number of words
 -- ARRAY and RECORD before the section
@@ -160,14 +160,14 @@ rename_fields_in_parameter_section l k (variable_section ns u) = variable_sectio
 
 -- returns the sections of parameters after the first section, with the fields in their types
 -- renamed; `k` is the number of words ARRAY and RECORD before these sections
-abbrev pub rename_fields_in_parameter_sections : FieldRenaming
+abbrev pub rename_fields_in_further_parameter_sections : FieldRenaming
     → ℕ
-    → Tree Name (items further_section)
-    → Tree Name (items further_section)
-rename_fields_in_parameter_sections l k end = end
-rename_fields_in_parameter_sections l k (more (then_section f) fs) =
-    more (then_section (rename_fields_in_parameter_section l k f))
-    (rename_fields_in_parameter_sections l (k + constructor_count (parameter_section_type f)) fs)
+    → Tree Name (items section_after_semicolon)
+    → Tree Name (items section_after_semicolon)
+rename_fields_in_further_parameter_sections l k end = end
+rename_fields_in_further_parameter_sections l k (more (semicolon_then_section f) fs) =
+    more (semicolon_then_section (rename_fields_in_parameter_section l k f))
+    (rename_fields_in_further_parameter_sections l (k + constructor_count (parameter_section_type f)) fs)
 
 -- returns formal parameters with the fields in their types renamed; `k` is the number of words
 -- ARRAY and RECORD before the parameters
@@ -176,7 +176,7 @@ rename_fields_in_formals l k none = none
 rename_fields_in_formals l k (one no_formals) = one no_formals
 rename_fields_in_formals l k (one (some_formals f fs)) =
     one (some_formals (rename_fields_in_parameter_section l k f)
-    (rename_fields_in_parameter_sections l (k + constructor_count (parameter_section_type f)) fs))
+    (rename_fields_in_further_parameter_sections l (k + constructor_count (parameter_section_type f)) fs))
 
 -- Returns the environment `env` with a block's constants, types and variables added. Returns `env`
 -- unchanged if one of these declarations has an error. `k` is the number of words ARRAY and RECORD
@@ -224,7 +224,7 @@ abbrev mutual
       forms_block
       (declares cs (rename_fields_in_type_section l k ts)
       (rename_fields_in_variable_section l (constructors_before_variables k (forms_block (declares cs ts vs ps) statements)) vs)
-      (rename_fields_in_procedures l
+      (rename_fields_in_procedure_list l
       (environment_after_variables env k (forms_block (declares cs ts vs ps) statements))
       (constructors_before_procedures k (forms_block (declares cs ts vs ps) statements)) ps))
       (rename_fields l (meanings naming_by_spelling (environment_after_procedures
@@ -234,16 +234,16 @@ abbrev mutual
   -- returns procedures with their fields renamed; `env` is the environment before the first
   -- procedure, and `k` is the number of words ARRAY and RECORD before it; each procedure is visible
   -- in the later procedures
-  pub rename_fields_in_procedures : FieldRenaming
+  pub rename_fields_in_procedure_list : FieldRenaming
       → TypeEnvironment Name
       → ℕ
       → Tree Name (items procedure)
       → Tree Name (items procedure)
-  rename_fields_in_procedures l env k end = end
-  rename_fields_in_procedures l env k (more p rest) =
+  rename_fields_in_procedure_list l env k end = end
+  rename_fields_in_procedure_list l env k (more p rest) =
       more (rename_fields_in_procedure l (bind_typed_parameters (typed_parameters_of_procedure env k p) (environment_after_heading env k p)) k
       p)
-      (rename_fields_in_procedures l (environment_after_heading env k p) (k + procedure_constructor_count p) rest)
+      (rename_fields_in_procedure_list l (environment_after_heading env k p) (k + procedure_constructor_count p) rest)
 
   -- returns a procedure with its fields renamed; `env` is the environment around the procedure's
   -- block and already binds the procedure's name and parameters; `k` is the number of words ARRAY
@@ -259,4 +259,4 @@ abbrev mutual
 
 -- returns a module with its fields renamed by the function `l`
 abbrev pub rename_fields_in_module : FieldRenaming → Tree Name module_text → Tree Name module_text
-rename_fields_in_module l (is_module x b closing) = is_module x (rename_fields_in_block l (outermost_environment naming_by_spelling) 0 b) closing
+rename_fields_in_module l (forms_module x b closing) = forms_module x (rename_fields_in_block l (outermost_environment naming_by_spelling) 0 b) closing

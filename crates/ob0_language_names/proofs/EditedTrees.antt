@@ -2,11 +2,11 @@
 -- edit of a module writes a literal in place of uses of a constant, or removes the constant's declaration, or does both
 -- or neither.
 use Rattle.std.proofs.Common.{Bool, List, [], add-zero, ap, arith, eqb-true, false, if◌then◌else◌, length, ne_eqb, refl, subst, suc, sym, true, ℕ, ◌&&◌, ◌++◌, ◌+◌, ◌<◌, ◌==◌, ◌∙◌, ◌∷◌, ◌≡◌}
-use Rattle.ob0_tree.specs.Tree.{Sort, Tree, adds, array_type, assigns, begins, block, branches, calls, compares, constant, constants, declares, declares_constant, declares_constants, declares_procedure, declares_type, declares_types, declares_variable, declares_variables, designator, else_branch, elsif_branch, empty, end, factor, field, further_name, forms_block, index, integer, is_module, item, items, listed, maybe, module_text, more, multiplies, named_type, names, negation, no_arguments, no_fields, no_formals, none, occurrences, one, parenthesised, procedure, product, record_type, relates, repeat_loop, runs, some_arguments, some_fields, some_formals, sum, then_argument, then_fields, then_name, then_section, then_statement, value_section, variable_section, while_loop}
-use Rattle.ob0_language_names.specs.Inlining.{OccurrenceSet, block_without_constant, inline_in_tree, inlined, module_without_constant, procedure_without_constant, procedures_without_constant, section_without_constant, constants_without_ordinal}
-use Rattle.ob0_language_names.specs.Mapping.{map_names}
+use Rattle.ob0_tree.specs.Tree.{Sort, Tree, adds, array_type, assigns, begins, block, branches, calls, compares, constant, constants, declares, declares_constant, declares_const_section, declares_procedure, declares_type, declares_type_section, declares_variable, declares_var_section, designator, else_branch, elsif_branch, empty, end, factor, field, name_after_comma, forms_block, index, integer, forms_module, item, items, listed, maybe, module_text, more, multiplies, named_type, names, negation, no_arguments, no_fields, no_formals, none, occurrences, one, parenthesised, procedure, product, record_type, relates, repeat_loop, runs, some_arguments, some_fields, some_formals, sum, comma_then_argument, semicolon_then_fields, comma_then_name, semicolon_then_section, semicolon_then_statement, value_section, variable_section, while_loop}
+use Rattle.ob0_language_names.specs.Inlining.{OccurrenceSet, block_without_constant, inline_in_tree, inlined, module_without_constant, procedure_without_constant, procedure_list_without_constant, section_without_constant, constants_without_ordinal}
+use Rattle.ob0_language_names.specs.MappedNames.{map_names}
 use Rattle.ob0_language_names.specs.Names.{Name}
-use Rattle.ob0_language_names.specs.Parts.{formal_names, formal_sections}
+use Rattle.ob0_language_names.specs.BlockParts.{formal_names, formal_sections}
 use Rattle.ob0_language_names.specs.Scopes.{ordinal_after_names, ordinal_after_procedure, first_procedure_ordinal}
 
 abbrev pub UsesNone : OccurrenceSet → ℕ → List Name → Type 0
@@ -20,9 +20,9 @@ none-split uses k (x ∷ xs) ys h =
     let e : suc k + length xs ≡ k + suc (length xs) = omega arith in
     ((h.0, g.0), subst (λ n. UsesNone uses n ys) e g.1)
 
-further-nothing : (uses : OccurrenceSet) (v : Tree Name factor) (k : ℕ) (ns : Tree Name (items further_name)) → inline_in_tree uses v k ns ≡ ns
+further-nothing : (uses : OccurrenceSet) (v : Tree Name factor) (k : ℕ) (ns : Tree Name (items name_after_comma)) → inline_in_tree uses v k ns ≡ ns
 further-nothing uses v k end = refl
-further-nothing uses v k (more (then_name x) ns) = λ i. more (then_name x) (further-nothing uses v (k + 0) ns i)
+further-nothing uses v k (more (comma_then_name x) ns) = λ i. more (comma_then_name x) (further-nothing uses v (k + 0) ns i)
 
 pub inline-nothing : {s : Sort} (uses : OccurrenceSet) (v : Tree Name factor) (k : ℕ) (t : Tree Name s) → UsesNone uses k (occurrences t) → inline_in_tree uses v k t ≡ t
 inline-nothing uses v k none u = refl
@@ -50,35 +50,35 @@ inline-nothing uses v k (while_loop condition s) u = let s0 = none-split uses k 
 inline-nothing uses v k (repeat_loop s condition) u = let s0 = none-split uses k (occurrences s) (occurrences condition) u in λ i. repeat_loop (inline-nothing uses v k s s0.0 i) (inline-nothing uses v (k + length (occurrences s)) condition s0.1 i)
 inline-nothing uses v k no_arguments u = refl
 inline-nothing uses v k (some_arguments e es) u = let s0 = none-split uses k (occurrences e) (occurrences es) u in λ i. some_arguments (inline-nothing uses v k e s0.0 i) (inline-nothing uses v (k + length (occurrences e)) es s0.1 i)
-inline-nothing uses v k (then_argument e) u = λ i. then_argument (inline-nothing uses v k e u i)
+inline-nothing uses v k (comma_then_argument e) u = λ i. comma_then_argument (inline-nothing uses v k e u i)
 inline-nothing uses v k (runs first statements) u = let s0 = none-split uses k (occurrences first) (occurrences statements) u in λ i. runs (inline-nothing uses v k first s0.0 i) (inline-nothing uses v (k + length (occurrences first)) statements s0.1 i)
-inline-nothing uses v k (then_statement s) u = λ i. then_statement (inline-nothing uses v k s u i)
+inline-nothing uses v k (semicolon_then_statement s) u = λ i. semicolon_then_statement (inline-nothing uses v k s u i)
 inline-nothing uses v k (elsif_branch condition s) u = let s0 = none-split uses k (occurrences condition) (occurrences s) u in λ i. elsif_branch (inline-nothing uses v k condition s0.0 i) (inline-nothing uses v (k + length (occurrences condition)) s s0.1 i)
 inline-nothing uses v k (else_branch s) u = λ i. else_branch (inline-nothing uses v k s u i)
 inline-nothing uses v k (listed name others) u = λ i. listed name (further-nothing uses v k others i)
-inline-nothing uses v k (then_name name) u = refl
+inline-nothing uses v k (comma_then_name name) u = refl
 inline-nothing uses v k (named_type name) u = refl
 inline-nothing uses v k (array_type size t) u = let s0 = none-split uses k (occurrences size) (occurrences t) u in λ i. array_type (inline-nothing uses v k size s0.0 i) (inline-nothing uses v (k + length (occurrences size)) t s0.1 i)
 inline-nothing uses v k (record_type first others) u = let s0 = none-split uses k (occurrences first) (occurrences others) u in λ i. record_type (inline-nothing uses v k first s0.0 i) (inline-nothing uses v (k + length (occurrences first)) others s0.1 i)
 inline-nothing uses v k no_fields u = refl
 inline-nothing uses v k (some_fields ns t) u = λ i. some_fields ns (inline-nothing uses v k t u i)
-inline-nothing uses v k (then_fields t0) u = λ i. then_fields (inline-nothing uses v k t0 u i)
+inline-nothing uses v k (semicolon_then_fields t0) u = λ i. semicolon_then_fields (inline-nothing uses v k t0 u i)
 inline-nothing uses v k no_formals u = refl
 inline-nothing uses v k (some_formals first others) u = let s0 = none-split uses k (occurrences first) (occurrences others) u in λ i. some_formals (inline-nothing uses v k first s0.0 i) (inline-nothing uses v (k + length (occurrences first)) others s0.1 i)
 inline-nothing uses v k (value_section ns t) u = λ i. value_section ns (inline-nothing uses v k t u i)
 inline-nothing uses v k (variable_section ns t) u = λ i. variable_section ns (inline-nothing uses v k t u i)
-inline-nothing uses v k (then_section s) u = λ i. then_section (inline-nothing uses v k s u i)
+inline-nothing uses v k (semicolon_then_section s) u = λ i. semicolon_then_section (inline-nothing uses v k s u i)
 inline-nothing uses v k (declares_constant name e) u = λ i. declares_constant name (inline-nothing uses v k e u i)
-inline-nothing uses v k (declares_constants cs) u = λ i. declares_constants (inline-nothing uses v k cs u i)
+inline-nothing uses v k (declares_const_section cs) u = λ i. declares_const_section (inline-nothing uses v k cs u i)
 inline-nothing uses v k (declares_type name t) u = λ i. declares_type name (inline-nothing uses v k t u i)
-inline-nothing uses v k (declares_types ts) u = λ i. declares_types (inline-nothing uses v k ts u i)
+inline-nothing uses v k (declares_type_section ts) u = λ i. declares_type_section (inline-nothing uses v k ts u i)
 inline-nothing uses v k (declares_variable ns t) u = λ i. declares_variable ns (inline-nothing uses v k t u i)
-inline-nothing uses v k (declares_variables vs) u = λ i. declares_variables (inline-nothing uses v k vs u i)
+inline-nothing uses v k (declares_var_section vs) u = λ i. declares_var_section (inline-nothing uses v k vs u i)
 inline-nothing uses v k (declares_procedure name fs b closing) u = let s0 = none-split uses k (occurrences fs) (occurrences b) u in λ i. declares_procedure name (inline-nothing uses v k fs s0.0 i) (inline-nothing uses v (k + length (occurrences fs)) b s0.1 i) closing
 inline-nothing uses v k (declares cs ts vs ps) u = let s0 = none-split uses k (occurrences cs) (occurrences ts ++ (occurrences vs ++ (occurrences ps))) u in let s1 = none-split uses (k + length (occurrences cs)) (occurrences ts) (occurrences vs ++ (occurrences ps)) s0.1 in let s2 = none-split uses (k + length (occurrences cs) + length (occurrences ts)) (occurrences vs) (occurrences ps) s1.1 in λ i. declares (inline-nothing uses v k cs s0.0 i) (inline-nothing uses v (k + length (occurrences cs)) ts s1.0 i) (inline-nothing uses v (k + length (occurrences cs) + length (occurrences ts)) vs s2.0 i) (inline-nothing uses v (k + length (occurrences cs) + length (occurrences ts) + length (occurrences vs)) ps s2.1 i)
 inline-nothing uses v k (begins s) u = λ i. begins (inline-nothing uses v k s u i)
 inline-nothing uses v k (forms_block ds b) u = let s0 = none-split uses k (occurrences ds) (occurrences b) u in λ i. forms_block (inline-nothing uses v k ds s0.0 i) (inline-nothing uses v (k + length (occurrences ds)) b s0.1 i)
-inline-nothing uses v k (is_module name b closing) u = λ i. is_module name (inline-nothing uses v k b u i) closing
+inline-nothing uses v k (forms_module name b closing) u = λ i. forms_module name (inline-nothing uses v k b u i) closing
 
 abbrev pub SameAt : {N M : Type 0} → (N → M) → (N → M) → List N → Type 0
 SameAt f g [] = Unit {0}
@@ -88,9 +88,9 @@ pub same-split : {N M : Type 0} (f g : N → M) (xs ys : List N) → SameAt f g 
 same-split f g [] ys h = (tt, h)
 same-split f g (x ∷ xs) ys h = let s = same-split f g xs ys h.1 in ((h.0, s.0), s.1)
 
-pub further-same : {N M : Type 0} (f g h : N → M) (ns : Tree N (items further_name)) → map_names f h ns ≡ map_names g h ns
+pub further-same : {N M : Type 0} (f g h : N → M) (ns : Tree N (items name_after_comma)) → map_names f h ns ≡ map_names g h ns
 further-same f g h end = refl
-further-same f g h (more (then_name x) ns) = λ i. more (then_name (h x)) (further-same f g h ns i)
+further-same f g h (more (comma_then_name x) ns) = λ i. more (comma_then_name (h x)) (further-same f g h ns i)
 
 pub names-same : {N M : Type 0} (f g h : N → M) (ns : Tree N names) → map_names f h ns ≡ map_names g h ns
 names-same f g h (listed x ns) = λ i. listed (h x) (further-same f g h ns i)
@@ -120,35 +120,35 @@ map_names-same f g h (while_loop condition s) u = let s0 = same-split f g (occur
 map_names-same f g h (repeat_loop s condition) u = let s0 = same-split f g (occurrences s) (occurrences condition) u in λ i. repeat_loop (map_names-same f g h s s0.0 i) (map_names-same f g h condition s0.1 i)
 map_names-same f g h no_arguments u = refl
 map_names-same f g h (some_arguments e es) u = let s0 = same-split f g (occurrences e) (occurrences es) u in λ i. some_arguments (map_names-same f g h e s0.0 i) (map_names-same f g h es s0.1 i)
-map_names-same f g h (then_argument e) u = λ i. then_argument (map_names-same f g h e u i)
+map_names-same f g h (comma_then_argument e) u = λ i. comma_then_argument (map_names-same f g h e u i)
 map_names-same f g h (runs first statements) u = let s0 = same-split f g (occurrences first) (occurrences statements) u in λ i. runs (map_names-same f g h first s0.0 i) (map_names-same f g h statements s0.1 i)
-map_names-same f g h (then_statement s) u = λ i. then_statement (map_names-same f g h s u i)
+map_names-same f g h (semicolon_then_statement s) u = λ i. semicolon_then_statement (map_names-same f g h s u i)
 map_names-same f g h (elsif_branch condition s) u = let s0 = same-split f g (occurrences condition) (occurrences s) u in λ i. elsif_branch (map_names-same f g h condition s0.0 i) (map_names-same f g h s s0.1 i)
 map_names-same f g h (else_branch s) u = λ i. else_branch (map_names-same f g h s u i)
 map_names-same f g h (listed name others) u = λ i. listed (h name) (further-same f g h others i)
-map_names-same f g h (then_name name) u = refl
+map_names-same f g h (comma_then_name name) u = refl
 map_names-same f g h (named_type name) u = λ i. named_type (u.0 i)
 map_names-same f g h (array_type size t) u = let s0 = same-split f g (occurrences size) (occurrences t) u in λ i. array_type (map_names-same f g h size s0.0 i) (map_names-same f g h t s0.1 i)
 map_names-same f g h (record_type first others) u = let s0 = same-split f g (occurrences first) (occurrences others) u in λ i. record_type (map_names-same f g h first s0.0 i) (map_names-same f g h others s0.1 i)
 map_names-same f g h no_fields u = refl
 map_names-same f g h (some_fields ns t) u = λ i. some_fields (names-same f g h ns i) (map_names-same f g h t u i)
-map_names-same f g h (then_fields t0) u = λ i. then_fields (map_names-same f g h t0 u i)
+map_names-same f g h (semicolon_then_fields t0) u = λ i. semicolon_then_fields (map_names-same f g h t0 u i)
 map_names-same f g h no_formals u = refl
 map_names-same f g h (some_formals first others) u = let s0 = same-split f g (occurrences first) (occurrences others) u in λ i. some_formals (map_names-same f g h first s0.0 i) (map_names-same f g h others s0.1 i)
 map_names-same f g h (value_section ns t) u = λ i. value_section (names-same f g h ns i) (map_names-same f g h t u i)
 map_names-same f g h (variable_section ns t) u = λ i. variable_section (names-same f g h ns i) (map_names-same f g h t u i)
-map_names-same f g h (then_section s) u = λ i. then_section (map_names-same f g h s u i)
+map_names-same f g h (semicolon_then_section s) u = λ i. semicolon_then_section (map_names-same f g h s u i)
 map_names-same f g h (declares_constant name e) u = λ i. declares_constant (h name) (map_names-same f g h e u i)
-map_names-same f g h (declares_constants cs) u = λ i. declares_constants (map_names-same f g h cs u i)
+map_names-same f g h (declares_const_section cs) u = λ i. declares_const_section (map_names-same f g h cs u i)
 map_names-same f g h (declares_type name t) u = λ i. declares_type (h name) (map_names-same f g h t u i)
-map_names-same f g h (declares_types ts) u = λ i. declares_types (map_names-same f g h ts u i)
+map_names-same f g h (declares_type_section ts) u = λ i. declares_type_section (map_names-same f g h ts u i)
 map_names-same f g h (declares_variable ns t) u = λ i. declares_variable (names-same f g h ns i) (map_names-same f g h t u i)
-map_names-same f g h (declares_variables vs) u = λ i. declares_variables (map_names-same f g h vs u i)
+map_names-same f g h (declares_var_section vs) u = λ i. declares_var_section (map_names-same f g h vs u i)
 map_names-same f g h (declares_procedure name fs b closing) u = let s0 = same-split f g (occurrences fs) (occurrences b) u in λ i. declares_procedure (h name) (map_names-same f g h fs s0.0 i) (map_names-same f g h b s0.1 i) (h closing)
 map_names-same f g h (declares cs ts vs ps) u = let s0 = same-split f g (occurrences cs) (occurrences ts ++ (occurrences vs ++ (occurrences ps))) u in let s1 = same-split f g (occurrences ts) (occurrences vs ++ (occurrences ps)) s0.1 in let s2 = same-split f g (occurrences vs) (occurrences ps) s1.1 in λ i. declares (map_names-same f g h cs s0.0 i) (map_names-same f g h ts s1.0 i) (map_names-same f g h vs s2.0 i) (map_names-same f g h ps s2.1 i)
 map_names-same f g h (begins s) u = λ i. begins (map_names-same f g h s u i)
 map_names-same f g h (forms_block ds b) u = let s0 = same-split f g (occurrences ds) (occurrences b) u in λ i. forms_block (map_names-same f g h ds s0.0 i) (map_names-same f g h b s0.1 i)
-map_names-same f g h (is_module name b closing) u = λ i. is_module (h name) (map_names-same f g h b u i) (h closing)
+map_names-same f g h (forms_module name b closing) u = λ i. forms_module (h name) (map_names-same f g h b u i) (h closing)
 
 -- an edit: the occurrences that the literal replaces, the literal, the constant, and whether the constant's declaration
 -- is removed
@@ -169,7 +169,7 @@ edited_constants edit j k (more (declares_constant x e) cs) =
 
 abbrev pub edited_section : Edit → ℕ → ℕ → Tree Name (maybe constants) → Tree Name (maybe constants)
 edited_section edit j k none = none
-edited_section edit j k (one (declares_constants cs)) = one (declares_constants (edited_constants edit j k cs))
+edited_section edit j k (one (declares_const_section cs)) = one (declares_const_section (edited_constants edit j k cs))
 
 abbrev mutual
   pub edited_block : Edit → ℕ → ℕ → Tree Name block → Tree Name block
@@ -198,7 +198,7 @@ written-constants uses v d j k (more (declares_constant x e) cs) = λ i. more (d
 
 written-section : (uses : OccurrenceSet) (v : Tree Name factor) (d j k : ℕ) (cs : Tree Name (maybe constants)) → edited_section (writing uses v d) j k cs ≡ inline_in_tree uses v j cs
 written-section uses v d j k none = refl
-written-section uses v d j k (one (declares_constants cs)) = λ i. one (declares_constants (written-constants uses v d j k cs i))
+written-section uses v d j k (one (declares_const_section cs)) = λ i. one (declares_const_section (written-constants uses v d j k cs i))
 
 mutual
   pub written-block : (uses : OccurrenceSet) (v : Tree Name factor) (d j k : ℕ) (b : Tree Name block) → edited_block (writing uses v d) j k b ≡ inline_in_tree uses v j b
@@ -250,7 +250,7 @@ left-constants v d j k (more (declares_constant x e) cs) =
 
 left-section : (v : Tree Name factor) (d j k : ℕ) (cs : Tree Name (maybe constants)) → edited_section (leaving_out v d) j k cs ≡ section_without_constant d k cs
 left-section v d j k none = refl
-left-section v d j k (one (declares_constants cs)) = λ i. one (declares_constants (left-constants v d j k cs i))
+left-section v d j k (one (declares_const_section cs)) = λ i. one (declares_const_section (left-constants v d j k cs i))
 
 mutual
   pub left-block : (v : Tree Name factor) (d j k : ℕ) (b : Tree Name block) → edited_block (leaving_out v d) j k b ≡ block_without_constant d k b
@@ -260,7 +260,7 @@ mutual
       (left-procedures v d (j + length (occurrences cs) + length (occurrences ts) + length (occurrences vs)) (first_procedure_ordinal k (forms_block (declares cs ts vs ps) statements)) ps i))
       (leaf-kept v (j + length (occurrences (declares cs ts vs ps))) statements i)
 
-  left-procedures : (v : Tree Name factor) (d j k : ℕ) (ps : Tree Name (items procedure)) → edited_procedures (leaving_out v d) j k ps ≡ procedures_without_constant d k ps
+  left-procedures : (v : Tree Name factor) (d j k : ℕ) (ps : Tree Name (items procedure)) → edited_procedures (leaving_out v d) j k ps ≡ procedure_list_without_constant d k ps
   left-procedures v d j k end = refl
   left-procedures v d j k (more p rest) = λ i.
       more (left-procedure v d j (suc k) p i) (left-procedures v d (j + length (occurrences p)) (ordinal_after_procedure (suc k) p) rest i)
@@ -270,10 +270,10 @@ mutual
       declares_procedure x (leaf-kept v j fs i) (left-block v d (j + length (occurrences fs)) (ordinal_after_names k (formal_names (formal_sections fs))) b i) closing
 
 abbrev pub edited : Edit → Tree Name module_text → Tree Name module_text
-edited edit (is_module x b closing) = is_module x (edited_block edit 0 7 b) closing
+edited edit (forms_module x b closing) = forms_module x (edited_block edit 0 7 b) closing
 
 pub written-module : (uses : OccurrenceSet) (v : Tree Name factor) (d : ℕ) (m : Tree Name module_text) → edited (writing uses v d) m ≡ inlined m uses v
-written-module uses v d (is_module x b closing) = λ i. is_module x (written-block uses v d 0 7 b i) closing
+written-module uses v d (forms_module x b closing) = λ i. forms_module x (written-block uses v d 0 7 b i) closing
 
 pub left-module : (v : Tree Name factor) (d : ℕ) (m : Tree Name module_text) → edited (leaving_out v d) m ≡ module_without_constant d m
-left-module v d (is_module x b closing) = λ i. is_module x (left-block v d 0 7 b i) closing
+left-module v d (forms_module x b closing) = λ i. forms_module x (left-block v d 0 7 b i) closing

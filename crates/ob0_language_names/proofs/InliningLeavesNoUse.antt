@@ -1,7 +1,7 @@
 -- After an inlining that replaces all occurrences that satisfy `P`, no such occurrence remains. Each such name must be
 -- a whole factor, and the literal must have no such name.
 use Rattle.std.proofs.Common.{List, [], add-zero, arith, false, if◌then◌else◌, length, refl, subst, suc, sym, true, true≢false, ℕ, ◌++◌, ◌+◌, ◌∙◌, ◌∷◌, ◌≡◌}
-use Rattle.ob0_tree.specs.Tree.{Sort, Tree, adds, array_type, assigns, begins, branches, calls, compares, declares, declares_constant, declares_constants, declares_procedure, declares_type, declares_types, declares_variable, declares_variables, designator, else_branch, elsif_branch, empty, end, factor, field, forms_block, index, integer, is_module, listed, more, multiplies, named_type, negation, no_arguments, no_fields, no_formals, none, occurrences, one, parenthesised, product, record_type, relates, repeat_loop, runs, some_arguments, some_fields, some_formals, sum, then_argument, then_fields, then_name, then_section, then_statement, value_section, variable_section, while_loop}
+use Rattle.ob0_tree.specs.Tree.{Sort, Tree, adds, array_type, assigns, begins, branches, calls, compares, declares, declares_constant, declares_const_section, declares_procedure, declares_type, declares_type_section, declares_variable, declares_var_section, designator, else_branch, elsif_branch, empty, end, factor, field, forms_block, index, integer, forms_module, listed, more, multiplies, named_type, negation, no_arguments, no_fields, no_formals, none, occurrences, one, parenthesised, product, record_type, relates, repeat_loop, runs, some_arguments, some_fields, some_formals, sum, comma_then_argument, semicolon_then_fields, comma_then_name, semicolon_then_section, semicolon_then_statement, value_section, variable_section, while_loop}
 use Rattle.ob0_language_names.specs.NonFactorNames.{non_factor_occurrences}
 use Rattle.ob0_language_names.specs.Inlining.{OccurrenceSet, inline_in_tree}
 use Rattle.ob0_language_names.specs.Names.{Name}
@@ -56,32 +56,32 @@ none-left uses v P lit k (while_loop condition s) u h = let s0 = all-split uses 
 none-left uses v P lit k (repeat_loop s condition) u h = let s0 = all-split uses P k (occurrences s) (occurrences condition) u in let g0 = none-of-split P (non_factor_occurrences s) (non_factor_occurrences condition) h in none-of-join P _ _ (none-left uses v P lit k s s0.0 g0.0) (none-left uses v P lit (k + length (occurrences s)) condition s0.1 g0.1)
 none-left uses v P lit k no_arguments u h = tt
 none-left uses v P lit k (some_arguments e es) u h = let s0 = all-split uses P k (occurrences e) (occurrences es) u in let g0 = none-of-split P (non_factor_occurrences e) (non_factor_occurrences es) h in none-of-join P _ _ (none-left uses v P lit k e s0.0 g0.0) (none-left uses v P lit (k + length (occurrences e)) es s0.1 g0.1)
-none-left uses v P lit k (then_argument e) u h = none-left uses v P lit k e u h
+none-left uses v P lit k (comma_then_argument e) u h = none-left uses v P lit k e u h
 none-left uses v P lit k (runs first statements) u h = let s0 = all-split uses P k (occurrences first) (occurrences statements) u in let g0 = none-of-split P (non_factor_occurrences first) (non_factor_occurrences statements) h in none-of-join P _ _ (none-left uses v P lit k first s0.0 g0.0) (none-left uses v P lit (k + length (occurrences first)) statements s0.1 g0.1)
-none-left uses v P lit k (then_statement s) u h = none-left uses v P lit k s u h
+none-left uses v P lit k (semicolon_then_statement s) u h = none-left uses v P lit k s u h
 none-left uses v P lit k (elsif_branch condition s) u h = let s0 = all-split uses P k (occurrences condition) (occurrences s) u in let g0 = none-of-split P (non_factor_occurrences condition) (non_factor_occurrences s) h in none-of-join P _ _ (none-left uses v P lit k condition s0.0 g0.0) (none-left uses v P lit (k + length (occurrences condition)) s s0.1 g0.1)
 none-left uses v P lit k (else_branch s) u h = none-left uses v P lit k s u h
 none-left uses v P lit k (listed name others) u h = tt
-none-left uses v P lit k (then_name name) u h = tt
+none-left uses v P lit k (comma_then_name name) u h = tt
 none-left uses v P lit k (named_type name) u h = (h.0, tt)
 none-left uses v P lit k (array_type size t) u h = let s0 = all-split uses P k (occurrences size) (occurrences t) u in let g0 = none-of-split P (non_factor_occurrences size) (non_factor_occurrences t) h in none-of-join P _ _ (none-left uses v P lit k size s0.0 g0.0) (none-left uses v P lit (k + length (occurrences size)) t s0.1 g0.1)
 none-left uses v P lit k (record_type first others) u h = let s0 = all-split uses P k (occurrences first) (occurrences others) u in let g0 = none-of-split P (non_factor_occurrences first) (non_factor_occurrences others) h in none-of-join P _ _ (none-left uses v P lit k first s0.0 g0.0) (none-left uses v P lit (k + length (occurrences first)) others s0.1 g0.1)
 none-left uses v P lit k no_fields u h = tt
 none-left uses v P lit k (some_fields ns t) u h = none-left uses v P lit k t u h
-none-left uses v P lit k (then_fields t0) u h = none-left uses v P lit k t0 u h
+none-left uses v P lit k (semicolon_then_fields t0) u h = none-left uses v P lit k t0 u h
 none-left uses v P lit k no_formals u h = tt
 none-left uses v P lit k (some_formals first others) u h = let s0 = all-split uses P k (occurrences first) (occurrences others) u in let g0 = none-of-split P (non_factor_occurrences first) (non_factor_occurrences others) h in none-of-join P _ _ (none-left uses v P lit k first s0.0 g0.0) (none-left uses v P lit (k + length (occurrences first)) others s0.1 g0.1)
 none-left uses v P lit k (value_section ns t) u h = none-left uses v P lit k t u h
 none-left uses v P lit k (variable_section ns t) u h = none-left uses v P lit k t u h
-none-left uses v P lit k (then_section s) u h = none-left uses v P lit k s u h
+none-left uses v P lit k (semicolon_then_section s) u h = none-left uses v P lit k s u h
 none-left uses v P lit k (declares_constant name e) u h = none-left uses v P lit k e u h
-none-left uses v P lit k (declares_constants cs) u h = none-left uses v P lit k cs u h
+none-left uses v P lit k (declares_const_section cs) u h = none-left uses v P lit k cs u h
 none-left uses v P lit k (declares_type name t) u h = none-left uses v P lit k t u h
-none-left uses v P lit k (declares_types ts) u h = none-left uses v P lit k ts u h
+none-left uses v P lit k (declares_type_section ts) u h = none-left uses v P lit k ts u h
 none-left uses v P lit k (declares_variable ns t) u h = none-left uses v P lit k t u h
-none-left uses v P lit k (declares_variables vs) u h = none-left uses v P lit k vs u h
+none-left uses v P lit k (declares_var_section vs) u h = none-left uses v P lit k vs u h
 none-left uses v P lit k (declares_procedure name fs b closing) u h = let s0 = all-split uses P k (occurrences fs) (occurrences b) u in let g0 = none-of-split P (non_factor_occurrences fs) (non_factor_occurrences b) h in none-of-join P _ _ (none-left uses v P lit k fs s0.0 g0.0) (none-left uses v P lit (k + length (occurrences fs)) b s0.1 g0.1)
 none-left uses v P lit k (declares cs ts vs ps) u h = let s0 = all-split uses P k (occurrences cs) (occurrences ts ++ (occurrences vs ++ (occurrences ps))) u in let g0 = none-of-split P (non_factor_occurrences cs) (non_factor_occurrences ts ++ (non_factor_occurrences vs ++ non_factor_occurrences ps)) h in let s1 = all-split uses P (k + length (occurrences cs)) (occurrences ts) (occurrences vs ++ (occurrences ps)) s0.1 in let g1 = none-of-split P (non_factor_occurrences ts) (non_factor_occurrences vs ++ non_factor_occurrences ps) g0.1 in let s2 = all-split uses P (k + length (occurrences cs) + length (occurrences ts)) (occurrences vs) (occurrences ps) s1.1 in let g2 = none-of-split P (non_factor_occurrences vs) (non_factor_occurrences ps) g1.1 in none-of-join P _ _ (none-left uses v P lit k cs s0.0 g0.0) (none-of-join P _ _ (none-left uses v P lit (k + length (occurrences cs)) ts s1.0 g1.0) (none-of-join P _ _ (none-left uses v P lit (k + length (occurrences cs) + length (occurrences ts)) vs s2.0 g2.0) (none-left uses v P lit (k + length (occurrences cs) + length (occurrences ts) + length (occurrences vs)) ps s2.1 g2.1)))
 none-left uses v P lit k (begins s) u h = none-left uses v P lit k s u h
 none-left uses v P lit k (forms_block ds b) u h = let s0 = all-split uses P k (occurrences ds) (occurrences b) u in let g0 = none-of-split P (non_factor_occurrences ds) (non_factor_occurrences b) h in none-of-join P _ _ (none-left uses v P lit k ds s0.0 g0.0) (none-left uses v P lit (k + length (occurrences ds)) b s0.1 g0.1)
-none-left uses v P lit k (is_module name b closing) u h = none-left uses v P lit k b u h
+none-left uses v P lit k (forms_module name b closing) u h = none-left uses v P lit k b u h

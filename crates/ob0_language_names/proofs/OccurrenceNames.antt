@@ -1,9 +1,9 @@
 -- A relabelled tree has as many occurrences as the original tree.
 use Rattle.std.proofs.Common.{List, None, [], ap, length, length-append, map, refl, suc, sym, ℕ, ◌++◌, ◌+◌, ◌∙◌, ◌∷◌, ◌≡◌}
-use Rattle.ob0_tree.specs.Tree.{Sort, Tree, block, constant, constants, declares, declares_constant, declares_constants, declares_procedure, declares_type, declares_types, declares_variable, declares_variables, end, formals, further_section, forms_block, is_module, item, items, maybe, module_text, more, no_formals, none, occurrences, one, procedure, section, some_formals, then_section, type_definition, type_definitions, value_section, variable, variable_section, variables}
+use Rattle.ob0_tree.specs.Tree.{Sort, Tree, block, constant, constants, declares, declares_constant, declares_const_section, declares_procedure, declares_type, declares_type_section, declares_variable, declares_var_section, end, formals, section_after_semicolon, forms_block, forms_module, item, items, maybe, module_text, more, no_formals, none, occurrences, one, procedure, section, some_formals, semicolon_then_section, type_definition, type_definitions, value_section, variable, variable_section, variables}
 use Rattle.ob0_language_names.specs.Names.{Naming}
-use Rattle.ob0_language_names.specs.Parts.{formal_names, formal_sections, names_in_list, procedure_name, parameter_section_names}
-use Rattle.ob0_language_names.specs.Scopes.{relabel_module, Labelling, Scope, ordinal_after_names, ordinal_after_procedure, body_scope, declare_names, first_procedure_ordinal, first_type_ordinal, first_variable_ordinal, label_of, predeclared_scope, scope_before_procedures, relabel_block, relabel_constant_section, relabel_constants, relabel_formals, relabel_procedure, relabel_procedures, relabel_parameter_section, relabel_parameter_sections, relabel_type_section, relabel_types, relabel_uses, relabel_variable_section, relabel_variables, scope_before_types, scope_before_variables}
+use Rattle.ob0_language_names.specs.BlockParts.{formal_names, formal_sections, names_in_list, procedure_name, parameter_section_names}
+use Rattle.ob0_language_names.specs.Scopes.{relabel_module, Labelling, Scope, ordinal_after_names, ordinal_after_procedure, body_scope, declare_names, first_procedure_ordinal, first_type_ordinal, first_variable_ordinal, label_of, predeclared_scope, scope_before_procedures, relabel_block, relabel_constant_section, relabel_constants, relabel_formals, relabel_procedure, relabel_procedure_list, relabel_parameter_section, relabel_parameter_section_list, relabel_type_section, relabel_types, relabel_uses, relabel_variable_section, relabel_variables, scope_before_types, scope_before_variables}
 use Rattle.ob0_language_names.proofs.OccurrencesMapped.{occurrences-mapped}
 use Rattle.std.proofs.lemmas.List.{map-append}
 
@@ -44,9 +44,9 @@ pub as_many-section : {N M : Type 0} (naming : Naming N) (label : Labelling N M)
 as_many-section naming label scope k (value_section ns t) = as_many-uses naming label scope t
 as_many-section naming label scope k (variable_section ns t) = as_many-uses naming label scope t
 
-pub as_many-sections : {N M : Type 0} (naming : Naming N) (label : Labelling N M) (scope : Scope N) (k : ℕ) (fs : Tree N (items further_section)) → AsMany (relabel_parameter_sections naming label scope k fs) fs
+pub as_many-sections : {N M : Type 0} (naming : Naming N) (label : Labelling N M) (scope : Scope N) (k : ℕ) (fs : Tree N (items section_after_semicolon)) → AsMany (relabel_parameter_section_list naming label scope k fs) fs
 as_many-sections naming label scope k end = refl
-as_many-sections naming label scope k (more (then_section s) fs) =
+as_many-sections naming label scope k (more (semicolon_then_section s) fs) =
     longer _ _ (occurrences s) (occurrences fs) (as_many-section naming label scope k s) (as_many-sections naming label (declare_names k (parameter_section_names s) scope) (ordinal_after_names k (parameter_section_names s)) fs)
 
 pub as_many-formals : {N M : Type 0} (naming : Naming N) (label : Labelling N M) (scope : Scope N) (k : ℕ) (fs : Tree N (maybe formals)) → AsMany (relabel_formals naming label scope k fs) fs
@@ -57,15 +57,15 @@ as_many-formals naming label scope k (one (some_formals s fs)) =
 
 pub as_many-constant_section : {N M : Type 0} (naming : Naming N) (label : Labelling N M) (scope : Scope N) (k : ℕ) (cs : Tree N (maybe constants)) → AsMany (relabel_constant_section naming label scope k cs) cs
 as_many-constant_section naming label scope k none = refl
-as_many-constant_section naming label scope k (one (declares_constants cs)) = as_many-constants naming label scope k cs
+as_many-constant_section naming label scope k (one (declares_const_section cs)) = as_many-constants naming label scope k cs
 
 pub as_many-type_section : {N M : Type 0} (naming : Naming N) (label : Labelling N M) (scope : Scope N) (k : ℕ) (ts : Tree N (maybe type_definitions)) → AsMany (relabel_type_section naming label scope k ts) ts
 as_many-type_section naming label scope k none = refl
-as_many-type_section naming label scope k (one (declares_types ts)) = as_many-types naming label scope k ts
+as_many-type_section naming label scope k (one (declares_type_section ts)) = as_many-types naming label scope k ts
 
 pub as_many-variable_section : {N M : Type 0} (naming : Naming N) (label : Labelling N M) (scope : Scope N) (k : ℕ) (vs : Tree N (maybe variables)) → AsMany (relabel_variable_section naming label scope k vs) vs
 as_many-variable_section naming label scope k none = refl
-as_many-variable_section naming label scope k (one (declares_variables vs)) = as_many-variables naming label scope k vs
+as_many-variable_section naming label scope k (one (declares_var_section vs)) = as_many-variables naming label scope k vs
 
 mutual
   pub as_many-block : {N M : Type 0} (naming : Naming N) (label : Labelling N M) (scope : Scope N) (k : ℕ) (b : Tree N block) → AsMany (relabel_block naming label scope k b) b
@@ -78,7 +78,7 @@ mutual
       (as_many-procedures naming label (scope_before_procedures k b scope) (first_procedure_ordinal k b) ps))))
       (as_many-uses naming label (body_scope k b scope) statements)
 
-  pub as_many-procedures : {N M : Type 0} (naming : Naming N) (label : Labelling N M) (scope : Scope N) (k : ℕ) (ps : Tree N (items procedure)) → AsMany (relabel_procedures naming label scope k ps) ps
+  pub as_many-procedures : {N M : Type 0} (naming : Naming N) (label : Labelling N M) (scope : Scope N) (k : ℕ) (ps : Tree N (items procedure)) → AsMany (relabel_procedure_list naming label scope k ps) ps
   as_many-procedures naming label scope k end = refl
   as_many-procedures naming label scope k (more p rest) =
       longer _ _ (occurrences p) (occurrences rest) (as_many-procedure naming label scope k p) (as_many-procedures naming label ((procedure_name p, k) ∷ scope) (ordinal_after_procedure (suc k) p) rest)
@@ -89,4 +89,4 @@ mutual
       (as_many-block naming label (declare_names (suc k) (formal_names (formal_sections fs)) ((x, k) ∷ scope)) (ordinal_after_names (suc k) (formal_names (formal_sections fs))) b)
 
 pub as_many-module : {N M : Type 0} (naming : Naming N) (label : Labelling N M) (m : Tree N module_text) → AsMany (relabel_module naming label m) m
-as_many-module naming label (is_module x b closing) = as_many-block naming label (predeclared_scope naming) 7 b
+as_many-module naming label (forms_module x b closing) = as_many-block naming label (predeclared_scope naming) 7 b

@@ -1,8 +1,8 @@
 -- Two trees of the same shape are equal if their looked-up names are equal. The proof removes the names of one part
 -- after another from the front of both lists.
 use Rattle.std.proofs.Common.{◌≡◌, List, [], ◌∷◌, ◌++◌, sym, refl, ap, ◌∙◌, append_assoc}
-use Rattle.ob0_tree.specs.Tree.{Sort, Tree, adds, array_type, assigns, begins, branches, calls, compares, declares, declares_constant, declares_constants, declares_procedure, declares_type, declares_types, declares_variable, declares_variables, designator, else_branch, elsif_branch, empty, end, field, further_name, forms_block, index, integer, is_module, items, listed, more, multiplies, named_type, names, negation, no_arguments, no_fields, no_formals, none, occurrences, one, parenthesised, product, record_type, relates, repeat_loop, runs, some_arguments, some_fields, some_formals, sum, then_argument, then_fields, then_name, then_section, then_statement, value_section, variable_section, while_loop}
-use Rattle.ob0_language_names.specs.Mapping.{map_names}
+use Rattle.ob0_tree.specs.Tree.{Sort, Tree, adds, array_type, assigns, begins, branches, calls, compares, declares, declares_constant, declares_const_section, declares_procedure, declares_type, declares_type_section, declares_variable, declares_var_section, designator, else_branch, elsif_branch, empty, end, field, name_after_comma, forms_block, index, integer, forms_module, items, listed, more, multiplies, named_type, names, negation, no_arguments, no_fields, no_formals, none, occurrences, one, parenthesised, product, record_type, relates, repeat_loop, runs, some_arguments, some_fields, some_formals, sum, comma_then_argument, semicolon_then_fields, comma_then_name, semicolon_then_section, semicolon_then_statement, value_section, variable_section, while_loop}
+use Rattle.ob0_language_names.specs.MappedNames.{map_names}
 
 -- holds if two equal lists that begin with `a` and with `b` imply `P` and have equal rests
 pub record Peel (K : Type 0) (a b : List K) (P : Type 0) : Type 0 where
@@ -37,9 +37,9 @@ pub to : {K P Q : Type 0} {a b : List K} → Peel K a b P → (P → Q) → Peel
 to p f = record { peeled = λ r s e. let q = p.peeled r s e in (f q.0, q.1) }
 
 -- Names that aren't looked up are the same after both replacements.
-pub further_kept : {N M K : Type 0} (f f' : N → M) (g g' : M → K) (h h' : N → K) → ((x : N) → g' (f' x) ≡ h' x) → (ns : Tree N (items further_name)) → map_names g g' (map_names f f' ns) ≡ map_names h h' ns
+pub further_kept : {N M K : Type 0} (f f' : N → M) (g g' : M → K) (h h' : N → K) → ((x : N) → g' (f' x) ≡ h' x) → (ns : Tree N (items name_after_comma)) → map_names g g' (map_names f f' ns) ≡ map_names h h' ns
 further_kept f f' g g' h h' keeps end = refl
-further_kept f f' g g' h h' keeps (more (then_name x) rest) = λ i. more (then_name (keeps x i)) (further_kept f f' g g' h h' keeps rest i)
+further_kept f f' g g' h h' keeps (more (comma_then_name x) rest) = λ i. more (comma_then_name (keeps x i)) (further_kept f f' g g' h h' keeps rest i)
 
 pub names_kept : {N M K : Type 0} (f f' : N → M) (g g' : M → K) (h h' : N → K) → ((x : N) → g' (f' x) ≡ h' x) → (ns : Tree N names) → map_names g g' (map_names f f' ns) ≡ map_names h h' ns
 names_kept f f' g g' h h' keeps (listed x rest) = λ i. listed (keeps x i) (further_kept f f' g g' h h' keeps rest i)
@@ -72,32 +72,32 @@ peel f f' g g' h h' keeps (while_loop a b) = to (both (peel f f' g g' h h' keeps
 peel f f' g g' h h' keeps (repeat_loop a b) = to (both (peel f f' g g' h h' keeps a) (peel f f' g g' h h' keeps b)) (λ p i. repeat_loop (p.first i) (p.second i))
 peel f f' g g' h h' keeps no_arguments = nothing refl
 peel f f' g g' h h' keeps (some_arguments a b) = to (both (peel f f' g g' h h' keeps a) (peel f f' g g' h h' keeps b)) (λ p i. some_arguments (p.first i) (p.second i))
-peel f f' g g' h h' keeps (then_argument a) = to (peel f f' g g' h h' keeps a) (λ p i. then_argument (p i))
+peel f f' g g' h h' keeps (comma_then_argument a) = to (peel f f' g g' h h' keeps a) (λ p i. comma_then_argument (p i))
 peel f f' g g' h h' keeps (runs a b) = to (both (peel f f' g g' h h' keeps a) (peel f f' g g' h h' keeps b)) (λ p i. runs (p.first i) (p.second i))
-peel f f' g g' h h' keeps (then_statement a) = to (peel f f' g g' h h' keeps a) (λ p i. then_statement (p i))
+peel f f' g g' h h' keeps (semicolon_then_statement a) = to (peel f f' g g' h h' keeps a) (λ p i. semicolon_then_statement (p i))
 peel f f' g g' h h' keeps (elsif_branch a b) = to (both (peel f f' g g' h h' keeps a) (peel f f' g g' h h' keeps b)) (λ p i. elsif_branch (p.first i) (p.second i))
 peel f f' g g' h h' keeps (else_branch a) = to (peel f f' g g' h h' keeps a) (λ p i. else_branch (p i))
 peel f f' g g' h h' keeps (listed x a) = nothing (λ i. listed (keeps x i) (further_kept f f' g g' h h' keeps a i))
-peel f f' g g' h h' keeps (then_name x) = nothing (λ i. then_name (keeps x i))
+peel f f' g g' h h' keeps (comma_then_name x) = nothing (λ i. comma_then_name (keeps x i))
 peel f f' g g' h h' keeps (named_type x) = to (named_first (nothing {P = Unit {0}} tt)) (λ p i. named_type (p.first i))
 peel f f' g g' h h' keeps (array_type a b) = to (both (peel f f' g g' h h' keeps a) (peel f f' g g' h h' keeps b)) (λ p i. array_type (p.first i) (p.second i))
 peel f f' g g' h h' keeps (record_type a b) = to (both (peel f f' g g' h h' keeps a) (peel f f' g g' h h' keeps b)) (λ p i. record_type (p.first i) (p.second i))
 peel f f' g g' h h' keeps no_fields = nothing refl
 peel f f' g g' h h' keeps (some_fields a b) = to (peel f f' g g' h h' keeps b) (λ p i. some_fields (names_kept f f' g g' h h' keeps a i) (p i))
-peel f f' g g' h h' keeps (then_fields a) = to (peel f f' g g' h h' keeps a) (λ p i. then_fields (p i))
+peel f f' g g' h h' keeps (semicolon_then_fields a) = to (peel f f' g g' h h' keeps a) (λ p i. semicolon_then_fields (p i))
 peel f f' g g' h h' keeps no_formals = nothing refl
 peel f f' g g' h h' keeps (some_formals a b) = to (both (peel f f' g g' h h' keeps a) (peel f f' g g' h h' keeps b)) (λ p i. some_formals (p.first i) (p.second i))
 peel f f' g g' h h' keeps (value_section a b) = to (peel f f' g g' h h' keeps b) (λ p i. value_section (names_kept f f' g g' h h' keeps a i) (p i))
 peel f f' g g' h h' keeps (variable_section a b) = to (peel f f' g g' h h' keeps b) (λ p i. variable_section (names_kept f f' g g' h h' keeps a i) (p i))
-peel f f' g g' h h' keeps (then_section a) = to (peel f f' g g' h h' keeps a) (λ p i. then_section (p i))
+peel f f' g g' h h' keeps (semicolon_then_section a) = to (peel f f' g g' h h' keeps a) (λ p i. semicolon_then_section (p i))
 peel f f' g g' h h' keeps (declares_constant x a) = to (peel f f' g g' h h' keeps a) (λ p i. declares_constant (keeps x i) (p i))
-peel f f' g g' h h' keeps (declares_constants a) = to (peel f f' g g' h h' keeps a) (λ p i. declares_constants (p i))
+peel f f' g g' h h' keeps (declares_const_section a) = to (peel f f' g g' h h' keeps a) (λ p i. declares_const_section (p i))
 peel f f' g g' h h' keeps (declares_type x a) = to (peel f f' g g' h h' keeps a) (λ p i. declares_type (keeps x i) (p i))
-peel f f' g g' h h' keeps (declares_types a) = to (peel f f' g g' h h' keeps a) (λ p i. declares_types (p i))
+peel f f' g g' h h' keeps (declares_type_section a) = to (peel f f' g g' h h' keeps a) (λ p i. declares_type_section (p i))
 peel f f' g g' h h' keeps (declares_variable a b) = to (peel f f' g g' h h' keeps b) (λ p i. declares_variable (names_kept f f' g g' h h' keeps a i) (p i))
-peel f f' g g' h h' keeps (declares_variables a) = to (peel f f' g g' h h' keeps a) (λ p i. declares_variables (p i))
+peel f f' g g' h h' keeps (declares_var_section a) = to (peel f f' g g' h h' keeps a) (λ p i. declares_var_section (p i))
 peel f f' g g' h h' keeps (declares_procedure x a b y) = to (both (peel f f' g g' h h' keeps a) (peel f f' g g' h h' keeps b)) (λ p i. declares_procedure (keeps x i) (p.first i) (p.second i) (keeps y i))
 peel f f' g g' h h' keeps (declares a b c d) = to (both (peel f f' g g' h h' keeps a) (both (peel f f' g g' h h' keeps b) (both (peel f f' g g' h h' keeps c) (peel f f' g g' h h' keeps d)))) (λ p i. declares (p.first i) (p.second.first i) (p.second.second.first i) (p.second.second.second i))
 peel f f' g g' h h' keeps (begins a) = to (peel f f' g g' h h' keeps a) (λ p i. begins (p i))
 peel f f' g g' h h' keeps (forms_block a b) = to (both (peel f f' g g' h h' keeps a) (peel f f' g g' h h' keeps b)) (λ p i. forms_block (p.first i) (p.second i))
-peel f f' g g' h h' keeps (is_module x a y) = to (peel f f' g g' h h' keeps a) (λ p i. is_module (keeps x i) (p i) (keeps y i))
+peel f f' g g' h h' keeps (forms_module x a y) = to (peel f f' g g' h h' keeps a) (λ p i. forms_module (keeps x i) (p i) (keeps y i))

@@ -1,10 +1,10 @@
 -- Properties of each occurrence of a tree, according to its number, its scope and its name. `each-block` derives such a
 -- property from two lists of labels.
 use Rattle.std.proofs.Common.{List, None, [], arith, length, map, refl, subst, suc, ℕ, ◌++◌, ◌+◌, ◌∷◌, ◌≡◌}
-use Rattle.ob0_tree.specs.Tree.{Sort, Tree, block, body, constant, constants, declares, declares_constant, declares_constants, declares_procedure, declares_type, declares_types, declares_variable, declares_variables, end, expression, formals, further_section, forms_block, item, items, maybe, more, no_formals, none, occurrences, one, procedure, section, some_formals, then_section, type_definition, type_definitions, value_section, variable, variable_section, variables, written_type}
+use Rattle.ob0_tree.specs.Tree.{Sort, Tree, block, body, constant, constants, declares, declares_constant, declares_const_section, declares_procedure, declares_type, declares_type_section, declares_variable, declares_var_section, end, expression, formals, section_after_semicolon, forms_block, item, items, maybe, more, no_formals, none, occurrences, one, procedure, section, some_formals, semicolon_then_section, type_definition, type_definitions, value_section, variable, variable_section, variables, written_type}
 use Rattle.ob0_language_names.specs.Names.{Label, Name, Naming}
-use Rattle.ob0_language_names.specs.Parts.{formal_names, formal_sections, names_in_list, procedure_name, section_constants, parameter_section_names, parameter_section_type, section_types, section_variables}
-use Rattle.ob0_language_names.specs.Scopes.{Scope, ordinal_after_names, ordinal_after_procedure, label_from_ordinal, body_scope, declare_names, first_procedure_ordinal, first_type_ordinal, first_variable_ordinal, label_of, scope_before_procedures, relabel_block, relabel_constant_section, relabel_constants, relabel_formals, relabel_procedure, relabel_procedures, relabel_parameter_section, relabel_parameter_sections, relabel_type_section, relabel_types, relabel_uses, relabel_variable_section, relabel_variables, scope_before_types, scope_before_variables}
+use Rattle.ob0_language_names.specs.BlockParts.{formal_names, formal_sections, names_in_list, procedure_name, section_constants, parameter_section_names, parameter_section_type, section_types, section_variables}
+use Rattle.ob0_language_names.specs.Scopes.{Scope, ordinal_after_names, ordinal_after_procedure, label_from_ordinal, body_scope, declare_names, first_procedure_ordinal, first_type_ordinal, first_variable_ordinal, label_of, scope_before_procedures, relabel_block, relabel_constant_section, relabel_constants, relabel_formals, relabel_procedure, relabel_procedure_list, relabel_parameter_section, relabel_parameter_section_list, relabel_type_section, relabel_types, relabel_uses, relabel_variable_section, relabel_variables, scope_before_types, scope_before_variables}
 use Rattle.ob0_language_names.proofs.OccurrenceNames.{as_many-constant_section, as_many-formals, as_many-procedure, as_many-procedures, as_many-section, as_many-type_section, as_many-uses, as_many-variable_section, longer}
 use Rattle.ob0_language_names.proofs.OccurrencesMapped.{occurrences-mapped}
 
@@ -30,9 +30,9 @@ EachVariable L j scope k end = Unit {0}
 EachVariable L j scope k (more (declares_variable ns t) gs) =
     L written_type j scope t × EachVariable L (j + length (occurrences t)) (declare_names k (names_in_list ns) scope) (ordinal_after_names k (names_in_list ns)) gs
 
-abbrev pub EachSection : Placed → ℕ → Scope Name → ℕ → Tree Name (items further_section) → Type 0
+abbrev pub EachSection : Placed → ℕ → Scope Name → ℕ → Tree Name (items section_after_semicolon) → Type 0
 EachSection L j scope k end = Unit {0}
-EachSection L j scope k (more (then_section s) fs) =
+EachSection L j scope k (more (semicolon_then_section s) fs) =
     L written_type j scope (parameter_section_type s) × EachSection L (j + length (occurrences s)) (declare_names k (parameter_section_names s) scope) (ordinal_after_names k (parameter_section_names s)) fs
 
 abbrev mutual
@@ -105,29 +105,29 @@ module _ (u v : Naming Name) (R S : ℕ → Label → Type 0) (L : Placed) (make
   each-section j scope k (value_section ns t) f g = each-uses j scope t f g
   each-section j scope k (variable_section ns t) f g = each-uses j scope t f g
 
-  pub each-sections : (j : ℕ) (scope : Scope Name) (k : ℕ) (fs : Tree Name (items further_section)) → AllAt R j (occurrences (relabel_parameter_sections u (label_from_ordinal u) scope k fs)) → AllAt S j (occurrences (relabel_parameter_sections v (label_from_ordinal v) scope k fs)) → EachSection L j scope k fs
+  pub each-sections : (j : ℕ) (scope : Scope Name) (k : ℕ) (fs : Tree Name (items section_after_semicolon)) → AllAt R j (occurrences (relabel_parameter_section_list u (label_from_ordinal u) scope k fs)) → AllAt S j (occurrences (relabel_parameter_section_list v (label_from_ordinal v) scope k fs)) → EachSection L j scope k fs
   each-sections j scope k end f g = tt
-  each-sections j scope k (more (then_section s) fs) f g =
-      let f' = cut R j (length (occurrences s)) (occurrences (relabel_parameter_section u (label_from_ordinal u) scope k s)) (occurrences (relabel_parameter_sections u (label_from_ordinal u) (declare_names k (parameter_section_names s) scope) (ordinal_after_names k (parameter_section_names s)) fs)) (as_many-section u (label_from_ordinal u) scope k s) f in
-      let g' = cut S j (length (occurrences s)) (occurrences (relabel_parameter_section v (label_from_ordinal v) scope k s)) (occurrences (relabel_parameter_sections v (label_from_ordinal v) (declare_names k (parameter_section_names s) scope) (ordinal_after_names k (parameter_section_names s)) fs)) (as_many-section v (label_from_ordinal v) scope k s) g in
+  each-sections j scope k (more (semicolon_then_section s) fs) f g =
+      let f' = cut R j (length (occurrences s)) (occurrences (relabel_parameter_section u (label_from_ordinal u) scope k s)) (occurrences (relabel_parameter_section_list u (label_from_ordinal u) (declare_names k (parameter_section_names s) scope) (ordinal_after_names k (parameter_section_names s)) fs)) (as_many-section u (label_from_ordinal u) scope k s) f in
+      let g' = cut S j (length (occurrences s)) (occurrences (relabel_parameter_section v (label_from_ordinal v) scope k s)) (occurrences (relabel_parameter_section_list v (label_from_ordinal v) (declare_names k (parameter_section_names s) scope) (ordinal_after_names k (parameter_section_names s)) fs)) (as_many-section v (label_from_ordinal v) scope k s) g in
       (each-section j scope k s f'.0 g'.0, each-sections (j + length (occurrences s)) (declare_names k (parameter_section_names s) scope) (ordinal_after_names k (parameter_section_names s)) fs f'.1 g'.1)
 
   each-formals : (j : ℕ) (scope : Scope Name) (k : ℕ) (fs : Tree Name (maybe formals)) → AllAt R j (occurrences (relabel_formals u (label_from_ordinal u) scope k fs)) → AllAt S j (occurrences (relabel_formals v (label_from_ordinal v) scope k fs)) → EachSection L j scope k (formal_sections fs)
   each-formals j scope k none f g = tt
   each-formals j scope k (one no_formals) f g = tt
-  each-formals j scope k (one (some_formals s fs)) f g = each-sections j scope k (more (then_section s) fs) f g
+  each-formals j scope k (one (some_formals s fs)) f g = each-sections j scope k (more (semicolon_then_section s) fs) f g
 
   each-constant_section : (j : ℕ) (scope : Scope Name) (k : ℕ) (cs : Tree Name (maybe constants)) → AllAt R j (occurrences (relabel_constant_section u (label_from_ordinal u) scope k cs)) → AllAt S j (occurrences (relabel_constant_section v (label_from_ordinal v) scope k cs)) → EachConstant L j scope k (section_constants cs)
   each-constant_section j scope k none f g = tt
-  each-constant_section j scope k (one (declares_constants cs)) f g = each-constants j scope k cs f g
+  each-constant_section j scope k (one (declares_const_section cs)) f g = each-constants j scope k cs f g
 
   each-type_section : (j : ℕ) (scope : Scope Name) (k : ℕ) (ts : Tree Name (maybe type_definitions)) → AllAt R j (occurrences (relabel_type_section u (label_from_ordinal u) scope k ts)) → AllAt S j (occurrences (relabel_type_section v (label_from_ordinal v) scope k ts)) → EachType L j scope k (section_types ts)
   each-type_section j scope k none f g = tt
-  each-type_section j scope k (one (declares_types ts)) f g = each-types j scope k ts f g
+  each-type_section j scope k (one (declares_type_section ts)) f g = each-types j scope k ts f g
 
   each-variable_section : (j : ℕ) (scope : Scope Name) (k : ℕ) (vs : Tree Name (maybe variables)) → AllAt R j (occurrences (relabel_variable_section u (label_from_ordinal u) scope k vs)) → AllAt S j (occurrences (relabel_variable_section v (label_from_ordinal v) scope k vs)) → EachVariable L j scope k (section_variables vs)
   each-variable_section j scope k none f g = tt
-  each-variable_section j scope k (one (declares_variables vs)) f g = each-variables j scope k vs f g
+  each-variable_section j scope k (one (declares_var_section vs)) f g = each-variables j scope k vs f g
 
   mutual
     pub each-block : (j : ℕ) (scope : Scope Name) (k : ℕ) (b : Tree Name block) → AllAt R j (occurrences (relabel_block u (label_from_ordinal u) scope k b)) → AllAt S j (occurrences (relabel_block v (label_from_ordinal v) scope k b)) → EachBlock L j scope k b
@@ -137,12 +137,12 @@ module _ (u v : Naming Name) (R S : ℕ → Label → Type 0) (L : Placed) (make
         → AllAt T j (occurrences (relabel_constant_section w (label_from_ordinal w) scope k cs))
         × AllAt T (j + length (occurrences cs)) (occurrences (relabel_type_section w (label_from_ordinal w) (scope_before_types k b scope) (first_type_ordinal k b) ts))
         × AllAt T (j + length (occurrences cs) + length (occurrences ts)) (occurrences (relabel_variable_section w (label_from_ordinal w) (scope_before_variables k b scope) (first_variable_ordinal k b) vs))
-        × AllAt T (j + length (occurrences cs) + length (occurrences ts) + length (occurrences vs)) (occurrences (relabel_procedures w (label_from_ordinal w) (scope_before_procedures k b scope) (first_procedure_ordinal k b) ps))
+        × AllAt T (j + length (occurrences cs) + length (occurrences ts) + length (occurrences vs)) (occurrences (relabel_procedure_list w (label_from_ordinal w) (scope_before_procedures k b scope) (first_procedure_ordinal k b) ps))
         × AllAt T (j + length (occurrences (declares cs ts vs ps))) (occurrences (relabel_uses w (label_from_ordinal w) (body_scope k b scope) statements)) = λ w T h.
         let cs' = relabel_constant_section w (label_from_ordinal w) scope k cs in
         let ts' = relabel_type_section w (label_from_ordinal w) (scope_before_types k b scope) (first_type_ordinal k b) ts in
         let vs' = relabel_variable_section w (label_from_ordinal w) (scope_before_variables k b scope) (first_variable_ordinal k b) vs in
-        let ps' = relabel_procedures w (label_from_ordinal w) (scope_before_procedures k b scope) (first_procedure_ordinal k b) ps in
+        let ps' = relabel_procedure_list w (label_from_ordinal w) (scope_before_procedures k b scope) (first_procedure_ordinal k b) ps in
         let st' = relabel_uses w (label_from_ordinal w) (body_scope k b scope) statements in
         let h₀ = cut T j (length (occurrences (declares cs ts vs ps))) (occurrences (declares cs' ts' vs' ps')) (occurrences st')
         (longer _ _ (occurrences cs) (occurrences ts ++ (occurrences vs ++ occurrences ps)) (as_many-constant_section w (label_from_ordinal w) scope k cs)
@@ -162,11 +162,11 @@ module _ (u v : Naming Name) (R S : ℕ → Label → Type 0) (L : Placed) (make
           each-uses (j + length (occurrences (declares cs ts vs ps))) (body_scope k b scope) statements f'.4 g'.4,
         )
 
-    pub each-procedures : (j : ℕ) (scope : Scope Name) (k : ℕ) (ps : Tree Name (items procedure)) → AllAt R j (occurrences (relabel_procedures u (label_from_ordinal u) scope k ps)) → AllAt S j (occurrences (relabel_procedures v (label_from_ordinal v) scope k ps)) → EachProcedure L j scope k ps
+    pub each-procedures : (j : ℕ) (scope : Scope Name) (k : ℕ) (ps : Tree Name (items procedure)) → AllAt R j (occurrences (relabel_procedure_list u (label_from_ordinal u) scope k ps)) → AllAt S j (occurrences (relabel_procedure_list v (label_from_ordinal v) scope k ps)) → EachProcedure L j scope k ps
     each-procedures j scope k end f g = tt
     each-procedures j scope k (more p rest) f g =
-        let f' = cut R j (length (occurrences p)) (occurrences (relabel_procedure u (label_from_ordinal u) scope k p)) (occurrences (relabel_procedures u (label_from_ordinal u) ((procedure_name p, k) ∷ scope) (ordinal_after_procedure (suc k) p) rest)) (as_many-procedure u (label_from_ordinal u) scope k p) f in
-        let g' = cut S j (length (occurrences p)) (occurrences (relabel_procedure v (label_from_ordinal v) scope k p)) (occurrences (relabel_procedures v (label_from_ordinal v) ((procedure_name p, k) ∷ scope) (ordinal_after_procedure (suc k) p) rest)) (as_many-procedure v (label_from_ordinal v) scope k p) g in
+        let f' = cut R j (length (occurrences p)) (occurrences (relabel_procedure u (label_from_ordinal u) scope k p)) (occurrences (relabel_procedure_list u (label_from_ordinal u) ((procedure_name p, k) ∷ scope) (ordinal_after_procedure (suc k) p) rest)) (as_many-procedure u (label_from_ordinal u) scope k p) f in
+        let g' = cut S j (length (occurrences p)) (occurrences (relabel_procedure v (label_from_ordinal v) scope k p)) (occurrences (relabel_procedure_list v (label_from_ordinal v) ((procedure_name p, k) ∷ scope) (ordinal_after_procedure (suc k) p) rest)) (as_many-procedure v (label_from_ordinal v) scope k p) g in
         (one-procedure j scope k p f'.0 g'.0, each-procedures (j + length (occurrences p)) ((procedure_name p, k) ∷ scope) (ordinal_after_procedure (suc k) p) rest f'.1 g'.1)
 
     pub one-procedure : (j : ℕ) (scope : Scope Name) (k : ℕ) (p : Tree Name (item procedure)) → AllAt R j (occurrences (relabel_procedure u (label_from_ordinal u) scope k p)) → AllAt S j (occurrences (relabel_procedure v (label_from_ordinal v) scope k p)) → OneProcedure L j scope k p
@@ -191,9 +191,9 @@ module _ (K L M : Placed) (make : (s : Sort) (j : ℕ) (scope : Scope Name) (t :
   both-variables j scope k end f g = tt
   both-variables j scope k (more (declares_variable ns t) gs) f g = (make written_type j scope t f.0 g.0, both-variables (j + length (occurrences t)) (declare_names k (names_in_list ns) scope) (ordinal_after_names k (names_in_list ns)) gs f.1 g.1)
 
-  both-sections : (j : ℕ) (scope : Scope Name) (k : ℕ) (fs : Tree Name (items further_section)) → EachSection K j scope k fs → EachSection L j scope k fs → EachSection M j scope k fs
+  both-sections : (j : ℕ) (scope : Scope Name) (k : ℕ) (fs : Tree Name (items section_after_semicolon)) → EachSection K j scope k fs → EachSection L j scope k fs → EachSection M j scope k fs
   both-sections j scope k end f g = tt
-  both-sections j scope k (more (then_section s) fs) f g = (make written_type j scope (parameter_section_type s) f.0 g.0, both-sections (j + length (occurrences s)) (declare_names k (parameter_section_names s) scope) (ordinal_after_names k (parameter_section_names s)) fs f.1 g.1)
+  both-sections j scope k (more (semicolon_then_section s) fs) f g = (make written_type j scope (parameter_section_type s) f.0 g.0, both-sections (j + length (occurrences s)) (declare_names k (parameter_section_names s) scope) (ordinal_after_names k (parameter_section_names s)) fs f.1 g.1)
 
   mutual
     pub both-block : (j : ℕ) (scope : Scope Name) (k : ℕ) (b : Tree Name block) → EachBlock K j scope k b → EachBlock L j scope k b → EachBlock M j scope k b

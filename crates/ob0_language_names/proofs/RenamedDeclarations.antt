@@ -1,16 +1,16 @@
 -- If a new name is free, the renamed module declares names once.
 use Rattle.std.proofs.Common.{Bool, List, Some, [], ap, append-nil, falls, false, if◌then◌else◌, le_refl, refl, suc, sym, true, ℕ, ◌&&◌, ◌++◌, ◌==◌, ◌∙◌, ◌∷◌, ◌≡◌}
-use Rattle.ob0_tree.specs.Tree.{Tree, array_type, block, constant, declares, declares_constant, declares_procedure, declares_type, declares_variable, end, fields, further_fields, further_name, further_section, forms_block, is_module, item, items, listed, more, named_type, names, no_fields, procedure, record_type, some_fields, then_fields, then_name, then_section, type_definition, variable, written_type}
-use Rattle.ob0_language_names.specs.ConsistentNames.{are_distinct, block_names, block_has_consistent_names, has_distinct_fields, formals_have_distinct_fields, group_field_names, group_has_distinct_fields, further_field_names, groups_have_distinct_fields, procedure_names, procedure_has_consistent_names, procedures_have_consistent_names, types_have_distinct_fields, variables_have_distinct_fields}
-use Rattle.ob0_language_names.specs.Mapping.{map_names}
+use Rattle.ob0_tree.specs.Tree.{Tree, array_type, block, constant, declares, declares_constant, declares_procedure, declares_type, declares_variable, end, fields, fields_after_semicolon, name_after_comma, section_after_semicolon, forms_block, forms_module, item, items, listed, more, named_type, names, no_fields, procedure, record_type, some_fields, semicolon_then_fields, comma_then_name, semicolon_then_section, type_definition, variable, written_type}
+use Rattle.ob0_language_names.specs.ConsistentNames.{are_distinct, names_declared_in_block, block_has_consistent_names, has_distinct_fields, formals_have_distinct_fields, group_field_names, group_has_distinct_fields, field_names_after_first_group, later_groups_have_distinct_fields, procedure_names, procedure_has_consistent_names, procedure_list_has_consistent_names, types_have_distinct_fields, variables_have_distinct_fields}
+use Rattle.ob0_language_names.specs.MappedNames.{map_names}
 use Rattle.ob0_language_names.specs.Names.{Name, Naming, naming_by_spelling, same_name}
-use Rattle.ob0_language_names.specs.Occurrences.{scopes_in_block, scopes_in_procedure, scopes_in_procedures, declares_ordinal, another_declaration_has_name}
-use Rattle.ob0_language_names.specs.Parts.{constant_names, formal_names, formal_sections, further_names, declared_type_names, names_in_list, procedure_name, section_constants, parameter_section_names, parameter_section_type, section_types, section_variables, variable_names}
+use Rattle.ob0_language_names.specs.Occurrences.{scopes_in_block, scopes_in_procedure, scopes_in_procedure_list, declares_ordinal, another_declaration_has_name}
+use Rattle.ob0_language_names.specs.BlockParts.{constant_names, formal_names, formal_sections, names_after_first, declared_type_names, names_in_list, procedure_name, section_constants, parameter_section_names, parameter_section_type, section_types, section_variables, variable_names}
 use Rattle.ob0_language_names.specs.RenamingLaws.{FreeRenamingKeepsConsistentNames}
 use Rattle.ob0_language_names.proofs.DistinctNames.{Falls, distinct-onto, distinct-renamed, labels_in, new_name, onto, onto-append, own_name}
 use Rattle.ob0_language_names.proofs.Ordinals.{le-ordinal_after_procedure}
 use Rattle.ob0_language_names.proofs.Relabelled.{constants-section, formals-section, names-relabel, parameter_section_names-relabel, parameter_section_type-relabel, types-section, variables-section}
-use Rattle.ob0_language_names.specs.Scopes.{Labelling, Scope, ordinal_after_block, ordinal_after_names, ordinal_after_procedure, ordinal_after_procedures, body_scope, declare_names, declare_procedure_names, first_procedure_ordinal, first_type_ordinal, first_variable_ordinal, labels_of_declared_names, label_of, predeclared_scope, scope_before_procedures, relabel_block, relabel_constant_section, relabel_constants, relabel_procedure, relabel_procedures, relabel_parameter_sections, relabel_type_section, relabel_types, relabel_variable_section, relabel_variables, scope_before_types, scope_before_variables}
+use Rattle.ob0_language_names.specs.Scopes.{Labelling, Scope, ordinal_after_block, ordinal_after_names, ordinal_after_procedure, ordinal_after_procedure_list, body_scope, declare_names, declare_procedure_names, first_procedure_ordinal, first_type_ordinal, first_variable_ordinal, labels_of_declared_names, label_of, predeclared_scope, scope_before_procedures, relabel_block, relabel_constant_section, relabel_constants, relabel_procedure, relabel_procedure_list, relabel_parameter_section_list, relabel_type_section, relabel_types, relabel_variable_section, relabel_variables, scope_before_types, scope_before_variables}
 use Rattle.std.proofs.lemmas.Cmp.{nat_list_eq_equiv}
 use Rattle.std.proofs.lemmas.Bool.{and_from, and_parts, or_parts}
 use Rattle.std.proofs.lemmas.List.Folds.{list_any-append}
@@ -40,9 +40,9 @@ variables-labels naming label scope k (more (declares_variable ns t) gs) =
     (λ i. names-relabel label k ns i ++ variables-labels naming label (declare_names k (names_in_list ns) scope) (ordinal_after_names k (names_in_list ns)) gs i)
     ∙ sym (labels_of_declared_names-append label k (names_in_list ns) (variable_names gs))
 
-pub sections-labels : {N M : Type 0} (naming : Naming N) (label : Labelling N M) (scope : Scope N) (k : ℕ) (fs : Tree N (items further_section)) → formal_names (relabel_parameter_sections naming label scope k fs) ≡ labels_of_declared_names label k (formal_names fs)
+pub sections-labels : {N M : Type 0} (naming : Naming N) (label : Labelling N M) (scope : Scope N) (k : ℕ) (fs : Tree N (items section_after_semicolon)) → formal_names (relabel_parameter_section_list naming label scope k fs) ≡ labels_of_declared_names label k (formal_names fs)
 sections-labels naming label scope k end = refl
-sections-labels naming label scope k (more (then_section s) fs) =
+sections-labels naming label scope k (more (semicolon_then_section s) fs) =
     (λ i. parameter_section_names-relabel naming label scope k s i ++ sections-labels naming label (declare_names k (parameter_section_names s) scope) (ordinal_after_names k (parameter_section_names s)) fs i)
     ∙ sym (labels_of_declared_names-append label k (parameter_section_names s) (formal_names fs))
 
@@ -53,7 +53,7 @@ labels_in-names label k [] scope = refl
 labels_in-names label k (x ∷ xs) scope = labels_in-names label (suc k) xs ((x, k) ∷ scope)
 
 pub labels_in-procedures : {N M : Type 0} (naming : Naming N) (label : Labelling N M) (visible : Scope N) (k : ℕ) (ps : Tree N (items procedure)) (scope : Scope N)
-    → labels_in label (declare_procedure_names k ps scope) ≡ onto (procedure_names (relabel_procedures naming label visible k ps)) (labels_in label scope)
+    → labels_in label (declare_procedure_names k ps scope) ≡ onto (procedure_names (relabel_procedure_list naming label visible k ps)) (labels_in label scope)
 labels_in-procedures naming label visible k end scope = refl
 labels_in-procedures naming label visible k (more (declares_procedure x fs b closing) rest) scope =
     labels_in-procedures naming label ((x, k) ∷ visible) (ordinal_after_procedure (suc k) (declares_procedure x fs b closing)) rest ((x, k) ∷ scope)
@@ -68,11 +68,11 @@ onto-parts cs ts vs ps own =
 
 -- The labels of a block's scope are the names of the relabelled block, in reverse.
 pub labels_in-block : {N M : Type 0} (naming : Naming N) (label : Labelling N M) (visible : Scope N) (k : ℕ) (b : Tree N block) (own : Scope N)
-    → labels_in label (body_scope k b own) ≡ onto (block_names (relabel_block naming label visible k b)) (labels_in label own)
+    → labels_in label (body_scope k b own) ≡ onto (names_declared_in_block (relabel_block naming label visible k b)) (labels_in label own)
 labels_in-block {N} naming label visible k (forms_block (declares cs ts vs ps) statements) own =
     let b : Tree N block = forms_block (declares cs ts vs ps) statements in
     labels_in-procedures naming label (scope_before_procedures k b visible) (first_procedure_ordinal k b) ps (scope_before_procedures k b own)
-    ∙ (ap (onto (procedure_names (relabel_procedures naming label (scope_before_procedures k b visible) (first_procedure_ordinal k b) ps)))
+    ∙ (ap (onto (procedure_names (relabel_procedure_list naming label (scope_before_procedures k b visible) (first_procedure_ordinal k b) ps)))
     (labels_in-names label (first_variable_ordinal k b) (variable_names (section_variables vs)) (scope_before_variables k b own)
     ∙ (λ i. onto (sym (ap variable_names (variables-section naming label (scope_before_variables k b visible) (first_variable_ordinal k b) vs) ∙ variables-labels naming label (scope_before_variables k b visible) (first_variable_ordinal k b) (section_variables vs)) i)
     ((labels_in-names label (first_type_ordinal k b) (declared_type_names (section_types ts)) (scope_before_types k b own)
@@ -82,9 +82,9 @@ labels_in-block {N} naming label visible k (forms_block (declares cs ts vs ps) s
     ∙ onto-parts (constant_names (section_constants (relabel_constant_section naming label visible k cs)))
     (declared_type_names (section_types (relabel_type_section naming label (scope_before_types k b visible) (first_type_ordinal k b) ts)))
     (variable_names (section_variables (relabel_variable_section naming label (scope_before_variables k b visible) (first_variable_ordinal k b) vs)))
-    (procedure_names (relabel_procedures naming label (scope_before_procedures k b visible) (first_procedure_ordinal k b) ps)) (labels_in label own))
+    (procedure_names (relabel_procedure_list naming label (scope_before_procedures k b visible) (first_procedure_ordinal k b) ps)) (labels_in label own))
 
-pub own_names-block : (k : ℕ) (b : Tree Name block) (own : Scope Name) → labels_in own_name (body_scope k b own) ≡ onto (block_names b) (labels_in own_name own)
+pub own_names-block : (k : ℕ) (b : Tree Name block) (own : Scope Name) → labels_in own_name (body_scope k b own) ≡ onto (names_declared_in_block b) (labels_in own_name own)
 own_names-block k (forms_block (declares cs ts vs ps) statements) own =
     let b : Tree Name block = forms_block (declares cs ts vs ps) statements in
     own_names-procedures (first_procedure_ordinal k b) ps (scope_before_procedures k b own)
@@ -102,7 +102,7 @@ pub falls-names : {N : Type 0} (k : ℕ) (xs : List N) (scope : Scope N) → Fal
 falls-names k [] scope falls = falls
 falls-names k (x ∷ xs) scope falls = falls-names (suc k) xs ((x, k) ∷ scope) (le_refl (suc k), falls)
 
-pub falls-procedures : {N : Type 0} (k : ℕ) (ps : Tree N (items procedure)) (scope : Scope N) → Falls k scope → Falls (ordinal_after_procedures k ps) (declare_procedure_names k ps scope)
+pub falls-procedures : {N : Type 0} (k : ℕ) (ps : Tree N (items procedure)) (scope : Scope N) → Falls k scope → Falls (ordinal_after_procedure_list k ps) (declare_procedure_names k ps scope)
 falls-procedures k end scope falls = falls
 falls-procedures k (more p rest) scope falls = falls-procedures (ordinal_after_procedure (suc k) p) rest ((procedure_name p, k) ∷ scope) (le-ordinal_after_procedure (suc k) p, falls)
 
@@ -116,9 +116,9 @@ falls-block {N} k (forms_block (declares cs ts vs ps) statements) own falls =
 
 -- A renaming leaves the names of fields unchanged.
 
-pub further-kept : (f : Name → Name) (xs : Tree Name (items further_name)) → further_names (map_names f (λ x. x) xs) ≡ further_names xs
+pub further-kept : (f : Name → Name) (xs : Tree Name (items name_after_comma)) → names_after_first (map_names f (λ x. x) xs) ≡ names_after_first xs
 further-kept f end = refl
-further-kept f (more (then_name x) xs) = λ i. x ∷ further-kept f xs i
+further-kept f (more (comma_then_name x) xs) = λ i. x ∷ further-kept f xs i
 
 pub listed-kept : (f : Name → Name) (ns : Tree Name names) → names_in_list (map_names f (λ x. x) ns) ≡ names_in_list ns
 listed-kept f (listed x xs) = λ i. x ∷ further-kept f xs i
@@ -127,24 +127,24 @@ pub group_field_names-kept : (f : Name → Name) (g : Tree Name fields) → grou
 group_field_names-kept f no_fields = refl
 group_field_names-kept f (some_fields ns t) = listed-kept f ns
 
-pub further_field_names-kept : (f : Name → Name) (gs : Tree Name (items further_fields)) → further_field_names (map_names f (λ x. x) gs) ≡ further_field_names gs
-further_field_names-kept f end = refl
-further_field_names-kept f (more (then_fields g) rest) = λ i. group_field_names-kept f g i ++ further_field_names-kept f rest i
+pub field_names_after_first_group-kept : (f : Name → Name) (gs : Tree Name (items fields_after_semicolon)) → field_names_after_first_group (map_names f (λ x. x) gs) ≡ field_names_after_first_group gs
+field_names_after_first_group-kept f end = refl
+field_names_after_first_group-kept f (more (semicolon_then_fields g) rest) = λ i. group_field_names-kept f g i ++ field_names_after_first_group-kept f rest i
 
 mutual
   pub has_distinct_fields-kept : (f : Name → Name) (t : Tree Name written_type) → has_distinct_fields (map_names f (λ x. x) t) ≡ has_distinct_fields t
   has_distinct_fields-kept f (named_type x) = refl
   has_distinct_fields-kept f (array_type e t) = has_distinct_fields-kept f t
   has_distinct_fields-kept f (record_type g rest) = λ i.
-      are_distinct (group_field_names-kept f g i ++ further_field_names-kept f rest i) && (group_has_distinct_fields-kept f g i && groups_have_distinct_fields-kept f rest i)
+      are_distinct (group_field_names-kept f g i ++ field_names_after_first_group-kept f rest i) && (group_has_distinct_fields-kept f g i && later_groups_have_distinct_fields-kept f rest i)
 
   pub group_has_distinct_fields-kept : (f : Name → Name) (g : Tree Name fields) → group_has_distinct_fields (map_names f (λ x. x) g) ≡ group_has_distinct_fields g
   group_has_distinct_fields-kept f no_fields = refl
   group_has_distinct_fields-kept f (some_fields ns t) = has_distinct_fields-kept f t
 
-  pub groups_have_distinct_fields-kept : (f : Name → Name) (gs : Tree Name (items further_fields)) → groups_have_distinct_fields (map_names f (λ x. x) gs) ≡ groups_have_distinct_fields gs
-  groups_have_distinct_fields-kept f end = refl
-  groups_have_distinct_fields-kept f (more (then_fields g) rest) = λ i. group_has_distinct_fields-kept f g i && groups_have_distinct_fields-kept f rest i
+  pub later_groups_have_distinct_fields-kept : (f : Name → Name) (gs : Tree Name (items fields_after_semicolon)) → later_groups_have_distinct_fields (map_names f (λ x. x) gs) ≡ later_groups_have_distinct_fields gs
+  later_groups_have_distinct_fields-kept f end = refl
+  later_groups_have_distinct_fields-kept f (more (semicolon_then_fields g) rest) = λ i. group_has_distinct_fields-kept f g i && later_groups_have_distinct_fields-kept f rest i
 
 pub types_have_distinct_fields-renamed : (d : ℕ) (new : Name) (scope : Scope Name) (k : ℕ) (ds : Tree Name (items type_definition)) → types_have_distinct_fields (relabel_types naming_by_spelling (new_name d new) scope k ds) ≡ types_have_distinct_fields ds
 types_have_distinct_fields-renamed d new scope k end = refl
@@ -156,9 +156,9 @@ variables_have_distinct_fields-renamed d new scope k end = refl
 variables_have_distinct_fields-renamed d new scope k (more (declares_variable ns t) gs) = λ i.
     has_distinct_fields-kept (label_of naming_by_spelling (new_name d new) scope) t i && variables_have_distinct_fields-renamed d new (declare_names k (names_in_list ns) scope) (ordinal_after_names k (names_in_list ns)) gs i
 
-pub formals_have_distinct_fields-renamed : (d : ℕ) (new : Name) (scope : Scope Name) (k : ℕ) (fs : Tree Name (items further_section)) → formals_have_distinct_fields (relabel_parameter_sections naming_by_spelling (new_name d new) scope k fs) ≡ formals_have_distinct_fields fs
+pub formals_have_distinct_fields-renamed : (d : ℕ) (new : Name) (scope : Scope Name) (k : ℕ) (fs : Tree Name (items section_after_semicolon)) → formals_have_distinct_fields (relabel_parameter_section_list naming_by_spelling (new_name d new) scope k fs) ≡ formals_have_distinct_fields fs
 formals_have_distinct_fields-renamed d new scope k end = refl
-formals_have_distinct_fields-renamed d new scope k (more (then_section s) fs) = λ i.
+formals_have_distinct_fields-renamed d new scope k (more (semicolon_then_section s) fs) = λ i.
     (ap has_distinct_fields (parameter_section_type-relabel naming_by_spelling (new_name d new) scope k s) ∙ has_distinct_fields-kept (label_of naming_by_spelling (new_name d new) scope) (parameter_section_type s)) i
     && formals_have_distinct_fields-renamed d new (declare_names k (parameter_section_names s) scope) (ordinal_after_names k (parameter_section_names s)) fs i
 
@@ -180,34 +180,34 @@ mutual
       let k : ℕ = ordinal_after_names j own in
       let ren : Labelling Name Name = new_name d new in
       let mine : Scope Name = body_scope k b (declare_names j own []) in
-      let frees = or_parts (Clashes d new mine) (list_any (Clashes d new) (scopes_in_procedures (first_procedure_ordinal k b) ps)) free in
-      let onces = and_parts (are_distinct (own ++ block_names b)) (types_have_distinct_fields (section_types ts) && (variables_have_distinct_fields (section_variables vs) && procedures_have_consistent_names ps)) once in
-      let onces₁ = and_parts (types_have_distinct_fields (section_types ts)) (variables_have_distinct_fields (section_variables vs) && procedures_have_consistent_names ps) onces.1 in
-      let onces₂ = and_parts (variables_have_distinct_fields (section_variables vs)) (procedures_have_consistent_names ps) onces₁.1 in
+      let frees = or_parts (Clashes d new mine) (list_any (Clashes d new) (scopes_in_procedure_list (first_procedure_ordinal k b) ps)) free in
+      let onces = and_parts (are_distinct (own ++ names_declared_in_block b)) (types_have_distinct_fields (section_types ts) && (variables_have_distinct_fields (section_variables vs) && procedure_list_has_consistent_names ps)) once in
+      let onces₁ = and_parts (types_have_distinct_fields (section_types ts)) (variables_have_distinct_fields (section_variables vs) && procedure_list_has_consistent_names ps) onces.1 in
+      let onces₂ = and_parts (variables_have_distinct_fields (section_variables vs)) (procedure_list_has_consistent_names ps) onces₁.1 in
       let in_scope : are_distinct (labels_in own_name mine) ≡ true =
       ap are_distinct (own_names-block k b (declare_names j own [])
-      ∙ ap (onto (block_names b)) (labels_in-names own_name j own [] ∙ ap (λ xs. onto xs []) (labels_of_declared_names-own j own)))
-      ∙ (ap are_distinct (sym (onto-append own (block_names b) [])) ∙ (distinct-onto (own ++ block_names b) [] ∙ (ap are_distinct (append-nil (own ++ block_names b)) ∙ onces.0))) in
+      ∙ ap (onto (names_declared_in_block b)) (labels_in-names own_name j own [] ∙ ap (λ xs. onto xs []) (labels_of_declared_names-own j own)))
+      ∙ (ap are_distinct (sym (onto-append own (names_declared_in_block b) [])) ∙ (distinct-onto (own ++ names_declared_in_block b) [] ∙ (ap are_distinct (append-nil (own ++ names_declared_in_block b)) ∙ onces.0))) in
       let b' : Tree Name block = relabel_block naming_by_spelling ren scope k b in
       let own' : List Name = labels_of_declared_names ren j own in
-      let listed_once : are_distinct (own' ++ block_names b') ≡ true =
-      sym (ap are_distinct (labels_in-block naming_by_spelling ren scope k b (declare_names j own []) ∙ ap (onto (block_names b')) (labels_in-names ren j own []))
-      ∙ (ap are_distinct (sym (onto-append own' (block_names b') [])) ∙ (distinct-onto (own' ++ block_names b') [] ∙ ap are_distinct (append-nil (own' ++ block_names b')))))
+      let listed_once : are_distinct (own' ++ names_declared_in_block b') ≡ true =
+      sym (ap are_distinct (labels_in-block naming_by_spelling ren scope k b (declare_names j own []) ∙ ap (onto (names_declared_in_block b')) (labels_in-names ren j own []))
+      ∙ (ap are_distinct (sym (onto-append own' (names_declared_in_block b') [])) ∙ (distinct-onto (own' ++ names_declared_in_block b') [] ∙ ap are_distinct (append-nil (own' ++ names_declared_in_block b')))))
       ∙ distinct-renamed d (ordinal_after_block k b) new mine (falls-block k b (declare_names j own []) (falls-names j own [] tt)) frees.0 in_scope in
-      and_from (are_distinct (own' ++ block_names b')) _ listed_once
+      and_from (are_distinct (own' ++ names_declared_in_block b')) _ listed_once
       (and_from _ _ (ap types_have_distinct_fields (types-section naming_by_spelling ren (scope_before_types k b scope) (first_type_ordinal k b) ts) ∙ (types_have_distinct_fields-renamed d new (scope_before_types k b scope) (first_type_ordinal k b) (section_types ts) ∙ onces₁.0))
       (and_from _ _ (ap variables_have_distinct_fields (variables-section naming_by_spelling ren (scope_before_variables k b scope) (first_variable_ordinal k b) vs) ∙ (variables_have_distinct_fields-renamed d new (scope_before_variables k b scope) (first_variable_ordinal k b) (section_variables vs) ∙ onces₂.0))
-      (procedures_have_consistent_names-renamed d new (first_procedure_ordinal k b) (scope_before_procedures k b scope) ps frees.1 onces₂.1)))
+      (procedure_list_has_consistent_names-renamed d new (first_procedure_ordinal k b) (scope_before_procedures k b scope) ps frees.1 onces₂.1)))
 
-  pub procedures_have_consistent_names-renamed : (d : ℕ) (new : Name) (k : ℕ) (scope : Scope Name) (ps : Tree Name (items procedure))
-      → list_any (Clashes d new) (scopes_in_procedures k ps) ≡ false → procedures_have_consistent_names ps ≡ true → procedures_have_consistent_names (relabel_procedures naming_by_spelling (new_name d new) scope k ps) ≡ true
-  procedures_have_consistent_names-renamed d new k scope end free once = refl
-  procedures_have_consistent_names-renamed d new k scope (more p rest) free once =
-      let frees = or_parts (list_any (Clashes d new) (scopes_in_procedure (suc k) p)) (list_any (Clashes d new) (scopes_in_procedures (ordinal_after_procedure (suc k) p) rest))
-      (sym (list_any-append (Clashes d new) (scopes_in_procedure (suc k) p) (scopes_in_procedures (ordinal_after_procedure (suc k) p) rest)) ∙ free) in
-      let onces = and_parts (procedure_has_consistent_names p) (procedures_have_consistent_names rest) once in
+  pub procedure_list_has_consistent_names-renamed : (d : ℕ) (new : Name) (k : ℕ) (scope : Scope Name) (ps : Tree Name (items procedure))
+      → list_any (Clashes d new) (scopes_in_procedure_list k ps) ≡ false → procedure_list_has_consistent_names ps ≡ true → procedure_list_has_consistent_names (relabel_procedure_list naming_by_spelling (new_name d new) scope k ps) ≡ true
+  procedure_list_has_consistent_names-renamed d new k scope end free once = refl
+  procedure_list_has_consistent_names-renamed d new k scope (more p rest) free once =
+      let frees = or_parts (list_any (Clashes d new) (scopes_in_procedure (suc k) p)) (list_any (Clashes d new) (scopes_in_procedure_list (ordinal_after_procedure (suc k) p) rest))
+      (sym (list_any-append (Clashes d new) (scopes_in_procedure (suc k) p) (scopes_in_procedure_list (ordinal_after_procedure (suc k) p) rest)) ∙ free) in
+      let onces = and_parts (procedure_has_consistent_names p) (procedure_list_has_consistent_names rest) once in
       and_from _ _ (procedure_has_consistent_names-renamed d new k scope p frees.0 onces.0)
-      (procedures_have_consistent_names-renamed d new (ordinal_after_procedure (suc k) p) ((procedure_name p, k) ∷ scope) rest frees.1 onces.1)
+      (procedure_list_has_consistent_names-renamed d new (ordinal_after_procedure (suc k) p) ((procedure_name p, k) ∷ scope) rest frees.1 onces.1)
 
   pub procedure_has_consistent_names-renamed : (d : ℕ) (new : Name) (k : ℕ) (scope : Scope Name) (p : Tree Name (item procedure))
       → list_any (Clashes d new) (scopes_in_procedure (suc k) p) ≡ false → procedure_has_consistent_names p ≡ true → procedure_has_consistent_names (relabel_procedure naming_by_spelling (new_name d new) scope k p) ≡ true
@@ -224,6 +224,6 @@ mutual
       ∙ block_has_consistent_names-renamed d new (suc k) own inner b free onces₁.1))
 
 pub free_renaming_keeps_consistent_names-holds : FreeRenamingKeepsConsistentNames
-free_renaming_keeps_consistent_names-holds (is_module x b closing) d new free once =
+free_renaming_keeps_consistent_names-holds (forms_module x b closing) d new free once =
     let onces = and_parts (same_name x closing) (block_has_consistent_names [] b) once in
     and_from _ _ onces.0 (block_has_consistent_names-renamed d new 7 [] (predeclared_scope naming_by_spelling) b free.0 onces.1)

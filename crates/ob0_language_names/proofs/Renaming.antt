@@ -1,11 +1,11 @@
 -- If every occurrence keeps its binding, the renamed module has the numbered tree of the original.
 use Rattle.std.proofs.Common.{◌≡◌, ℕ, suc, List, [], ◌∷◌, ◌++◌, if◌then◌else◌, Some, None, sym, refl, ap, ◌∙◌}
-use Rattle.ob0_tree.specs.Tree.{Sort, Tree, block, constant, constants, declares, declares_constant, declares_constants, declares_procedure, declares_type, declares_types, declares_variable, declares_variables, end, formals, further_name, further_section, forms_block, is_module, item, items, listed, maybe, module_text, more, names, no_formals, none, occurrences, one, procedure, section, some_formals, then_name, then_section, type_definition, type_definitions, value_section, variable, variable_section, variables}
-use Rattle.ob0_language_names.specs.Laws.{FreeRenamingKeepsNumbering}
+use Rattle.ob0_tree.specs.Tree.{Sort, Tree, block, constant, constants, declares, declares_constant, declares_const_section, declares_procedure, declares_type, declares_type_section, declares_variable, declares_var_section, end, formals, name_after_comma, section_after_semicolon, forms_block, forms_module, item, items, listed, maybe, module_text, more, names, no_formals, none, occurrences, one, procedure, section, some_formals, comma_then_name, semicolon_then_section, type_definition, type_definitions, value_section, variable, variable_section, variables}
+use Rattle.ob0_language_names.specs.NumberingLaws.{FreeRenamingKeepsNumbering}
 use Rattle.ob0_language_names.specs.Names.{Label, Name, Naming, naming_by_spelling, as_written, declared}
 use Rattle.ob0_language_names.specs.Occurrences.{bindings}
-use Rattle.ob0_language_names.specs.Parts.{constant_names, formal_names, formal_sections, declared_type_names, names_in_list, procedure_name, section_constants, parameter_section_names, section_types, section_variables, variable_names}
-use Rattle.ob0_language_names.specs.Scopes.{Labelling, Scope, ordinal_after_block, ordinal_after_names, ordinal_after_procedure, ordinal_after_procedures, label_from_ordinal, body_scope, declare_names, first_procedure_ordinal, first_type_ordinal, first_variable_ordinal, labels_of_declared_names, label_of, numbered, predeclared_scope, scope_before_procedures, relabel_block, relabel_constant_section, relabel_constants, relabel_formals, relabel_further_names, relabel_names, relabel_procedure, relabel_procedures, relabel_parameter_section, relabel_parameter_sections, relabel_type_section, relabel_types, relabel_uses, relabel_variable_section, relabel_variables, renamed, same_ordinal, scope_before_types, scope_before_variables}
+use Rattle.ob0_language_names.specs.BlockParts.{constant_names, formal_names, formal_sections, declared_type_names, names_in_list, procedure_name, section_constants, parameter_section_names, section_types, section_variables, variable_names}
+use Rattle.ob0_language_names.specs.Scopes.{Labelling, Scope, ordinal_after_block, ordinal_after_names, ordinal_after_procedure, ordinal_after_procedure_list, label_from_ordinal, body_scope, declare_names, first_procedure_ordinal, first_type_ordinal, first_variable_ordinal, labels_of_declared_names, label_of, numbered, predeclared_scope, scope_before_procedures, relabel_block, relabel_constant_section, relabel_constants, relabel_formals, relabel_names_after_first, relabel_names, relabel_procedure, relabel_procedure_list, relabel_parameter_section, relabel_parameter_section_list, relabel_type_section, relabel_types, relabel_uses, relabel_variable_section, relabel_variables, renamed, same_ordinal, scope_before_types, scope_before_variables}
 use Rattle.ob0_language_names.proofs.Ordinals.{ordinal_after_names-append}
 use Rattle.ob0_language_names.proofs.Peeling.{Peel, both, nothing, peel, to}
 use Rattle.ob0_language_names.proofs.Relabelled.{constants-section, formals-section, names-relabel, parameter_section_names-relabel, types-section, variables-section}
@@ -32,11 +32,11 @@ after_groups naming label scope j k (more (declares_variable ns u) gs) e =
     ∙ (after_groups naming label (declare_names k (names_in_list ns) scope) (ordinal_after_names j (labels_of_declared_names label k (names_in_list ns))) (ordinal_after_names k (names_in_list ns)) gs (ordinal_after_names-label label j k (names_in_list ns) e)
     ∙ sym (ordinal_after_names-append k (names_in_list ns) (variable_names gs))))
 
-pub after_sections : {N M : Type 0} (naming : Naming N) (label : Labelling N M) (scope : Scope N) (j k : ℕ) (fs : Tree N (items further_section)) → j ≡ k → ordinal_after_names j (formal_names (relabel_parameter_sections naming label scope k fs)) ≡ ordinal_after_names k (formal_names fs)
+pub after_sections : {N M : Type 0} (naming : Naming N) (label : Labelling N M) (scope : Scope N) (j k : ℕ) (fs : Tree N (items section_after_semicolon)) → j ≡ k → ordinal_after_names j (formal_names (relabel_parameter_section_list naming label scope k fs)) ≡ ordinal_after_names k (formal_names fs)
 after_sections naming label scope j k end e = e
-after_sections naming label scope j k (more (then_section f) fs) e =
-    ap (λ xs. ordinal_after_names j (xs ++ formal_names (relabel_parameter_sections naming label (declare_names k (parameter_section_names f) scope) (ordinal_after_names k (parameter_section_names f)) fs))) (parameter_section_names-relabel naming label scope k f)
-    ∙ (ordinal_after_names-append j (labels_of_declared_names label k (parameter_section_names f)) (formal_names (relabel_parameter_sections naming label (declare_names k (parameter_section_names f) scope) (ordinal_after_names k (parameter_section_names f)) fs))
+after_sections naming label scope j k (more (semicolon_then_section f) fs) e =
+    ap (λ xs. ordinal_after_names j (xs ++ formal_names (relabel_parameter_section_list naming label (declare_names k (parameter_section_names f) scope) (ordinal_after_names k (parameter_section_names f)) fs))) (parameter_section_names-relabel naming label scope k f)
+    ∙ (ordinal_after_names-append j (labels_of_declared_names label k (parameter_section_names f)) (formal_names (relabel_parameter_section_list naming label (declare_names k (parameter_section_names f) scope) (ordinal_after_names k (parameter_section_names f)) fs))
     ∙ (after_sections naming label (declare_names k (parameter_section_names f) scope) (ordinal_after_names j (labels_of_declared_names label k (parameter_section_names f))) (ordinal_after_names k (parameter_section_names f)) fs (ordinal_after_names-label label j k (parameter_section_names f) e)
     ∙ sym (ordinal_after_names-append k (parameter_section_names f) (formal_names fs))))
 
@@ -57,13 +57,13 @@ first_procedure_ordinal-relabel naming label scope j k (forms_block (declares cs
 mutual
   pub ordinal_after_block-relabel : {N M : Type 0} (naming : Naming N) (label : Labelling N M) (scope : Scope N) (j k : ℕ) (b : Tree N block) → j ≡ k → ordinal_after_block j (relabel_block naming label scope k b) ≡ ordinal_after_block k b
   ordinal_after_block-relabel naming label scope j k (forms_block (declares cs ts vs ps) statements) e =
-      ordinal_after_procedures-relabel naming label (scope_before_procedures k (forms_block (declares cs ts vs ps) statements) scope) (first_procedure_ordinal j (relabel_block naming label scope k (forms_block (declares cs ts vs ps) statements))) (first_procedure_ordinal k (forms_block (declares cs ts vs ps) statements)) ps
+      ordinal_after_procedure_list-relabel naming label (scope_before_procedures k (forms_block (declares cs ts vs ps) statements) scope) (first_procedure_ordinal j (relabel_block naming label scope k (forms_block (declares cs ts vs ps) statements))) (first_procedure_ordinal k (forms_block (declares cs ts vs ps) statements)) ps
       (first_procedure_ordinal-relabel naming label scope j k (forms_block (declares cs ts vs ps) statements) e)
 
-  pub ordinal_after_procedures-relabel : {N M : Type 0} (naming : Naming N) (label : Labelling N M) (scope : Scope N) (j k : ℕ) (ps : Tree N (items procedure)) → j ≡ k → ordinal_after_procedures j (relabel_procedures naming label scope k ps) ≡ ordinal_after_procedures k ps
-  ordinal_after_procedures-relabel naming label scope j k end e = e
-  ordinal_after_procedures-relabel naming label scope j k (more p rest) e =
-      ordinal_after_procedures-relabel naming label ((procedure_name p, k) ∷ scope) (ordinal_after_procedure (suc j) (relabel_procedure naming label scope k p)) (ordinal_after_procedure (suc k) p) rest
+  pub ordinal_after_procedure_list-relabel : {N M : Type 0} (naming : Naming N) (label : Labelling N M) (scope : Scope N) (j k : ℕ) (ps : Tree N (items procedure)) → j ≡ k → ordinal_after_procedure_list j (relabel_procedure_list naming label scope k ps) ≡ ordinal_after_procedure_list k ps
+  ordinal_after_procedure_list-relabel naming label scope j k end e = e
+  ordinal_after_procedure_list-relabel naming label scope j k (more p rest) e =
+      ordinal_after_procedure_list-relabel naming label ((procedure_name p, k) ∷ scope) (ordinal_after_procedure (suc j) (relabel_procedure naming label scope k p)) (ordinal_after_procedure (suc k) p) rest
       (ordinal_after_procedure-relabel naming label scope j k p e)
 
   pub ordinal_after_procedure-relabel : {N M : Type 0} (naming : Naming N) (label : Labelling N M) (scope : Scope N) (j k : ℕ) (p : Tree N (item procedure)) → j ≡ k → ordinal_after_procedure (suc j) (relabel_procedure naming label scope k p) ≡ ordinal_after_procedure (suc k) p
@@ -74,12 +74,12 @@ mutual
 -- Relabelling declarations twice is numbering them. `ren` relabels names and leaves unbound names unchanged. `here` is
 -- a scope of the original tree, and `there` the same scope of the relabelled tree.
 
-pub further_names-twice : {N : Type 0} (naming : Naming N) (ren : Labelling N N) (j k : ℕ) → j ≡ k → (xs : Tree N (items further_name)) → relabel_further_names (label_from_ordinal naming) j (relabel_further_names ren k xs) ≡ relabel_further_names (label_from_ordinal naming) k xs
-further_names-twice naming ren j k e end = refl
-further_names-twice naming ren j k e (more (then_name x) xs) = λ i. more (then_name (declared (e i))) (further_names-twice naming ren (suc j) (suc k) (ap suc e) xs i)
+pub names_after_first-twice : {N : Type 0} (naming : Naming N) (ren : Labelling N N) (j k : ℕ) → j ≡ k → (xs : Tree N (items name_after_comma)) → relabel_names_after_first (label_from_ordinal naming) j (relabel_names_after_first ren k xs) ≡ relabel_names_after_first (label_from_ordinal naming) k xs
+names_after_first-twice naming ren j k e end = refl
+names_after_first-twice naming ren j k e (more (comma_then_name x) xs) = λ i. more (comma_then_name (declared (e i))) (names_after_first-twice naming ren (suc j) (suc k) (ap suc e) xs i)
 
 pub names-twice : {N : Type 0} (naming : Naming N) (ren : Labelling N N) (j k : ℕ) → j ≡ k → (ns : Tree N names) → relabel_names (label_from_ordinal naming) j (relabel_names ren k ns) ≡ relabel_names (label_from_ordinal naming) k ns
-names-twice naming ren j k e (listed x xs) = λ i. listed (declared (e i)) (further_names-twice naming ren (suc j) (suc k) (ap suc e) xs i)
+names-twice naming ren j k e (listed x xs) = λ i. listed (declared (e i)) (names_after_first-twice naming ren (suc j) (suc k) (ap suc e) xs i)
 
 abbrev pub LeavesUnbound : {N : Type 0} → Labelling N N → Type 0
 LeavesUnbound {N} ren = (x : N) → ren None x ≡ x
@@ -127,14 +127,14 @@ peel_section naming ren keeps there here j k jk (variable_section ns t) = to (pe
 pub after_section : {N : Type 0} (naming : Naming N) (ren : Labelling N N) (here : Scope N) (j k : ℕ) → j ≡ k → (s : Tree N section) → ordinal_after_names j (parameter_section_names (relabel_parameter_section naming ren here k s)) ≡ ordinal_after_names k (parameter_section_names s)
 after_section naming ren here j k jk s = ap (ordinal_after_names j) (parameter_section_names-relabel naming ren here k s) ∙ ordinal_after_names-label ren j k (parameter_section_names s) jk
 
-pub peel_sections : {N : Type 0} (naming : Naming N) (ren : Labelling N N) → LeavesUnbound ren → (there here : Scope N) (j k : ℕ) → j ≡ k → (fs : Tree N (items further_section))
-    → Peel Label (occurrences (relabel_parameter_sections naming (label_from_ordinal naming) there j (relabel_parameter_sections naming ren here k fs))) (occurrences (relabel_parameter_sections naming (label_from_ordinal naming) here k fs))
-    (relabel_parameter_sections naming (label_from_ordinal naming) there j (relabel_parameter_sections naming ren here k fs) ≡ relabel_parameter_sections naming (label_from_ordinal naming) here k fs)
+pub peel_sections : {N : Type 0} (naming : Naming N) (ren : Labelling N N) → LeavesUnbound ren → (there here : Scope N) (j k : ℕ) → j ≡ k → (fs : Tree N (items section_after_semicolon))
+    → Peel Label (occurrences (relabel_parameter_section_list naming (label_from_ordinal naming) there j (relabel_parameter_section_list naming ren here k fs))) (occurrences (relabel_parameter_section_list naming (label_from_ordinal naming) here k fs))
+    (relabel_parameter_section_list naming (label_from_ordinal naming) there j (relabel_parameter_section_list naming ren here k fs) ≡ relabel_parameter_section_list naming (label_from_ordinal naming) here k fs)
 peel_sections naming ren keeps there here j k jk end = nothing refl
-peel_sections naming ren keeps there here j k jk (more (then_section s) fs) =
+peel_sections naming ren keeps there here j k jk (more (semicolon_then_section s) fs) =
     to (both (peel_section naming ren keeps there here j k jk s)
     (peel_sections naming ren keeps (declare_names j (parameter_section_names (relabel_parameter_section naming ren here k s)) there) (declare_names k (parameter_section_names s) here) (ordinal_after_names j (parameter_section_names (relabel_parameter_section naming ren here k s))) (ordinal_after_names k (parameter_section_names s)) (after_section naming ren here j k jk s) fs))
-    (λ p i. more (then_section (p.first i)) (p.second i))
+    (λ p i. more (semicolon_then_section (p.first i)) (p.second i))
 
 pub peel_formals : {N : Type 0} (naming : Naming N) (ren : Labelling N N) → LeavesUnbound ren → (there here : Scope N) (j k : ℕ) → j ≡ k → (fs : Tree N (maybe formals))
     → Peel Label (occurrences (relabel_formals naming (label_from_ordinal naming) there j (relabel_formals naming ren here k fs))) (occurrences (relabel_formals naming (label_from_ordinal naming) here k fs))
@@ -150,19 +150,19 @@ pub peel_constant_section : {N : Type 0} (naming : Naming N) (ren : Labelling N 
     → Peel Label (occurrences (relabel_constant_section naming (label_from_ordinal naming) there j (relabel_constant_section naming ren here k cs))) (occurrences (relabel_constant_section naming (label_from_ordinal naming) here k cs))
     (relabel_constant_section naming (label_from_ordinal naming) there j (relabel_constant_section naming ren here k cs) ≡ relabel_constant_section naming (label_from_ordinal naming) here k cs)
 peel_constant_section naming ren keeps there here j k jk none = nothing refl
-peel_constant_section naming ren keeps there here j k jk (one (declares_constants cs)) = to (peel_constants naming ren keeps there here j k jk cs) (λ p i. one (declares_constants (p i)))
+peel_constant_section naming ren keeps there here j k jk (one (declares_const_section cs)) = to (peel_constants naming ren keeps there here j k jk cs) (λ p i. one (declares_const_section (p i)))
 
 pub peel_type_section : {N : Type 0} (naming : Naming N) (ren : Labelling N N) → LeavesUnbound ren → (there here : Scope N) (j k : ℕ) → j ≡ k → (ts : Tree N (maybe type_definitions))
     → Peel Label (occurrences (relabel_type_section naming (label_from_ordinal naming) there j (relabel_type_section naming ren here k ts))) (occurrences (relabel_type_section naming (label_from_ordinal naming) here k ts))
     (relabel_type_section naming (label_from_ordinal naming) there j (relabel_type_section naming ren here k ts) ≡ relabel_type_section naming (label_from_ordinal naming) here k ts)
 peel_type_section naming ren keeps there here j k jk none = nothing refl
-peel_type_section naming ren keeps there here j k jk (one (declares_types ts)) = to (peel_types naming ren keeps there here j k jk ts) (λ p i. one (declares_types (p i)))
+peel_type_section naming ren keeps there here j k jk (one (declares_type_section ts)) = to (peel_types naming ren keeps there here j k jk ts) (λ p i. one (declares_type_section (p i)))
 
 pub peel_variable_section : {N : Type 0} (naming : Naming N) (ren : Labelling N N) → LeavesUnbound ren → (there here : Scope N) (j k : ℕ) → j ≡ k → (vs : Tree N (maybe variables))
     → Peel Label (occurrences (relabel_variable_section naming (label_from_ordinal naming) there j (relabel_variable_section naming ren here k vs))) (occurrences (relabel_variable_section naming (label_from_ordinal naming) here k vs))
     (relabel_variable_section naming (label_from_ordinal naming) there j (relabel_variable_section naming ren here k vs) ≡ relabel_variable_section naming (label_from_ordinal naming) here k vs)
 peel_variable_section naming ren keeps there here j k jk none = nothing refl
-peel_variable_section naming ren keeps there here j k jk (one (declares_variables vs)) = to (peel_variables naming ren keeps there here j k jk vs) (λ p i. one (declares_variables (p i)))
+peel_variable_section naming ren keeps there here j k jk (one (declares_var_section vs)) = to (peel_variables naming ren keeps there here j k jk vs) (λ p i. one (declares_var_section (p i)))
 
 mutual
   pub peel_block : {N : Type 0} (naming : Naming N) (ren : Labelling N N) → LeavesUnbound ren → (there here : Scope N) (j k : ℕ) → j ≡ k → (b : Tree N block)
@@ -180,8 +180,8 @@ mutual
       (λ p i. forms_block (declares (p.first.first i) (p.first.second.first i) (p.first.second.second.first i) (p.first.second.second.second i)) (p.second i))
 
   pub peel_procedures : {N : Type 0} (naming : Naming N) (ren : Labelling N N) → LeavesUnbound ren → (there here : Scope N) (j k : ℕ) → j ≡ k → (ps : Tree N (items procedure))
-      → Peel Label (occurrences (relabel_procedures naming (label_from_ordinal naming) there j (relabel_procedures naming ren here k ps))) (occurrences (relabel_procedures naming (label_from_ordinal naming) here k ps))
-      (relabel_procedures naming (label_from_ordinal naming) there j (relabel_procedures naming ren here k ps) ≡ relabel_procedures naming (label_from_ordinal naming) here k ps)
+      → Peel Label (occurrences (relabel_procedure_list naming (label_from_ordinal naming) there j (relabel_procedure_list naming ren here k ps))) (occurrences (relabel_procedure_list naming (label_from_ordinal naming) here k ps))
+      (relabel_procedure_list naming (label_from_ordinal naming) there j (relabel_procedure_list naming ren here k ps) ≡ relabel_procedure_list naming (label_from_ordinal naming) here k ps)
   peel_procedures naming ren keeps there here j k jk end = nothing refl
   peel_procedures {N} naming ren keeps there here j k jk (more p rest) =
       let p' : Tree N (item procedure) = relabel_procedure naming ren here k p in
@@ -204,10 +204,10 @@ mutual
 
 -- A renaming that leaves each binding unchanged leaves the numbered tree unchanged.
 pub renamed-numbered : (m : Tree Name module_text) (d : ℕ) (new : Name) → bindings (renamed m d new) ≡ bindings m → numbered (renamed m d new) ≡ numbered m
-renamed-numbered (is_module x b closing) d new e =
+renamed-numbered (forms_module x b closing) d new e =
     let ren : Labelling Name Name = λ ordinal x. if same_ordinal ordinal d then new else x in
     let p = (peel_block naming_by_spelling ren (λ x. refl) (predeclared_scope naming_by_spelling) (predeclared_scope naming_by_spelling) 7 7 refl b).peeled [] [] (ap (λ l. l ++ []) e) in
-    λ i. is_module (as_written x) (p.0 i) (as_written closing)
+    λ i. forms_module (as_written x) (p.0 i) (as_written closing)
 
 pub free_renaming_keeps_numbering-holds : FreeRenamingKeepsNumbering
 free_renaming_keeps_numbering-holds m d new free = renamed-numbered m d new free.1

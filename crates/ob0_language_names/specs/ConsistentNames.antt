@@ -2,9 +2,9 @@
 -- the name of its module or procedure.
 -- Rule: docs/LANGUAGE.md, Scopes 5 to 7.
 use Rattle.std.specs.Prelude.{Bool, true, false, not, ◌&&◌, ◌||◌, List, [], ◌∷◌, ◌++◌}
-use Rattle.ob0_tree.specs.Tree.{Tree, array_type, block, declares, declares_procedure, declares_type, declares_variable, end, fields, further_fields, further_section, forms_block, is_module, item, items, module_text, more, named_type, no_fields, procedure, record_type, some_fields, then_fields, then_section, type_definition, variable, written_type}
+use Rattle.ob0_tree.specs.Tree.{Tree, array_type, block, declares, declares_procedure, declares_type, declares_variable, end, fields, fields_after_semicolon, section_after_semicolon, forms_block, forms_module, item, items, module_text, more, named_type, no_fields, procedure, record_type, some_fields, semicolon_then_fields, semicolon_then_section, type_definition, variable, written_type}
 use Rattle.ob0_language_names.specs.Names.{Name, same_name}
-use Rattle.ob0_language_names.specs.Parts.{block_constants, block_procedures, block_types, block_variables, constant_names, formal_names, formal_sections, declared_type_names, names_in_list, procedure_name, parameter_section_type, section_types, section_variables, variable_names}
+use Rattle.ob0_language_names.specs.BlockParts.{block_constants, block_procedures, block_types, block_variables, constant_names, formal_names, formal_sections, declared_type_names, names_in_list, procedure_name, parameter_section_type, section_types, section_variables, variable_names}
 
 -- returns whether a name is in a list
 abbrev pub is_among : Name → List Name → Bool
@@ -22,9 +22,9 @@ group_field_names no_fields = []
 group_field_names (some_fields ns t) = names_in_list ns
 
 -- returns the names of the fields in the groups of a record after its first group
-abbrev pub further_field_names : {N : Type 0} → Tree N (items further_fields) → List N
-further_field_names end = []
-further_field_names (more (then_fields g) rest) = group_field_names g ++ further_field_names rest
+abbrev pub field_names_after_first_group : {N : Type 0} → Tree N (items fields_after_semicolon) → List N
+field_names_after_first_group end = []
+field_names_after_first_group (more (semicolon_then_fields g) rest) = group_field_names g ++ field_names_after_first_group rest
 
 -- Returns whether no record in a written type declares a field twice.
 abbrev mutual
@@ -34,7 +34,7 @@ abbrev mutual
   has_distinct_fields (named_type x) = true
   has_distinct_fields (array_type e t) = has_distinct_fields t
   has_distinct_fields (record_type g rest) =
-      are_distinct (group_field_names g ++ further_field_names rest) && (group_has_distinct_fields g && groups_have_distinct_fields rest)
+      are_distinct (group_field_names g ++ field_names_after_first_group rest) && (group_has_distinct_fields g && later_groups_have_distinct_fields rest)
 
   -- returns whether no record in the type of a group of fields declares a field twice
   pub group_has_distinct_fields : Tree Name fields → Bool
@@ -43,9 +43,9 @@ abbrev mutual
 
   -- returns whether no record in the types of the groups after the first group declares a field
   -- twice
-  pub groups_have_distinct_fields : Tree Name (items further_fields) → Bool
-  groups_have_distinct_fields end = true
-  groups_have_distinct_fields (more (then_fields g) rest) = group_has_distinct_fields g && groups_have_distinct_fields rest
+  pub later_groups_have_distinct_fields : Tree Name (items fields_after_semicolon) → Bool
+  later_groups_have_distinct_fields end = true
+  later_groups_have_distinct_fields (more (semicolon_then_fields g) rest) = group_has_distinct_fields g && later_groups_have_distinct_fields rest
 
 -- returns the names of a block's procedures
 abbrev pub procedure_names : {N : Type 0} → Tree N (items procedure) → List N
@@ -53,8 +53,8 @@ procedure_names end = []
 procedure_names (more p rest) = procedure_name p ∷ procedure_names rest
 
 -- returns the names that a block declares: its constants, types, variables and procedures
-abbrev pub block_names : {N : Type 0} → Tree N block → List N
-block_names b =
+abbrev pub names_declared_in_block : {N : Type 0} → Tree N block → List N
+names_declared_in_block b =
     constant_names (block_constants b)
     ++ (declared_type_names (block_types b)
     ++ (variable_names (block_variables b) ++ procedure_names (block_procedures b)))
@@ -70,9 +70,9 @@ variables_have_distinct_fields end = true
 variables_have_distinct_fields (more (declares_variable ns t) gs) = has_distinct_fields t && variables_have_distinct_fields gs
 
 -- returns whether no record in the types of parameters declares a field twice
-abbrev pub formals_have_distinct_fields : Tree Name (items further_section) → Bool
+abbrev pub formals_have_distinct_fields : Tree Name (items section_after_semicolon) → Bool
 formals_have_distinct_fields end = true
-formals_have_distinct_fields (more (then_section s) fs) = has_distinct_fields (parameter_section_type s) && formals_have_distinct_fields fs
+formals_have_distinct_fields (more (semicolon_then_section s) fs) = has_distinct_fields (parameter_section_type s) && formals_have_distinct_fields fs
 
 -- Returns whether no block declares a name twice, no record declares a field twice, and each
 -- procedure's closing name equals the procedure's name. A procedure's parameters and locals count
@@ -83,15 +83,15 @@ abbrev mutual
   -- parameters if this is a procedure's block. These names count as the block's names.
   pub block_has_consistent_names : List Name → Tree Name block → Bool
   block_has_consistent_names own (forms_block (declares cs ts vs ps) statements) =
-      are_distinct (own ++ block_names (forms_block (declares cs ts vs ps) statements))
+      are_distinct (own ++ names_declared_in_block (forms_block (declares cs ts vs ps) statements))
       && (types_have_distinct_fields (section_types ts)
-      && (variables_have_distinct_fields (section_variables vs) && procedures_have_consistent_names ps))
+      && (variables_have_distinct_fields (section_variables vs) && procedure_list_has_consistent_names ps))
 
   -- returns whether each procedure has the right closing name and declares no name twice in a block
   -- or record
-  pub procedures_have_consistent_names : Tree Name (items procedure) → Bool
-  procedures_have_consistent_names end = true
-  procedures_have_consistent_names (more p rest) = procedure_has_consistent_names p && procedures_have_consistent_names rest
+  pub procedure_list_has_consistent_names : Tree Name (items procedure) → Bool
+  procedure_list_has_consistent_names end = true
+  procedure_list_has_consistent_names (more p rest) = procedure_has_consistent_names p && procedure_list_has_consistent_names rest
 
   -- returns whether a procedure has the right closing name and declares no name twice in a block or
   -- record
@@ -103,4 +103,4 @@ abbrev mutual
 -- returns whether a module declares no name twice in a block or record, and each closing name
 -- equals the name of its module or procedure
 abbrev pub has_consistent_names : Tree Name module_text → Bool
-has_consistent_names (is_module x b closing) = same_name x closing && block_has_consistent_names [] b
+has_consistent_names (forms_module x b closing) = same_name x closing && block_has_consistent_names [] b

@@ -1,10 +1,10 @@
 -- Inlining a constant: a factor replaces uses of the constant, and the constant's declaration may be removed.
 -- Rule: docs/PROTOCOL.md, Requests on documents 9.
 use Rattle.std.specs.Prelude.{ℕ, suc, ◌+◌, Bool, length, if◌then◌else◌, ◌==◌}
-use Rattle.ob0_tree.specs.Tree.{Sort, Tree, adds, array_type, assigns, begins, block, branches, calls, compares, constant, constants, declares, declares_constant, declares_constants, declares_procedure, declares_type, declares_types, declares_variable, declares_variables, designator, else_branch, elsif_branch, empty, end, factor, field, forms_block, index, integer, is_module, item, items, listed, maybe, module_text, more, multiplies, named_type, negation, no_arguments, no_fields, no_formals, none, occurrences, one, parenthesised, procedure, product, record_type, relates, repeat_loop, runs, some_arguments, some_fields, some_formals, sum, then_argument, then_fields, then_name, then_section, then_statement, value_section, variable_section, while_loop}
+use Rattle.ob0_tree.specs.Tree.{Sort, Tree, adds, array_type, assigns, begins, block, branches, calls, compares, constant, constants, declares, declares_constant, declares_const_section, declares_procedure, declares_type, declares_type_section, declares_variable, declares_var_section, designator, else_branch, elsif_branch, empty, end, factor, field, forms_block, index, integer, forms_module, item, items, listed, maybe, module_text, more, multiplies, named_type, negation, no_arguments, no_fields, no_formals, none, occurrences, one, parenthesised, procedure, product, record_type, relates, repeat_loop, runs, some_arguments, some_fields, some_formals, sum, comma_then_argument, semicolon_then_fields, comma_then_name, semicolon_then_section, semicolon_then_statement, value_section, variable_section, while_loop}
 use Rattle.ob0_language_names.specs.Names.{Name}
 use Rattle.ob0_language_names.specs.Occurrences.{ordinal_bound_at}
-use Rattle.ob0_language_names.specs.Parts.{formal_names, formal_sections}
+use Rattle.ob0_language_names.specs.BlockParts.{formal_names, formal_sections}
 use Rattle.ob0_language_names.specs.Scopes.{ordinal_after_names, ordinal_after_procedure, first_procedure_ordinal, predeclared_count, same_ordinal}
 
 -- a set of occurrences: a function that returns true for the number of each occurrence in the set; occurrences are
@@ -58,16 +58,16 @@ inline_in_tree uses v k (repeat_loop s condition) =
 inline_in_tree uses v k no_arguments = no_arguments
 inline_in_tree uses v k (some_arguments e es) =
     some_arguments (inline_in_tree uses v k e) (inline_in_tree uses v (k + length (occurrences e)) es)
-inline_in_tree uses v k (then_argument e) = then_argument (inline_in_tree uses v k e)
+inline_in_tree uses v k (comma_then_argument e) = comma_then_argument (inline_in_tree uses v k e)
 inline_in_tree uses v k (runs first statements) =
     runs (inline_in_tree uses v k first) (inline_in_tree uses v (k + length (occurrences first)) statements)
-inline_in_tree uses v k (then_statement s) = then_statement (inline_in_tree uses v k s)
+inline_in_tree uses v k (semicolon_then_statement s) = semicolon_then_statement (inline_in_tree uses v k s)
 inline_in_tree uses v k (elsif_branch condition s) =
     elsif_branch (inline_in_tree uses v k condition)
     (inline_in_tree uses v (k + length (occurrences condition)) s)
 inline_in_tree uses v k (else_branch s) = else_branch (inline_in_tree uses v k s)
 inline_in_tree uses v k (listed name others) = listed name (inline_in_tree uses v k others)
-inline_in_tree uses v k (then_name name) = then_name name
+inline_in_tree uses v k (comma_then_name name) = comma_then_name name
 inline_in_tree uses v k (named_type name) = named_type name
 inline_in_tree uses v k (array_type size t) =
     array_type (inline_in_tree uses v k size) (inline_in_tree uses v (k + length (occurrences size)) t)
@@ -76,20 +76,20 @@ inline_in_tree uses v k (record_type first others) =
     (inline_in_tree uses v (k + length (occurrences first)) others)
 inline_in_tree uses v k no_fields = no_fields
 inline_in_tree uses v k (some_fields ns t) = some_fields ns (inline_in_tree uses v k t)
-inline_in_tree uses v k (then_fields fs) = then_fields (inline_in_tree uses v k fs)
+inline_in_tree uses v k (semicolon_then_fields fs) = semicolon_then_fields (inline_in_tree uses v k fs)
 inline_in_tree uses v k no_formals = no_formals
 inline_in_tree uses v k (some_formals first others) =
     some_formals (inline_in_tree uses v k first)
     (inline_in_tree uses v (k + length (occurrences first)) others)
 inline_in_tree uses v k (value_section ns t) = value_section ns (inline_in_tree uses v k t)
 inline_in_tree uses v k (variable_section ns t) = variable_section ns (inline_in_tree uses v k t)
-inline_in_tree uses v k (then_section s) = then_section (inline_in_tree uses v k s)
+inline_in_tree uses v k (semicolon_then_section s) = semicolon_then_section (inline_in_tree uses v k s)
 inline_in_tree uses v k (declares_constant name e) = declares_constant name (inline_in_tree uses v k e)
-inline_in_tree uses v k (declares_constants cs) = declares_constants (inline_in_tree uses v k cs)
+inline_in_tree uses v k (declares_const_section cs) = declares_const_section (inline_in_tree uses v k cs)
 inline_in_tree uses v k (declares_type name t) = declares_type name (inline_in_tree uses v k t)
-inline_in_tree uses v k (declares_types ts) = declares_types (inline_in_tree uses v k ts)
+inline_in_tree uses v k (declares_type_section ts) = declares_type_section (inline_in_tree uses v k ts)
 inline_in_tree uses v k (declares_variable ns t) = declares_variable ns (inline_in_tree uses v k t)
-inline_in_tree uses v k (declares_variables vs) = declares_variables (inline_in_tree uses v k vs)
+inline_in_tree uses v k (declares_var_section vs) = declares_var_section (inline_in_tree uses v k vs)
 inline_in_tree uses v k (declares_procedure name fs b closing) =
     declares_procedure name (inline_in_tree uses v k fs)
     (inline_in_tree uses v (k + length (occurrences fs)) b) closing
@@ -101,7 +101,7 @@ inline_in_tree uses v k (declares cs ts vs ps) =
 inline_in_tree uses v k (begins s) = begins (inline_in_tree uses v k s)
 inline_in_tree uses v k (forms_block ds b) =
     forms_block (inline_in_tree uses v k ds) (inline_in_tree uses v (k + length (occurrences ds)) b)
-inline_in_tree uses v k (is_module name b closing) = is_module name (inline_in_tree uses v k b) closing
+inline_in_tree uses v k (forms_module name b closing) = forms_module name (inline_in_tree uses v k b) closing
 
 -- returns the module in which the factor `v` replaces each occurrence in the set `uses` that is a
 -- whole factor
@@ -117,21 +117,21 @@ constants_without_ordinal d k (more c cs) = if k == d then cs else more c (const
 -- returns a CONST section without the constant with ordinal `d`; `k` is the ordinal of the section's first constant
 abbrev pub section_without_constant : ℕ → ℕ → Tree Name (maybe constants) → Tree Name (maybe constants)
 section_without_constant d k none = none
-section_without_constant d k (one (declares_constants cs)) = one (declares_constants (constants_without_ordinal d k cs))
+section_without_constant d k (one (declares_const_section cs)) = one (declares_const_section (constants_without_ordinal d k cs))
 
 -- Returns a block without the constant with ordinal `d`. The word CONST remains even if no constant is left.
 abbrev mutual
   -- returns a block without the constant with ordinal `d`; the block's first declaration has ordinal `k`
   pub block_without_constant : ℕ → ℕ → Tree Name block → Tree Name block
   block_without_constant d k (forms_block (declares cs ts vs ps) statements) =
-      forms_block (declares (section_without_constant d k cs) ts vs (procedures_without_constant d
+      forms_block (declares (section_without_constant d k cs) ts vs (procedure_list_without_constant d
       (first_procedure_ordinal k (forms_block (declares cs ts vs ps) statements)) ps)) statements
 
   -- returns procedures without the constant with ordinal `d`; the first procedure has ordinal `k`
-  pub procedures_without_constant : ℕ → ℕ → Tree Name (items procedure) → Tree Name (items procedure)
-  procedures_without_constant d k end = end
-  procedures_without_constant d k (more p rest) =
-      more (procedure_without_constant d (suc k) p) (procedures_without_constant d (ordinal_after_procedure (suc k) p) rest)
+  pub procedure_list_without_constant : ℕ → ℕ → Tree Name (items procedure) → Tree Name (items procedure)
+  procedure_list_without_constant d k end = end
+  procedure_list_without_constant d k (more p rest) =
+      more (procedure_without_constant d (suc k) p) (procedure_list_without_constant d (ordinal_after_procedure (suc k) p) rest)
 
   -- returns a procedure without the constant with ordinal `d`; the procedure itself has ordinal `k - 1`, and its first
   -- parameter has ordinal `k`
@@ -142,7 +142,7 @@ abbrev mutual
 
 -- returns a module without the declaration of the constant with ordinal `d`
 abbrev pub module_without_constant : ℕ → Tree Name module_text → Tree Name module_text
-module_without_constant d (is_module x b closing) = is_module x (block_without_constant d predeclared_count b) closing
+module_without_constant d (forms_module x b closing) = forms_module x (block_without_constant d predeclared_count b) closing
 
 -- returns the set that contains only the occurrence with number `occurrence`
 abbrev pub single_occurrence : ℕ → OccurrenceSet

@@ -1,11 +1,11 @@
 pub mod Names
-pub mod Parts
-pub mod Mapping
+pub mod BlockParts
+pub mod MappedNames
 pub mod Scopes
 pub mod Occurrences
 pub mod ConsistentNames
 pub mod Inlining
-pub mod Laws
+pub mod NumberingLaws
 pub mod RenamingLaws
 pub mod OccurrenceLookup
 pub mod NonFactorNames

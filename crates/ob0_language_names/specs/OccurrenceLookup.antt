@@ -8,8 +8,8 @@ use Rattle.ob0_language_names.specs.Occurrences.{label_ordinal}
 use Rattle.ob0_language_names.specs.Scopes.{label_from_ordinal, relabel_module}
 
 -- the interpretation of names in which each looked-up name is treated as the name `y`
-abbrev pub naming_for_lookup_of : Name → Naming Name
-naming_for_lookup_of y = record { same = λ x. same_name y; written = λ x. x; predeclared = predeclared_name }
+abbrev pub naming_that_looks_up : Name → Naming Name
+naming_that_looks_up y = record { same = λ x. same_name y; written = λ x. x; predeclared = predeclared_name }
 
 -- Returns the ordinal of the declaration to which the name `y` would be bound if `y` replaced the
 -- name at the occurrence with number `occurrence`. Occurrences of names are numbered from 0 in text
@@ -17,10 +17,10 @@ naming_for_lookup_of y = record { same = λ x. same_name y; written = λ x. x; p
 abbrev pub resolve_name_at_occurrence : Tree Name module_text → ℕ → Name → Option ℕ
 resolve_name_at_occurrence m occurrence y =
     option_and_then label_ordinal
-    (slice_get (occurrences (relabel_module (naming_for_lookup_of y) (label_from_ordinal (naming_for_lookup_of y)) m)) occurrence)
+    (slice_get (occurrences (relabel_module (naming_that_looks_up y) (label_from_ordinal (naming_that_looks_up y)) m)) occurrence)
 
 -- returns, for each occurrence of a name in text order, the ordinal of the declaration to which the
 -- name `y` would be bound if `y` replaced the name there; None if `y` would be unbound
-abbrev pub resolve_name_at_occurrences : Tree Name module_text → Name → List (Option ℕ)
-resolve_name_at_occurrences m y =
-    map label_ordinal (occurrences (relabel_module (naming_for_lookup_of y) (label_from_ordinal (naming_for_lookup_of y)) m))
+abbrev pub resolve_name_at_each_occurrence : Tree Name module_text → Name → List (Option ℕ)
+resolve_name_at_each_occurrence m y =
+    map label_ordinal (occurrences (relabel_module (naming_that_looks_up y) (label_from_ordinal (naming_that_looks_up y)) m))

@@ -3,7 +3,7 @@
 use Rattle.std.specs.Prelude.{◌≡◌, ℕ, suc, Bool, false, not, ◌&&◌, List, [], ◌∷◌, ◌++◌, if◌then◌else◌, ◌==◌, slice_get, Some, None, Option, option_map, option_and_then}
 use Rattle.ob0_tree.specs.Tree.{Tree, block, declares, declares_procedure, end, forms_block, item, items, module_text, more, occurrences, procedure}
 use Rattle.ob0_language_names.specs.Names.{Label, Name, as_written, declared, same_label, same_name}
-use Rattle.ob0_language_names.specs.Parts.{formal_names, formal_sections, module_block}
+use Rattle.ob0_language_names.specs.BlockParts.{formal_names, formal_sections, module_block}
 use Rattle.ob0_language_names.specs.Scopes.{Scope, ordinal_after_names, ordinal_after_procedure, body_scope, declare_names, first_procedure_ordinal, numbered, predeclared_count, renamed}
 use Rattle.std.specs.List.{list_any}
 
@@ -31,13 +31,13 @@ abbrev mutual
   pub scopes_in_block : {N : Type 0} → ℕ → Scope N → Tree N block → List (Scope N)
   scopes_in_block k own (forms_block (declares cs ts vs ps) statements) =
       body_scope k (forms_block (declares cs ts vs ps) statements) own
-      ∷ scopes_in_procedures (first_procedure_ordinal k (forms_block (declares cs ts vs ps) statements)) ps
+      ∷ scopes_in_procedure_list (first_procedure_ordinal k (forms_block (declares cs ts vs ps) statements)) ps
 
   -- returns the declarations of each block in a list of procedures, the first of which has ordinal `k`
-  pub scopes_in_procedures : {N : Type 0} → ℕ → Tree N (items procedure) → List (Scope N)
-  scopes_in_procedures k end = []
-  scopes_in_procedures k (more p rest) =
-      scopes_in_procedure (suc k) p ++ scopes_in_procedures (ordinal_after_procedure (suc k) p) rest
+  pub scopes_in_procedure_list : {N : Type 0} → ℕ → Tree N (items procedure) → List (Scope N)
+  scopes_in_procedure_list k end = []
+  scopes_in_procedure_list k (more p rest) =
+      scopes_in_procedure (suc k) p ++ scopes_in_procedure_list (ordinal_after_procedure (suc k) p) rest
 
   -- returns the declarations of each block in a procedure; the procedure's name has ordinal `k - 1`, so the first
   -- declaration after it has ordinal `k`

@@ -1,10 +1,10 @@
 -- Scopes: the declaration that each name is bound to, and trees in which labels replace the names.
 -- Rule: docs/LANGUAGE.md, Scopes 1 to 6.
 use Rattle.std.specs.Prelude.{ℕ, suc, Bool, true, false, List, [], ◌∷◌, map, if◌then◌else◌, ◌==◌, Some, None, Option}
-use Rattle.ob0_tree.specs.Tree.{Sort, Tree, block, constant, constants, declares, declares_constant, declares_constants, declares_procedure, declares_type, declares_types, declares_variable, declares_variables, end, formals, further_name, further_section, forms_block, is_module, item, items, listed, maybe, module_text, more, names, no_formals, none, one, procedure, section, some_formals, then_name, then_section, type_definition, type_definitions, value_section, variable, variable_section, variables}
-use Rattle.ob0_language_names.specs.Mapping.{map_names}
+use Rattle.ob0_tree.specs.Tree.{Sort, Tree, block, constant, constants, declares, declares_constant, declares_const_section, declares_procedure, declares_type, declares_type_section, declares_variable, declares_var_section, end, formals, name_after_comma, section_after_semicolon, forms_block, forms_module, item, items, listed, maybe, module_text, more, names, no_formals, none, one, procedure, section, some_formals, comma_then_name, semicolon_then_section, type_definition, type_definitions, value_section, variable, variable_section, variables}
+use Rattle.ob0_language_names.specs.MappedNames.{map_names}
 use Rattle.ob0_language_names.specs.Names.{Label, Name, Naming, naming_by_spelling, as_written, declared}
-use Rattle.ob0_language_names.specs.Parts.{block_constants, block_procedures, block_types, block_variables, constant_names, formal_names, formal_sections, declared_type_names, names_in_list, procedure_name, section_constants, parameter_section_names, section_types, section_variables, variable_names}
+use Rattle.ob0_language_names.specs.BlockParts.{block_constants, block_procedures, block_types, block_variables, constant_names, formal_names, formal_sections, declared_type_names, names_in_list, procedure_name, section_constants, parameter_section_names, section_types, section_variables, variable_names}
 
 -- The bindings that are visible at a place in the text: names with the ordinals of their declarations. The newest
 -- binding comes first, and the predeclared names come last.
@@ -44,14 +44,14 @@ abbrev mutual
   -- returns the first ordinal after a block whose first declaration has ordinal `k`
   pub ordinal_after_block : {N : Type 0} → ℕ → Tree N block → ℕ
   ordinal_after_block k (forms_block (declares cs ts vs ps) statements) =
-      ordinal_after_procedures (ordinal_after_names (ordinal_after_names
+      ordinal_after_procedure_list (ordinal_after_names (ordinal_after_names
       (ordinal_after_names k (constant_names (section_constants cs))) (declared_type_names (section_types ts)))
       (variable_names (section_variables vs))) ps
 
   -- returns the first ordinal after procedures, the first of which has ordinal `k`
-  pub ordinal_after_procedures : {N : Type 0} → ℕ → Tree N (items procedure) → ℕ
-  ordinal_after_procedures k end = k
-  ordinal_after_procedures k (more p rest) = ordinal_after_procedures (ordinal_after_procedure (suc k) p) rest
+  pub ordinal_after_procedure_list : {N : Type 0} → ℕ → Tree N (items procedure) → ℕ
+  ordinal_after_procedure_list k end = k
+  ordinal_after_procedure_list k (more p rest) = ordinal_after_procedure_list (ordinal_after_procedure (suc k) p) rest
 
   -- Returns the first ordinal after the parameters and the block of a procedure. The procedure's
   -- name has ordinal `k - 1`, so the first declaration after it has ordinal `k`.
@@ -85,19 +85,19 @@ labels_of_declared_names label k (x ∷ xs) = label (Some k) x ∷ labels_of_dec
 
 -- returns the names in a name list after the first name, with labels instead of these declared
 -- names; their ordinals count up from `k`
-abbrev pub relabel_further_names : {N M : Type 0}
+abbrev pub relabel_names_after_first : {N M : Type 0}
     → Labelling N M
     → ℕ
-    → Tree N (items further_name)
-    → Tree M (items further_name)
-relabel_further_names label k end = end
-relabel_further_names label k (more (then_name x) rest) =
-    more (then_name (label (Some k) x)) (relabel_further_names label (suc k) rest)
+    → Tree N (items name_after_comma)
+    → Tree M (items name_after_comma)
+relabel_names_after_first label k end = end
+relabel_names_after_first label k (more (comma_then_name x) rest) =
+    more (comma_then_name (label (Some k) x)) (relabel_names_after_first label (suc k) rest)
 
 -- returns a list of declared names, with labels instead of names; the ordinals of these names count up from `k`
 abbrev pub relabel_names : {N M : Type 0} → Labelling N M → ℕ → Tree N names → Tree M names
 relabel_names label k (listed x rest) =
-    listed (label (Some k) x) (relabel_further_names label (suc k) rest)
+    listed (label (Some k) x) (relabel_names_after_first label (suc k) rest)
 
 -- returns declarations of constants with labels instead of names; the constants' ordinals count up from `k`, and each
 -- constant is visible only after its own declaration
@@ -157,17 +157,17 @@ relabel_parameter_section naming label scope k (variable_section ns t) =
 
 -- returns the sections of parameters after the first section, with labels instead of names; the parameters' ordinals
 -- count up from `k`, and each parameter is visible only after its own section
-abbrev pub relabel_parameter_sections : {N M : Type 0}
+abbrev pub relabel_parameter_section_list : {N M : Type 0}
     → Naming N
     → Labelling N M
     → Scope N
     → ℕ
-    → Tree N (items further_section)
-    → Tree M (items further_section)
-relabel_parameter_sections naming label scope k end = end
-relabel_parameter_sections naming label scope k (more (then_section s) fs) =
-    more (then_section (relabel_parameter_section naming label scope k s))
-    (relabel_parameter_sections naming label (declare_names k (parameter_section_names s) scope)
+    → Tree N (items section_after_semicolon)
+    → Tree M (items section_after_semicolon)
+relabel_parameter_section_list naming label scope k end = end
+relabel_parameter_section_list naming label scope k (more (semicolon_then_section s) fs) =
+    more (semicolon_then_section (relabel_parameter_section naming label scope k s))
+    (relabel_parameter_section_list naming label (declare_names k (parameter_section_names s) scope)
     (ordinal_after_names k (parameter_section_names s)) fs)
 
 -- returns formal parameters with labels instead of names; the parameters' ordinals count up from `k`
@@ -182,7 +182,7 @@ relabel_formals naming label scope k none = none
 relabel_formals naming label scope k (one no_formals) = one no_formals
 relabel_formals naming label scope k (one (some_formals s fs)) =
     one (some_formals (relabel_parameter_section naming label scope k s)
-    (relabel_parameter_sections naming label (declare_names k (parameter_section_names s) scope)
+    (relabel_parameter_section_list naming label (declare_names k (parameter_section_names s) scope)
     (ordinal_after_names k (parameter_section_names s)) fs))
 
 -- returns a CONST section with labels instead of names; the ordinals of its constants count up from
@@ -195,8 +195,8 @@ abbrev pub relabel_constant_section : {N M : Type 0}
     → Tree N (maybe constants)
     → Tree M (maybe constants)
 relabel_constant_section naming label scope k none = none
-relabel_constant_section naming label scope k (one (declares_constants cs)) =
-    one (declares_constants (relabel_constants naming label scope k cs))
+relabel_constant_section naming label scope k (one (declares_const_section cs)) =
+    one (declares_const_section (relabel_constants naming label scope k cs))
 
 -- returns a TYPE section with labels instead of names; the ordinals of its types count up from `k`
 abbrev pub relabel_type_section : {N M : Type 0}
@@ -207,8 +207,8 @@ abbrev pub relabel_type_section : {N M : Type 0}
     → Tree N (maybe type_definitions)
     → Tree M (maybe type_definitions)
 relabel_type_section naming label scope k none = none
-relabel_type_section naming label scope k (one (declares_types ts)) =
-    one (declares_types (relabel_types naming label scope k ts))
+relabel_type_section naming label scope k (one (declares_type_section ts)) =
+    one (declares_type_section (relabel_types naming label scope k ts))
 
 -- returns a VAR section with labels instead of names; the ordinals of its variables count up from
 -- `k`
@@ -220,8 +220,8 @@ abbrev pub relabel_variable_section : {N M : Type 0}
     → Tree N (maybe variables)
     → Tree M (maybe variables)
 relabel_variable_section naming label scope k none = none
-relabel_variable_section naming label scope k (one (declares_variables vs)) =
-    one (declares_variables (relabel_variables naming label scope k vs))
+relabel_variable_section naming label scope k (one (declares_var_section vs)) =
+    one (declares_var_section (relabel_variables naming label scope k vs))
 
 -- returns the scope with the names of a block's procedures added; `k` is the ordinal of the first procedure
 abbrev pub declare_procedure_names : {N : Type 0} → ℕ → Tree N (items procedure) → Scope N → Scope N
@@ -288,7 +288,7 @@ abbrev mutual
       (relabel_variable_section naming label
       (scope_before_variables k (forms_block (declares cs ts vs ps) statements) scope)
       (first_variable_ordinal k (forms_block (declares cs ts vs ps) statements)) vs)
-      (relabel_procedures naming label
+      (relabel_procedure_list naming label
       (scope_before_procedures k (forms_block (declares cs ts vs ps) statements) scope)
       (first_procedure_ordinal k (forms_block (declares cs ts vs ps) statements)) ps))
       (relabel_uses naming label (body_scope k (forms_block (declares cs ts vs ps) statements) scope)
@@ -296,17 +296,17 @@ abbrev mutual
 
   -- returns procedures with labels instead of names; the first procedure has ordinal `k`, and each procedure is visible
   -- in the later procedures
-  pub relabel_procedures : {N M : Type 0}
+  pub relabel_procedure_list : {N M : Type 0}
       → Naming N
       → Labelling N M
       → Scope N
       → ℕ
       → Tree N (items procedure)
       → Tree M (items procedure)
-  relabel_procedures naming label scope k end = end
-  relabel_procedures naming label scope k (more p rest) =
+  relabel_procedure_list naming label scope k end = end
+  relabel_procedure_list naming label scope k (more p rest) =
       more (relabel_procedure naming label scope k p)
-      (relabel_procedures naming label ((procedure_name p, k) ∷ scope) (ordinal_after_procedure (suc k) p)
+      (relabel_procedure_list naming label ((procedure_name p, k) ∷ scope) (ordinal_after_procedure (suc k) p)
       rest)
 
   -- Returns a procedure with labels instead of names. The procedure has ordinal `k` and is visible in its own block.
@@ -332,8 +332,8 @@ abbrev pub relabel_module : {N M : Type 0}
     → Labelling N M
     → Tree N module_text
     → Tree M module_text
-relabel_module naming label (is_module x b closing) =
-    is_module (label None x) (relabel_block naming label (predeclared_scope naming) predeclared_count b)
+relabel_module naming label (forms_module x b closing) =
+    forms_module (label None x) (relabel_block naming label (predeclared_scope naming) predeclared_count b)
     (label None closing)
 
 -- returns the label for a name in a numbered tree: the ordinal of its declaration, or the name as written if it is

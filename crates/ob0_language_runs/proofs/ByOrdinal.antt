@@ -1,18 +1,18 @@
 -- A module has the same run as its numbered tree.
 use Rattle.std.proofs.Common.{◌≡◌, ℕ, zero, suc, ◌+◌, true, false, List, [], ◌∷◌, ◌++◌, map, length, ℤ, Some, None, Option, option_map, option_and_then, sym, refl, ap, ◌∙◌, subst, subst₂, le_refl, lit<}
-use Rattle.ob0_tree.specs.Tree.{Tree, begins, block, body, constant, declares, declares_constant, declares_procedure, declares_type, declares_variable, end, formals, further_section, forms_block, is_module, item, items, maybe, module_text, more, none, one, procedure, section, then_section, type_definition, value_section, variable, variable_section}
-use Rattle.ob0_language_names.specs.Mapping.{map_names}
+use Rattle.ob0_tree.specs.Tree.{Tree, begins, block, body, constant, declares, declares_constant, declares_procedure, declares_type, declares_variable, end, formals, section_after_semicolon, forms_block, forms_module, item, items, maybe, module_text, more, none, one, procedure, section, semicolon_then_section, type_definition, value_section, variable, variable_section}
+use Rattle.ob0_language_names.specs.MappedNames.{map_names}
 use Rattle.ob0_language_names.specs.Names.{Label, Naming, naming_by_label, declared}
-use Rattle.ob0_language_names.specs.Parts.{block_statements, constant_names, formal_names, formal_sections, declared_type_names, names_in_list, procedure_formals, procedure_name, section_constants, parameter_section_names, section_types, section_variables, variable_names}
-use Rattle.ob0_language_names.specs.Scopes.{Labelling, Scope, ordinal_after_block, ordinal_after_names, ordinal_after_procedure, ordinal_after_procedures, label_from_ordinal, body_scope, declare_names, declare_procedure_names, first_procedure_ordinal, first_type_ordinal, first_variable_ordinal, labels_of_declared_names, label_of, predeclared_scope, scope_before_procedures, relabel_block, relabel_constants, relabel_formals, relabel_procedure, relabel_procedures, relabel_parameter_section, relabel_parameter_sections, relabel_type_section, relabel_types, relabel_uses, relabel_variable_section, relabel_variables, relabel_module, scope_before_types, scope_before_variables}
+use Rattle.ob0_language_names.specs.BlockParts.{block_statements, constant_names, formal_names, formal_sections, declared_type_names, names_in_list, procedure_formals, procedure_name, section_constants, parameter_section_names, section_types, section_variables, variable_names}
+use Rattle.ob0_language_names.specs.Scopes.{Labelling, Scope, ordinal_after_block, ordinal_after_names, ordinal_after_procedure, ordinal_after_procedure_list, label_from_ordinal, body_scope, declare_names, declare_procedure_names, first_procedure_ordinal, first_type_ordinal, first_variable_ordinal, labels_of_declared_names, label_of, predeclared_scope, scope_before_procedures, relabel_block, relabel_constants, relabel_formals, relabel_procedure, relabel_procedure_list, relabel_parameter_section, relabel_parameter_section_list, relabel_type_section, relabel_types, relabel_uses, relabel_variable_section, relabel_variables, relabel_module, scope_before_types, scope_before_variables}
 use Rattle.ob0_language_names.proofs.Ordinals.{ordinal_after_names-append, declare_names-append, le-ordinal_after_procedure}
 use Rattle.ob0_language_names.proofs.Relabelled.{constants-section, formals-section, names-relabel, types-section, variables-section}
 use Rattle.ob0_language_types.specs.Declarations.{constructors_before_variables, constructors_before_procedures, declare_constants, declare_constants_and_types, declare_types, formals_constructor_count, procedure_constructor_count, types_constructor_count, variables_constructor_count}
 use Rattle.ob0_language_types.specs.Environments.{meanings, newest_object}
-use Rattle.ob0_language_types.specs.Expressions.{Object, a_constant, a_procedure, a_standard, a_type, a_variable, read_procedure, write_procedure, write_line_procedure}
+use Rattle.ob0_language_types.specs.Expressions.{Object, a_constant, a_procedure, a_standard_procedure, a_type, a_variable, read_procedure, write_procedure, write_line_procedure}
 use Rattle.ob0_language_types.specs.Typing.{constant_of, constant_value, constructor_count, denoted_type, type_of_type_object}
 use Rattle.ob0_language_values.specs.Values.{Place, Store, Value, boolean_shape, initial_value, integer_shape, truth}
-use Rattle.ob0_language_types.specs.WellTyped.{Mode, by_place, by_value, parameter_section_mode}
+use Rattle.ob0_language_types.specs.WellTyped.{ParameterMode, by_place, by_value, parameter_section_mode}
 use Rattle.ob0_language_types.proofs.Agreeing.{Agree, HoldsOf, agree-map, agree-then, agree-value}
 use Rattle.ob0_language_types.proofs.Constructors.{formals_constructor_count-relabel, procedure_constructor_count-relabel, types_constructor_count-relabel, variables_constructor_count-relabel}
 use Rattle.ob0_language_types.proofs.TypeNaturality.{constant_value-map, constructor_count-map, denoted_type-map}
@@ -22,7 +22,7 @@ use Rattle.ob0_language_runs.proofs.RunNaturality.{execute_sequence-map}
 
 -- The modes of parameters are the same by name and by ordinal.
 
-pub labels_of_declared_names-modes : {N M : Type 0} (label : Labelling N M) (m : Mode) (k : ℕ) (xs : List N) → map (λ x. m) (labels_of_declared_names label k xs) ≡ map (λ x. m) xs
+pub labels_of_declared_names-modes : {N M : Type 0} (label : Labelling N M) (m : ParameterMode) (k : ℕ) (xs : List N) → map (λ x. m) (labels_of_declared_names label k xs) ≡ map (λ x. m) xs
 labels_of_declared_names-modes label m k [] = refl
 labels_of_declared_names-modes label m k (x ∷ xs) = λ i. m ∷ labels_of_declared_names-modes label m (suc k) xs i
 
@@ -31,9 +31,9 @@ pub section-modes : {N M : Type 0} (naming : Naming N) (label : Labelling N M) (
 section-modes naming label scope k (value_section ns t) = ap (map (λ x. by_value)) (names-relabel label k ns) ∙ labels_of_declared_names-modes label by_value k (names_in_list ns)
 section-modes naming label scope k (variable_section ns t) = ap (map (λ x. by_place)) (names-relabel label k ns) ∙ labels_of_declared_names-modes label by_place k (names_in_list ns)
 
-pub relabel_formals-modes : {N M : Type 0} (naming : Naming N) (label : Labelling N M) (scope : Scope N) (k : ℕ) (fs : Tree N (items further_section)) → formal_modes (relabel_parameter_sections naming label scope k fs) ≡ formal_modes fs
+pub relabel_formals-modes : {N M : Type 0} (naming : Naming N) (label : Labelling N M) (scope : Scope N) (k : ℕ) (fs : Tree N (items section_after_semicolon)) → formal_modes (relabel_parameter_section_list naming label scope k fs) ≡ formal_modes fs
 relabel_formals-modes naming label scope k end = refl
-relabel_formals-modes naming label scope k (more (then_section f) fs) = λ i.
+relabel_formals-modes naming label scope k (more (semicolon_then_section f) fs) = λ i.
     section-modes naming label scope k f i ++ relabel_formals-modes naming label (declare_names k (parameter_section_names f) scope) (ordinal_after_names k (parameter_section_names f)) fs i
 
 pub relabel_procedure-modes : {N M : Type 0} (naming : Naming N) (label : Labelling N M) (scope : Scope N) (k : ℕ) (p : Tree N (item procedure)) → formal_modes (procedure_formals (relabel_procedure naming label scope k p)) ≡ formal_modes (procedure_formals p)
@@ -49,7 +49,7 @@ object_for_statements-agrees naming (b ∷ noted) = of_object b.object
     of_object (a_constant v) = refl
     of_object (a_variable p) = refl
     of_object (a_procedure code) = λ i. Some (a_procedure (relabel_procedure-modes naming (label_from_ordinal naming) (scope_of noted) b.ordinal code.text i))
-    of_object (a_standard p) = refl
+    of_object (a_standard_procedure p) = refl
 
 pub constant_of-agrees : {N : Type 0} (naming : Naming N) (noted : Noted N) → constant_of (newest_object (by_ordinal naming noted)) ≡ constant_of (newest_object (by_name noted))
 constant_of-agrees naming [] = refl
@@ -60,7 +60,7 @@ constant_of-agrees naming (b ∷ noted) = of_object b.object
     of_object (a_constant v) = refl
     of_object (a_variable p) = refl
     of_object (a_procedure code) = refl
-    of_object (a_standard p) = refl
+    of_object (a_standard_procedure p) = refl
 
 pub type_of_type_object-agrees : {N : Type 0} (naming : Naming N) (noted : Noted N) → type_of_type_object (newest_object (by_ordinal naming noted)) ≡ type_of_type_object (newest_object (by_name noted))
 type_of_type_object-agrees naming [] = refl
@@ -71,7 +71,7 @@ type_of_type_object-agrees naming (b ∷ noted) = of_object b.object
     of_object (a_constant v) = refl
     of_object (a_variable p) = refl
     of_object (a_procedure code) = refl
-    of_object (a_standard p) = refl
+    of_object (a_standard_procedure p) = refl
 
 -- returns the label of a looked-up name
 abbrev pub label_at_token : {N : Type 0} → Naming N → Noted N → N → Label
@@ -201,14 +201,14 @@ procedures-by_name j k (more p rest) noted =
 pub relabel_procedure-name : {N M : Type 0} (naming : Naming N) (label : Labelling N M) (scope : Scope N) (k : ℕ) (p : Tree N (item procedure)) → procedure_name (relabel_procedure naming label scope k p) ≡ label (Some k) (procedure_name p)
 relabel_procedure-name naming label scope k (declares_procedure x fs b closing) = refl
 
-pub procedures-by_ordinal : {N : Type 0} (naming : Naming N) (j k : ℕ) (ps : Tree N (items procedure)) (noted : Noted N) → declare_procedures j (relabel_procedures naming (label_from_ordinal naming) (scope_of noted) k ps) (by_ordinal naming noted) ≡ by_ordinal naming (noted_procedures j k ps noted)
+pub procedures-by_ordinal : {N : Type 0} (naming : Naming N) (j k : ℕ) (ps : Tree N (items procedure)) (noted : Noted N) → declare_procedures j (relabel_procedure_list naming (label_from_ordinal naming) (scope_of noted) k ps) (by_ordinal naming noted) ≡ by_ordinal naming (noted_procedures j k ps noted)
 procedures-by_ordinal naming j k end noted = refl
 procedures-by_ordinal naming j k (more p rest) noted =
-    (λ i. declare_procedures (j + procedure_constructor_count-relabel naming (label_from_ordinal naming) (scope_of noted) k p i) (relabel_procedures naming (label_from_ordinal naming) ((procedure_name p, k) ∷ scope_of noted) (ordinal_after_procedure (suc k) p) rest)
+    (λ i. declare_procedures (j + procedure_constructor_count-relabel naming (label_from_ordinal naming) (scope_of noted) k p i) (relabel_procedure_list naming (label_from_ordinal naming) ((procedure_name p, k) ∷ scope_of noted) (ordinal_after_procedure (suc k) p) rest)
     ((relabel_procedure-name naming (label_from_ordinal naming) (scope_of noted) k p i, a_procedure record { constructors_before = j; text = relabel_procedure naming (label_from_ordinal naming) (scope_of noted) k p }) ∷ by_ordinal naming noted))
     ∙ procedures-by_ordinal naming (j + procedure_constructor_count p) (ordinal_after_procedure (suc k) p) rest (record { name = procedure_name p; ordinal = k; object = a_procedure record { constructors_before = j; text = p } } ∷ noted)
 
-pub procedures-within : {N : Type 0} (j k : ℕ) (ps : Tree N (items procedure)) (noted : Noted N) → Below k noted → Within (ordinal_after_procedures k ps) (declare_procedure_names k ps (scope_of noted)) (noted_procedures j k ps noted)
+pub procedures-within : {N : Type 0} (j k : ℕ) (ps : Tree N (items procedure)) (noted : Noted N) → Below k noted → Within (ordinal_after_procedure_list k ps) (declare_procedure_names k ps (scope_of noted)) (noted_procedures j k ps noted)
 procedures-within j k end noted below = (refl, below)
 procedures-within j k (more p rest) noted below =
     procedures-within (j + procedure_constructor_count p) (ordinal_after_procedure (suc k) p) rest (record { name = procedure_name p; ordinal = k; object = a_procedure record { constructors_before = j; text = p } } ∷ noted)
@@ -236,20 +236,20 @@ firsts_declared {N} naming j k noted below (forms_block (declares cs ts vs ps) s
 
 pub rest_declared : {N : Type 0} (naming : Naming N) (j₁ j₂ k : ℕ) (f : NotedFrame N) → Below k f.noted → (gs : Tree N (items variable)) (ps : Tree N (items procedure))
     → Agree frame_by_name (frame_by_ordinal naming)
-    (FrameWithin (ordinal_after_procedures (ordinal_after_names k (variable_names gs)) ps) (declare_procedure_names (ordinal_after_names k (variable_names gs)) ps (declare_names k (variable_names gs) (scope_of f.noted))))
+    (FrameWithin (ordinal_after_procedure_list (ordinal_after_names k (variable_names gs)) ps) (declare_procedure_names (ordinal_after_names k (variable_names gs)) ps (declare_names k (variable_names gs) (scope_of f.noted))))
     (option_map (declare_procedures_in_frame j₂ ps) (declare_variables naming j₁ gs (frame_by_name f)))
-    (option_map (declare_procedures_in_frame j₂ (relabel_procedures naming (label_from_ordinal naming) (declare_names k (variable_names gs) (scope_of f.noted)) (ordinal_after_names k (variable_names gs)) ps))
+    (option_map (declare_procedures_in_frame j₂ (relabel_procedure_list naming (label_from_ordinal naming) (declare_names k (variable_names gs) (scope_of f.noted)) (ordinal_after_names k (variable_names gs)) ps))
     (declare_variables naming_by_label j₁ (relabel_variables naming (label_from_ordinal naming) (scope_of f.noted) k gs) (frame_by_ordinal naming f)))
 rest_declared {N} naming j₁ j₂ k f below gs ps =
     agree-map frame_by_name (frame_by_ordinal naming) (FrameWithin (ordinal_after_names k (variable_names gs)) (declare_names k (variable_names gs) (scope_of f.noted)))
-    frame_by_name (frame_by_ordinal naming) (FrameWithin (ordinal_after_procedures (ordinal_after_names k (variable_names gs)) ps) (declare_procedure_names (ordinal_after_names k (variable_names gs)) ps (declare_names k (variable_names gs) (scope_of f.noted))))
-    (declare_procedures_in_frame j₂ ps) (declare_procedures_in_frame j₂ (relabel_procedures naming (label_from_ordinal naming) (declare_names k (variable_names gs) (scope_of f.noted)) (ordinal_after_names k (variable_names gs)) ps))
+    frame_by_name (frame_by_ordinal naming) (FrameWithin (ordinal_after_procedure_list (ordinal_after_names k (variable_names gs)) ps) (declare_procedure_names (ordinal_after_names k (variable_names gs)) ps (declare_names k (variable_names gs) (scope_of f.noted))))
+    (declare_procedures_in_frame j₂ ps) (declare_procedures_in_frame j₂ (relabel_procedure_list naming (label_from_ordinal naming) (declare_names k (variable_names gs) (scope_of f.noted)) (ordinal_after_names k (variable_names gs)) ps))
     (declare_variables naming j₁ gs (frame_by_name f)) (declare_variables naming_by_label j₁ (relabel_variables naming (label_from_ordinal naming) (scope_of f.noted) k gs) (frame_by_ordinal naming f))
     (variables_declared naming j₁ k f below gs)
     (λ g within. (
       record { noted = noted_procedures j₂ (ordinal_after_names k (variable_names gs)) ps g.noted; store = g.store },
       (λ i. record { env = procedures-by_name j₂ (ordinal_after_names k (variable_names gs)) ps g.noted i; store = g.store }),
-      (λ i. record { env = ((λ i. declare_procedures j₂ (relabel_procedures naming (label_from_ordinal naming) (sym within.0 i) (ordinal_after_names k (variable_names gs)) ps) (by_ordinal naming g.noted)) ∙ procedures-by_ordinal naming j₂ (ordinal_after_names k (variable_names gs)) ps g.noted) i; store = g.store }),
+      (λ i. record { env = ((λ i. declare_procedures j₂ (relabel_procedure_list naming (label_from_ordinal naming) (sym within.0 i) (ordinal_after_names k (variable_names gs)) ps) (by_ordinal naming g.noted)) ∙ procedures-by_ordinal naming j₂ (ordinal_after_names k (variable_names gs)) ps g.noted) i; store = g.store }),
       (
         (procedures-within j₂ (ordinal_after_names k (variable_names gs)) ps g.noted within.1).0 ∙ ap (declare_procedure_names (ordinal_after_names k (variable_names gs)) ps) within.0,
         (procedures-within j₂ (ordinal_after_names k (variable_names gs)) ps g.noted within.1).1,
@@ -269,23 +269,23 @@ block_declared {N} naming j k f below (forms_block (declares cs ts vs ps) statem
     ap variables_constructor_count (variables-section naming (label_from_ordinal naming) (scope_before_variables k b scope) (first_variable_ordinal k b) vs) ∙ variables_constructor_count-relabel naming (label_from_ordinal naming) (scope_before_variables k b scope) (first_variable_ordinal k b) (section_variables vs) in
     agree-then by_name (by_ordinal naming) (Within (first_variable_ordinal k b) (scope_before_variables k b scope)) frame_by_name (frame_by_ordinal naming) (FrameWithin (ordinal_after_block k b) (body_scope k b scope))
     (λ env. option_map (declare_procedures_in_frame (constructors_before_procedures j b) ps) (declare_variables naming (constructors_before_variables j b) (section_variables vs) record { env = env; store = f.store }))
-    (λ env. option_map (declare_procedures_in_frame (constructors_before_procedures j (relabel_block naming (label_from_ordinal naming) scope k b)) (relabel_procedures naming (label_from_ordinal naming) (scope_before_procedures k b scope) (first_procedure_ordinal k b) ps))
+    (λ env. option_map (declare_procedures_in_frame (constructors_before_procedures j (relabel_block naming (label_from_ordinal naming) scope k b)) (relabel_procedure_list naming (label_from_ordinal naming) (scope_before_procedures k b scope) (first_procedure_ordinal k b) ps))
     (declare_variables naming_by_label (constructors_before_variables j (relabel_block naming (label_from_ordinal naming) scope k b)) (section_variables (relabel_variable_section naming (label_from_ordinal naming) (scope_before_variables k b scope) (first_variable_ordinal k b) vs)) record { env = env; store = f.store }))
     (declare_constants_and_types naming (by_name f.noted) j b) (declare_constants_and_types naming_by_label (by_ordinal naming f.noted) j (relabel_block naming (label_from_ordinal naming) scope k b))
     (firsts_declared naming j k f.noted below b)
     (λ inner within. subst (λ s. Agree frame_by_name (frame_by_ordinal naming) (FrameWithin (ordinal_after_block k b) (declare_procedure_names (first_procedure_ordinal k b) ps (declare_names (first_variable_ordinal k b) (variable_names (section_variables vs)) s)))
     (option_map (declare_procedures_in_frame (constructors_before_procedures j b) ps) (declare_variables naming (constructors_before_variables j b) (section_variables vs) record { env = by_name inner; store = f.store }))
-    (option_map (declare_procedures_in_frame (constructors_before_procedures j (relabel_block naming (label_from_ordinal naming) scope k b)) (relabel_procedures naming (label_from_ordinal naming) (declare_names (first_variable_ordinal k b) (variable_names (section_variables vs)) s) (first_procedure_ordinal k b) ps))
+    (option_map (declare_procedures_in_frame (constructors_before_procedures j (relabel_block naming (label_from_ordinal naming) scope k b)) (relabel_procedure_list naming (label_from_ordinal naming) (declare_names (first_variable_ordinal k b) (variable_names (section_variables vs)) s) (first_procedure_ordinal k b) ps))
     (declare_variables naming_by_label (constructors_before_variables j (relabel_block naming (label_from_ordinal naming) scope k b)) (section_variables (relabel_variable_section naming (label_from_ordinal naming) s (first_variable_ordinal k b) vs)) record { env = by_ordinal naming inner; store = f.store })))
     within.0
     (subst₂ (λ u v. Agree frame_by_name (frame_by_ordinal naming) (FrameWithin (ordinal_after_block k b) (declare_procedure_names (first_procedure_ordinal k b) ps (declare_names (first_variable_ordinal k b) (variable_names (section_variables vs)) (scope_of inner))))
     (option_map (declare_procedures_in_frame (constructors_before_procedures j b) ps) (declare_variables naming (constructors_before_variables j b) (section_variables vs) record { env = by_name inner; store = f.store }))
-    (option_map (declare_procedures_in_frame (j + u + v) (relabel_procedures naming (label_from_ordinal naming) (declare_names (first_variable_ordinal k b) (variable_names (section_variables vs)) (scope_of inner)) (first_procedure_ordinal k b) ps))
+    (option_map (declare_procedures_in_frame (j + u + v) (relabel_procedure_list naming (label_from_ordinal naming) (declare_names (first_variable_ordinal k b) (variable_names (section_variables vs)) (scope_of inner)) (first_procedure_ordinal k b) ps))
     (declare_variables naming_by_label (j + u) (section_variables (relabel_variable_section naming (label_from_ordinal naming) (scope_of inner) (first_variable_ordinal k b) vs)) record { env = by_ordinal naming inner; store = f.store })))
     (sym ts-same) (sym vs-same)
     (subst (λ gs. Agree frame_by_name (frame_by_ordinal naming) (FrameWithin (ordinal_after_block k b) (declare_procedure_names (first_procedure_ordinal k b) ps (declare_names (first_variable_ordinal k b) (variable_names (section_variables vs)) (scope_of inner))))
     (option_map (declare_procedures_in_frame (constructors_before_procedures j b) ps) (declare_variables naming (constructors_before_variables j b) (section_variables vs) record { env = by_name inner; store = f.store }))
-    (option_map (declare_procedures_in_frame (constructors_before_procedures j b) (relabel_procedures naming (label_from_ordinal naming) (declare_names (first_variable_ordinal k b) (variable_names (section_variables vs)) (scope_of inner)) (first_procedure_ordinal k b) ps))
+    (option_map (declare_procedures_in_frame (constructors_before_procedures j b) (relabel_procedure_list naming (label_from_ordinal naming) (declare_names (first_variable_ordinal k b) (variable_names (section_variables vs)) (scope_of inner)) (first_procedure_ordinal k b) ps))
     (declare_variables naming_by_label (constructors_before_variables j b) gs record { env = by_ordinal naming inner; store = f.store })))
     (sym (variables-section naming (label_from_ordinal naming) (scope_of inner) (first_variable_ordinal k b) vs))
     (rest_declared naming (constructors_before_variables j b) (constructors_before_procedures j b) (first_variable_ordinal k b) record { noted = inner; store = f.store } within.1 (section_variables vs) ps))))
@@ -301,18 +301,18 @@ abbrev pub label_parameters : {N M : Type 0} → Labelling N M → ℕ → List 
 label_parameters label k [] = []
 label_parameters label k (p ∷ ps) = record { mode = p.mode; name = label (Some k) p.name } ∷ label_parameters label (suc k) ps
 
-abbrev pub with_mode : {N : Type 0} → Mode → N → Parameter N
+abbrev pub with_mode : {N : Type 0} → ParameterMode → N → Parameter N
 with_mode m x = record { mode = m; name = x }
 
-pub parameter_names-append : {N : Type 0} (m : Mode) (xs : List N) (ps : List (Parameter N)) → parameter_names (map (with_mode m) xs ++ ps) ≡ xs ++ parameter_names ps
+pub parameter_names-append : {N : Type 0} (m : ParameterMode) (xs : List N) (ps : List (Parameter N)) → parameter_names (map (with_mode m) xs ++ ps) ≡ xs ++ parameter_names ps
 parameter_names-append m [] ps = refl
 parameter_names-append m (x ∷ xs) ps = λ i. x ∷ parameter_names-append m xs ps i
 
-pub formal_names-parameters : {N : Type 0} (fs : Tree N (items further_section)) → parameter_names (parameters fs) ≡ formal_names fs
+pub formal_names-parameters : {N : Type 0} (fs : Tree N (items section_after_semicolon)) → parameter_names (parameters fs) ≡ formal_names fs
 formal_names-parameters end = refl
-formal_names-parameters (more (then_section f) fs) = parameter_names-append (parameter_section_mode f) (parameter_section_names f) (parameters fs) ∙ ap (λ ys. parameter_section_names f ++ ys) (formal_names-parameters fs)
+formal_names-parameters (more (semicolon_then_section f) fs) = parameter_names-append (parameter_section_mode f) (parameter_section_names f) (parameters fs) ∙ ap (λ ys. parameter_section_names f ++ ys) (formal_names-parameters fs)
 
-pub label_parameters-append : {N M : Type 0} (label : Labelling N M) (m : Mode) (k : ℕ) (xs : List N) (ps : List (Parameter N)) → map (with_mode m) (labels_of_declared_names label k xs) ++ label_parameters label (ordinal_after_names k xs) ps ≡ label_parameters label k (map (with_mode m) xs ++ ps)
+pub label_parameters-append : {N M : Type 0} (label : Labelling N M) (m : ParameterMode) (k : ℕ) (xs : List N) (ps : List (Parameter N)) → map (with_mode m) (labels_of_declared_names label k xs) ++ label_parameters label (ordinal_after_names k xs) ps ≡ label_parameters label k (map (with_mode m) xs ++ ps)
 label_parameters-append label m k [] ps = refl
 label_parameters-append label m k (x ∷ xs) ps = λ i. record { mode = m; name = label (Some k) x } ∷ label_parameters-append label m (suc k) xs ps i
 
@@ -321,10 +321,10 @@ pub section-parameters : {N M : Type 0} (naming : Naming N) (label : Labelling N
 section-parameters naming label scope k (value_section ns t) = ap (map (with_mode by_value)) (names-relabel label k ns)
 section-parameters naming label scope k (variable_section ns t) = ap (map (with_mode by_place)) (names-relabel label k ns)
 
-pub relabel_formals-parameters : {N M : Type 0} (naming : Naming N) (label : Labelling N M) (scope : Scope N) (k : ℕ) (fs : Tree N (items further_section)) → parameters (relabel_parameter_sections naming label scope k fs) ≡ label_parameters label k (parameters fs)
+pub relabel_formals-parameters : {N M : Type 0} (naming : Naming N) (label : Labelling N M) (scope : Scope N) (k : ℕ) (fs : Tree N (items section_after_semicolon)) → parameters (relabel_parameter_section_list naming label scope k fs) ≡ label_parameters label k (parameters fs)
 relabel_formals-parameters naming label scope k end = refl
-relabel_formals-parameters naming label scope k (more (then_section f) fs) =
-    ap (λ ys. ys ++ parameters (relabel_parameter_sections naming label (declare_names k (parameter_section_names f) scope) (ordinal_after_names k (parameter_section_names f)) fs)) (section-parameters naming label scope k f)
+relabel_formals-parameters naming label scope k (more (semicolon_then_section f) fs) =
+    ap (λ ys. ys ++ parameters (relabel_parameter_section_list naming label (declare_names k (parameter_section_names f) scope) (ordinal_after_names k (parameter_section_names f)) fs)) (section-parameters naming label scope k f)
     ∙ ap (λ ps. map (with_mode (parameter_section_mode f)) (labels_of_declared_names label k (parameter_section_names f)) ++ ps) (relabel_formals-parameters naming label (declare_names k (parameter_section_names f) scope) (ordinal_after_names k (parameter_section_names f)) fs)
     ∙ label_parameters-append label (parameter_section_mode f) k (parameter_section_names f) (parameters fs)
 
@@ -336,7 +336,7 @@ parameters_bound naming k f below [] (a ∷ args) = (None, refl, refl, tt)
 parameters_bound naming k f below (p ∷ ps) [] = (None, refl, refl, tt)
 parameters_bound {N} naming k f below (p ∷ ps) (a ∷ args) = go p.mode a (λ g within. parameters_bound naming (suc k) g within ps args)
   where
-    go : (m : Mode) (a : Argument)
+    go : (m : ParameterMode) (a : Argument)
         → ((g : NotedFrame N) → Below (suc k) g.noted → Agree frame_by_name (frame_by_ordinal naming) (FrameWithin (ordinal_after_names (suc k) (parameter_names ps)) (declare_names (suc k) (parameter_names ps) (scope_of g.noted)))
         (bind_parameters ps args (frame_by_name g)) (bind_parameters (label_parameters (label_from_ordinal naming) (suc k) ps) args (frame_by_ordinal naming g)))
         → Agree frame_by_name (frame_by_ordinal naming) (FrameWithin (ordinal_after_names (suc k) (parameter_names ps)) (declare_names (suc k) (parameter_names ps) ((p.name, k) ∷ scope_of f.noted)))
@@ -401,7 +401,7 @@ activation_declared {N} naming j k f below x outer e fs b args =
     let Goal : ℕ → List (Parameter Label) → Type 0 = λ m ps. Agree frame_by_name (frame_by_ordinal naming) (FrameWithin (ordinal_after_block n b) (body_scope n b scope))
     (option_and_then (declare_block naming (j + formals_constructor_count (formal_sections fs)) b) (bind_parameters (parameters (formal_sections fs)) args (frame_by_name f)))
     (option_and_then (declare_block naming_by_label (j + m) (relabel_block naming (label_from_ordinal naming) scope n b)) (bind_parameters ps args (frame_by_ordinal naming f))) in
-    let labelled : formal_sections (relabel_formals naming (label_from_ordinal naming) outer (suc k) fs) ≡ relabel_parameter_sections naming (label_from_ordinal naming) outer (suc k) (formal_sections fs) = formals-section naming (label_from_ordinal naming) outer (suc k) fs in
+    let labelled : formal_sections (relabel_formals naming (label_from_ordinal naming) outer (suc k) fs) ≡ relabel_parameter_section_list naming (label_from_ordinal naming) outer (suc k) (formal_sections fs) = formals-section naming (label_from_ordinal naming) outer (suc k) fs in
     subst₂ Goal (sym (ap formals_constructor_count labelled ∙ formals_constructor_count-relabel naming (label_from_ordinal naming) outer (suc k) (formal_sections fs)))
     (sym (ap parameters labelled ∙ relabel_formals-parameters naming (label_from_ordinal naming) outer (suc k) (formal_sections fs)))
     (agree-then frame_by_name (frame_by_ordinal naming) (FrameWithin n scope) frame_by_name (frame_by_ordinal naming) (FrameWithin (ordinal_after_block n b) (body_scope n b scope))
@@ -434,7 +434,7 @@ activate-agrees {N} naming there here known t n (b ∷ noted) below args s = of_
     of_object (a_constant v) own = refl
     of_object (a_variable p) own = refl
     of_object (a_procedure code) own = of_text code.constructors_before code.text own
-    of_object (a_standard p) own = refl
+    of_object (a_standard_procedure p) own = refl
 
 -- Calls do the same by name and by ordinal, by induction on the number of calls that may be open.
 pub calls-agree : {N : Type 0} (naming : Naming N) (c t : ℕ) → CallsAgree naming (call naming_by_label c t) (call naming c t)
@@ -448,7 +448,7 @@ calls-agree naming (suc c) t n noted below x = λ i args s.
 -- the noted environment of the outermost block, which has the predeclared names
 abbrev pub noted_outermost : {N : Type 0} → Naming N → Noted N
 noted_outermost naming =
-    record { name = naming.predeclared 6; ordinal = 6; object = a_standard write_line_procedure } ∷ record { name = naming.predeclared 5; ordinal = 5; object = a_standard write_procedure } ∷ record { name = naming.predeclared 4; ordinal = 4; object = a_standard read_procedure }
+    record { name = naming.predeclared 6; ordinal = 6; object = a_standard_procedure write_line_procedure } ∷ record { name = naming.predeclared 5; ordinal = 5; object = a_standard_procedure write_procedure } ∷ record { name = naming.predeclared 4; ordinal = 4; object = a_standard_procedure read_procedure }
     ∷ record { name = naming.predeclared 3; ordinal = 3; object = a_constant (truth false) } ∷ record { name = naming.predeclared 2; ordinal = 2; object = a_constant (truth true) }
     ∷ record { name = naming.predeclared 1; ordinal = 1; object = a_type boolean_shape } ∷ record { name = naming.predeclared 0; ordinal = 0; object = a_type integer_shape } ∷ []
 
@@ -459,7 +459,7 @@ outermost-below naming =
 -- A tree has the same run as its numbered tree.
 pub run-relabel : {N : Type 0} (naming : Naming N) (m : Tree N module_text) (input : List ℤ) (c t : ℕ) → run_with_naming naming_by_label (relabel_module naming (label_from_ordinal naming) m) input c t ≡ run_with_naming naming m input c t
 unfolding run_with_naming
-run-relabel naming (is_module x b closing) input c t =
+run-relabel naming (forms_module x b closing) input c t =
     ap run_result (continue_in_frame-agrees naming (FrameWithin (ordinal_after_block 7 b) (body_scope 7 b (predeclared_scope naming))) record { store = []; input = input; output = [] } _ _ _ _
     (block_declared naming 0 7 record { noted = noted_outermost naming; store = [] } (outermost-below naming) b)
     (λ f within. λ i s. block-agrees naming (call naming_by_label c t) (call naming c t) (calls-agree naming c t) t 7 (predeclared_scope naming) b f within i s))

@@ -1,18 +1,18 @@
 -- An edited module has the same run as the original module.
 use Rattle.std.proofs.Common.{List, None, Option, Some, [], ap, arith, false, if◌then◌else◌, le_refl, length, map, option_and_then, option_map, refl, subst, subst₂, suc, sym, true, zero, ℕ, ℤ, ⊎_elim, ◌++◌, ◌+◌, ◌<◌, ◌∙◌, ◌∷◌, ◌≡◌, ◌≤◌}
-use Rattle.ob0_tree.specs.Tree.{Tree, begins, block, body, declares, declares_procedure, declares_variable, end, formals, further_section, forms_block, is_module, item, items, maybe, module_text, more, none, occurrences, one, procedure, sequence, then_section, value_section, variable, variable_section}
+use Rattle.ob0_tree.specs.Tree.{Tree, begins, block, body, declares, declares_procedure, declares_variable, end, formals, section_after_semicolon, forms_block, forms_module, item, items, maybe, module_text, more, none, occurrences, one, procedure, sequence, semicolon_then_section, value_section, variable, variable_section}
 use Rattle.ob0_language_names.specs.Names.{Name, naming_by_spelling, same_name}
-use Rattle.ob0_language_names.specs.Parts.{block_statements, constant_names, formal_names, formal_sections, declared_type_names, names_in_list, procedure_formals, procedure_name, section_constants, section_types, section_variables, variable_names}
+use Rattle.ob0_language_names.specs.BlockParts.{block_statements, constant_names, formal_names, formal_sections, declared_type_names, names_in_list, procedure_formals, procedure_name, section_constants, section_types, section_variables, variable_names}
 use Rattle.ob0_language_names.proofs.EditedTrees.{Edit, SameAt, edited, edited_block, edited_procedure, edited_procedures, inline-nothing, leaf, leaving_out, left-module, map_names-same, writing, written-module}
 use Rattle.ob0_language_names.proofs.Ordinals.{ordinal_after_names-append, le-ordinal_after_names, le-ordinal_after_procedure}
 use Rattle.ob0_language_names.proofs.Places.{EachBlock, EachProcedure, EachVariable, OneProcedure}
 use Rattle.ob0_language_values.specs.Values.{Place, Store, Stuck, Value, initial_value, truth}
-use Rattle.ob0_language_types.specs.ConstantValues.{ConstantEnvironment, non_constant_placeholder, value_in_block, value_in_procedure, value_in_procedures}
+use Rattle.ob0_language_types.specs.ConstantValues.{ConstantEnvironment, non_constant_placeholder, constant_value_in_block, constant_value_in_procedure, constant_value_in_procedures}
 use Rattle.ob0_language_types.specs.Declarations.{constructors_before_variables, constructors_before_procedures, declare_constants, declare_constants_and_types, formals_constructor_count, procedure_constructor_count, types_constructor_count, variables_constructor_count}
 use Rattle.ob0_language_types.specs.Environments.{meanings}
-use Rattle.ob0_language_types.specs.Expressions.{Meanings, Object, a_constant, a_procedure, a_standard, a_type, a_variable}
+use Rattle.ob0_language_types.specs.Expressions.{Meanings, Object, a_constant, a_procedure, a_standard_procedure, a_type, a_variable}
 use Rattle.ob0_language_types.specs.Typing.{constructor_count, denoted_type}
-use Rattle.ob0_language_types.specs.WellTyped.{Mode, bind_names, by_place, by_value}
+use Rattle.ob0_language_types.specs.WellTyped.{ParameterMode, bind_names, by_place, by_value}
 use Rattle.ob0_language_types.proofs.Agreeing.{Agree, HoldsOf, agree-map, agree-then}
 use Rattle.ob0_language_types.proofs.DenotedInlined.{NamesConstant, constructor_count-inlined, uses-map}
 use Rattle.ob0_language_types.proofs.EditedDeclarations.{Left, Outside, HasValueBetween, agree-known, not-constant, outside-right}
@@ -28,7 +28,7 @@ use Rattle.ob0_language_runs.specs.Runs.{Activation, Argument, CallFunction, Pro
 use Rattle.ob0_language_runs.proofs.ByOrdinal.{formal_names-parameters, parameter_names}
 use Rattle.ob0_language_runs.proofs.InlinedStatements.{execute_sequence-written}
 use Rattle.ob0_language_runs.proofs.RunNaturality.{execute_sequence-map}
-use Rattle.ob0_language_names.specs.Scopes.{Scope, ordinal_after_block, ordinal_after_names, ordinal_after_procedure, ordinal_after_procedures, body_scope, declare_names, declare_procedure_names, first_procedure_ordinal, first_type_ordinal, first_variable_ordinal, ordinal_in_scope, predeclared_scope, scope_before_procedures, scope_before_variables}
+use Rattle.ob0_language_names.specs.Scopes.{Scope, ordinal_after_block, ordinal_after_names, ordinal_after_procedure, ordinal_after_procedure_list, body_scope, declare_names, declare_procedure_names, first_procedure_ordinal, first_type_ordinal, first_variable_ordinal, ordinal_in_scope, predeclared_scope, scope_before_procedures, scope_before_variables}
 use Rattle.std.proofs.lemmas.Bool.{cases_Bool}
 
 -- a procedure in a run, with the number of the first occurrence in its text
@@ -48,7 +48,7 @@ pub record IsText (edit : Edit) (w : Value) (marks : Marks Place Text) (x : Name
   pub from_seven : 7 ≤ k
   pub named : procedure_name t.code.text ≡ x
   pub here : OneProcedure (Here edit w) t.at (scope_marked marks) k t.code.text
-  pub has_value : HasValueBetween edit w k (ordinal_after_procedure (suc k) t.code.text) (value_in_procedure ((x, non_constant_placeholder) ∷ knowns marks) edit.constant (suc k) t.code.text)
+  pub has_value : HasValueBetween edit w k (ordinal_after_procedure (suc k) t.code.text) (constant_value_in_procedure ((x, non_constant_placeholder) ∷ knowns marks) edit.constant (suc k) t.code.text)
 
 abbrev pub Run_sound : Edit → Value → ℕ → Marks Place Text → Type 0
 Run_sound edit w n marks = Sound edit w (IsText edit w) n marks
@@ -58,10 +58,10 @@ LeftRun edit w = Left edit w (IsText edit w)
 
 -- An edit leaves the modes of a procedure's parameters unchanged.
 
-pub sections-modes : (edit : Edit) (j : ℕ) (fs : Tree Name (items further_section)) → formal_modes (leaf edit j fs) ≡ formal_modes fs
+pub sections-modes : (edit : Edit) (j : ℕ) (fs : Tree Name (items section_after_semicolon)) → formal_modes (leaf edit j fs) ≡ formal_modes fs
 sections-modes edit j end = refl
-sections-modes edit j (more (then_section (value_section ns t)) fs) = λ i. map (λ x. by_value) (names_in_list ns) ++ sections-modes edit (j + length (occurrences t)) fs i
-sections-modes edit j (more (then_section (variable_section ns t)) fs) = λ i. map (λ x. by_place) (names_in_list ns) ++ sections-modes edit (j + length (occurrences t)) fs i
+sections-modes edit j (more (semicolon_then_section (value_section ns t)) fs) = λ i. map (λ x. by_value) (names_in_list ns) ++ sections-modes edit (j + length (occurrences t)) fs i
+sections-modes edit j (more (semicolon_then_section (variable_section ns t)) fs) = λ i. map (λ x. by_place) (names_in_list ns) ++ sections-modes edit (j + length (occurrences t)) fs i
 
 pub procedure-modes : (edit : Edit) (j k : ℕ) (p : Tree Name (item procedure)) → formal_modes (procedure_formals (edited_procedure edit j k p)) ≡ formal_modes (procedure_formals p)
 procedure-modes edit j k (declares_procedure x fs b closing) = ap formal_modes (formals-of edit j fs) ∙ sections-modes edit j (formal_sections fs)
@@ -75,12 +75,12 @@ object_for_statements-kept edit (Some b) = of_object b.object
     of_object (a_constant v) = refl
     of_object (a_variable p) = refl
     of_object (a_procedure t) = λ i. Some (a_procedure (procedure-modes edit t.at (suc b.ordinal) t.code.text i))
-    of_object (a_standard p) = refl
+    of_object (a_standard_procedure p) = refl
 
-abbrev pub meanings_after : Edit → Marks Place Text → Meanings Name Place (List Mode)
+abbrev pub meanings_after : Edit → Marks Place Text → Meanings Name Place (List ParameterMode)
 meanings_after edit marks = meanings_for_statements naming_by_spelling (read_edited edit (after edit) marks)
 
-abbrev pub meanings_before : Marks Place Text → Meanings Name Place (List Mode)
+abbrev pub meanings_before : Marks Place Text → Meanings Name Place (List ParameterMode)
 meanings_before marks = meanings_for_statements naming_by_spelling (read before marks)
 
 pub seen-object_for_statements : (env : Activation Name) (w : Value) → IsSeen (meanings naming_by_spelling env) w → IsSeen (meanings_for_statements naming_by_spelling env) w
@@ -90,14 +90,14 @@ seen-object_for_statements env _ e = tt
 
 -- a name's meaning, its spelling, and the effect of calling it
 pub record RunTag : Type 0 where
-  pub object : Option (Object Place (List Mode))
+  pub object : Option (Object Place (List ParameterMode))
   pub text : Name
   pub entering : List Argument → State → Progress
 
-abbrev pub run_tagged : Meanings RunTag Place (List Mode)
+abbrev pub run_tagged : Meanings RunTag Place (List ParameterMode)
 run_tagged = record { object_for = λ t. t.object; written = λ t. t.text }
 
-abbrev pub run_tag : Meanings Name Place (List Mode) → CallFunction Name → Name → RunTag
+abbrev pub run_tag : Meanings Name Place (List ParameterMode) → CallFunction Name → Name → RunTag
 run_tag meaning enter x = record { object = meaning.object_for x; text = []; entering = enter x }
 
 abbrev pub run_field : Name → RunTag
@@ -226,7 +226,7 @@ procedures-before i j k (more p rest) marks =
     procedures-before (i + procedure_constructor_count p) (j + length (occurrences p)) (ordinal_after_procedure (suc k) p) rest
     (record { name = procedure_name p; ordinal = k; object = a_procedure record { code = record { constructors_before = i; text = p }; at = j } } ∷ marks)
 
-pub own-outside : (edit : Edit) (w : Value) (known : ConstantEnvironment) (k : ℕ) (p : Tree Name (item procedure)) → HasValueBetween edit w k (ordinal_after_procedure (suc k) p) (value_in_procedure known edit.constant (suc k) p) → Outside edit k (suc k)
+pub own-outside : (edit : Edit) (w : Value) (known : ConstantEnvironment) (k : ℕ) (p : Tree Name (item procedure)) → HasValueBetween edit w k (ordinal_after_procedure (suc k) p) (constant_value_in_procedure known edit.constant (suc k) p) → Outside edit k (suc k)
 own-outside edit w known k (declares_procedure x fs b closing) has_value l m =
     let above : suc k ≤ ordinal_after_names (suc k) (formal_names (formal_sections fs)) = le-ordinal_after_names (suc k) (formal_names (formal_sections fs)) in
     bind_procedure-outside edit w known k x closing fs b has_value l (omega (arith, m, above))
@@ -234,7 +234,7 @@ own-outside edit w known k (declares_procedure x fs b closing) has_value l m =
 edited_procedure-name : (edit : Edit) (j k : ℕ) (p : Tree Name (item procedure)) → procedure_name (edited_procedure edit j k p) ≡ procedure_name p
 edited_procedure-name edit j k (declares_procedure x fs b closing) = refl
 
-pub procedures-after : (edit : Edit) (w : Value) (i j k : ℕ) (ps : Tree Name (items procedure)) (marks : Marks Place Text) → HasValueBetween edit w k (ordinal_after_procedures k ps) (value_in_procedures (knowns marks) edit.constant k ps)
+pub procedures-after : (edit : Edit) (w : Value) (i j k : ℕ) (ps : Tree Name (items procedure)) (marks : Marks Place Text) → HasValueBetween edit w k (ordinal_after_procedure_list k ps) (constant_value_in_procedures (knowns marks) edit.constant k ps)
     → declare_procedures i (edited_procedures edit j k ps) (read_edited edit (after edit) marks) ≡ read_edited edit (after edit) (mark_procedures i j k ps marks)
 procedures-after edit w i j k end marks has_value = refl
 procedures-after edit w i j k (more p rest) marks has_value =
@@ -252,12 +252,12 @@ abbrev pub RightFrame : Edit → Value → ℕ → Scope Name → MarkedFrame �
 RightFrame edit w n scope f = (scope_marked f.marks ≡ scope) × Run_sound edit w n f.marks
 
 pub procedures-right : (edit : Edit) (w : Value) (i j k : ℕ) (ps : Tree Name (items procedure)) (marks : Marks Place Text) → Run_sound edit w k marks → 7 ≤ k → EachProcedure (Here edit w) j (scope_marked marks) k ps
-    → HasValueBetween edit w k (ordinal_after_procedures k ps) (value_in_procedures (knowns marks) edit.constant k ps)
-    → (scope_marked (mark_procedures i j k ps marks) ≡ declare_procedure_names k ps (scope_marked marks)) × Run_sound edit w (ordinal_after_procedures k ps) (mark_procedures i j k ps marks)
+    → HasValueBetween edit w k (ordinal_after_procedure_list k ps) (constant_value_in_procedures (knowns marks) edit.constant k ps)
+    → (scope_marked (mark_procedures i j k ps marks) ≡ declare_procedure_names k ps (scope_marked marks)) × Run_sound edit w (ordinal_after_procedure_list k ps) (mark_procedures i j k ps marks)
 procedures-right edit w i j k end marks s seven here has_value = (refl, s)
 procedures-right edit w i j k (more p rest) marks s seven here has_value =
     let following : suc k ≤ ordinal_after_procedure (suc k) p = le-ordinal_after_procedure (suc k) p in
-    let mine : HasValueBetween edit w k (ordinal_after_procedure (suc k) p) (value_in_procedure ((procedure_name p, non_constant_placeholder) ∷ knowns marks) edit.constant (suc k) p) = own-has_value edit w (knowns marks) k p rest has_value in
+    let mine : HasValueBetween edit w k (ordinal_after_procedure (suc k) p) (constant_value_in_procedure ((procedure_name p, non_constant_placeholder) ∷ knowns marks) edit.constant (suc k) p) = own-has_value edit w (knowns marks) k p rest has_value in
     let t : Text = record { code = record { constructors_before = i; text = p }; at = j } in
     procedures-right edit w (i + procedure_constructor_count p) (j + length (occurrences p)) (ordinal_after_procedure (suc k) p) rest
     (record { name = procedure_name p; ordinal = k; object = a_procedure t } ∷ marks)
@@ -266,7 +266,7 @@ procedures-right edit w i j k (more p rest) marks s seven here has_value =
 
 -- The declarations of a block give the same frame before and after the edit, except a removed constant.
 pub block-kept : (edit : Edit) (w : Value) → Literal edit w → (i j k : ℕ) (f : MarkedFrame) → Run_sound edit w k f.marks → 7 ≤ k → (b : Tree Name block)
-    → EachBlock (Here edit w) j (scope_marked f.marks) k b → HasValueBetween edit w k (ordinal_after_block k b) (value_in_block (knowns f.marks) edit.constant k b)
+    → EachBlock (Here edit w) j (scope_marked f.marks) k b → HasValueBetween edit w k (ordinal_after_block k b) (constant_value_in_block (knowns f.marks) edit.constant k b)
     → Agree frame_before (frame_after edit) (RightFrame edit w (ordinal_after_block k b) (body_scope k b (scope_marked f.marks)))
     (declare_block naming_by_spelling i b (frame_before f)) (declare_block naming_by_spelling i (edited_block edit j k b) (frame_after edit f))
 unfolding declare_block
@@ -317,10 +317,10 @@ block-kept edit w lit i j k f s seven (forms_block (declares cs ts vs ps) statem
 
 -- Binding parameters to arguments does the same before and after the edit.
 
-pub parameters-leaf : (edit : Edit) (j : ℕ) (fs : Tree Name (items further_section)) → parameters (leaf edit j fs) ≡ parameters fs
+pub parameters-leaf : (edit : Edit) (j : ℕ) (fs : Tree Name (items section_after_semicolon)) → parameters (leaf edit j fs) ≡ parameters fs
 parameters-leaf edit j end = refl
-parameters-leaf edit j (more (then_section (value_section ns t)) fs) = λ i. map (λ x. record { mode = by_value; name = x }) (names_in_list ns) ++ parameters-leaf edit (j + length (occurrences t)) fs i
-parameters-leaf edit j (more (then_section (variable_section ns t)) fs) = λ i. map (λ x. record { mode = by_place; name = x }) (names_in_list ns) ++ parameters-leaf edit (j + length (occurrences t)) fs i
+parameters-leaf edit j (more (semicolon_then_section (value_section ns t)) fs) = λ i. map (λ x. record { mode = by_value; name = x }) (names_in_list ns) ++ parameters-leaf edit (j + length (occurrences t)) fs i
+parameters-leaf edit j (more (semicolon_then_section (variable_section ns t)) fs) = λ i. map (λ x. record { mode = by_place; name = x }) (names_in_list ns) ++ parameters-leaf edit (j + length (occurrences t)) fs i
 
 pub parameters-kept : (edit : Edit) (w : Value) (k : ℕ) (f : MarkedFrame) → Run_sound edit w k f.marks → 7 ≤ k → (ps : List (Parameter Name)) → Outside edit k (ordinal_after_names k (parameter_names ps)) → (args : List Argument)
     → Agree frame_before (frame_after edit) (LeftFrame edit w (ordinal_after_names k (parameter_names ps)) (declare_names k (parameter_names ps) (scope_marked f.marks)) (Some (bind_names (parameter_names ps) non_constant_placeholder (knowns f.marks))))
@@ -345,7 +345,7 @@ parameters-kept edit w k f s seven (p ∷ ps) outside (a ∷ args) =
         subst (λ env. Agree frame_before (frame_after edit) Result (bind_parameters ps args record { env = (p.name, a_variable place) ∷ read before f.marks; store = store }) (bind_parameters ps args record { env = env; store = store }))
         (ap (λ t. if t then read_edited edit (after edit) f.marks else (p.name, a_variable place) ∷ read_edited edit (after edit) f.marks) (not-constant edit k own)) h
 
-    go : (m : Mode) (a : Argument)
+    go : (m : ParameterMode) (a : Argument)
         → ((place : Place) (store : Store) → Agree frame_before (frame_after edit) Result (bind_parameters ps args (frame_before record { marks = record { name = p.name; ordinal = k; object = a_variable place } ∷ f.marks; store = store }))
         (bind_parameters ps args (frame_after edit record { marks = record { name = p.name; ordinal = k; object = a_variable place } ∷ f.marks; store = store })))
         → Agree frame_before (frame_after edit) Result (option_and_then (bind_parameters ps args) (bind_parameter m p.name a (frame_before f))) (option_and_then (bind_parameters ps args) (bind_parameter m p.name a (frame_after edit f)))
@@ -389,7 +389,7 @@ block-runs edit w lit there here known t j k scope b each f right =
 -- the frame is the procedure's own.
 pub activation-kept : (edit : Edit) (w : Value) → Literal edit w → (i j k : ℕ) (f : MarkedFrame) → Run_sound edit w (suc k) f.marks → 7 ≤ k → (x closing : Name) (fs : Tree Name (maybe formals)) (b : Tree Name block)
     → EachBlock (Here edit w) (j + length (occurrences fs)) (declare_names (suc k) (formal_names (formal_sections fs)) (scope_marked f.marks)) (ordinal_after_names (suc k) (formal_names (formal_sections fs))) b
-    → HasValueBetween edit w k (ordinal_after_procedure (suc k) (declares_procedure x fs b closing)) (value_in_procedure (knowns f.marks) edit.constant (suc k) (declares_procedure x fs b closing)) → (args : List Argument)
+    → HasValueBetween edit w k (ordinal_after_procedure (suc k) (declares_procedure x fs b closing)) (constant_value_in_procedure (knowns f.marks) edit.constant (suc k) (declares_procedure x fs b closing)) → (args : List Argument)
     → Agree frame_before (frame_after edit)
     (RightFrame edit w (ordinal_after_block (ordinal_after_names (suc k) (formal_names (formal_sections fs))) b) (body_scope (ordinal_after_names (suc k) (formal_names (formal_sections fs))) b (declare_names (suc k) (formal_names (formal_sections fs)) (scope_marked f.marks))))
     (option_and_then (declare_block naming_by_spelling (i + formals_constructor_count (formal_sections fs)) b) (bind_parameters (parameters (formal_sections fs)) args (frame_before f)))
@@ -416,7 +416,7 @@ activation-kept edit w lit i j k f s seven x closing fs b each has_value args =
     (λ g left. subst (λ inner. Agree frame_before (frame_after edit) (RightFrame edit w (ordinal_after_block n b) (body_scope n b inner)) (declare_block naming_by_spelling (i + formals_constructor_count (formal_sections fs)) b (frame_before g)) (declare_block naming_by_spelling (i + formals_constructor_count (formal_sections fs)) (edited_block edit jb n b) (frame_after edit g))) left.scoped
     (block-kept edit w lit (i + formals_constructor_count (formal_sections fs)) jb n g left.sound (omega (arith, seven, above)) b
     (subst (λ inner. EachBlock (Here edit w) jb inner n b) (sym left.scoped) each)
-    (subst (λ known. HasValueBetween edit w n (ordinal_after_block n b) (value_in_block known edit.constant n b)) (some_inverse left.value) (body-has_value edit w (knowns f.marks) k x closing fs b has_value)))))
+    (subst (λ known. HasValueBetween edit w n (ordinal_after_block n b) (constant_value_in_block known edit.constant n b)) (some_inverse left.value) (body-has_value edit w (knowns f.marks) k x closing fs b has_value)))))
 
 -- holds if the edit doesn't remove the newest mark
 abbrev pub HeadStays : Edit → Marks Place Text → Type 0
@@ -463,7 +463,7 @@ activate-kept edit w lit there here known t n (b ∷ marks) sound head args s =
     of_object (a_constant v) right text = refl
     of_object (a_variable p) right text = refl
     of_object (a_procedure u) right text = of_text u.code.constructors_before u.at u.code.text right text
-    of_object (a_standard p) right text = refl
+    of_object (a_standard_procedure p) right text = refl
 
 -- Calls do the same after the edit, by induction on the number of calls that may be open.
 pub calls-kept : (edit : Edit) (w : Value) → Literal edit w → (c t : ℕ) → CallsKept edit w (call naming_by_spelling c t) (call naming_by_spelling c t)
@@ -477,7 +477,7 @@ calls-kept edit w lit (suc c) t n marks sound x stays = λ i args s.
 -- An edited module has the same run as the original module.
 pub run-edited : (edit : Edit) (w : Value) (m : Tree Name module_text) → IsFitted edit w m → (input : List ℤ) (c t : ℕ) → run_with_naming naming_by_spelling (edited edit m) input c t ≡ run_with_naming naming_by_spelling m input c t
 unfolding run_with_naming
-run-edited edit w (is_module x b closing) h input c t =
+run-edited edit w (forms_module x b closing) h input c t =
     let sound : Run_sound edit w 7 marked_outermost = outermost-sound edit w (IsText edit w) h.literal.ordinal in
     let f : MarkedFrame = record { marks = marked_outermost; store = [] } in
     ap run_result

@@ -5,16 +5,16 @@
 use Rattle.std.proofs.Common.{◌≡◌, ℕ, zero, suc, ◌+◌, true, false, List, [], ◌∷◌, ◌++◌, length, ℤ, Some, None, Option, option_map, option_and_then, sym, refl, ap, ◌∙◌, subst, append_assoc, append-nil}
 use Rattle.ob0_tree.specs.Tree.{Tree, begins, block, body, constant, declares_constant, declares_type, declares_variable, end, expression, items, maybe, module_text, more, none, one, procedure, type_definition, variable, written_type}
 use Rattle.ob0_language_names.specs.Names.{Naming}
-use Rattle.ob0_language_names.specs.Parts.{block_constants, block_procedures, block_statements, block_types, block_variables, module_block, names_in_list, procedure_block, procedure_formals, procedure_name}
+use Rattle.ob0_language_names.specs.BlockParts.{block_constants, block_procedures, block_statements, block_types, block_variables, module_block, names_in_list, procedure_block, procedure_formals, procedure_name}
 use Rattle.ob0_language_names.proofs.SameNames.{map_names-id}
 use Rattle.ob0_language_types.specs.Declarations.{constructors_before_procedure_block, constructors_before_variables, constructors_before_procedures, declare_constants, declare_constants_and_types, declare_types, procedure_constructor_count}
 use Rattle.ob0_language_types.specs.Environments.{environment_from_binding, meanings, newest_object, outermost_environment}
-use Rattle.ob0_language_types.specs.Expressions.{Object, a_constant, a_procedure, a_standard, a_type, a_variable}
+use Rattle.ob0_language_types.specs.Expressions.{Object, a_constant, a_procedure, a_standard_procedure, a_type, a_variable}
 use Rattle.ob0_language_types.specs.Typing.{constant_of, constant_value, constructor_count, denoted_type, type_of_type_object}
 use Rattle.ob0_language_types.specs.WellTyped.{by_place, by_value}
 use Rattle.ob0_language_types.proofs.TypeNaturality.{constant_value-map, denoted_type-map}
 use Rattle.ob0_language_values.specs.Values.{Place, Value, initial_value}
-use Rattle.ob0_language_runs.specs.Freed.{call_freeing_variables, drop_variables, run_freeing_variables}
+use Rattle.ob0_language_runs.specs.FreedVariables.{call_freeing_variables, drop_variables, run_freeing_variables}
 use Rattle.ob0_language_runs.specs.Laws.{DroppingVariablesKeepsRuns}
 use Rattle.ob0_language_runs.specs.Runs.{Activation, Argument, CallFunction, ProcedureText, Frame, Parameter, Progress, State, activate, add_variables_to_frame, bind_parameter, bind_parameters, call, declare_block, declare_procedures, declare_variables, execute_body, run_result, formal_modes, continue_in_frame, parameters, object_for_statements, place_argument, run_with_naming, running, meanings_for_statements, stopped, value_argument, declare_procedures_in_frame}
 use Rattle.ob0_language_runs.proofs.LargerStores.{Alike, ArgumentIs, ArgumentsAre, EntersAlike, MeaningIs, ObjectIs, PlaceIs, ProgressIs, StateIs, StoreIs, execute_sequence-alike, variable-added, variable-last, variables-cut}
@@ -54,7 +54,7 @@ object-grows at others (a_type s) (a_type t) h = h
 object-grows at others (a_constant s) (a_constant t) h = h
 object-grows at others (a_variable p) (a_variable q) h = place-grows at others p q h
 object-grows at others (a_procedure s) (a_procedure t) h = h
-object-grows at others (a_standard s) (a_standard t) h = h
+object-grows at others (a_standard_procedure s) (a_standard_procedure t) h = h
 object-grows at others _ _ h = absurd h
 
 environment-grows : {N : Type 0} (at others : List ℕ) (env other : Activation N) → EnvironmentIs at env other → EnvironmentIs (at ++ others) env other
@@ -89,7 +89,7 @@ object_for_statements-is at (Some (a_type s)) (Some (a_type t)) h = h
 object_for_statements-is at (Some (a_constant s)) (Some (a_constant t)) h = h
 object_for_statements-is at (Some (a_variable s)) (Some (a_variable t)) h = h
 object_for_statements-is at (Some (a_procedure s)) (Some (a_procedure t)) h = ap (λ code. formal_modes (procedure_formals code.text)) h
-object_for_statements-is at (Some (a_standard s)) (Some (a_standard t)) h = h
+object_for_statements-is at (Some (a_standard_procedure s)) (Some (a_standard_procedure t)) h = h
 object_for_statements-is at _ _ h = absurd h
 
 constant-same : {P : Type 0} (at : List ℕ) (o q : Option (Object Place P)) → MeaningIs at o q → constant_of o ≡ constant_of q
@@ -98,7 +98,7 @@ constant-same at (Some (a_type s)) (Some (a_type t)) h = refl
 constant-same at (Some (a_constant s)) (Some (a_constant t)) h = ap Some h
 constant-same at (Some (a_variable s)) (Some (a_variable t)) h = refl
 constant-same at (Some (a_procedure s)) (Some (a_procedure t)) h = refl
-constant-same at (Some (a_standard s)) (Some (a_standard t)) h = refl
+constant-same at (Some (a_standard_procedure s)) (Some (a_standard_procedure t)) h = refl
 constant-same at _ _ h = absurd h
 
 type-same : {P : Type 0} (at : List ℕ) (o q : Option (Object Place P)) → MeaningIs at o q → type_of_type_object o ≡ type_of_type_object q
@@ -107,7 +107,7 @@ type-same at (Some (a_type s)) (Some (a_type t)) h = ap Some h
 type-same at (Some (a_constant s)) (Some (a_constant t)) h = refl
 type-same at (Some (a_variable s)) (Some (a_variable t)) h = refl
 type-same at (Some (a_procedure s)) (Some (a_procedure t)) h = refl
-type-same at (Some (a_standard s)) (Some (a_standard t)) h = refl
+type-same at (Some (a_standard_procedure s)) (Some (a_standard_procedure t)) h = refl
 type-same at _ _ h = absurd h
 
 -- holds if two frames have related stores and environments
@@ -273,7 +273,7 @@ module _ {N : Type 0} (naming : Naming N) where
       go (a_type v) (a_type w) is = ([], (refl, h.same_output))
       go (a_constant v) (a_constant w) is = ([], (refl, h.same_output))
       go (a_variable v) (a_variable w) is = ([], (refl, h.same_output))
-      go (a_standard v) (a_standard w) is = ([], (refl, h.same_output))
+      go (a_standard_procedure v) (a_standard_procedure w) is = ([], (refl, h.same_output))
       go _ _ is = absurd is
   activate-alike enter enter' known t at _ _ args others s u env are h = absurd env
 

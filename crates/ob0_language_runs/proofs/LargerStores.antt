@@ -1,12 +1,12 @@
 -- If a larger store has the variables of a smaller one at other indexes, reads and writes do the same in both stores.
 use Rattle.std.proofs.Common.{◌≡◌, ℕ, zero, suc, ◌-◌, true, false, ◌≢◌, List, [], ◌∷◌, ◌++◌, length, take, ℤ, slice_get, slice_set, Some, None, Option, option_map, option_and_then, sym, refl, ap, ◌∙◌, subst}
-use Rattle.ob0_tree.specs.Tree.{Tree, addend, adds, assigns, branches, calls, compares, designator, else_branch, else_part, elsif_branch, elsif_part, empty, end, expression, factor, field, further_statement, index, integer, items, maybe, more, multiplier, multiplies, negation, none, one, parenthesised, product, relates, repeat_loop, runs, selector, sequence, simple, statement, sum, term, then_statement, while_loop}
+use Rattle.ob0_tree.specs.Tree.{Tree, addend, adds, assigns, branches, calls, compares, designator, else_branch, else_part, elsif_branch, elsif_part, empty, end, expression, factor, field, statement_after_semicolon, index, integer, items, maybe, more, multiplier, multiplies, negation, none, one, parenthesised, product, relates, repeat_loop, runs, selector, sequence, simple, statement, sum, term, semicolon_then_statement, while_loop}
 use Rattle.ob0_language_types.specs.Arguments.{call_arguments}
-use Rattle.ob0_language_types.specs.Expressions.{Meanings, Object, StandardProcedure, a_constant, a_procedure, a_standard, a_type, a_variable, designated_place, element_step, evaluate, evaluate_addends, evaluate_factor, evaluate_multipliers, evaluate_simple, evaluate_term, evaluate_selectors, object_place, read_procedure, object_value, write_procedure, write_line_procedure}
+use Rattle.ob0_language_types.specs.Expressions.{Meanings, Object, StandardProcedure, a_constant, a_procedure, a_standard_procedure, a_type, a_variable, designated_place, element_step, evaluate, evaluate_addends, evaluate_factor, evaluate_multipliers, evaluate_simple, evaluate_term, evaluate_selectors, object_place, read_procedure, object_value, write_procedure, write_line_procedure}
 use Rattle.ob0_language_types.specs.Typing.{lone_designator}
-use Rattle.ob0_language_types.specs.WellTyped.{Mode, by_place, by_value}
+use Rattle.ob0_language_types.specs.WellTyped.{ParameterMode, by_place, by_value}
 use Rattle.ob0_language_types.proofs.Literals.{some_inverse}
-use Rattle.ob0_language_values.specs.Values.{Outcome, Place, Store, TurnBound, Value, add, add_short_circuits, at_field, value_at_path, elements, ends_run_with, succeeds_with, members, multiply, multiply_short_circuits, negate, number, or_stuck, value_at_step, read_place, apply_relation, apply_sign, truth, with_value_at_path, ◌>>=◌}
+use Rattle.ob0_language_values.specs.Values.{Outcome, Place, Store, TurnBound, Value, add, add_operator_short_circuits, at_field, value_at_path, elements, ends_run_with, succeeds_with, members, multiply, multiply_operator_short_circuits, negate, number, or_stuck, value_at_step, read_place, apply_relation, apply_sign, truth, with_value_at_path, ◌>>=◌}
 use Rattle.ob0_language_runs.specs.Runs.{Argument, CallFunction, Progress, State, PrintedItem, choose_by_truth, evaluate_argument, evaluate_arguments, execute, execute_sequence, execute_else, execute_elsifs, execute_further_statements, continue_with, line_out, argument_modes_of, number_out, perform_call, place_argument, append_output, read_number, running, stopped, store_at, execute_while, execute_repeat, continue_with_result, value_argument}
 use Rattle.ob0_language_runs.proofs.SoundStatements.{slice_get-grows}
 
@@ -110,7 +110,7 @@ ObjectIs at (a_type s) (a_type t) = s ≡ t
 ObjectIs at (a_constant v) (a_constant w) = v ≡ w
 ObjectIs at (a_variable p) (a_variable q) = PlaceIs at p q
 ObjectIs at (a_procedure a) (a_procedure b) = a ≡ b
-ObjectIs at (a_standard a) (a_standard b) = a ≡ b
+ObjectIs at (a_standard_procedure a) (a_standard_procedure b) = a ≡ b
 ObjectIs at _ _ = ⊥
 
 abbrev pub MeaningIs : {P : Type 0} → List ℕ → Option (Object Place P) → Option (Object Place P) → Type 0
@@ -144,7 +144,7 @@ value-same at small large (Some (a_constant v)) (Some (a_constant w)) h is = ap 
 value-same at small large (Some (a_variable p)) (Some (a_variable q)) h is = ap or_stuck (read-same at small large p q h is)
 value-same at small large (Some (a_type s)) (Some (a_type t)) h is = refl
 value-same at small large (Some (a_procedure a)) (Some (a_procedure b)) h is = refl
-value-same at small large (Some (a_standard a)) (Some (a_standard b)) h is = refl
+value-same at small large (Some (a_standard_procedure a)) (Some (a_standard_procedure b)) h is = refl
 value-same at small large _ _ h is = absurd is
 
 place-is : {P : Type 0} (at : List ℕ) (o q : Option (Object Place P)) → MeaningIs at o q → OutcomeIs (PlaceIs at) (object_place o) (object_place q)
@@ -153,7 +153,7 @@ place-is at (Some (a_constant v)) (Some (a_constant w)) is = refl
 place-is at (Some (a_variable p)) (Some (a_variable q)) is = is
 place-is at (Some (a_type s)) (Some (a_type t)) is = refl
 place-is at (Some (a_procedure a)) (Some (a_procedure b)) is = refl
-place-is at (Some (a_standard a)) (Some (a_standard b)) is = refl
+place-is at (Some (a_standard_procedure a)) (Some (a_standard_procedure b)) is = refl
 place-is at _ _ is = absurd is
 
 -- An expression has the same outcome in both stores.
@@ -174,7 +174,7 @@ module _ {N P : Type 0} (here there : Meanings N Place P) (small large : Store) 
     pub evaluate_addends-same : (x : Value) (rest : Tree N (items addend)) → evaluate_addends here small x rest ≡ evaluate_addends there large x rest
     evaluate_addends-same x end = refl
     evaluate_addends-same x (more (adds o t) rest) = λ i.
-        (elim (add_short_circuits o x) [ true ↦ succeeds_with x | false ↦ evaluate_term-same t i >>= add o x ])
+        (elim (add_operator_short_circuits o x) [ true ↦ succeeds_with x | false ↦ evaluate_term-same t i >>= add o x ])
         >>= (λ y. evaluate_addends-same y rest i)
 
     pub evaluate_term-same : (t : Tree N term) → evaluate_term here small t ≡ evaluate_term there large t
@@ -184,7 +184,7 @@ module _ {N P : Type 0} (here there : Meanings N Place P) (small large : Store) 
     pub evaluate_multipliers-same : (x : Value) (rest : Tree N (items multiplier)) → evaluate_multipliers here small x rest ≡ evaluate_multipliers there large x rest
     evaluate_multipliers-same x end = refl
     evaluate_multipliers-same x (more (multiplies o a) rest) = λ i.
-        (elim (multiply_short_circuits o x) [ true ↦ succeeds_with x | false ↦ evaluate_factor-same a i >>= multiply o x ])
+        (elim (multiply_operator_short_circuits o x) [ true ↦ succeeds_with x | false ↦ evaluate_factor-same a i >>= multiply o x ])
         >>= (λ y. evaluate_multipliers-same y rest i)
 
     pub evaluate_factor-same : (a : Tree N factor) → evaluate_factor here small a ≡ evaluate_factor there large a
@@ -236,7 +236,7 @@ ArgumentsAre at [] [] = Unit {0}
 ArgumentsAre at (a ∷ args) (b ∷ others) = ArgumentIs at a b × ArgumentsAre at args others
 ArgumentsAre at _ _ = ⊥
 
-argument-is : {N P : Type 0} (at : List ℕ) (here there : Meanings N Place P) (small large : Store) → NamesAre at here there → StoreIs at small large → (m : Mode) (e : Tree N expression) → OutcomeIs (ArgumentIs at) (evaluate_argument here small m e) (evaluate_argument there large m e)
+argument-is : {N P : Type 0} (at : List ℕ) (here there : Meanings N Place P) (small large : Store) → NamesAre at here there → StoreIs at small large → (m : ParameterMode) (e : Tree N expression) → OutcomeIs (ArgumentIs at) (evaluate_argument here small m e) (evaluate_argument there large m e)
 unfolding evaluate_argument
 argument-is at here there small large names h by_value e =
     same-then (ArgumentIs at) (evaluate here small e) (evaluate there large e) (λ v. succeeds_with (value_argument v)) (λ v. succeeds_with (value_argument v)) (evaluate-is at here there small large names h e) (λ v. refl)
@@ -244,7 +244,7 @@ argument-is at here there small large names h by_place e =
     same-then (ArgumentIs at) (or_stuck (lone_designator e)) (or_stuck (lone_designator e)) (λ d. designated_place here small d.0 d.1 >>= (λ p. succeeds_with (place_argument p))) (λ d. designated_place there large d.0 d.1 >>= (λ p. succeeds_with (place_argument p))) refl
     (λ d. outcome-then (PlaceIs at) (ArgumentIs at) (designated_place here small d.0 d.1) (designated_place there large d.0 d.1) (λ p. succeeds_with (place_argument p)) (λ p. succeeds_with (place_argument p)) (designated_place-is at here there small large names h d.0 d.1) (λ p q is. is))
 
-arguments-are : {N P : Type 0} (at : List ℕ) (here there : Meanings N Place P) (small large : Store) → NamesAre at here there → StoreIs at small large → (ms : List Mode) (es : List (Tree N expression)) → OutcomeIs (ArgumentsAre at) (evaluate_arguments here small ms es) (evaluate_arguments there large ms es)
+arguments-are : {N P : Type 0} (at : List ℕ) (here there : Meanings N Place P) (small large : Store) → NamesAre at here there → StoreIs at small large → (ms : List ParameterMode) (es : List (Tree N expression)) → OutcomeIs (ArgumentsAre at) (evaluate_arguments here small ms es) (evaluate_arguments there large ms es)
 unfolding evaluate_arguments
 arguments-are at here there small large names h [] [] = tt
 arguments-are at here there small large names h (m ∷ ms) (e ∷ es) =
@@ -322,20 +322,20 @@ put_out-is at s u w h = record { same_variables = h.same_variables; same_input =
 
 -- The modes and the arguments of a call are the same in both stores.
 
-modes-same : (at : List ℕ) (o q : Option (Object Place (List Mode))) → MeaningIs at o q → argument_modes_of o ≡ argument_modes_of q
+modes-same : (at : List ℕ) (o q : Option (Object Place (List ParameterMode))) → MeaningIs at o q → argument_modes_of o ≡ argument_modes_of q
 modes-same at None None is = refl
 modes-same at (Some (a_constant v)) (Some (a_constant w)) is = refl
 modes-same at (Some (a_variable p)) (Some (a_variable q)) is = refl
 modes-same at (Some (a_type s)) (Some (a_type t)) is = refl
 modes-same at (Some (a_procedure a)) (Some (a_procedure b)) is = ap succeeds_with is
-modes-same at (Some (a_standard a)) (Some (a_standard b)) is = ap (λ a. argument_modes_of (Some (a_standard a))) is
+modes-same at (Some (a_standard_procedure a)) (Some (a_standard_procedure b)) is = ap (λ a. argument_modes_of (Some (a_standard_procedure a))) is
 modes-same at _ _ is = absurd is
 
 -- holds if two calls do the same with related arguments
 abbrev pub EntersAlike : List ℕ → (List Argument → State → Progress) → (List Argument → State → Progress) → Type 0
 EntersAlike at enter enter' = (args others : List Argument) (s u : State) → ArgumentsAre at args others → StateIs at s u → ProgressIs at (enter args s) (enter' others u)
 
-reads-alike : (at : List ℕ) (enter enter' : List Argument → State → Progress) → EntersAlike at (perform_call (Some (a_standard read_procedure)) enter) (perform_call (Some (a_standard read_procedure)) enter')
+reads-alike : (at : List ℕ) (enter enter' : List Argument → State → Progress) → EntersAlike at (perform_call (Some (a_standard_procedure read_procedure)) enter) (perform_call (Some (a_standard_procedure read_procedure)) enter')
 reads-alike at enter enter' (place_argument p ∷ []) (place_argument q ∷ []) s u are h =
     subst (λ input. ProgressIs at (read_number s p s.input) (read_number u q input)) h.same_input (read-is at s u p q s.input h are.0)
 reads-alike at enter enter' [] [] s u are h = (refl, h.same_output)
@@ -347,14 +347,14 @@ reads-alike at enter enter' (place_argument p ∷ args) (value_argument w ∷ ot
 reads-alike at enter enter' (value_argument v ∷ args) (place_argument q ∷ others) s u are h = absurd (are.0)
 reads-alike at enter enter' _ _ s u are h = absurd are
 
-written-alike : (at : List ℕ) (enter enter' : List Argument → State → Progress) (v : Value) (s u : State) → StateIs at s u → ProgressIs at (perform_call (Some (a_standard write_procedure)) enter (value_argument v ∷ []) s) (perform_call (Some (a_standard write_procedure)) enter' (value_argument v ∷ []) u)
+written-alike : (at : List ℕ) (enter enter' : List Argument → State → Progress) (v : Value) (s u : State) → StateIs at s u → ProgressIs at (perform_call (Some (a_standard_procedure write_procedure)) enter (value_argument v ∷ []) s) (perform_call (Some (a_standard_procedure write_procedure)) enter' (value_argument v ∷ []) u)
 written-alike at enter enter' (number n) s u h = put_out-is at s u (number_out n) h
 written-alike at enter enter' _ s u h = (refl, h.same_output)
 
-not-written : (at : List ℕ) (enter enter' : List Argument → State → Progress) (v w : Value) (a b : Argument) (args others : List Argument) (s u : State) → StateIs at s u → ProgressIs at (perform_call (Some (a_standard write_procedure)) enter (value_argument v ∷ a ∷ args) s) (perform_call (Some (a_standard write_procedure)) enter' (value_argument w ∷ b ∷ others) u)
+not-written : (at : List ℕ) (enter enter' : List Argument → State → Progress) (v w : Value) (a b : Argument) (args others : List Argument) (s u : State) → StateIs at s u → ProgressIs at (perform_call (Some (a_standard_procedure write_procedure)) enter (value_argument v ∷ a ∷ args) s) (perform_call (Some (a_standard_procedure write_procedure)) enter' (value_argument w ∷ b ∷ others) u)
 not-written at enter enter' v w a b args others s u h = go v w
   where
-    go : (v w : Value) → ProgressIs at (perform_call (Some (a_standard write_procedure)) enter (value_argument v ∷ a ∷ args) s) (perform_call (Some (a_standard write_procedure)) enter' (value_argument w ∷ b ∷ others) u)
+    go : (v w : Value) → ProgressIs at (perform_call (Some (a_standard_procedure write_procedure)) enter (value_argument v ∷ a ∷ args) s) (perform_call (Some (a_standard_procedure write_procedure)) enter' (value_argument w ∷ b ∷ others) u)
     go (number n) (number k) = (refl, h.same_output)
     go (number n) (truth k) = (refl, h.same_output)
     go (number n) (elements k) = (refl, h.same_output)
@@ -372,9 +372,9 @@ not-written at enter enter' v w a b args others s u h = go v w
     go (members m n) (elements k) = (refl, h.same_output)
     go (members m n) (members j k) = (refl, h.same_output)
 
-writes-alike : (at : List ℕ) (enter enter' : List Argument → State → Progress) → EntersAlike at (perform_call (Some (a_standard write_procedure)) enter) (perform_call (Some (a_standard write_procedure)) enter')
+writes-alike : (at : List ℕ) (enter enter' : List Argument → State → Progress) → EntersAlike at (perform_call (Some (a_standard_procedure write_procedure)) enter) (perform_call (Some (a_standard_procedure write_procedure)) enter')
 writes-alike at enter enter' (value_argument v ∷ []) (value_argument w ∷ []) s u are h =
-    subst (λ w. ProgressIs at (perform_call (Some (a_standard write_procedure)) enter (value_argument v ∷ []) s) (perform_call (Some (a_standard write_procedure)) enter' (value_argument w ∷ []) u)) are.0 (written-alike at enter enter' v s u h)
+    subst (λ w. ProgressIs at (perform_call (Some (a_standard_procedure write_procedure)) enter (value_argument v ∷ []) s) (perform_call (Some (a_standard_procedure write_procedure)) enter' (value_argument w ∷ []) u)) are.0 (written-alike at enter enter' v s u h)
 writes-alike at enter enter' [] [] s u are h = (refl, h.same_output)
 writes-alike at enter enter' (place_argument p ∷ args) (place_argument q ∷ others) s u are h = (refl, h.same_output)
 writes-alike at enter enter' (value_argument v ∷ a ∷ args) (value_argument w ∷ b ∷ others) s u are h = not-written at enter enter' v w a b args others s u h
@@ -384,17 +384,17 @@ writes-alike at enter enter' (place_argument p ∷ args) (value_argument w ∷ o
 writes-alike at enter enter' (value_argument v ∷ args) (place_argument q ∷ others) s u are h = absurd (are.0)
 writes-alike at enter enter' _ _ s u are h = absurd are
 
-standard-alike : (at : List ℕ) (a : StandardProcedure) (enter enter' : List Argument → State → Progress) → EntersAlike at (perform_call (Some (a_standard a)) enter) (perform_call (Some (a_standard a)) enter')
+standard-alike : (at : List ℕ) (a : StandardProcedure) (enter enter' : List Argument → State → Progress) → EntersAlike at (perform_call (Some (a_standard_procedure a)) enter) (perform_call (Some (a_standard_procedure a)) enter')
 standard-alike at read_procedure enter enter' args others s u are h = reads-alike at enter enter' args others s u are h
 standard-alike at write_procedure enter enter' args others s u are h = writes-alike at enter enter' args others s u are h
 standard-alike at write_line_procedure enter enter' [] [] s u are h = put_out-is at s u line_out h
 standard-alike at write_line_procedure enter enter' (a ∷ args) (b ∷ others) s u are h = (refl, h.same_output)
 standard-alike at write_line_procedure enter enter' _ _ s u are h = absurd are
 
-perform_call-alike : (at : List ℕ) (o q : Option (Object Place (List Mode))) (enter enter' : List Argument → State → Progress) → MeaningIs at o q → EntersAlike at enter enter' → EntersAlike at (perform_call o enter) (perform_call q enter')
+perform_call-alike : (at : List ℕ) (o q : Option (Object Place (List ParameterMode))) (enter enter' : List Argument → State → Progress) → MeaningIs at o q → EntersAlike at enter enter' → EntersAlike at (perform_call o enter) (perform_call q enter')
 perform_call-alike at (Some (a_procedure a)) (Some (a_procedure b)) enter enter' is alike args others s u are h = alike args others s u are h
-perform_call-alike at (Some (a_standard a)) (Some (a_standard b)) enter enter' is alike args others s u are h =
-    subst (λ b. ProgressIs at (perform_call (Some (a_standard a)) enter args s) (perform_call (Some (a_standard b)) enter' others u)) is (standard-alike at a enter enter' args others s u are h)
+perform_call-alike at (Some (a_standard_procedure a)) (Some (a_standard_procedure b)) enter enter' is alike args others s u are h =
+    subst (λ b. ProgressIs at (perform_call (Some (a_standard_procedure a)) enter args s) (perform_call (Some (a_standard_procedure b)) enter' others u)) is (standard-alike at a enter enter' args others s u are h)
 perform_call-alike at None None enter enter' is alike args others s u are h = (refl, h.same_output)
 perform_call-alike at (Some (a_type a)) (Some (a_type b)) enter enter' is alike args others s u are h = (refl, h.same_output)
 perform_call-alike at (Some (a_constant a)) (Some (a_constant b)) enter enter' is alike args others s u are h = (refl, h.same_output)
@@ -422,7 +422,7 @@ execute_repeat-alike at (suc t) test test' f g same alike s u h =
     (λ s u h. use_same at s u (test s) (test' u) (λ v. choose_by_truth s v running (execute_repeat t test f)) (λ v. choose_by_truth u v running (execute_repeat t test' g)) h.same_output (same s u h)
     (λ v. choose_by_truth-is at s u v running (execute_repeat t test f) running (execute_repeat t test' g) h h (execute_repeat-alike at t test test' f g same alike s u h)))
 
-module _ {N : Type 0} (at : List ℕ) (here there : Meanings N Place (List Mode)) (enter enter' : CallFunction N) (names : NamesAre at here there) (alike : (x : N) → EntersAlike at (enter x) (enter' x)) (t : ℕ) where
+module _ {N : Type 0} (at : List ℕ) (here there : Meanings N Place (List ParameterMode)) (enter enter' : CallFunction N) (names : NamesAre at here there) (alike : (x : N) → EntersAlike at (enter x) (enter' x)) (t : ℕ) where
   condition-same : (e : Tree N expression) (s u : State) → StateIs at s u → evaluate here s.store e ≡ evaluate there u.store e
   condition-same e s u h = evaluate-is at here there s.store u.store names h.same_variables e
 
@@ -462,9 +462,9 @@ module _ {N : Type 0} (at : List ℕ) (here there : Meanings N Place (List Mode)
     pub execute_sequence-alike : (a : Tree N sequence) → Alike at (execute_sequence here enter t a) (execute_sequence there enter' t a)
     execute_sequence-alike (runs a rest) s u h = go_on-is at (execute here enter t a s) (execute there enter' t a u) (execute_further_statements here enter t rest) (execute_further_statements there enter' t rest) (execute-alike a s u h) (execute_further_statements-alike rest)
 
-    pub execute_further_statements-alike : (a : Tree N (items further_statement)) → Alike at (execute_further_statements here enter t a) (execute_further_statements there enter' t a)
+    pub execute_further_statements-alike : (a : Tree N (items statement_after_semicolon)) → Alike at (execute_further_statements here enter t a) (execute_further_statements there enter' t a)
     execute_further_statements-alike end s u h = h
-    execute_further_statements-alike (more (then_statement a) rest) s u h = go_on-is at (execute here enter t a s) (execute there enter' t a u) (execute_further_statements here enter t rest) (execute_further_statements there enter' t rest) (execute-alike a s u h) (execute_further_statements-alike rest)
+    execute_further_statements-alike (more (semicolon_then_statement a) rest) s u h = go_on-is at (execute here enter t a s) (execute there enter' t a u) (execute_further_statements here enter t rest) (execute_further_statements there enter' t rest) (execute-alike a s u h) (execute_further_statements-alike rest)
 
     pub execute_elsifs-alike : (a : Tree N (items elsif_part)) (f g : State → Progress) → Alike at f g → Alike at (execute_elsifs here enter t a f) (execute_elsifs there enter' t a g)
     execute_elsifs-alike end f g is s u h = is s u h

@@ -2,10 +2,10 @@
 -- ordinal, and a name and its ordinal find the same binding.
 use Rattle.std.proofs.Common.{◌≡◌, ℕ, ◌<◌, ◌≤◌, true, false, List, [], ◌∷◌, Some, refl, le_of_lt, arith}
 use Rattle.ob0_language_names.specs.Names.{Label, Naming, naming_by_label, declared, same_label}
-use Rattle.ob0_language_names.specs.Parts.{procedure_name}
+use Rattle.ob0_language_names.specs.BlockParts.{procedure_name}
 use Rattle.ob0_language_names.specs.Scopes.{Scope, label_from_ordinal, ordinal_in_scope, relabel_procedure}
 use Rattle.ob0_language_types.specs.Environments.{environment_from_binding}
-use Rattle.ob0_language_types.specs.Expressions.{Object, a_constant, a_procedure, a_standard, a_type, a_variable}
+use Rattle.ob0_language_types.specs.Expressions.{Object, a_constant, a_procedure, a_standard_procedure, a_type, a_variable}
 use Rattle.ob0_language_values.specs.Values.{Place}
 use Rattle.ob0_language_runs.specs.Runs.{Activation, ProcedureText}
 use Rattle.std.proofs.lemmas.Bool.{eq-eqb, ne_eqb}
@@ -35,7 +35,7 @@ numbered_object naming scope k (a_type s) = a_type s
 numbered_object naming scope k (a_constant v) = a_constant v
 numbered_object naming scope k (a_variable p) = a_variable p
 numbered_object naming scope k (a_procedure code) = a_procedure (numbered_code naming scope k code)
-numbered_object naming scope k (a_standard p) = a_standard p
+numbered_object naming scope k (a_standard_procedure p) = a_standard_procedure p
 
 -- returns the environment by ordinal; a procedure's text is numbered in the scope of its declaration
 abbrev pub by_ordinal : {N : Type 0} → Naming N → Noted N → Activation Label

@@ -10,10 +10,10 @@ use Rattle.ob0_tree.specs.declared.tree.MultiplyOperator.{MultiplyOperator}
 use Rattle.ob0_tree.specs.declared.tree.MultiplyOperator.TheVariants as multiply_operator
 use Rattle.ob0_tree.specs.Tree.{Tree, addend, adds, compares, designator, end, expression, factor, field, index, integer, items, more, multiplier, multiplies, negation, none, one, parenthesised, product, relates, selector, simple, sum, term}
 use Rattle.ob0_language_names.specs.Names.{Name, same_name}
-use Rattle.ob0_language_types.specs.Expressions.{Meanings, Object, a_constant, a_procedure, a_standard, a_type, a_variable, element_step, evaluate, evaluate_addends, evaluate_factor, evaluate_multipliers, evaluate_simple, evaluate_term, evaluate_selectors, object_value}
+use Rattle.ob0_language_types.specs.Expressions.{Meanings, Object, a_constant, a_procedure, a_standard_procedure, a_type, a_variable, element_step, evaluate, evaluate_addends, evaluate_factor, evaluate_multipliers, evaluate_simple, evaluate_term, evaluate_selectors, object_value}
 use Rattle.ob0_language_types.specs.Typing.{addition_type, negation_type, element_type, field_type, multiplication_type, type_of_variable_or_constant, relation_type, shape_of_field, sign_type, type_after_selectors, type_of, type_of_addends, type_of_factor, type_of_multipliers, type_of_simple, type_of_term, value_type}
-use Rattle.ob0_language_values.specs.Values.{FieldShapes, Index, Members, Outcome, Overflow, Place, Shape, Step, Store, Value, Values, add, add_short_circuits, array_shape, at_field, at_index, value_at_path, boolean_shape, count_values, checked_division, division_outcome, elements, ends_run_with, fits_in_32_bits, succeeds_with, checked_number, integer_shape, members, multiply, multiply_short_circuits, named_member, negate, next_field_shape, next_member, next_value, no_field_shape, no_member, no_value, nth_value, number, or_stuck, value_at_step, quotient, read_place, record_shape, apply_relation, remainder, apply_sign, truth, ◌>>=◌}
-use Rattle.ob0_language_types.specs.WellTyped.{Mode, Signature, TypeMeanings}
+use Rattle.ob0_language_values.specs.Values.{FieldShapes, Index, Members, Outcome, Overflow, Place, Shape, Step, Store, Value, Values, add, add_operator_short_circuits, array_shape, at_field, at_index, value_at_path, boolean_shape, count_values, checked_division, division_outcome, elements, ends_run_with, fits_in_32_bits, succeeds_with, checked_number, integer_shape, members, multiply, multiply_operator_short_circuits, named_member, negate, next_field_shape, next_member, next_value, no_field_shape, no_member, no_value, nth_value, number, or_stuck, value_at_step, quotient, read_place, record_shape, apply_relation, remainder, apply_sign, truth, ◌>>=◌}
+use Rattle.ob0_language_types.specs.WellTyped.{ParameterMode, Signature, TypeMeanings}
 use Rattle.ob0_language_types.proofs.Conditions.{of_some}
 use Rattle.ob0_language_types.proofs.TypedElsewhere.{then_some}
 use Rattle.ob0_language_runs.specs.TypeAgreement.{EachElementHasShape, HasShape, MembersHaveShapes, RunMeaningsAgreeWithCheckedMeanings, RunObjectAgreesWithCheckedObject, PlaceHasType, StoreHasTypes, StoreTyping, shape_at_step, shape_at_path}
@@ -150,10 +150,10 @@ place-fits typing store p s h e =
     (w, ap (option_and_then (value_at_path p.path)) ev ∙ ew, hw)
 
 -- A constant or a variable evaluates to a value of its type.
-pub object-fits : (typing : StoreTyping) (store : Store) (checked : Option (Object Shape Signature)) (active : Option (Object Place (List Mode))) (s : Shape)
+pub object-fits : (typing : StoreTyping) (store : Store) (checked : Option (Object Shape Signature)) (active : Option (Object Place (List ParameterMode))) (s : Shape)
     → StoreHasTypes typing store → RunObjectAgreesWithCheckedObject typing checked active → type_of_variable_or_constant checked ≡ Some s → OutcomeFits (λ v. HasShape v s) (object_value store active)
 object-fits typing store (Some (a_constant v)) (Some (a_constant w)) s h o e =
-    subst (λ w. OutcomeFits (λ v. HasShape v s) (object_value {P = List Mode} store (Some (a_constant w)))) o (go v e)
+    subst (λ w. OutcomeFits (λ v. HasShape v s) (object_value {P = List ParameterMode} store (Some (a_constant w)))) o (go v e)
   where
     go : (v : Value) → value_type v ≡ Some s → HasShape v s
     go (number n) e = of_some (λ s. HasShape (number n) s) e tt
@@ -165,7 +165,7 @@ object-fits typing store (Some (a_variable t)) (Some (a_variable p)) s h o e =
 object-fits typing store None active s h o e = absurd (cc)
 object-fits typing store (Some (a_type t)) active s h o e = absurd (cc)
 object-fits typing store (Some (a_procedure t)) active s h o e = absurd (cc)
-object-fits typing store (Some (a_standard t)) active s h o e = absurd (cc)
+object-fits typing store (Some (a_standard_procedure t)) active s h o e = absurd (cc)
 object-fits typing store _ _ s h o e = absurd o
 
 pub or_stuck-fits : {A : Type 0} (P : A → Type 0) (o : Option A) (a : A) → o ≡ Some a → P a → OutcomeFits P (or_stuck o)
@@ -195,14 +195,14 @@ field_part (record_shape k fs) x u e = e
 field_part _ x u e = absurd (cc)
 
 -- holds if the store fits its typing, and the meanings of names fit the checker's
-pub record TypeAgreement {N : Type 0} (typing : StoreTyping) (checked : TypeMeanings N) (active : Meanings N Place (List Mode)) (store : Store) : Type 0 where
+pub record TypeAgreement {N : Type 0} (typing : StoreTyping) (checked : TypeMeanings N) (active : Meanings N Place (List ParameterMode)) (store : Store) : Type 0 where
   pub store_fits : StoreHasTypes typing store
   pub names_fit : RunMeaningsAgreeWithCheckedMeanings typing checked active
 
 mutual
   unfolding evaluate type_of
 
-  pub evaluate-sound : {N : Type 0} (typing : StoreTyping) (checked : TypeMeanings N) (active : Meanings N Place (List Mode)) (store : Store) → TypeAgreement typing checked active store → (e : Tree N expression) (s : Shape)
+  pub evaluate-sound : {N : Type 0} (typing : StoreTyping) (checked : TypeMeanings N) (active : Meanings N Place (List ParameterMode)) (store : Store) → TypeAgreement typing checked active store → (e : Tree N expression) (s : Shape)
       → type_of checked e ≡ Some s → OutcomeFits (λ v. HasShape v s) (evaluate active store e)
   evaluate-sound typing checked active store f (compares a none) s h = evaluate_simple-sound typing checked active store f a s h
   evaluate-sound typing checked active store f (compares a (one (relates r b))) s h =
@@ -211,7 +211,7 @@ mutual
       fits-then (λ v. HasShape v x) (λ v. HasShape v s) (evaluate_simple active store a) (λ v. evaluate_simple active store b >>= apply_relation r v) (evaluate_simple-sound typing checked active store f a x ex)
       (λ v hv. fits-then (λ w. HasShape w y) (λ v. HasShape v s) (evaluate_simple active store b) (apply_relation r v) (evaluate_simple-sound typing checked active store f b y ey) (λ w hw. apply_relation-fits r x y s v w h₂ hv hw))
 
-  pub evaluate_simple-sound : {N : Type 0} (typing : StoreTyping) (checked : TypeMeanings N) (active : Meanings N Place (List Mode)) (store : Store) → TypeAgreement typing checked active store → (a : Tree N simple) (s : Shape)
+  pub evaluate_simple-sound : {N : Type 0} (typing : StoreTyping) (checked : TypeMeanings N) (active : Meanings N Place (List ParameterMode)) (store : Store) → TypeAgreement typing checked active store → (a : Tree N simple) (s : Shape)
       → type_of_simple checked a ≡ Some s → OutcomeFits (λ v. HasShape v s) (evaluate_simple active store a)
   evaluate_simple-sound typing checked active store f (sum sign t rest) s h =
       let (x, ex, h₁) = then_some (type_of_term checked t) (λ x. option_and_then (λ y. type_of_addends checked y rest) (sign_type sign x)) s h in
@@ -220,36 +220,36 @@ mutual
       (λ v hv. fits-then (λ w. HasShape w y) (λ v. HasShape v s) (apply_sign sign v) (λ w. evaluate_addends active store w rest) (apply_sign-fits sign x y v ey hv)
       (λ w hw. evaluate_addends-sound typing checked active store f w y rest s hw h₂))
 
-  pub evaluate_addends-sound : {N : Type 0} (typing : StoreTyping) (checked : TypeMeanings N) (active : Meanings N Place (List Mode)) (store : Store) → TypeAgreement typing checked active store → (v : Value) (x : Shape) (a : Tree N (items addend)) (s : Shape)
+  pub evaluate_addends-sound : {N : Type 0} (typing : StoreTyping) (checked : TypeMeanings N) (active : Meanings N Place (List ParameterMode)) (store : Store) → TypeAgreement typing checked active store → (v : Value) (x : Shape) (a : Tree N (items addend)) (s : Shape)
       → HasShape v x → type_of_addends checked x a ≡ Some s → OutcomeFits (λ v. HasShape v s) (evaluate_addends active store v a)
   evaluate_addends-sound typing checked active store f v x end s hv h = of_some (λ s. HasShape v s) h hv
   evaluate_addends-sound typing checked active store f v x (more (adds o t) rest) s hv h =
       let (y, ey, h₁) = then_some (type_of_term checked t) (λ y. option_and_then (λ z. type_of_addends checked z rest) (addition_type o x y)) s h in
       let (z, ez, h₂) = then_some (addition_type o x y) (λ z. type_of_addends checked z rest) s h₁ in
-      fits-then (λ w. HasShape w z) (λ v. HasShape v s) (elim (add_short_circuits o v) [ true ↦ succeeds_with v | false ↦ evaluate_term active store t >>= add o v ]) (λ w. evaluate_addends active store w rest)
-      (settled-fits (λ w. HasShape w z) (add_short_circuits o v) v (evaluate_term active store t >>= add o v) (of_some (λ s. HasShape v s) (addition_type-first o x y z ez) hv)
+      fits-then (λ w. HasShape w z) (λ v. HasShape v s) (elim (add_operator_short_circuits o v) [ true ↦ succeeds_with v | false ↦ evaluate_term active store t >>= add o v ]) (λ w. evaluate_addends active store w rest)
+      (settled-fits (λ w. HasShape w z) (add_operator_short_circuits o v) v (evaluate_term active store t >>= add o v) (of_some (λ s. HasShape v s) (addition_type-first o x y z ez) hv)
       (fits-then (λ w. HasShape w y) (λ w. HasShape w z) (evaluate_term active store t) (add o v) (evaluate_term-sound typing checked active store f t y ey) (λ w hw. add-fits o x y z v w ez hv hw)))
       (λ w hw. evaluate_addends-sound typing checked active store f w z rest s hw h₂)
 
-  pub evaluate_term-sound : {N : Type 0} (typing : StoreTyping) (checked : TypeMeanings N) (active : Meanings N Place (List Mode)) (store : Store) → TypeAgreement typing checked active store → (a : Tree N term) (s : Shape)
+  pub evaluate_term-sound : {N : Type 0} (typing : StoreTyping) (checked : TypeMeanings N) (active : Meanings N Place (List ParameterMode)) (store : Store) → TypeAgreement typing checked active store → (a : Tree N term) (s : Shape)
       → type_of_term checked a ≡ Some s → OutcomeFits (λ v. HasShape v s) (evaluate_term active store a)
   evaluate_term-sound typing checked active store f (product a rest) s h =
       let (x, ex, h₁) = then_some (type_of_factor checked a) (λ x. type_of_multipliers checked x rest) s h in
       fits-then (λ v. HasShape v x) (λ v. HasShape v s) (evaluate_factor active store a) (λ v. evaluate_multipliers active store v rest) (evaluate_factor-sound typing checked active store f a x ex)
       (λ v hv. evaluate_multipliers-sound typing checked active store f v x rest s hv h₁)
 
-  pub evaluate_multipliers-sound : {N : Type 0} (typing : StoreTyping) (checked : TypeMeanings N) (active : Meanings N Place (List Mode)) (store : Store) → TypeAgreement typing checked active store → (v : Value) (x : Shape) (a : Tree N (items multiplier)) (s : Shape)
+  pub evaluate_multipliers-sound : {N : Type 0} (typing : StoreTyping) (checked : TypeMeanings N) (active : Meanings N Place (List ParameterMode)) (store : Store) → TypeAgreement typing checked active store → (v : Value) (x : Shape) (a : Tree N (items multiplier)) (s : Shape)
       → HasShape v x → type_of_multipliers checked x a ≡ Some s → OutcomeFits (λ v. HasShape v s) (evaluate_multipliers active store v a)
   evaluate_multipliers-sound typing checked active store f v x end s hv h = of_some (λ s. HasShape v s) h hv
   evaluate_multipliers-sound typing checked active store f v x (more (multiplies o a) rest) s hv h =
       let (y, ey, h₁) = then_some (type_of_factor checked a) (λ y. option_and_then (λ z. type_of_multipliers checked z rest) (multiplication_type o x y)) s h in
       let (z, ez, h₂) = then_some (multiplication_type o x y) (λ z. type_of_multipliers checked z rest) s h₁ in
-      fits-then (λ w. HasShape w z) (λ v. HasShape v s) (elim (multiply_short_circuits o v) [ true ↦ succeeds_with v | false ↦ evaluate_factor active store a >>= multiply o v ]) (λ w. evaluate_multipliers active store w rest)
-      (settled-fits (λ w. HasShape w z) (multiply_short_circuits o v) v (evaluate_factor active store a >>= multiply o v) (of_some (λ s. HasShape v s) (multiplication_type-first o x y z ez) hv)
+      fits-then (λ w. HasShape w z) (λ v. HasShape v s) (elim (multiply_operator_short_circuits o v) [ true ↦ succeeds_with v | false ↦ evaluate_factor active store a >>= multiply o v ]) (λ w. evaluate_multipliers active store w rest)
+      (settled-fits (λ w. HasShape w z) (multiply_operator_short_circuits o v) v (evaluate_factor active store a >>= multiply o v) (of_some (λ s. HasShape v s) (multiplication_type-first o x y z ez) hv)
       (fits-then (λ w. HasShape w y) (λ w. HasShape w z) (evaluate_factor active store a) (multiply o v) (evaluate_factor-sound typing checked active store f a y ey) (λ w hw. multiply-fits o x y z v w ez hv hw)))
       (λ w hw. evaluate_multipliers-sound typing checked active store f w z rest s hw h₂)
 
-  pub evaluate_factor-sound : {N : Type 0} (typing : StoreTyping) (checked : TypeMeanings N) (active : Meanings N Place (List Mode)) (store : Store) → TypeAgreement typing checked active store → (a : Tree N factor) (s : Shape)
+  pub evaluate_factor-sound : {N : Type 0} (typing : StoreTyping) (checked : TypeMeanings N) (active : Meanings N Place (List ParameterMode)) (store : Store) → TypeAgreement typing checked active store → (a : Tree N factor) (s : Shape)
       → type_of_factor checked a ≡ Some s → OutcomeFits (λ v. HasShape v s) (evaluate_factor active store a)
   evaluate_factor-sound typing checked active store f (designator x path) s h =
       let (t, et, h₁) = then_some (type_of_variable_or_constant (checked.object_for x)) (λ t. type_after_selectors checked t path) s h in
@@ -263,7 +263,7 @@ mutual
       let (x, ex, h₁) = then_some (type_of_factor checked a) negation_type s h in
       fits-then (λ v. HasShape v x) (λ v. HasShape v s) (evaluate_factor active store a) negate (evaluate_factor-sound typing checked active store f a x ex) (λ v hv. negate-fits x s v h₁ hv)
 
-  pub follow-sound : {N : Type 0} (typing : StoreTyping) (checked : TypeMeanings N) (active : Meanings N Place (List Mode)) (store : Store) → TypeAgreement typing checked active store → (v : Value) (t : Shape) (path : Tree N (items selector)) (s : Shape)
+  pub follow-sound : {N : Type 0} (typing : StoreTyping) (checked : TypeMeanings N) (active : Meanings N Place (List ParameterMode)) (store : Store) → TypeAgreement typing checked active store → (v : Value) (t : Shape) (path : Tree N (items selector)) (s : Shape)
       → HasShape v t → type_after_selectors checked t path ≡ Some s → OutcomeFits (λ steps. shape_at_path steps t ≡ Some s) (evaluate_selectors active store v path)
   follow-sound typing checked active store f v t end s hv h = h
   follow-sound typing checked active store f v t (more (field x) rest) s hv h =

@@ -1,15 +1,15 @@
 -- Calls and whole modules preserve the typing of the store. So no run of a well-typed module gets stuck.
 use Rattle.std.proofs.Common.{◌≡◌, ℕ, zero, suc, ◌+◌, Bool, true, false, ◌&&◌, ◌≢◌, List, [], ◌∷◌, ◌++◌, map, length, ℤ, slice_get, Some, None, Option, option_map, option_and_then, unwrap_or, sym, refl, ap, ◌∙◌, subst, append_assoc, append-nil}
-use Rattle.ob0_tree.specs.Tree.{Tree, begins, block, body, constant, declares, declares_constant, declares_procedure, declares_type, declares_variable, end, expression, further_section, forms_block, is_module, item, items, maybe, module_text, more, none, one, procedure, then_section, type_definition, variable, written_type}
+use Rattle.ob0_tree.specs.Tree.{Tree, begins, block, body, constant, declares, declares_constant, declares_procedure, declares_type, declares_variable, end, expression, section_after_semicolon, forms_block, forms_module, item, items, maybe, module_text, more, none, one, procedure, semicolon_then_section, type_definition, variable, written_type}
 use Rattle.ob0_language_names.specs.Names.{Naming, naming_by_spelling}
-use Rattle.ob0_language_names.specs.Parts.{block_statements, formal_sections, names_in_list, procedure_formals, procedure_name, section_constants, parameter_section_names, parameter_section_type, section_types, section_variables}
+use Rattle.ob0_language_names.specs.BlockParts.{block_statements, formal_sections, names_in_list, procedure_formals, procedure_name, section_constants, parameter_section_names, parameter_section_type, section_types, section_variables}
 use Rattle.ob0_language_names.proofs.SameNames.{map_names-id}
 use Rattle.ob0_language_types.specs.Declarations.{constructors_before_variables, constructors_before_procedures, declare_constants, declare_constants_and_types, declare_types, formals_constructor_count, procedure_constructor_count}
 use Rattle.ob0_language_types.specs.Environments.{environment_from_binding, meanings, newest_object, outermost_environment}
-use Rattle.ob0_language_types.specs.Expressions.{Object, a_constant, a_procedure, a_standard, a_type, a_variable}
+use Rattle.ob0_language_types.specs.Expressions.{Object, a_constant, a_procedure, a_standard_procedure, a_type, a_variable}
 use Rattle.ob0_language_types.specs.Typing.{constant_of, constant_value, constructor_count, denoted_type, type_of_type_object}
 use Rattle.ob0_language_values.specs.Values.{FieldShapes, Place, Shape, Store, Stuck, Value, array_shape, copies, count_values, fits_in_32_bits, initial_value, initial_members, next_field_shape, no_field_shape, record_shape}
-use Rattle.ob0_language_types.specs.WellTyped.{FormalParameter, Mode, Signature, TypeEnvironment, TypedParameter, WellTyped, bind_names, bind_typed_parameters, block_is_well_typed, body_is_well_typed, declare_typed_variables, passes_type_check, bind_procedure, procedure_is_well_typed, procedures_are_well_typed, parameter_section_mode, signature_of, typed_parameters}
+use Rattle.ob0_language_types.specs.WellTyped.{FormalParameter, ParameterMode, Signature, TypeEnvironment, TypedParameter, WellTyped, bind_names, bind_typed_parameters, block_is_well_typed, body_is_well_typed, declare_typed_variables, passes_type_check, bind_procedure, procedure_is_well_typed, procedures_are_well_typed, parameter_section_mode, signature_of, typed_parameters}
 use Rattle.ob0_language_types.proofs.Literals.{some_inverse}
 use Rattle.ob0_language_types.proofs.TypeNaturality.{constant_value-map, denoted_type-map}
 use Rattle.ob0_language_types.proofs.TypesByOrdinal.{typed_parameter}
@@ -29,10 +29,10 @@ pub modes-of_parameters : {N : Type 0} (f : FormalParameter) (xs : List N) (ps :
 modes-of_parameters f [] ps = refl
 modes-of_parameters f (x ∷ xs) ps = λ i. f.mode ∷ modes-of_parameters f xs ps i
 
-pub modes-typed : {N : Type 0} (naming : Naming N) (env : TypeEnvironment N) (k : ℕ) (fs : Tree N (items further_section)) (ps : List (TypedParameter N)) → typed_parameters naming env k fs ≡ Some ps → formal_modes fs ≡ signature_modes (map (λ p. p.formal) ps)
+pub modes-typed : {N : Type 0} (naming : Naming N) (env : TypeEnvironment N) (k : ℕ) (fs : Tree N (items section_after_semicolon)) (ps : List (TypedParameter N)) → typed_parameters naming env k fs ≡ Some ps → formal_modes fs ≡ signature_modes (map (λ p. p.formal) ps)
 unfolding typed_parameters
 modes-typed naming env k end ps e = ap (λ ps. signature_modes (map (λ p. p.formal) ps)) (some_inverse e)
-modes-typed naming env k (more (then_section f) fs) ps e =
+modes-typed naming env k (more (semicolon_then_section f) fs) ps e =
     let (s, es, e₁) = then_some (denoted_type (meanings naming env) k (parameter_section_type f)) (λ s. option_and_then (λ rest. Some (map (typed_parameter record { mode = (parameter_section_mode f); shape = s }) (parameter_section_names f) ++ rest)) (typed_parameters naming (bind_names (parameter_section_names f) (a_variable s) env) (k + constructor_count (parameter_section_type f)) fs)) ps e in
     let (rest, er, e₂) = then_some (typed_parameters naming (bind_names (parameter_section_names f) (a_variable s) env) (k + constructor_count (parameter_section_type f)) fs) (λ rest. Some (map (typed_parameter record { mode = (parameter_section_mode f); shape = s }) (parameter_section_names f) ++ rest)) ps e₁ in
     ap (λ ms. map (λ x. (parameter_section_mode f)) (parameter_section_names f) ++ ms) (modes-typed naming (bind_names (parameter_section_names f) (a_variable s) env) (k + constructor_count (parameter_section_type f)) fs rest er)
@@ -44,7 +44,7 @@ binding-object naming typing checked x (a_procedure signature) (a_procedure code
 binding-object naming typing checked x (a_type s) r h = h
 binding-object naming typing checked x (a_constant s) r h = h
 binding-object naming typing checked x (a_variable s) r h = h
-binding-object naming typing checked x (a_standard s) r h = h
+binding-object naming typing checked x (a_standard_procedure s) r h = h
 binding-object naming typing checked x (a_procedure signature) _ h = h
 
 pub names-fit : {N : Type 0} (naming : Naming N) (typing : StoreTyping) (checked : TypeEnvironment N) (active : Activation N) → RunEnvironmentAgreesWithCheckedEnvironment naming typing checked active → (z : N) → RunObjectAgreesWithCheckedObject typing (newest_object (environment_from_binding naming checked z)) (object_for_statements (newest_object (environment_from_binding naming active z)))
@@ -71,7 +71,7 @@ binding-grows naming typing others checked x (a_procedure signature) (a_procedur
 binding-grows naming typing others checked x (a_type s) r h = RunObjectAgreesWithCheckedObject-grows typing others (Some (a_type s)) (object_for_statements (Some r)) h
 binding-grows naming typing others checked x (a_constant s) r h = RunObjectAgreesWithCheckedObject-grows typing others (Some (a_constant s)) (object_for_statements (Some r)) h
 binding-grows naming typing others checked x (a_variable s) r h = RunObjectAgreesWithCheckedObject-grows typing others (Some (a_variable s)) (object_for_statements (Some r)) h
-binding-grows naming typing others checked x (a_standard s) r h = RunObjectAgreesWithCheckedObject-grows typing others (Some (a_standard s)) (object_for_statements (Some r)) h
+binding-grows naming typing others checked x (a_standard_procedure s) r h = RunObjectAgreesWithCheckedObject-grows typing others (Some (a_standard_procedure s)) (object_for_statements (Some r)) h
 binding-grows naming typing others checked x _ _ h = h
 
 pub environments-grow : {N : Type 0} (naming : Naming N) (typing others : StoreTyping) (checked : TypeEnvironment N) (active : Activation N) → RunEnvironmentAgreesWithCheckedEnvironment naming typing checked active → RunEnvironmentAgreesWithCheckedEnvironment naming (typing ++ others) checked active
@@ -117,22 +117,22 @@ pub object_for_statements-type : {N : Type 0} (o : Option (Object Place (Procedu
 object_for_statements-type (Some (a_type s)) = refl
 object_for_statements-type _ = refl
 
-pub fit-constant : (typing : StoreTyping) (checked : Option (Object Shape Signature)) (active : Option (Object Place (List Mode))) → RunObjectAgreesWithCheckedObject typing checked active → constant_of active ≡ constant_of checked
+pub fit-constant : (typing : StoreTyping) (checked : Option (Object Shape Signature)) (active : Option (Object Place (List ParameterMode))) → RunObjectAgreesWithCheckedObject typing checked active → constant_of active ≡ constant_of checked
 fit-constant typing None None h = refl
 fit-constant typing (Some (a_constant v)) (Some (a_constant w)) h = ap Some (sym h)
 fit-constant typing (Some (a_type s)) (Some (a_type t)) h = refl
 fit-constant typing (Some (a_variable s)) (Some (a_variable t)) h = refl
 fit-constant typing (Some (a_procedure s)) (Some (a_procedure t)) h = refl
-fit-constant typing (Some (a_standard s)) (Some (a_standard t)) h = refl
+fit-constant typing (Some (a_standard_procedure s)) (Some (a_standard_procedure t)) h = refl
 fit-constant typing _ _ h = absurd h
 
-pub fit-type : (typing : StoreTyping) (checked : Option (Object Shape Signature)) (active : Option (Object Place (List Mode))) → RunObjectAgreesWithCheckedObject typing checked active → type_of_type_object active ≡ type_of_type_object checked
+pub fit-type : (typing : StoreTyping) (checked : Option (Object Shape Signature)) (active : Option (Object Place (List ParameterMode))) → RunObjectAgreesWithCheckedObject typing checked active → type_of_type_object active ≡ type_of_type_object checked
 fit-type typing None None h = refl
 fit-type typing (Some (a_type s)) (Some (a_type t)) h = ap Some (sym h)
 fit-type typing (Some (a_constant v)) (Some (a_constant w)) h = refl
 fit-type typing (Some (a_variable s)) (Some (a_variable t)) h = refl
 fit-type typing (Some (a_procedure s)) (Some (a_procedure t)) h = refl
-fit-type typing (Some (a_standard s)) (Some (a_standard t)) h = refl
+fit-type typing (Some (a_standard_procedure s)) (Some (a_standard_procedure t)) h = refl
 fit-type typing _ _ h = absurd h
 
 pub constants-same : {N : Type 0} (naming : Naming N) (typing : StoreTyping) (checked : TypeEnvironment N) (active : Activation N) → RunEnvironmentAgreesWithCheckedEnvironment naming typing checked active → (x : N) → constant_of ((meanings naming active).object_for x) ≡ constant_of ((meanings naming checked).object_for x)
@@ -238,10 +238,10 @@ pub parameters-append : {N : Type 0} (f : FormalParameter) (xs : List N) (ps : L
 parameters-append f [] ps = refl
 parameters-append f (x ∷ xs) ps = λ i. record { mode = f.mode; name = x } ∷ parameters-append f xs ps i
 
-pub parameters-of_typed : {N : Type 0} (naming : Naming N) (env : TypeEnvironment N) (k : ℕ) (fs : Tree N (items further_section)) (ps : List (TypedParameter N)) → typed_parameters naming env k fs ≡ Some ps → parameters fs ≡ map as_parameter ps
+pub parameters-of_typed : {N : Type 0} (naming : Naming N) (env : TypeEnvironment N) (k : ℕ) (fs : Tree N (items section_after_semicolon)) (ps : List (TypedParameter N)) → typed_parameters naming env k fs ≡ Some ps → parameters fs ≡ map as_parameter ps
 unfolding typed_parameters
 parameters-of_typed naming env k end ps e = ap (map as_parameter) (some_inverse {a = []} {b = ps} e)
-parameters-of_typed naming env k (more (then_section f) fs) ps e =
+parameters-of_typed naming env k (more (semicolon_then_section f) fs) ps e =
     let (s, es, e₁) = then_some (denoted_type (meanings naming env) k (parameter_section_type f)) (λ s. option_and_then (λ rest. Some (map (typed_parameter record { mode = (parameter_section_mode f); shape = s }) (parameter_section_names f) ++ rest)) (typed_parameters naming (bind_names (parameter_section_names f) (a_variable s) env) (k + constructor_count (parameter_section_type f)) fs)) ps e in
     let (rest, er, e₂) = then_some (typed_parameters naming (bind_names (parameter_section_names f) (a_variable s) env) (k + constructor_count (parameter_section_type f)) fs) (λ rest. Some (map (typed_parameter record { mode = (parameter_section_mode f); shape = s }) (parameter_section_names f) ++ rest)) ps e₁ in
     ap (λ l. map (with_mode (parameter_section_mode f)) (parameter_section_names f) ++ l) (parameters-of_typed naming (bind_names (parameter_section_names f) (a_variable s) env) (k + constructor_count (parameter_section_type f)) fs rest er)
@@ -321,7 +321,7 @@ not-stuck typing (stopped e out) h = h
 -- No run of a well-typed module gets stuck.
 pub fitting-run : {N : Type 0} (naming : Naming N) (m : Tree N module_text) (input : List ℤ) (c t : ℕ) → passes_type_check naming m ≡ true → (run_with_naming naming m input c t).ending ≢ Stuck
 unfolding run_with_naming passes_type_check
-fitting-run {N} naming (is_module x b closing) input c t h =
+fitting-run {N} naming (forms_module x b closing) input c t h =
     let start : State = record { store = []; input = input; output = [] } in
     let (g, after, eg, fit, fits) = block-run naming [] (outermost_environment naming) 0 b record { env = outermost_environment naming; store = [] } tt (refl, refl, (refl, refl, (refl, refl, (refl, refl, (refl, refl, (refl, refl, (refl, refl, tt))))))) h in
     subst (λ frame. (run_result (continue_in_frame start frame (λ f. execute_body naming f.env (call naming c t f.env) t (block_statements b)))).ending ≢ Stuck) (sym eg)

@@ -1,12 +1,12 @@
 -- A well-typed statement preserves the typing of the store, or ends the run, but never stuck.
 use Rattle.std.proofs.Common.{◌≡◌, ℕ, zero, suc, ◌-◌, true, false, ◌&&◌, List, [], ◌∷◌, ◌++◌, ℤ, if◌then◌else◌, nat_lt, slice_get, slice_set, Some, None, Option, option_map, option_and_then, unwrap_or, sym, refl, ap, ◌∙◌, subst, append_assoc, append-nil}
-use Rattle.ob0_tree.specs.Tree.{Tree, assigns, branches, calls, else_branch, else_part, elsif_branch, elsif_part, empty, end, expression, further_statement, items, maybe, more, none, one, repeat_loop, runs, selector, sequence, statement, then_statement, while_loop}
+use Rattle.ob0_tree.specs.Tree.{Tree, assigns, branches, calls, else_branch, else_part, elsif_branch, elsif_part, empty, end, expression, statement_after_semicolon, items, maybe, more, none, one, repeat_loop, runs, selector, sequence, statement, semicolon_then_statement, while_loop}
 use Rattle.ob0_language_names.specs.Names.{Name, same_name}
 use Rattle.ob0_language_types.specs.Arguments.{call_arguments}
-use Rattle.ob0_language_types.specs.Expressions.{Meanings, Object, a_constant, a_procedure, a_standard, a_type, a_variable, designated_place, evaluate, evaluate_selectors, object_place, read_procedure, write_procedure, write_line_procedure}
+use Rattle.ob0_language_types.specs.Expressions.{Meanings, Object, a_constant, a_procedure, a_standard_procedure, a_type, a_variable, designated_place, evaluate, evaluate_selectors, object_place, read_procedure, write_procedure, write_line_procedure}
 use Rattle.ob0_language_types.specs.Typing.{lone_designator, shape_of_field, type_of}
 use Rattle.ob0_language_values.specs.Values.{FieldShapes, Members, Outcome, Place, Shape, Step, Store, TurnBound, Value, Values, array_shape, at_field, at_index, boolean_shape, count_values, elements, ends_run_with, succeeds_with, integer_shape, members, next_field_shape, next_member, next_value, no_field_shape, no_member, no_value, number, or_stuck, read_place, record_shape, truth, with_value_at_path, with_named_member, with_nth_value, with_value_at_step, write_place, ◌>>=◌}
-use Rattle.ob0_language_types.specs.WellTyped.{FormalParameter, Mode, Signature, TypeMeanings, same_known_shape, argument_matches, arguments_match, by_place, by_value, condition_is_boolean, else_is_well_typed, elsifs_are_well_typed, sequence_is_well_typed, signature_of, statement_is_well_typed, further_statements_are_well_typed, variable_type}
+use Rattle.ob0_language_types.specs.WellTyped.{FormalParameter, ParameterMode, Signature, TypeMeanings, same_known_shape, argument_matches, arguments_match, by_place, by_value, condition_is_boolean, else_is_well_typed, elsifs_are_well_typed, sequence_is_well_typed, signature_of, statement_is_well_typed, further_statements_are_well_typed, variable_type}
 use Rattle.ob0_language_types.proofs.Conditions.{same_known_shape-true, both_true, call-typed, of_some, variable-typed}
 use Rattle.ob0_language_types.proofs.TypedElsewhere.{then_some}
 use Rattle.ob0_language_runs.specs.Runs.{Argument, CallFunction, Progress, State, choose_by_truth, evaluate_argument, evaluate_arguments, execute, execute_sequence, execute_else, execute_elsifs, execute_further_statements, continue_with, line_out, argument_modes_of, number_out, perform_call, place_argument, append_output, read_number, running, stopped, store_at, execute_while, execute_repeat, continue_with_result, value_argument}
@@ -26,12 +26,12 @@ PlaceHasType-grows typing others p s h =
     let (t, et, e) = then_some (slice_get typing p.variable) (shape_at_path p.path) s h in
     ap (option_and_then (shape_at_path p.path)) (slice_get-grows typing others p.variable t et) ∙ e
 
-pub RunObjectAgreesWithCheckedObject-grows : (typing others : StoreTyping) (checked : Option (Object Shape Signature)) (active : Option (Object Place (List Mode))) → RunObjectAgreesWithCheckedObject typing checked active → RunObjectAgreesWithCheckedObject (typing ++ others) checked active
+pub RunObjectAgreesWithCheckedObject-grows : (typing others : StoreTyping) (checked : Option (Object Shape Signature)) (active : Option (Object Place (List ParameterMode))) → RunObjectAgreesWithCheckedObject typing checked active → RunObjectAgreesWithCheckedObject (typing ++ others) checked active
 RunObjectAgreesWithCheckedObject-grows typing others (Some (a_variable s)) (Some (a_variable p)) h = PlaceHasType-grows typing others p s h
 RunObjectAgreesWithCheckedObject-grows typing others (Some (a_type s)) (Some (a_type t)) h = h
 RunObjectAgreesWithCheckedObject-grows typing others (Some (a_constant s)) (Some (a_constant t)) h = h
 RunObjectAgreesWithCheckedObject-grows typing others (Some (a_procedure s)) (Some (a_procedure t)) h = h
-RunObjectAgreesWithCheckedObject-grows typing others (Some (a_standard s)) (Some (a_standard t)) h = h
+RunObjectAgreesWithCheckedObject-grows typing others (Some (a_standard_procedure s)) (Some (a_standard_procedure t)) h = h
 RunObjectAgreesWithCheckedObject-grows typing others None None h = h
 RunObjectAgreesWithCheckedObject-grows typing others _ _ h = absurd h
 
@@ -109,15 +109,15 @@ shape_at_path-append (step ∷ a) b s = go (shape_at_step s step) (λ t. shape_a
     go None h = refl
     go (Some t) h = h t
 
-pub object_place-fits : (typing : StoreTyping) (checked : Option (Object Shape Signature)) (active : Option (Object Place (List Mode))) (s : Shape)
+pub object_place-fits : (typing : StoreTyping) (checked : Option (Object Shape Signature)) (active : Option (Object Place (List ParameterMode))) (s : Shape)
     → RunObjectAgreesWithCheckedObject typing checked active → checked ≡ Some (a_variable s) → OutcomeFits (λ p. PlaceHasType typing p s) (object_place active)
 object_place-fits typing checked active s h e = go active (subst (λ o. RunObjectAgreesWithCheckedObject typing o active) e h)
   where
-    go : (active : Option (Object Place (List Mode))) → RunObjectAgreesWithCheckedObject typing (Some (a_variable s)) active → OutcomeFits (λ p. PlaceHasType typing p s) (object_place active)
+    go : (active : Option (Object Place (List ParameterMode))) → RunObjectAgreesWithCheckedObject typing (Some (a_variable s)) active → OutcomeFits (λ p. PlaceHasType typing p s) (object_place active)
     go (Some (a_variable p)) h = h
     go _ h = absurd h
 
-pub designated_place-sound : {N : Type 0} (typing : StoreTyping) (checked : TypeMeanings N) (active : Meanings N Place (List Mode)) (store : Store) → TypeAgreement typing checked active store → (x : N) (path : Tree N (items selector)) (s : Shape)
+pub designated_place-sound : {N : Type 0} (typing : StoreTyping) (checked : TypeMeanings N) (active : Meanings N Place (List ParameterMode)) (store : Store) → TypeAgreement typing checked active store → (x : N) (path : Tree N (items selector)) (s : Shape)
     → variable_type checked (Some (x, path)) ≡ Some s → OutcomeFits (λ p. PlaceHasType typing p s) (designated_place active store x path)
 unfolding designated_place
 designated_place-sound typing checked active store f x path s h =
@@ -132,12 +132,12 @@ designated_place-sound typing checked active store f x path s h =
 
 -- Arguments that fit evaluate to arguments that fit.
 
-pub argument-sound : {N : Type 0} (typing : StoreTyping) (checked : TypeMeanings N) (active : Meanings N Place (List Mode)) (store : Store) → TypeAgreement typing checked active store → (f : FormalParameter) (e : Tree N expression)
+pub argument-sound : {N : Type 0} (typing : StoreTyping) (checked : TypeMeanings N) (active : Meanings N Place (List ParameterMode)) (store : Store) → TypeAgreement typing checked active store → (f : FormalParameter) (e : Tree N expression)
     → argument_matches checked f e ≡ true → OutcomeFits (λ a. ArgumentsMatchSignature typing (f ∷ []) (a ∷ [])) (evaluate_argument active store f.mode e)
 unfolding evaluate_argument argument_matches
 argument-sound {N} typing checked active store fit f e h = go f.mode f.shape refl h
   where
-    go : (m : Mode) (s : Shape) → f.shape ≡ s → same_known_shape (Some s) (elim m [ by_value ↦ type_of checked e | by_place ↦ variable_type checked (lone_designator e) ]) ≡ true
+    go : (m : ParameterMode) (s : Shape) → f.shape ≡ s → same_known_shape (Some s) (elim m [ by_value ↦ type_of checked e | by_place ↦ variable_type checked (lone_designator e) ]) ≡ true
         → OutcomeFits (λ a. ArgumentsMatchSignature typing (record { mode = m; shape = s } ∷ []) (a ∷ [])) (evaluate_argument active store m e)
     go by_value s es h =
         let (t, et, ht) = same_known_shape-true (Some s) (type_of checked e) h in
@@ -157,7 +157,7 @@ pub first-argument : (typing : StoreTyping) (f : FormalParameter) (fs : Signatur
 first-argument typing f fs (place_argument p) args h k = (h.0, h.1, k)
 first-argument typing f fs (value_argument v) args h k = (h.0, h.1, k)
 
-pub arguments-sound : {N : Type 0} (typing : StoreTyping) (checked : TypeMeanings N) (active : Meanings N Place (List Mode)) (store : Store) → TypeAgreement typing checked active store → (fs : Signature) (es : List (Tree N expression))
+pub arguments-sound : {N : Type 0} (typing : StoreTyping) (checked : TypeMeanings N) (active : Meanings N Place (List ParameterMode)) (store : Store) → TypeAgreement typing checked active store → (fs : Signature) (es : List (Tree N expression))
     → arguments_match checked fs es ≡ true → OutcomeFits (λ args. ArgumentsMatchSignature typing fs args) (evaluate_arguments active store (signature_modes fs) es)
 unfolding evaluate_arguments arguments_match
 arguments-sound typing checked active store fit [] [] h = tt
@@ -181,11 +181,11 @@ pub read-fits : (typing : StoreTyping) (s : State) (p : Place) (input : List ℤ
 read-fits typing s p [] h hp = λ e. cc
 read-fits typing s p (n ∷ rest) h hp = store_at-fits typing record s { input = rest } p integer_shape (number n) h hp tt
 
-pub modes-same_known_shape : (typing : StoreTyping) (checked : Option (Object Shape Signature)) (active : Option (Object Place (List Mode))) (signature : Signature) → RunObjectAgreesWithCheckedObject typing checked active → signature_of checked ≡ Some signature → argument_modes_of active ≡ succeeds_with (signature_modes signature)
+pub modes-same_known_shape : (typing : StoreTyping) (checked : Option (Object Shape Signature)) (active : Option (Object Place (List ParameterMode))) (signature : Signature) → RunObjectAgreesWithCheckedObject typing checked active → signature_of checked ≡ Some signature → argument_modes_of active ≡ succeeds_with (signature_modes signature)
 modes-same_known_shape typing (Some (a_procedure t)) (Some (a_procedure modes)) signature h e = ap succeeds_with (h ∙ ap signature_modes (search))
-modes-same_known_shape typing (Some (a_standard read_procedure)) (Some (a_standard q)) signature h e = subst (λ q. argument_modes_of (Some (a_standard q)) ≡ succeeds_with (signature_modes signature)) h (ap (λ t. succeeds_with (signature_modes (unwrap_or t []))) e)
-modes-same_known_shape typing (Some (a_standard write_procedure)) (Some (a_standard q)) signature h e = subst (λ q. argument_modes_of (Some (a_standard q)) ≡ succeeds_with (signature_modes signature)) h (ap (λ t. succeeds_with (signature_modes (unwrap_or t []))) e)
-modes-same_known_shape typing (Some (a_standard write_line_procedure)) (Some (a_standard q)) signature h e = subst (λ q. argument_modes_of (Some (a_standard q)) ≡ succeeds_with (signature_modes signature)) h (ap (λ t. succeeds_with (signature_modes (unwrap_or t []))) e)
+modes-same_known_shape typing (Some (a_standard_procedure read_procedure)) (Some (a_standard_procedure q)) signature h e = subst (λ q. argument_modes_of (Some (a_standard_procedure q)) ≡ succeeds_with (signature_modes signature)) h (ap (λ t. succeeds_with (signature_modes (unwrap_or t []))) e)
+modes-same_known_shape typing (Some (a_standard_procedure write_procedure)) (Some (a_standard_procedure q)) signature h e = subst (λ q. argument_modes_of (Some (a_standard_procedure q)) ≡ succeeds_with (signature_modes signature)) h (ap (λ t. succeeds_with (signature_modes (unwrap_or t []))) e)
+modes-same_known_shape typing (Some (a_standard_procedure write_line_procedure)) (Some (a_standard_procedure q)) signature h e = subst (λ q. argument_modes_of (Some (a_standard_procedure q)) ≡ succeeds_with (signature_modes signature)) h (ap (λ t. succeeds_with (signature_modes (unwrap_or t []))) e)
 modes-same_known_shape typing None active signature h e = absurd (cc)
 modes-same_known_shape typing (Some (a_type t)) active signature h e = absurd (cc)
 modes-same_known_shape typing (Some (a_constant t)) active signature h e = absurd (cc)
@@ -193,36 +193,36 @@ modes-same_known_shape typing (Some (a_variable t)) active signature h e = absur
 modes-same_known_shape typing _ _ signature h e = absurd h
 
 pub read_arguments : (typing : StoreTyping) (enter : List Argument → State → Progress) (args : List Argument) (s : State) → StoreHasTypes typing s.store → ArgumentsMatchSignature typing (record { mode = by_place; shape = integer_shape } ∷ []) args
-    → ProgressFits typing (perform_call (Some (a_standard read_procedure)) enter args s)
+    → ProgressFits typing (perform_call (Some (a_standard_procedure read_procedure)) enter args s)
 read_arguments typing enter (place_argument p ∷ []) s h fit = read-fits typing s p s.input h fit.1
 read_arguments typing enter [] s h fit = absurd fit
 read_arguments typing enter (value_argument v ∷ args) s h fit = let e : by_place ≡ by_value = fit.0 in absurd (cc)
 read_arguments typing enter (place_argument p ∷ a ∷ args) s h fit = absurd (fit.2)
 
 pub write_arguments : (typing : StoreTyping) (enter : List Argument → State → Progress) (args : List Argument) (s : State) → StoreHasTypes typing s.store → ArgumentsMatchSignature typing (record { mode = by_value; shape = integer_shape } ∷ []) args
-    → ProgressFits typing (perform_call (Some (a_standard write_procedure)) enter args s)
+    → ProgressFits typing (perform_call (Some (a_standard_procedure write_procedure)) enter args s)
 write_arguments typing enter (value_argument v ∷ []) s h fit =
     let (n, ev) = is_number v fit.1 in
-    subst (λ v. ProgressFits typing (perform_call (Some (a_standard write_procedure)) enter (value_argument v ∷ []) s)) (sym ev) (same_store-fits typing (append_output s (number_out n)) h)
+    subst (λ v. ProgressFits typing (perform_call (Some (a_standard_procedure write_procedure)) enter (value_argument v ∷ []) s)) (sym ev) (same_store-fits typing (append_output s (number_out n)) h)
 write_arguments typing enter [] s h fit = absurd fit
 write_arguments typing enter (place_argument v ∷ args) s h fit = let e : by_value ≡ by_place = fit.0 in absurd (cc)
 write_arguments typing enter (value_argument v ∷ a ∷ args) s h fit = absurd (fit.2)
 
 pub line_arguments : (typing : StoreTyping) (enter : List Argument → State → Progress) (args : List Argument) (s : State) → StoreHasTypes typing s.store → ArgumentsMatchSignature typing [] args
-    → ProgressFits typing (perform_call (Some (a_standard write_line_procedure)) enter args s)
+    → ProgressFits typing (perform_call (Some (a_standard_procedure write_line_procedure)) enter args s)
 line_arguments typing enter [] s h fit = same_store-fits typing (append_output s line_out) h
 line_arguments typing enter (a ∷ args) s h fit = absurd fit
 
-pub perform_call-fits : (typing : StoreTyping) (checked : Option (Object Shape Signature)) (active : Option (Object Place (List Mode))) (signature : Signature) (enter : List Argument → State → Progress) (args : List Argument) (s : State)
+pub perform_call-fits : (typing : StoreTyping) (checked : Option (Object Shape Signature)) (active : Option (Object Place (List ParameterMode))) (signature : Signature) (enter : List Argument → State → Progress) (args : List Argument) (s : State)
     → RunObjectAgreesWithCheckedObject typing checked active → signature_of checked ≡ Some signature → StoreHasTypes typing s.store → ArgumentsMatchSignature typing signature args
     → (checked ≡ Some (a_procedure signature) → ProgressFits typing (enter args s)) → ProgressFits typing (perform_call active enter args s)
 perform_call-fits typing (Some (a_procedure t)) (Some (a_procedure modes)) signature enter args s o e h fit called = called (let e' : t ≡ signature = search in ap (λ t. Some (a_procedure t)) e')
-perform_call-fits typing (Some (a_standard read_procedure)) (Some (a_standard q)) signature enter args s o e h fit called =
-    subst (λ q. ProgressFits typing (perform_call (Some (a_standard q)) enter args s)) o (read_arguments typing enter args s h (subst (λ t. ArgumentsMatchSignature typing (unwrap_or t []) args) (sym e) fit))
-perform_call-fits typing (Some (a_standard write_procedure)) (Some (a_standard q)) signature enter args s o e h fit called =
-    subst (λ q. ProgressFits typing (perform_call (Some (a_standard q)) enter args s)) o (write_arguments typing enter args s h (subst (λ t. ArgumentsMatchSignature typing (unwrap_or t []) args) (sym e) fit))
-perform_call-fits typing (Some (a_standard write_line_procedure)) (Some (a_standard q)) signature enter args s o e h fit called =
-    subst (λ q. ProgressFits typing (perform_call (Some (a_standard q)) enter args s)) o (line_arguments typing enter args s h (subst (λ t. ArgumentsMatchSignature typing (unwrap_or t []) args) (sym e) fit))
+perform_call-fits typing (Some (a_standard_procedure read_procedure)) (Some (a_standard_procedure q)) signature enter args s o e h fit called =
+    subst (λ q. ProgressFits typing (perform_call (Some (a_standard_procedure q)) enter args s)) o (read_arguments typing enter args s h (subst (λ t. ArgumentsMatchSignature typing (unwrap_or t []) args) (sym e) fit))
+perform_call-fits typing (Some (a_standard_procedure write_procedure)) (Some (a_standard_procedure q)) signature enter args s o e h fit called =
+    subst (λ q. ProgressFits typing (perform_call (Some (a_standard_procedure q)) enter args s)) o (write_arguments typing enter args s h (subst (λ t. ArgumentsMatchSignature typing (unwrap_or t []) args) (sym e) fit))
+perform_call-fits typing (Some (a_standard_procedure write_line_procedure)) (Some (a_standard_procedure q)) signature enter args s o e h fit called =
+    subst (λ q. ProgressFits typing (perform_call (Some (a_standard_procedure q)) enter args s)) o (line_arguments typing enter args s h (subst (λ t. ArgumentsMatchSignature typing (unwrap_or t []) args) (sym e) fit))
 perform_call-fits typing None active signature enter args s o e h fit called = absurd (cc)
 perform_call-fits typing (Some (a_type t)) active signature enter args s o e h fit called = absurd (cc)
 perform_call-fits typing (Some (a_constant t)) active signature enter args s o e h fit called = absurd (cc)
@@ -232,11 +232,11 @@ perform_call-fits typing _ _ signature enter args s o e h fit called = absurd o
 -- ---- statements
 
 -- the context that a statement needs: meanings of names and calls that fit
-pub record Sound {N : Type 0} (typing : StoreTyping) (checked : TypeMeanings N) (active : Meanings N Place (List Mode)) (enter : CallFunction N) : Type 0 where
+pub record Sound {N : Type 0} (typing : StoreTyping) (checked : TypeMeanings N) (active : Meanings N Place (List ParameterMode)) (enter : CallFunction N) : Type 0 where
   pub names_fit : RunMeaningsAgreeWithCheckedMeanings typing checked active
   pub calls_fit : CallsFit typing checked enter
 
-pub Sound-grows : {N : Type 0} (typing others : StoreTyping) (checked : TypeMeanings N) (active : Meanings N Place (List Mode)) (enter : CallFunction N) → Sound typing checked active enter → Sound (typing ++ others) checked active enter
+pub Sound-grows : {N : Type 0} (typing others : StoreTyping) (checked : TypeMeanings N) (active : Meanings N Place (List ParameterMode)) (enter : CallFunction N) → Sound typing checked active enter → Sound (typing ++ others) checked active enter
 Sound-grows typing others checked active enter h =
     record { names_fit = (λ x. RunObjectAgreesWithCheckedObject-grows typing others (checked.object_for x) (active.object_for x) (h.names_fit.0 x), h.names_fit.1); calls_fit = CallsFit-grows typing others checked enter h.calls_fit }
 
@@ -292,7 +292,7 @@ execute_repeat-keep (suc t) typing condition turn is keeps others s h =
     (λ v hv. choose_by_truth-fits ((typing ++ others) ++ later) s' v running (execute_repeat t condition turn) hv (same_store-fits ((typing ++ others) ++ later) s' h')
     (Keeps-grows typing others (execute_repeat t condition turn) (execute_repeat-keep t typing condition turn is keeps) later s' h')))
 
-pub condition-sound : {N : Type 0} (typing : StoreTyping) (checked : TypeMeanings N) (active : Meanings N Place (List Mode)) → RunMeaningsAgreeWithCheckedMeanings typing checked active → (e : Tree N expression) → condition_is_boolean checked e ≡ true → (s : State) → StoreHasTypes typing s.store → OutcomeFits (λ v. HasShape v boolean_shape) (evaluate active s.store e)
+pub condition-sound : {N : Type 0} (typing : StoreTyping) (checked : TypeMeanings N) (active : Meanings N Place (List ParameterMode)) → RunMeaningsAgreeWithCheckedMeanings typing checked active → (e : Tree N expression) → condition_is_boolean checked e ≡ true → (s : State) → StoreHasTypes typing s.store → OutcomeFits (λ v. HasShape v boolean_shape) (evaluate active s.store e)
 unfolding condition_is_boolean
 condition-sound typing checked active known e h s store_fits =
     let (t, et, ht) = same_known_shape-true (Some boolean_shape) (type_of checked e) h in
@@ -307,7 +307,7 @@ call-here typing checked enter h x signature args s store fit e =
 mutual
   unfolding execute statement_is_well_typed
 
-  pub execute-keeps : {N : Type 0} (typing : StoreTyping) (checked : TypeMeanings N) (active : Meanings N Place (List Mode)) (enter : CallFunction N) → Sound typing checked active enter → (t : ℕ) (a : Tree N statement) → statement_is_well_typed checked a ≡ true → Keeps typing (execute active enter t a)
+  pub execute-keeps : {N : Type 0} (typing : StoreTyping) (checked : TypeMeanings N) (active : Meanings N Place (List ParameterMode)) (enter : CallFunction N) → Sound typing checked active enter → (t : ℕ) (a : Tree N statement) → statement_is_well_typed checked a ≡ true → Keeps typing (execute active enter t a)
   execute-keeps typing checked active enter sound t empty h others s store = same_store-fits (typing ++ others) s store
   execute-keeps typing checked active enter sound t (assigns x path e) h others s store =
       let grown = Sound-grows typing others checked active enter sound in
@@ -346,20 +346,20 @@ mutual
       (λ others s store. condition-sound (typing ++ others) checked active (Sound-grows typing others checked active enter sound).names_fit e h₁.1 s store)
       (execute_sequence-keeps typing checked active enter sound t statements h₁.0) others s store
 
-  pub execute_sequence-keeps : {N : Type 0} (typing : StoreTyping) (checked : TypeMeanings N) (active : Meanings N Place (List Mode)) (enter : CallFunction N) → Sound typing checked active enter → (t : ℕ) (a : Tree N sequence) → sequence_is_well_typed checked a ≡ true → Keeps typing (execute_sequence active enter t a)
+  pub execute_sequence-keeps : {N : Type 0} (typing : StoreTyping) (checked : TypeMeanings N) (active : Meanings N Place (List ParameterMode)) (enter : CallFunction N) → Sound typing checked active enter → (t : ℕ) (a : Tree N sequence) → sequence_is_well_typed checked a ≡ true → Keeps typing (execute_sequence active enter t a)
   execute_sequence-keeps typing checked active enter sound t (runs a rest) h others s store =
       let h₁ = both_true (statement_is_well_typed checked a) (further_statements_are_well_typed checked rest) h in
       go_on-fits (typing ++ others) (execute active enter t a s) (execute_further_statements active enter t rest) (execute-keeps typing checked active enter sound t a h₁.0 others s store)
       (Keeps-grows typing others (execute_further_statements active enter t rest) (execute_further_statements-keeps typing checked active enter sound t rest h₁.1))
 
-  pub execute_further_statements-keeps : {N : Type 0} (typing : StoreTyping) (checked : TypeMeanings N) (active : Meanings N Place (List Mode)) (enter : CallFunction N) → Sound typing checked active enter → (t : ℕ) (a : Tree N (items further_statement)) → further_statements_are_well_typed checked a ≡ true → Keeps typing (execute_further_statements active enter t a)
+  pub execute_further_statements-keeps : {N : Type 0} (typing : StoreTyping) (checked : TypeMeanings N) (active : Meanings N Place (List ParameterMode)) (enter : CallFunction N) → Sound typing checked active enter → (t : ℕ) (a : Tree N (items statement_after_semicolon)) → further_statements_are_well_typed checked a ≡ true → Keeps typing (execute_further_statements active enter t a)
   execute_further_statements-keeps typing checked active enter sound t end h others s store = same_store-fits (typing ++ others) s store
-  execute_further_statements-keeps typing checked active enter sound t (more (then_statement a) rest) h others s store =
+  execute_further_statements-keeps typing checked active enter sound t (more (semicolon_then_statement a) rest) h others s store =
       let h₁ = both_true (statement_is_well_typed checked a) (further_statements_are_well_typed checked rest) h in
       go_on-fits (typing ++ others) (execute active enter t a s) (execute_further_statements active enter t rest) (execute-keeps typing checked active enter sound t a h₁.0 others s store)
       (Keeps-grows typing others (execute_further_statements active enter t rest) (execute_further_statements-keeps typing checked active enter sound t rest h₁.1))
 
-  pub execute_elsifs-keeps : {N : Type 0} (typing : StoreTyping) (checked : TypeMeanings N) (active : Meanings N Place (List Mode)) (enter : CallFunction N) → Sound typing checked active enter → (t : ℕ) (a : Tree N (items elsif_part)) (otherwise : State → Progress) → elsifs_are_well_typed checked a ≡ true → Keeps typing otherwise → Keeps typing (execute_elsifs active enter t a otherwise)
+  pub execute_elsifs-keeps : {N : Type 0} (typing : StoreTyping) (checked : TypeMeanings N) (active : Meanings N Place (List ParameterMode)) (enter : CallFunction N) → Sound typing checked active enter → (t : ℕ) (a : Tree N (items elsif_part)) (otherwise : State → Progress) → elsifs_are_well_typed checked a ≡ true → Keeps typing otherwise → Keeps typing (execute_elsifs active enter t a otherwise)
   execute_elsifs-keeps typing checked active enter sound t end otherwise h keeps others s store = keeps others s store
   execute_elsifs-keeps typing checked active enter sound t (more (elsif_branch e statements) rest) otherwise h keeps others s store =
       let h₁ = both_true (condition_is_boolean checked e) (sequence_is_well_typed checked statements && elsifs_are_well_typed checked rest) h in
@@ -370,6 +370,6 @@ mutual
       (λ v hv. choose_by_truth-fits (typing ++ others) s v (execute_sequence active enter t statements) (execute_elsifs active enter t rest otherwise) hv
       (execute_sequence-keeps typing checked active enter sound t statements h₂.0 others s store) (execute_elsifs-keeps typing checked active enter sound t rest otherwise h₂.1 keeps others s store))
 
-  pub execute_else-keeps : {N : Type 0} (typing : StoreTyping) (checked : TypeMeanings N) (active : Meanings N Place (List Mode)) (enter : CallFunction N) → Sound typing checked active enter → (t : ℕ) (a : Tree N (maybe else_part)) → else_is_well_typed checked a ≡ true → Keeps typing (execute_else active enter t a)
+  pub execute_else-keeps : {N : Type 0} (typing : StoreTyping) (checked : TypeMeanings N) (active : Meanings N Place (List ParameterMode)) (enter : CallFunction N) → Sound typing checked active enter → (t : ℕ) (a : Tree N (maybe else_part)) → else_is_well_typed checked a ≡ true → Keeps typing (execute_else active enter t a)
   execute_else-keeps typing checked active enter sound t none h others s store = same_store-fits (typing ++ others) s store
   execute_else-keeps typing checked active enter sound t (one (else_branch statements)) h others s store = execute_sequence-keeps typing checked active enter sound t statements h others s store

@@ -3,7 +3,7 @@ use Rattle.std.proofs.Common.{◌≡◌, [], ◌∷◌, pos, negsuc, refl}
 use Rattle.ob0_language_names.specs.Names.{naming_by_spelling}
 use Rattle.ob0_language_names.proofs.WorkedTrees.{activations, aliases, captured_variable, divisions, least_constant, least_constant_gone, least_constant_inlined, negative_divisor, records, recursion, recursion_renamed, repeats, shadowed_variable, sign_overflows, store_of_calls, sum_overflows, turns_and_calls, visible_later, visible_later_renamed}
 use Rattle.ob0_language_values.specs.Values.{CallBound, Divisor, Done, Index, InputEnd, Overflow, TurnBound}
-use Rattle.ob0_language_runs.specs.Freed.{run_freeing_variables}
+use Rattle.ob0_language_runs.specs.FreedVariables.{run_freeing_variables}
 use Rattle.ob0_language_runs.specs.Runs.{line_out, number_out, run}
 
 pub shadowed_variable-run-1 : run shadowed_variable [] 64 9 ≡ record { output = number_out (pos 1) ∷ []; ending = Done }

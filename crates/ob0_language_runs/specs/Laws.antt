@@ -10,8 +10,8 @@ use Rattle.ob0_language_names.specs.Scopes.{numbered, renamed}
 use Rattle.ob0_language_types.specs.Expressions.{Meanings, a_constant, evaluate_factor}
 use Rattle.ob0_language_types.specs.Laws.{EachUseHas}
 use Rattle.ob0_language_values.specs.Values.{Place, Store, Stuck, Value, succeeds_with}
-use Rattle.ob0_language_types.specs.WellTyped.{Mode, WellTyped}
-use Rattle.ob0_language_runs.specs.Freed.{run_freeing_variables}
+use Rattle.ob0_language_types.specs.WellTyped.{ParameterMode, WellTyped}
+use Rattle.ob0_language_runs.specs.FreedVariables.{run_freeing_variables}
 use Rattle.ob0_language_runs.specs.Runs.{CallFunction, State, execute, run, run_numbered, run_with_naming}
 
 -- States that a module and its numbered tree have the same run for every input and all bounds on calls and loop
@@ -61,7 +61,7 @@ RunsNeverGetStuck =
 -- Occurrences are numbered from 0 in text order.
 abbrev pub InliningKeepsExecution : Type 0
 InliningKeepsExecution =
-    (meaning : Meanings Name Place (List Mode)) (enter : CallFunction Name) (t : ℕ) (uses : OccurrenceSet)
+    (meaning : Meanings Name Place (List ParameterMode)) (enter : CallFunction Name) (t : ℕ) (uses : OccurrenceSet)
     (v : Tree Name factor) (w : Value) (k : ℕ) (a : Tree Name statement) (s : State)
     → ((store : Store) → evaluate_factor meaning store v ≡ succeeds_with w)
     → EachUseHas uses (λ x. meaning.object_for x ≡ Some (a_constant w)) k (occurrences a)

@@ -1,5 +1,5 @@
 pub mod Runs
-pub mod Freed
+pub mod FreedVariables
 pub mod TypeAgreement
 pub mod Laws
 pub mod EditLaws

@@ -3,16 +3,16 @@
 -- iterations of each loop.
 -- Rule: docs/LANGUAGE.md, Runs 1 to 10.
 use Rattle.std.specs.Prelude.{ℕ, zero, suc, ◌+◌, ◌-◌, true, false, List, [], ◌∷◌, ◌++◌, map, length, ℤ, Some, None, Option, option_map, option_and_then}
-use Rattle.ob0_tree.specs.Tree.{Tree, assigns, begins, block, body, branches, calls, declares_variable, else_branch, else_part, elsif_branch, elsif_part, empty, end, expression, further_section, further_statement, item, items, maybe, module_text, more, none, one, procedure, repeat_loop, runs, sequence, statement, then_section, then_statement, variable, while_loop}
+use Rattle.ob0_tree.specs.Tree.{Tree, assigns, begins, block, body, branches, calls, declares_variable, else_branch, else_part, elsif_branch, elsif_part, empty, end, expression, section_after_semicolon, statement_after_semicolon, item, items, maybe, module_text, more, none, one, procedure, repeat_loop, runs, sequence, statement, semicolon_then_section, semicolon_then_statement, variable, while_loop}
 use Rattle.ob0_language_names.specs.Names.{Label, Name, Naming, naming_by_label, naming_by_spelling}
-use Rattle.ob0_language_names.specs.Parts.{block_procedures, block_statements, block_variables, module_block, names_in_list, procedure_block, procedure_formals, procedure_name, parameter_section_names}
+use Rattle.ob0_language_names.specs.BlockParts.{block_procedures, block_statements, block_variables, module_block, names_in_list, procedure_block, procedure_formals, procedure_name, parameter_section_names}
 use Rattle.ob0_language_types.specs.Arguments.{call_arguments}
 use Rattle.ob0_language_types.specs.Declarations.{constructors_before_procedure_block, constructors_before_variables, constructors_before_procedures, declare_constants_and_types, procedure_constructor_count}
 use Rattle.ob0_language_types.specs.Environments.{Environment, environment_from_binding, meanings, outermost_environment}
-use Rattle.ob0_language_types.specs.Expressions.{Meanings, Object, a_constant, a_procedure, a_standard, a_type, a_variable, designated_place, evaluate, read_procedure, write_procedure, write_line_procedure}
+use Rattle.ob0_language_types.specs.Expressions.{Meanings, Object, a_constant, a_procedure, a_standard_procedure, a_type, a_variable, designated_place, evaluate, read_procedure, write_procedure, write_line_procedure}
 use Rattle.ob0_language_types.specs.Typing.{constructor_count, denoted_type, lone_designator}
 use Rattle.ob0_language_values.specs.Values.{CallBound, Done, End, InputEnd, Outcome, Place, Store, Stuck, TurnBound, Value, ends_run_with, succeeds_with, initial_value, number, or_stuck, truth, write_place, ◌>>=◌}
-use Rattle.ob0_language_types.specs.WellTyped.{Mode, by_place, by_value, parameter_section_mode}
+use Rattle.ob0_language_types.specs.WellTyped.{ParameterMode, by_place, by_value, parameter_section_mode}
 
 -- an item of output: a number or an end of line
 pub data PrintedItem : Type 0 where
@@ -70,18 +70,18 @@ read_number s p [] = stopped InputEnd s.output
 read_number s p (n ∷ rest) = store_at record s { input = rest } p (number n)
 
 -- returns the modes in which the arguments of a call are passed; Stuck if the called object isn't a procedure
-abbrev pub argument_modes_of : Option (Object Place (List Mode)) → Outcome (List Mode)
+abbrev pub argument_modes_of : Option (Object Place (List ParameterMode)) → Outcome (List ParameterMode)
 argument_modes_of (Some (a_procedure modes)) = succeeds_with modes
-argument_modes_of (Some (a_standard read_procedure)) = succeeds_with (by_place ∷ [])
-argument_modes_of (Some (a_standard write_procedure)) = succeeds_with (by_value ∷ [])
-argument_modes_of (Some (a_standard write_line_procedure)) = succeeds_with []
+argument_modes_of (Some (a_standard_procedure read_procedure)) = succeeds_with (by_place ∷ [])
+argument_modes_of (Some (a_standard_procedure write_procedure)) = succeeds_with (by_value ∷ [])
+argument_modes_of (Some (a_standard_procedure write_line_procedure)) = succeeds_with []
 argument_modes_of _ = ends_run_with Stuck
 
 -- evaluates an argument: to its place for a VAR parameter, otherwise to a copy of its value (docs/LANGUAGE.md, Runs 6)
 unfoldable pub evaluate_argument : {N P : Type 0}
     → Meanings N Place P
     → Store
-    → Mode
+    → ParameterMode
     → Tree N expression
     → Outcome Argument
 unfolding designated_place evaluate
@@ -97,7 +97,7 @@ evaluate_argument meaning store by_place e = do
 unfoldable pub evaluate_arguments : {N P : Type 0}
     → Meanings N Place P
     → Store
-    → List Mode
+    → List ParameterMode
     → List (Tree N expression)
     → Outcome (List Argument)
 unfolding evaluate_argument
@@ -111,16 +111,16 @@ evaluate_arguments meaning store _ _ = ends_run_with Stuck
 -- Performs a call with evaluated arguments. `enter` performs the call of a declared procedure. A standard procedure is
 -- performed here, so it doesn't count towards the bound on calls. Ends the run with Stuck if the object isn't a
 -- procedure or the arguments don't fit a standard procedure.
-abbrev pub perform_call : Option (Object Place (List Mode))
+abbrev pub perform_call : Option (Object Place (List ParameterMode))
     → (List Argument → State → Progress)
     → List Argument
     → State
     → Progress
 perform_call (Some (a_procedure modes)) enter args s = enter args s
-perform_call (Some (a_standard read_procedure)) enter (place_argument p ∷ []) s = read_number s p s.input
-perform_call (Some (a_standard write_procedure)) enter (value_argument (number n) ∷ []) s =
+perform_call (Some (a_standard_procedure read_procedure)) enter (place_argument p ∷ []) s = read_number s p s.input
+perform_call (Some (a_standard_procedure write_procedure)) enter (value_argument (number n) ∷ []) s =
     running (append_output s (number_out n))
-perform_call (Some (a_standard write_line_procedure)) enter [] s = running (append_output s line_out)
+perform_call (Some (a_standard_procedure write_line_procedure)) enter [] s = running (append_output s line_out)
 perform_call _ enter args s = stopped Stuck s.output
 
 -- Executes a WHILE statement. The first argument is how many iterations may still be made. If the condition is FALSE,
@@ -155,7 +155,7 @@ unfoldable mutual
 
   -- executes one statement; `enter` performs calls of declared procedures, and `t` bounds the iterations of each loop
   pub execute : {N : Type 0}
-      → Meanings N Place (List Mode)
+      → Meanings N Place (List ParameterMode)
       → CallFunction N
       → ℕ
       → Tree N statement
@@ -181,7 +181,7 @@ unfoldable mutual
 
   -- executes a sequence of statements in text order; stops if a statement ends the run
   pub execute_sequence : {N : Type 0}
-      → Meanings N Place (List Mode)
+      → Meanings N Place (List ParameterMode)
       → CallFunction N
       → ℕ
       → Tree N sequence
@@ -192,20 +192,20 @@ unfoldable mutual
 
   -- executes the statements of a sequence after the first one
   pub execute_further_statements : {N : Type 0}
-      → Meanings N Place (List Mode)
+      → Meanings N Place (List ParameterMode)
       → CallFunction N
       → ℕ
-      → Tree N (items further_statement)
+      → Tree N (items statement_after_semicolon)
       → State
       → Progress
   execute_further_statements meaning enter t end s = running s
-  execute_further_statements meaning enter t (more (then_statement a) rest) s =
+  execute_further_statements meaning enter t (more (semicolon_then_statement a) rest) s =
       continue_with (execute meaning enter t a s) (execute_further_statements meaning enter t rest)
 
   -- executes the statements of the first ELSIF part whose condition is TRUE; if no condition is TRUE, continues with
   -- `otherwise`
   pub execute_elsifs : {N : Type 0}
-      → Meanings N Place (List Mode)
+      → Meanings N Place (List ParameterMode)
       → CallFunction N
       → ℕ
       → Tree N (items elsif_part)
@@ -219,7 +219,7 @@ unfoldable mutual
 
   -- executes the statements of the ELSE part; does nothing if there is no ELSE part
   pub execute_else : {N : Type 0}
-      → Meanings N Place (List Mode)
+      → Meanings N Place (List ParameterMode)
       → CallFunction N
       → ℕ
       → Tree N (maybe else_part)
@@ -305,7 +305,7 @@ declare_block naming k b f =
 -- Returns the frame with a parameter bound to its argument. A VAR parameter is bound to the argument's place. Any other
 -- parameter is bound to a separate variable with the argument's value. Returns None if a VAR parameter gets a value, or
 -- another parameter gets a place.
-abbrev pub bind_parameter : {N : Type 0} → Mode → N → Argument → Frame N → Option (Frame N)
+abbrev pub bind_parameter : {N : Type 0} → ParameterMode → N → Argument → Frame N → Option (Frame N)
 bind_parameter by_place x (place_argument p) f =
     Some record { env = (x, a_variable p) ∷ f.env; store = f.store }
 bind_parameter by_value x (value_argument v) f = Some (add_variables_to_frame (x ∷ []) v f)
@@ -313,13 +313,13 @@ bind_parameter _ x _ f = None
 
 -- a formal parameter of a procedure: its mode and its name
 pub record Parameter (N : Type 0) : Type 0 where
-  pub mode : Mode
+  pub mode : ParameterMode
   pub name : N
 
 -- returns the formal parameters of a procedure heading, in text order
-abbrev pub parameters : {N : Type 0} → Tree N (items further_section) → List (Parameter N)
+abbrev pub parameters : {N : Type 0} → Tree N (items section_after_semicolon) → List (Parameter N)
 parameters end = []
-parameters (more (then_section f) fs) =
+parameters (more (semicolon_then_section f) fs) =
     map (λ x. record { mode = parameter_section_mode f; name = x }) (parameter_section_names f) ++ parameters fs
 
 -- returns the frame with all parameters of a procedure bound to the arguments of a call; None if there are more or
@@ -335,28 +335,28 @@ bind_parameters (p ∷ ps) (a ∷ args) f =
 bind_parameters _ _ f = None
 
 -- returns the modes of a procedure's parameters, in text order
-abbrev pub formal_modes : {N : Type 0} → Tree N (items further_section) → List Mode
+abbrev pub formal_modes : {N : Type 0} → Tree N (items section_after_semicolon) → List ParameterMode
 formal_modes end = []
-formal_modes (more (then_section f) fs) =
+formal_modes (more (semicolon_then_section f) fs) =
     map (λ x. parameter_section_mode f) (parameter_section_names f) ++ formal_modes fs
 
 -- returns a name's object with only the data that statements need: a procedure keeps only the modes of its parameters,
 -- and any other object is unchanged
 abbrev pub object_for_statements : {N : Type 0}
     → Option (Object Place (ProcedureText N))
-    → Option (Object Place (List Mode))
+    → Option (Object Place (List ParameterMode))
 object_for_statements None = None
 object_for_statements (Some (a_type s)) = Some (a_type s)
 object_for_statements (Some (a_constant v)) = Some (a_constant v)
 object_for_statements (Some (a_variable p)) = Some (a_variable p)
 object_for_statements (Some (a_procedure code)) = Some (a_procedure (formal_modes (procedure_formals code.text)))
-object_for_statements (Some (a_standard p)) = Some (a_standard p)
+object_for_statements (Some (a_standard_procedure p)) = Some (a_standard_procedure p)
 
 -- returns the meanings of names for the statements of an activation
 abbrev pub meanings_for_statements : {N : Type 0}
     → Naming N
     → Activation N
-    → Meanings N Place (List Mode)
+    → Meanings N Place (List ParameterMode)
 meanings_for_statements naming env =
     record
     { object_for = λ x. object_for_statements ((meanings naming env).object_for x); written = naming.written }
@@ -428,7 +428,7 @@ run_result (stopped e out) = record { output = out; ending = e }
 
 -- returns the result of running a module's tree with this input; `enter` performs calls in an environment, and `t`
 -- bounds the iterations of each loop
-unfoldable pub run_with_calls : {N : Type 0}
+unfoldable pub run_with_call_function : {N : Type 0}
     → Naming N
     → (Activation N → CallFunction N)
     → ℕ
@@ -436,7 +436,7 @@ unfoldable pub run_with_calls : {N : Type 0}
     → List ℤ
     → Run
 unfolding declare_block execute_body
-run_with_calls naming enter t m input =
+run_with_call_function naming enter t m input =
     let start : State = record { store = []; input = input; output = [] } in
     run_result (continue_in_frame start
     (declare_block naming 0 (module_block m) record { env = outermost_environment naming; store = [] })
@@ -445,8 +445,8 @@ run_with_calls naming enter t m input =
 -- returns the result of running a module's tree whose names are interpreted by `naming`; `c` bounds the number of open
 -- calls, and `t` bounds the iterations of each loop
 unfoldable pub run_with_naming : {N : Type 0} → Naming N → Tree N module_text → List ℤ → ℕ → ℕ → Run
-unfolding run_with_calls call
-run_with_naming naming m input c t = run_with_calls naming (call naming c t) t m input
+unfolding run_with_call_function call
+run_with_naming naming m input c t = run_with_call_function naming (call naming c t) t m input
 
 -- returns the result of running a module with this input; the first number bounds the open calls, and the second number
 -- bounds the iterations of each loop

@@ -2,10 +2,10 @@
 -- Rule: docs/LANGUAGE.md, Runs 11.
 use Rattle.std.specs.Prelude.{◌≡◌, true, List, [], ◌∷◌, map, if◌then◌else◌, nat_lt, slice_get, Some, None, Option, option_and_then}
 use Rattle.ob0_language_names.specs.Names.{Naming}
-use Rattle.ob0_language_names.specs.Parts.{procedure_formals}
-use Rattle.ob0_language_types.specs.Expressions.{Meanings, Object, a_constant, a_procedure, a_standard, a_type, a_variable}
+use Rattle.ob0_language_names.specs.BlockParts.{procedure_formals}
+use Rattle.ob0_language_types.specs.Expressions.{Meanings, Object, a_constant, a_procedure, a_standard_procedure, a_type, a_variable}
 use Rattle.ob0_language_types.specs.Typing.{shape_of_field}
-use Rattle.ob0_language_types.specs.WellTyped.{Mode, Signature, TypeEnvironment, TypeMeanings, TypedParameter, bind_typed_parameters, by_place, by_value, bind_procedure, procedure_is_well_typed, typed_parameters}
+use Rattle.ob0_language_types.specs.WellTyped.{ParameterMode, Signature, TypeEnvironment, TypeMeanings, TypedParameter, bind_typed_parameters, by_place, by_value, bind_procedure, procedure_is_well_typed, typed_parameters}
 use Rattle.ob0_language_values.specs.Values.{FieldShapes, Members, Place, Shape, Step, Store, Value, Values, array_shape, at_field, at_index, boolean_shape, count_values, elements, integer_shape, members, next_field_shape, next_member, next_value, no_field_shape, no_member, no_value, number, record_shape, truth}
 use Rattle.ob0_language_runs.specs.Runs.{Activation, Argument, ProcedureText, object_for_statements, place_argument, value_argument}
 
@@ -60,7 +60,7 @@ abbrev pub PlaceHasType : StoreTyping → Place → Shape → Type 0
 PlaceHasType typing p s = option_and_then (shape_at_path p.path) (slice_get typing p.variable) ≡ Some s
 
 -- returns the modes of a procedure's parameters, given its signature
-abbrev pub signature_modes : Signature → List Mode
+abbrev pub signature_modes : Signature → List ParameterMode
 signature_modes = map (λ f. f.mode)
 
 -- States that a name's object in a run agrees with the name's object in the checked module. If the
@@ -69,7 +69,7 @@ signature_modes = map (λ f. f.mode)
 -- procedure's parameters must be the modes in its signature.
 abbrev pub RunObjectAgreesWithCheckedObject : StoreTyping
     → Option (Object Shape Signature)
-    → Option (Object Place (List Mode))
+    → Option (Object Place (List ParameterMode))
     → Type 0
 RunObjectAgreesWithCheckedObject typing None None = Unit {0}
 RunObjectAgreesWithCheckedObject typing (Some (a_type s)) (Some (a_type t)) = s ≡ t
@@ -77,7 +77,7 @@ RunObjectAgreesWithCheckedObject typing (Some (a_constant v)) (Some (a_constant 
 RunObjectAgreesWithCheckedObject typing (Some (a_variable s)) (Some (a_variable p)) = PlaceHasType typing p s
 RunObjectAgreesWithCheckedObject typing (Some (a_procedure signature)) (Some (a_procedure modes)) =
     modes ≡ signature_modes signature
-RunObjectAgreesWithCheckedObject typing (Some (a_standard p)) (Some (a_standard q)) = p ≡ q
+RunObjectAgreesWithCheckedObject typing (Some (a_standard_procedure p)) (Some (a_standard_procedure q)) = p ≡ q
 RunObjectAgreesWithCheckedObject typing _ _ = ⊥
 
 -- States that each name's object in a run agrees with the name's object in the checked module. Also states that each
@@ -85,7 +85,7 @@ RunObjectAgreesWithCheckedObject typing _ _ = ⊥
 abbrev pub RunMeaningsAgreeWithCheckedMeanings : {N : Type 0}
     → StoreTyping
     → TypeMeanings N
-    → Meanings N Place (List Mode)
+    → Meanings N Place (List ParameterMode)
     → Type 0
 RunMeaningsAgreeWithCheckedMeanings {N} typing checked active =
     ((x : N) → RunObjectAgreesWithCheckedObject typing (checked.object_for x) (active.object_for x))

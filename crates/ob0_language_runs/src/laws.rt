@@ -3,7 +3,7 @@
 //! replaced by the ordinal of its declaration.
 //!
 //! In the definition `run`, the store keeps every variable until the run ends. In
-//! `run_freeing_variables` (`specs/Freed`), a call's variables are dropped when the call returns.
+//! `run_freeing_variables` (`specs/FreedVariables`), a call's variables are dropped when the call returns.
 //! `dropping_variables_keeps_runs` states that both runs have the same result.
 //! `specs/TypeAgreement` defines when a value, a store, a place or an environment agrees with the
 //! types of a checked module. Throughout a run of a well-typed module all of them agree, so the run

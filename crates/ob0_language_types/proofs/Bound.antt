@@ -4,7 +4,7 @@ use Rattle.std.proofs.Common.{◌≡◌, ℕ, ◌+◌, Bool, true, false, cond, 
 use Rattle.std.proofs.Math.Seq.{take-append_seam}
 use Rattle.ob0_tree.specs.Tree.{Tree, block, declares_procedure, formals, maybe}
 use Rattle.ob0_language_names.specs.Names.{Label, naming_by_label}
-use Rattle.ob0_language_names.specs.Parts.{formal_sections}
+use Rattle.ob0_language_names.specs.BlockParts.{formal_sections}
 use Rattle.ob0_language_types.specs.Bindings.{block_bindings, list_if_some, procedure_bindings, bindings_since}
 use Rattle.ob0_language_types.specs.Declarations.{formals_constructor_count}
 use Rattle.ob0_language_types.specs.Environments.{environment_from_binding, newest_object}

@@ -3,7 +3,7 @@ use Rattle.std.proofs.Common.{◌≡◌, Bool, true, false, ◌&&◌, List, [], 
 use Rattle.std.proofs.lemmas.Bool.{eqb-true}
 use Rattle.ob0_tree.specs.Tree.{Tree, expression, items, selector}
 use Rattle.ob0_language_names.specs.Names.{Name, same_name}
-use Rattle.ob0_language_types.specs.Expressions.{Object, a_constant, a_procedure, a_standard, a_type, a_variable}
+use Rattle.ob0_language_types.specs.Expressions.{Object, a_constant, a_procedure, a_standard_procedure, a_type, a_variable}
 use Rattle.ob0_language_types.specs.Typing.{type_after_selectors}
 use Rattle.ob0_language_types.specs.WellTyped.{Signature, TypeMeanings, same_known_shape, arguments_match, call_is_well_typed, same_fields, same_shape, option_satisfies, variable_type}
 use Rattle.ob0_language_values.specs.Values.{FieldShapes, Shape, array_shape, boolean_shape, integer_shape, next_field_shape, no_field_shape, record_shape}
@@ -64,7 +64,7 @@ variable-typed checked x path s h = go (checked.object_for x) h
     go (Some (a_type t)) e = absurd (cc)
     go (Some (a_constant t)) e = absurd (cc)
     go (Some (a_procedure t)) e = absurd (cc)
-    go (Some (a_standard t)) e = absurd (cc)
+    go (Some (a_standard_procedure t)) e = absurd (cc)
 
 -- A well-typed call calls a procedure.
 pub call-typed : {N : Type 0} (checked : TypeMeanings N) (o : Option Signature) (es : List (Tree N expression)) → call_is_well_typed checked o es ≡ true → (signature : Signature) × (o ≡ Some signature) × (arguments_match checked signature es ≡ true)

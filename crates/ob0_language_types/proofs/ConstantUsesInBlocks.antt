@@ -1,16 +1,16 @@
 -- In a well-typed block, each use of a constant is a whole factor.
 use Rattle.std.proofs.Common.{Bool, List, None, Option, Some, ap, arith, eq-eqb, if◌then◌else◌, le_of_lt, le_refl, length, map, ne_eqb, option_and_then, option_map, subst, suc, sym, true, ℕ, ◌&&◌, ◌++◌, ◌+◌, ◌<◌, ◌==◌, ◌∙◌, ◌∷◌, ◌≡◌, ◌≤◌}
-use Rattle.ob0_tree.specs.Tree.{Tree, begins, block, body, constant, declares, declares_constant, declares_procedure, declares_type, declares_variable, end, further_section, forms_block, item, items, maybe, more, none, occurrences, one, procedure, then_section, type_definition, variable, written_type}
+use Rattle.ob0_tree.specs.Tree.{Tree, begins, block, body, constant, declares, declares_constant, declares_procedure, declares_type, declares_variable, end, section_after_semicolon, forms_block, item, items, maybe, more, none, occurrences, one, procedure, semicolon_then_section, type_definition, variable, written_type}
 use Rattle.ob0_language_names.specs.NonFactorNames.{non_factor_occurrences}
 use Rattle.ob0_language_names.specs.Names.{Name, naming_by_spelling}
-use Rattle.ob0_language_names.specs.Parts.{block_constants, block_types, block_variables, constant_names, formal_names, formal_sections, declared_type_names, names_in_list, section_constants, parameter_section_names, parameter_section_type, section_types, section_variables, variable_names}
-use Rattle.ob0_language_names.specs.Scopes.{Scope, ordinal_after_block, ordinal_after_names, ordinal_after_procedure, ordinal_after_procedures, declare_names, declare_procedure_names, first_procedure_ordinal, first_type_ordinal, first_variable_ordinal, ordinal_in_scope, scope_before_procedures, scope_before_types, scope_before_variables}
+use Rattle.ob0_language_names.specs.BlockParts.{block_constants, block_types, block_variables, constant_names, formal_names, formal_sections, declared_type_names, names_in_list, section_constants, parameter_section_names, parameter_section_type, section_types, section_variables, variable_names}
+use Rattle.ob0_language_names.specs.Scopes.{Scope, ordinal_after_block, ordinal_after_names, ordinal_after_procedure, ordinal_after_procedure_list, declare_names, declare_procedure_names, first_procedure_ordinal, first_type_ordinal, first_variable_ordinal, ordinal_in_scope, scope_before_procedures, scope_before_types, scope_before_variables}
 use Rattle.ob0_language_names.proofs.EditedTrees.{Edit, edited_block, edited_constants, leaf}
 use Rattle.ob0_language_names.proofs.InliningLeavesNoUse.{NoneOf}
 use Rattle.ob0_language_names.proofs.Ordinals.{ordinal_after_names-append, le-ordinal_after_names, le-ordinal_after_procedure}
 use Rattle.ob0_language_names.proofs.Places.{EachBlock, EachConstant, EachProcedure, EachSection, EachType, EachVariable, Placed}
 use Rattle.ob0_language_values.specs.Values.{Shape, Value, fits_in_32_bits}
-use Rattle.ob0_language_types.specs.ConstantValues.{non_constant_placeholder, value_in_constants, value_in_block, value_in_procedure, value_in_procedures}
+use Rattle.ob0_language_types.specs.ConstantValues.{non_constant_placeholder, constant_value_in_section, constant_value_in_block, constant_value_in_procedure, constant_value_in_procedures}
 use Rattle.ob0_language_types.specs.Declarations.{constructors_before_variables, constructors_before_procedures, declare_constants, declare_constants_and_types, declare_types, formals_constructor_count, procedure_constructor_count}
 use Rattle.ob0_language_types.specs.Environments.{Environment, meanings}
 use Rattle.ob0_language_types.specs.Expressions.{a_constant, a_procedure, a_type, a_variable}
@@ -46,18 +46,18 @@ agree-some {X} {Y} p q P r s (a, e, e', holds) y h = go a holds (sym e ∙ h)
     go (Some x) holds h = (x, holds, some_inverse h)
 
 pub alone-constants : {V P Q : Type 0} (edit : Edit) (w : Value) (X : Marks V P → Name → ℕ → P → Type 0) (p : ℕ → P → Q) (j k : ℕ) (marks : Marks V P) → Sound edit w X k marks → 7 ≤ k → (cs : Tree Name (items constant))
-    → HasValueBetween edit w k (ordinal_after_names k (constant_names cs)) (value_in_constants (knowns marks) edit.constant k cs) → (env : Environment Name V Q) → declare_constants naming_by_spelling (read p marks) cs ≡ Some env
+    → HasValueBetween edit w k (ordinal_after_names k (constant_names cs)) (constant_value_in_section (knowns marks) edit.constant k cs) → (env : Environment Name V Q) → declare_constants naming_by_spelling (read p marks) cs ≡ Some env
     → EachConstant (UsesAreFactors edit.constant) j (scope_marked marks) k cs
-unfolding declare_constants value_in_constants
+unfolding declare_constants constant_value_in_section
 alone-constants edit w X p j k marks s seven end has_value env h = tt
 alone-constants {V} {P} edit w X p j k marks s seven (more (declares_constant x e) cs) has_value env h =
     let (v, ev, h₁) = then_some (constant_value (read_meanings p marks) e) (λ v. declare_constants naming_by_spelling ((x, a_constant v) ∷ read p marks) cs) env h in
     let n : ℕ = ordinal_after_names (suc k) (constant_names cs) in
     let below : suc k ≤ n = le-ordinal_after_names (suc k) (constant_names cs) in
     let known : constant_value (meanings naming_by_spelling (knowns marks)) e ≡ Some v = known-value p marks e ∙ ev in
-    let choice : Bool → Option Value = λ t. if t then Some v else value_in_constants ((x, a_constant v) ∷ knowns marks) edit.constant (suc k) cs in
+    let choice : Bool → Option Value = λ t. if t then Some v else constant_value_in_section ((x, a_constant v) ∷ knowns marks) edit.constant (suc k) cs in
     let value : k ≤ edit.constant → edit.constant < n → choice (k == edit.constant) ≡ Some w = λ l m.
-    sym (ap (option_and_then (λ v. if k == edit.constant then Some v else value_in_constants ((x, a_constant v) ∷ knowns marks) edit.constant (suc k) cs)) known) ∙ has_value l m in (
+    sym (ap (option_and_then (λ v. if k == edit.constant then Some v else constant_value_in_section ((x, a_constant v) ∷ knowns marks) edit.constant (suc k) cs)) known) ∙ has_value l m in (
       constant_value-elsewhere (IsOf edit.constant (scope_marked marks)) (read_meanings p marks) w (holds-constant edit w X p k marks s) e v ev,
       alone-constants edit w X p (j + length (occurrences e)) (suc k) (record { name = x; ordinal = k; object = a_constant v } ∷ marks) (
         le_refl (suc k),
@@ -103,11 +103,11 @@ alone-variables edit w i j k marks s seven (more (declares_variable ns t) gs) ou
           (ap (declare_typed_variables naming_by_spelling (i + constructor_count t) gs) (sym bound.1) ∙ h₁)),
     )
 
-pub alone-sections : (edit : Edit) (w : Value) (i j k : ℕ) (marks : Marks Shape Signature) → Checked edit w k marks → 7 ≤ k → (fs : Tree Name (items further_section))
+pub alone-sections : (edit : Edit) (w : Value) (i j k : ℕ) (marks : Marks Shape Signature) → Checked edit w k marks → 7 ≤ k → (fs : Tree Name (items section_after_semicolon))
     → Outside edit k (ordinal_after_names k (formal_names fs)) → (ps : List (TypedParameter Name)) → typed_parameters naming_by_spelling (read as_signed marks) i fs ≡ Some ps → EachSection (UsesAreFactors edit.constant) j (scope_marked marks) k fs
 unfolding typed_parameters
 alone-sections edit w i j k marks s seven end outside ps h = tt
-alone-sections edit w i j k marks s seven (more (then_section f) fs) outside ps h =
+alone-sections edit w i j k marks s seven (more (semicolon_then_section f) fs) outside ps h =
     let xs : List Name = parameter_section_names f in
     let ys : List Name = formal_names fs in
     let t : Tree Name written_type = parameter_section_type f in
@@ -141,7 +141,7 @@ mutual
   unfolding block_is_well_typed
 
   pub alone-block : (edit : Edit) (w : Value) → Literal edit w → (i j k : ℕ) (marks : Marks Shape Signature) → Checked edit w k marks → 7 ≤ k → (b : Tree Name block)
-      → EachBlock (Here edit w) j (scope_marked marks) k b → HasValueBetween edit w k (ordinal_after_block k b) (value_in_block (knowns marks) edit.constant k b)
+      → EachBlock (Here edit w) j (scope_marked marks) k b → HasValueBetween edit w k (ordinal_after_block k b) (constant_value_in_block (knowns marks) edit.constant k b)
       → block_is_well_typed naming_by_spelling (read as_signed marks) i b ≡ true → EachBlock (UsesAreFactors edit.constant) j (scope_marked marks) k b
   alone-block edit w lit i j k marks s seven (forms_block (declares cs ts vs ps) statements) here has_value h =
       let b : Tree Name block = forms_block (declares cs ts vs ps) statements in
@@ -182,7 +182,7 @@ mutual
       )
 
   pub alone-procedures : (edit : Edit) (w : Value) → Literal edit w → (i j js k : ℕ) (marks : Marks Shape Signature) → Checked edit w k marks → 7 ≤ k → (statements : Tree Name (maybe body)) (ps : Tree Name (items procedure))
-      → EachProcedure (Here edit w) j (scope_marked marks) k ps → HasValueBetween edit w k (ordinal_after_procedures k ps) (value_in_procedures (knowns marks) edit.constant k ps)
+      → EachProcedure (Here edit w) j (scope_marked marks) k ps → HasValueBetween edit w k (ordinal_after_procedure_list k ps) (constant_value_in_procedures (knowns marks) edit.constant k ps)
       → procedures_are_well_typed naming_by_spelling (read as_signed marks) i statements ps ≡ true
       → EachProcedure (UsesAreFactors edit.constant) j (scope_marked marks) k ps × NoneOf (IsOf edit.constant (declare_procedure_names k ps (scope_marked marks))) (non_factor_occurrences statements)
   alone-procedures edit w lit i j js k marks s seven statements end here has_value h = (tt, alone-body edit w k marks s statements h)
@@ -193,7 +193,7 @@ mutual
       let xs : List Name = formal_names (formal_sections fs) in
       let n : ℕ = ordinal_after_names (suc k) xs in
       let jr : ℕ = j + length (occurrences p) in
-      let mine : HasValueBetween edit w k (ordinal_after_procedure (suc k) p) (value_in_procedure ((x, non_constant_placeholder) ∷ knowns marks) edit.constant (suc k) p) = own-has_value edit w (knowns marks) k p rest has_value in
+      let mine : HasValueBetween edit w k (ordinal_after_procedure (suc k) p) (constant_value_in_procedure ((x, non_constant_placeholder) ∷ knowns marks) edit.constant (suc k) p) = own-has_value edit w (knowns marks) k p rest has_value in
       let outside : Outside edit k n = bind_procedure-outside edit w ((x, non_constant_placeholder) ∷ knowns marks) k x closing fs b mine in
       let above : suc k ≤ n = le-ordinal_after_names (suc k) xs in
       let following : suc k ≤ ordinal_after_procedure (suc k) p = le-ordinal_after_procedure (suc k) p in
@@ -219,7 +219,7 @@ mutual
             subst (λ scope. EachBlock (UsesAreFactors d) jb scope n b) left.scoped
                 (alone-block edit w lit (i + formals_constructor_count (formal_sections fs)) jb n (mark_all (suc k) pairs inner) left.sound (omega (arith, seven, above)) b
                 (subst (λ scope. EachBlock (Here edit w) jb scope n b) (sym left.scoped) here.0.1)
-                (subst (λ known. HasValueBetween edit w n (ordinal_after_block n b) (value_in_block known edit.constant n b)) (some_inverse left.value) (body-has_value edit w ((x, non_constant_placeholder) ∷ knowns marks) k x closing fs b mine))
+                (subst (λ known. HasValueBetween edit w n (ordinal_after_block n b) (constant_value_in_block known edit.constant n b)) (some_inverse left.value) (body-has_value edit w ((x, non_constant_placeholder) ∷ knowns marks) k x closing fs b mine))
                 (sym (ap (λ env. block_is_well_typed naming_by_spelling env (i + formals_constructor_count (formal_sections fs)) b) (bind_typed_parameters-all ps (bind_procedure x ps (read as_signed marks)) ∙ read-all as_signed (suc k) pairs inner)) ∙ both.0)),
           ),
           last.0,

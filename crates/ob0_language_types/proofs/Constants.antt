@@ -1,10 +1,10 @@
 -- A constant expression has the same value in a run as in the checker.
 use Rattle.std.proofs.Common.{◌≡◌, Bool, true, false, List, [], ◌∷◌, Some, None, Option, option_map, option_and_then, refl, ap, ◌∙◌, subst}
 use Rattle.ob0_tree.specs.Tree.{Tree, addend, adds, compares, designator, end, expression, factor, field, index, integer, items, more, multiplier, multiplies, negation, none, one, parenthesised, product, relates, selector, simple, sum, term}
-use Rattle.ob0_language_types.specs.Expressions.{Meanings, Object, a_constant, a_procedure, a_standard, a_type, a_variable, element_step, evaluate, evaluate_addends, evaluate_factor, evaluate_multipliers, evaluate_simple, evaluate_term, evaluate_selectors, object_value}
+use Rattle.ob0_language_types.specs.Expressions.{Meanings, Object, a_constant, a_procedure, a_standard_procedure, a_type, a_variable, element_step, evaluate, evaluate_addends, evaluate_factor, evaluate_multipliers, evaluate_simple, evaluate_term, evaluate_selectors, object_value}
 use Rattle.ob0_language_types.specs.Laws.{ConstantsHaveSameValueInRunAndChecker}
 use Rattle.ob0_language_types.specs.Typing.{constant_of, constant_value, constant_meanings, outcome_value, type_of}
-use Rattle.ob0_language_values.specs.Values.{Outcome, Place, Step, Store, Value, add, add_short_circuits, at_field, value_at_path, ends_run_with, succeeds_with, multiply, multiply_short_circuits, negate, or_stuck, value_at_step, apply_relation, apply_sign, ◌>>=◌}
+use Rattle.ob0_language_values.specs.Values.{Outcome, Place, Step, Store, Value, add, add_operator_short_circuits, at_field, value_at_path, ends_run_with, succeeds_with, multiply, multiply_operator_short_circuits, negate, or_stuck, value_at_step, apply_relation, apply_sign, ◌>>=◌}
 
 pub then-gives : {A B : Type 0} (o : Outcome A) (next : A → Outcome B) (b : B) → o >>= next ≡ succeeds_with b → (a : A) × (o ≡ succeeds_with a) × (next a ≡ succeeds_with b)
 then-gives (succeeds_with a) next b h = (a, refl, h)
@@ -24,7 +24,7 @@ constant-object_value store (Some (a_type s)) w h = absurd (cc)
 constant-object_value store (Some (a_constant v)) w h = ap succeeds_with (search)
 constant-object_value store (Some (a_variable p)) w h = absurd (cc)
 constant-object_value store (Some (a_procedure p)) w h = absurd (cc)
-constant-object_value store (Some (a_standard p)) w h = absurd (cc)
+constant-object_value store (Some (a_standard_procedure p)) w h = absurd (cc)
 
 pub only_constant : (o : Option Value) (v : Value) → object_value {P = Unit {0}} [] (option_map a_constant o) ≡ succeeds_with v → o ≡ Some v
 only_constant None v h = absurd (cc)
@@ -59,9 +59,9 @@ mutual
       → evaluate_addends {P = Unit {0}} (constant_meanings checked) [] x a ≡ succeeds_with v → evaluate_addends active store x a ≡ succeeds_with v
   evaluate_addends-held checked active store has x end v h = h
   evaluate_addends-held checked active store has x (more (adds o t) rest) v h =
-      let (y, ey, h₁) = then-gives (elim (add_short_circuits o x) [ true ↦ succeeds_with x | false ↦ evaluate_term {P = Unit {0}} (constant_meanings checked) [] t >>= add o x ]) (λ y. evaluate_addends {P = Unit {0}} (constant_meanings checked) [] y rest) v h in
-      then-goes (elim (add_short_circuits o x) [ true ↦ succeeds_with x | false ↦ evaluate_term active store t >>= add o x ]) (λ y. evaluate_addends active store y rest) y v
-      (settled-held (add_short_circuits o x) x (evaluate_term {P = Unit {0}} (constant_meanings checked) [] t >>= add o x) (evaluate_term active store t >>= add o x) y
+      let (y, ey, h₁) = then-gives (elim (add_operator_short_circuits o x) [ true ↦ succeeds_with x | false ↦ evaluate_term {P = Unit {0}} (constant_meanings checked) [] t >>= add o x ]) (λ y. evaluate_addends {P = Unit {0}} (constant_meanings checked) [] y rest) v h in
+      then-goes (elim (add_operator_short_circuits o x) [ true ↦ succeeds_with x | false ↦ evaluate_term active store t >>= add o x ]) (λ y. evaluate_addends active store y rest) y v
+      (settled-held (add_operator_short_circuits o x) x (evaluate_term {P = Unit {0}} (constant_meanings checked) [] t >>= add o x) (evaluate_term active store t >>= add o x) y
       (λ z hz. let (w, ew, hw) = then-gives (evaluate_term {P = Unit {0}} (constant_meanings checked) [] t) (add o x) z hz in then-goes (evaluate_term active store t) (add o x) w z (evaluate_term-held checked active store has t w ew) hw) ey)
       (evaluate_addends-held checked active store has y rest v h₁)
 
@@ -76,9 +76,9 @@ mutual
       → evaluate_multipliers {P = Unit {0}} (constant_meanings checked) [] x a ≡ succeeds_with v → evaluate_multipliers active store x a ≡ succeeds_with v
   evaluate_multipliers-held checked active store has x end v h = h
   evaluate_multipliers-held checked active store has x (more (multiplies o f) rest) v h =
-      let (y, ey, h₁) = then-gives (elim (multiply_short_circuits o x) [ true ↦ succeeds_with x | false ↦ evaluate_factor {P = Unit {0}} (constant_meanings checked) [] f >>= multiply o x ]) (λ y. evaluate_multipliers {P = Unit {0}} (constant_meanings checked) [] y rest) v h in
-      then-goes (elim (multiply_short_circuits o x) [ true ↦ succeeds_with x | false ↦ evaluate_factor active store f >>= multiply o x ]) (λ y. evaluate_multipliers active store y rest) y v
-      (settled-held (multiply_short_circuits o x) x (evaluate_factor {P = Unit {0}} (constant_meanings checked) [] f >>= multiply o x) (evaluate_factor active store f >>= multiply o x) y
+      let (y, ey, h₁) = then-gives (elim (multiply_operator_short_circuits o x) [ true ↦ succeeds_with x | false ↦ evaluate_factor {P = Unit {0}} (constant_meanings checked) [] f >>= multiply o x ]) (λ y. evaluate_multipliers {P = Unit {0}} (constant_meanings checked) [] y rest) v h in
+      then-goes (elim (multiply_operator_short_circuits o x) [ true ↦ succeeds_with x | false ↦ evaluate_factor active store f >>= multiply o x ]) (λ y. evaluate_multipliers active store y rest) y v
+      (settled-held (multiply_operator_short_circuits o x) x (evaluate_factor {P = Unit {0}} (constant_meanings checked) [] f >>= multiply o x) (evaluate_factor active store f >>= multiply o x) y
       (λ z hz. let (w, ew, hw) = then-gives (evaluate_factor {P = Unit {0}} (constant_meanings checked) [] f) (multiply o x) z hz in then-goes (evaluate_factor active store f) (multiply o x) w z (evaluate_factor-held checked active store has f w ew) hw) ey)
       (evaluate_multipliers-held checked active store has y rest v h₁)
 

@@ -5,18 +5,18 @@
 use Rattle.std.proofs.Common.{◌≡◌, ℕ, suc, ◌+◌, ◌<◌, ◌≤◌, ◌==◌, Bool, true, false, cond, if◌then◌else◌, nat_lt, ◌&&◌, List, [], ◌∷◌, ◌++◌, map, Some, None, Option, option_map, option_and_then, refl, sym, ap, ◌∙◌, subst, subst₂, append_assoc, arith, le_refl, le_of_lt, lit<, eq-eqb, eqb-true, true≢false}
 use Rattle.std.proofs.lemmas.Bool.{and_parts, le-ltb, lt-ltb, ltb-false, ltb-true, ne_eqb}
 use Rattle.std.proofs.lemmas.List.{append-nil}
-use Rattle.ob0_tree.specs.Tree.{Tree, block, body, constant, declares, declares_constant, declares_procedure, declares_type, declares_variable, end, expression, formals, forms_block, is_module, item, items, maybe, module_text, more, procedure, type_definition, variable}
+use Rattle.ob0_tree.specs.Tree.{Tree, block, body, constant, declares, declares_constant, declares_procedure, declares_type, declares_variable, end, expression, formals, forms_block, forms_module, item, items, maybe, module_text, more, procedure, type_definition, variable}
 use Rattle.ob0_language_names.specs.Names.{Label, Name, naming_by_label, naming_by_spelling, declared, same_label, same_name}
-use Rattle.ob0_language_names.specs.Parts.{block_constants, block_procedures, block_statements, block_types, block_variables, constant_names, formal_names, formal_sections, module_block, declared_type_names, names_in_list, section_constants, section_types, section_variables, variable_names}
-use Rattle.ob0_language_names.specs.Scopes.{Scope, ordinal_after_block, ordinal_after_names, ordinal_after_procedure, ordinal_after_procedures, label_from_ordinal, declare_names, first_procedure_ordinal, first_type_ordinal, first_variable_ordinal, numbered, scope_before_procedures, relabel_block, relabel_constants, relabel_formals, relabel_names, relabel_procedures, relabel_parameter_sections, relabel_types, relabel_uses, relabel_variables, scope_before_types, scope_before_variables}
-use Rattle.ob0_language_names.proofs.Ordinals.{ordinal_after_names-append, declare_names-append, le-ordinal_after_names, le-ordinal_after_block, le-ordinal_after_procedure, le-ordinal_after_procedures}
+use Rattle.ob0_language_names.specs.BlockParts.{block_constants, block_procedures, block_statements, block_types, block_variables, constant_names, formal_names, formal_sections, module_block, declared_type_names, names_in_list, section_constants, section_types, section_variables, variable_names}
+use Rattle.ob0_language_names.specs.Scopes.{Scope, ordinal_after_block, ordinal_after_names, ordinal_after_procedure, ordinal_after_procedure_list, label_from_ordinal, declare_names, first_procedure_ordinal, first_type_ordinal, first_variable_ordinal, numbered, scope_before_procedures, relabel_block, relabel_constants, relabel_formals, relabel_names, relabel_procedure_list, relabel_parameter_section_list, relabel_types, relabel_uses, relabel_variables, scope_before_types, scope_before_variables}
+use Rattle.ob0_language_names.proofs.Ordinals.{ordinal_after_names-append, declare_names-append, le-ordinal_after_names, le-ordinal_after_block, le-ordinal_after_procedure, le-ordinal_after_procedure_list}
 use Rattle.ob0_language_names.proofs.Relabelled.{constants-section, formals-section, names-relabel, types-section, variables-section}
 use Rattle.ob0_language_types.specs.Bindings.{block_bindings, declared_object, list_if_some, object_of_ordinal, procedure_bindings, procedures_bindings, bindings_since}
-use Rattle.ob0_language_types.specs.Declaring.{declare_block, declare_procedure}
-use Rattle.ob0_language_types.specs.ConstantValues.{ConstantEnvironment, constant_or_placeholder, non_constant_placeholder, predeclared_constants, value_in_constants, value_in_block, value_in_procedure, value_in_procedures, value_of_constant}
+use Rattle.ob0_language_types.specs.BlockDeclarations.{declare_block, declare_procedure}
+use Rattle.ob0_language_types.specs.ConstantValues.{ConstantEnvironment, constant_or_placeholder, non_constant_placeholder, predeclared_constants, constant_value_in_section, constant_value_in_block, constant_value_in_procedure, constant_value_in_procedures, value_of_constant}
 use Rattle.ob0_language_types.specs.Declarations.{constructors_before_variables, constructors_before_procedures, declare_constants, declare_constants_and_types, declare_types, formals_constructor_count, procedure_constructor_count}
 use Rattle.ob0_language_types.specs.Environments.{environment_from_binding, meanings, newest_object, outermost_environment}
-use Rattle.ob0_language_types.specs.Expressions.{Object, a_constant, a_procedure, a_standard, a_type, a_variable}
+use Rattle.ob0_language_types.specs.Expressions.{Object, a_constant, a_procedure, a_standard_procedure, a_type, a_variable}
 use Rattle.ob0_language_types.specs.Typing.{constant_of, constant_value, constructor_count, denoted_type}
 use Rattle.ob0_language_types.specs.WellTyped.{Signature, TypeEnvironment, TypedParameter, WellTyped, bind_names, bind_typed_parameters, block_is_well_typed, declare_typed_variables, passes_type_check, bind_procedure, procedure_is_well_typed, procedures_are_well_typed, typed_parameters}
 use Rattle.ob0_language_values.specs.Values.{Shape, Value}
@@ -104,11 +104,11 @@ pub record Constants (known : ConstantEnvironment) (noted : TypeNoted Name) (k :
   pub known_after : ConstantEnvironment
   pub known_is : declare_constants naming_by_spelling known cs ≡ Some known_after
   pub knows : Knows known_after after
-  pub has_value_is : (d : ℕ) → k ≤ d → d < ordinal_after_names k (constant_names cs) → value_in_constants known d k cs ≡ has_value bound d
+  pub has_value_is : (d : ℕ) → k ≤ d → d < ordinal_after_names k (constant_names cs) → constant_value_in_section known d k cs ≡ has_value bound d
 
 constants-bound : (known : ConstantEnvironment) (noted : TypeNoted Name) (k : ℕ) → Knows known noted → TypedBelow k noted → (cs : Tree Name (items constant)) (env : TypeEnvironment Label)
     → declare_constants naming_by_label (typed_by_ordinal noted) (relabel_constants naming_by_spelling (label_from_ordinal naming_by_spelling) (typed_scope noted) k cs) ≡ Some env → Constants known noted k cs env
-unfolding declare_constants value_in_constants
+unfolding declare_constants constant_value_in_section
 constants-bound known noted k knows below end env h =
     record {
       bound = [];
@@ -132,7 +132,7 @@ constants-bound known noted k knows below (more (declares_constant x e) cs) env 
     let known' : ConstantEnvironment = (x, a_constant v) ∷ known in
     let r = constants-bound known' (record { name = x; ordinal = k; object = a_constant v } ∷ noted) (suc k) (knows-more known noted x k (a_constant v) (a_constant v) refl knows) (le_refl (suc k), below) cs env found.2 in
     let value : constant_value (meanings naming_by_spelling known) e ≡ Some v = sym (known-has_value known noted k knows below e) ∙ found.1 in
-    let choice : ℕ → Bool → Option Value = λ d t. if t then Some v else value_in_constants known' d (suc k) cs in
+    let choice : ℕ → Bool → Option Value = λ d t. if t then Some v else constant_value_in_section known' d (suc k) cs in
     let own : Binds k (suc k) last = ((k, refl, le_refl k, le_refl (suc k)), tt) in
     let chosen : (d : ℕ) → k ≤ d → d < n → (t : Bool) → (k == d) ≡ t → choice d t ≡ has_value (r.bound ++ last) d =
     λ d l m t. elim t as (λ t. (k == d) ≡ t → choice d t ≡ has_value (r.bound ++ last) d) [
@@ -151,7 +151,7 @@ constants-bound known noted k knows below (more (declares_constant x e) cs) env 
       known_after = r.known_after;
       known_is = ap (option_and_then (λ w. declare_constants naming_by_spelling ((x, a_constant w) ∷ known) cs)) value ∙ r.known_is;
       knows = r.knows;
-      has_value_is = λ d l m. ap (option_and_then (λ w. if k == d then Some w else value_in_constants ((x, a_constant w) ∷ known) d (suc k) cs)) value ∙ chosen d l m (k == d) refl;
+      has_value_is = λ d l m. ap (option_and_then (λ w. if k == d then Some w else constant_value_in_section ((x, a_constant w) ∷ known) d (suc k) cs)) value ∙ chosen d l m (k == d) refl;
     }
 
 -- the bindings that declarations of names other than constants make, with facts about them
@@ -387,9 +387,9 @@ opened-binds known noted k b inner o =
 
 -- The bindings of a block, after its procedures' bindings, have the values of the block's constants.
 block-values : (known : ConstantEnvironment) (noted : TypeNoted Name) (k : ℕ) (b : Tree Name block) (inner P : TypeEnvironment Label) (o : Opened known noted k b inner)
-    → AreValuesBetween (first_procedure_ordinal k b) (ordinal_after_block k b) (λ d. value_in_procedures (bind_names (declared_type_names (block_types b) ++ variable_names (block_variables b)) non_constant_placeholder o.constants.known_after) d (first_procedure_ordinal k b) (block_procedures b)) P
-    → AreValuesBetween k (ordinal_after_block k b) (λ d. value_in_block known d k b) (P ++ (o.others.bound ++ o.constants.bound))
-unfolding value_in_block
+    → AreValuesBetween (first_procedure_ordinal k b) (ordinal_after_block k b) (λ d. constant_value_in_procedures (bind_names (declared_type_names (block_types b) ++ variable_names (block_variables b)) non_constant_placeholder o.constants.known_after) d (first_procedure_ordinal k b) (block_procedures b)) P
+    → AreValuesBetween k (ordinal_after_block k b) (λ d. constant_value_in_block known d k b) (P ++ (o.others.bound ++ o.constants.bound))
+unfolding constant_value_in_block
 block-values known noted k (forms_block (declares cs ts vs ps) statements) inner P o p =
     let b : Tree Name block = forms_block (declares cs ts vs ps) statements in
     let kt : ℕ = first_type_ordinal k b in
@@ -401,19 +401,19 @@ block-values known noted k (forms_block (declares cs ts vs ps) statements) inner
     let own : TypeEnvironment Label = w ++ c in
     let first : k ≤ kt = types-above k b in
     let second : kt ≤ kp = procedures-above k b in
-    let third : kp ≤ n = le-ordinal_after_procedures kp ps in
+    let third : kp ≤ n = le-ordinal_after_procedure_list kp ps in
     let plain_binds : Binds kt kp w = others-binds known noted k b inner o in
     let own_binds : Binds k kp own = opened-binds known noted k b inner o in
     record {
       binds = binds-append k n P own (binds-wider kp n k n P (omega (arith, first, second)) (le_refl n) p.binds) (binds-wider k kp k n own (le_refl k) third own_binds);
       has_value_is = λ d l.
-          below-or d kt (value_in_constants known d k (section_constants cs))
-          (if nat_lt d kp then None else option_and_then (λ inner. value_in_procedures (bind_names names non_constant_placeholder inner) d kp ps) (declare_constants naming_by_spelling known (section_constants cs)))
+          below-or d kt (constant_value_in_section known d k (section_constants cs))
+          (if nat_lt d kp then None else option_and_then (λ inner. constant_value_in_procedures (bind_names names non_constant_placeholder inner) d kp ps) (declare_constants naming_by_spelling known (section_constants cs)))
           (has_value (P ++ own) d)
           (λ m. o.constants.has_value_is d l m ∙ sym (ap constant_of (bound-elsewhere kp n d P own p.binds (λ a z. omega (arith, a, m, second)) ∙ bound-elsewhere kt kp d w c plain_binds (λ a z. omega (arith, a, m)))))
-          (λ m. below-or d kp None (option_and_then (λ inner. value_in_procedures (bind_names names non_constant_placeholder inner) d kp ps) (declare_constants naming_by_spelling known (section_constants cs))) (has_value (P ++ own) d)
+          (λ m. below-or d kp None (option_and_then (λ inner. constant_value_in_procedures (bind_names names non_constant_placeholder inner) d kp ps) (declare_constants naming_by_spelling known (section_constants cs))) (has_value (P ++ own) d)
           (λ z. sym (ap constant_of (bound-elsewhere kp n d P own p.binds (λ a y. omega (arith, a, z)) ∙ bound-first k kt d w c o.constants.binds (λ a y. omega (arith, m, y))) ∙ plain-has_value w d o.others.plain))
-          (λ z. ap (option_and_then (λ inner. value_in_procedures (bind_names names non_constant_placeholder inner) d kp ps)) o.constants.known_is ∙ p.has_value_is d z ∙ sym (ap constant_of (bound-first k kp d P own own_binds (λ a y. omega (arith, z, y))))));
+          (λ z. ap (option_and_then (λ inner. constant_value_in_procedures (bind_names names non_constant_placeholder inner) d kp ps)) o.constants.known_is ∙ p.has_value_is d z ∙ sym (ap constant_of (bound-first k kp d P own own_binds (λ a y. omega (arith, z, y))))));
     }
 
 -- the environments with a procedure's name, and with its parameters, with facts about them
@@ -460,50 +460,50 @@ pub procedure-entered : (known : ConstantEnvironment) (noted : TypeNoted Name) (
 procedure-entered known noted j k knows below x fs qs h =
     let env : TypeEnvironment Label = typed_by_ordinal noted in
     let xs : List Name = formal_names (formal_sections fs) in
-    let listed = agree-second (λ ps. ps) (label_typed (suc k)) (λ ps. typed_names ps ≡ xs) (typed_parameters naming_by_spelling (typed_by_name noted) j (formal_sections fs)) (typed_parameters naming_by_label env j (relabel_parameter_sections naming_by_spelling (label_from_ordinal naming_by_spelling) (typed_scope noted) (suc k) (formal_sections fs)))
+    let listed = agree-second (λ ps. ps) (label_typed (suc k)) (λ ps. typed_names ps ≡ xs) (typed_parameters naming_by_spelling (typed_by_name noted) j (formal_sections fs)) (typed_parameters naming_by_label env j (relabel_parameter_section_list naming_by_spelling (label_from_ordinal naming_by_spelling) (typed_scope noted) (suc k) (formal_sections fs)))
     (parameters_typed naming_by_spelling j (suc k) noted (TypedBelow-weaken k (suc k) noted (le_of_lt (le_refl (suc k))) below) (formal_sections fs)) qs (ap (typed_parameters naming_by_label env j) (sym (formals-section naming_by_spelling (label_from_ordinal naming_by_spelling) (typed_scope noted) (suc k) fs)) ∙ h) in
     subst₂ (λ ys zs. Entered known noted k x ys zs) listed.1 listed.2 (entered known noted k knows below x listed.0)
 
 -- The bindings of a procedure, after the later procedures' bindings, have the values of the constants.
 procedure-values : (known : ConstantEnvironment) (k : ℕ) (x closing : Name) (fs : Tree Name (maybe formals)) (b : Tree Name block) (rest : Tree Name (items procedure)) (B H R : TypeEnvironment Label)
     → AreValuesBetween (ordinal_after_names (suc k) (formal_names (formal_sections fs))) (ordinal_after_procedure (suc k) (declares_procedure x fs b closing))
-    (λ d. value_in_block (bind_names (formal_names (formal_sections fs)) non_constant_placeholder ((x, non_constant_placeholder) ∷ known)) d (ordinal_after_names (suc k) (formal_names (formal_sections fs))) b) B
+    (λ d. constant_value_in_block (bind_names (formal_names (formal_sections fs)) non_constant_placeholder ((x, non_constant_placeholder) ∷ known)) d (ordinal_after_names (suc k) (formal_names (formal_sections fs))) b) B
     → Binds k (ordinal_after_names (suc k) (formal_names (formal_sections fs))) H → AllPlain H
-    → AreValuesBetween (ordinal_after_procedure (suc k) (declares_procedure x fs b closing)) (ordinal_after_procedures (ordinal_after_procedure (suc k) (declares_procedure x fs b closing)) rest)
-    (λ d. value_in_procedures ((x, non_constant_placeholder) ∷ known) d (ordinal_after_procedure (suc k) (declares_procedure x fs b closing)) rest) R
-    → AreValuesBetween k (ordinal_after_procedures k (more (declares_procedure x fs b closing) rest)) (λ d. value_in_procedures known d k (more (declares_procedure x fs b closing) rest)) (R ++ (B ++ H))
-unfolding value_in_block
+    → AreValuesBetween (ordinal_after_procedure (suc k) (declares_procedure x fs b closing)) (ordinal_after_procedure_list (ordinal_after_procedure (suc k) (declares_procedure x fs b closing)) rest)
+    (λ d. constant_value_in_procedures ((x, non_constant_placeholder) ∷ known) d (ordinal_after_procedure (suc k) (declares_procedure x fs b closing)) rest) R
+    → AreValuesBetween k (ordinal_after_procedure_list k (more (declares_procedure x fs b closing) rest)) (λ d. constant_value_in_procedures known d k (more (declares_procedure x fs b closing) rest)) (R ++ (B ++ H))
+unfolding constant_value_in_block
 procedure-values known k x closing fs b rest B H R inside_block binds plain later =
     let p : Tree Name (item procedure) = declares_procedure x fs b closing in
     let xs : List Name = formal_names (formal_sections fs) in
     let known' : ConstantEnvironment = (x, non_constant_placeholder) ∷ known in
     let m : ℕ = ordinal_after_names (suc k) xs in
     let q : ℕ = ordinal_after_procedure (suc k) p in
-    let n : ℕ = ordinal_after_procedures q rest in
+    let n : ℕ = ordinal_after_procedure_list q rest in
     let Q : TypeEnvironment Label = B ++ H in
     let above : suc k ≤ m = le-ordinal_after_names (suc k) xs in
     let inside : m ≤ q = le-ordinal_after_block m b in
-    let last : q ≤ n = le-ordinal_after_procedures q rest in
+    let last : q ≤ n = le-ordinal_after_procedure_list q rest in
     let following : k ≤ q = omega (arith, above, inside) in
     let one_binds : Binds k q Q = binds-append k q B H (binds-wider m q k q B (omega (arith, above)) (le_refl q) inside_block.binds) (binds-wider k m k q H (le_refl k) inside binds) in
     record {
       binds = binds-append k n R Q (binds-wider q n k n R following (le_refl n) later.binds) (binds-wider k q k n Q (le_refl k) last one_binds);
       has_value_is = λ d l.
-          below-or d q (value_in_procedure known' d (suc k) p) (value_in_procedures known' d q rest) (has_value (R ++ Q) d)
-          (λ u. below-or d m None (value_in_block (bind_names xs non_constant_placeholder known') d m b) (has_value (R ++ Q) d)
+          below-or d q (constant_value_in_procedure known' d (suc k) p) (constant_value_in_procedures known' d q rest) (has_value (R ++ Q) d)
+          (λ u. below-or d m None (constant_value_in_block (bind_names xs non_constant_placeholder known') d m b) (has_value (R ++ Q) d)
           (λ z. sym (ap constant_of (bound-elsewhere q n d R Q later.binds (λ a y. omega (arith, a, u)) ∙ bound-elsewhere m q d B H inside_block.binds (λ a y. omega (arith, a, z))) ∙ plain-has_value H d plain))
           (λ z. inside_block.has_value_is d z ∙ sym (ap constant_of (bound-elsewhere q n d R Q later.binds (λ a y. omega (arith, a, u)) ∙ bound-first k m d B H binds (λ a y. omega (arith, z, y))))))
           (λ u. later.has_value_is d u ∙ sym (ap constant_of (bound-first k q d R Q one_binds (λ a y. omega (arith, u, y)))));
     }
 
-no-procedures : (known : ConstantEnvironment) (noted : TypeNoted Name) (j k : ℕ) → AreValuesBetween k k (λ d. value_in_procedures known d k end) (procedures_bindings naming_by_label (typed_by_ordinal noted) j end)
-unfolding value_in_block block_bindings
+no-procedures : (known : ConstantEnvironment) (noted : TypeNoted Name) (j k : ℕ) → AreValuesBetween k k (λ d. constant_value_in_procedures known d k end) (procedures_bindings naming_by_label (typed_by_ordinal noted) j end)
+unfolding constant_value_in_block block_bindings
 no-procedures known noted j k = record { binds = tt; has_value_is = λ d l. refl }
 
 mutual
   pub block-evaluates : (known : ConstantEnvironment) (noted : TypeNoted Name) (j k : ℕ) → Knows known noted → TypedBelow k noted → (b : Tree Name block)
       → block_is_well_typed naming_by_label (typed_by_ordinal noted) j (relabel_block naming_by_spelling (label_from_ordinal naming_by_spelling) (typed_scope noted) k b) ≡ true
-      → AreValuesBetween k (ordinal_after_block k b) (λ d. value_in_block known d k b) (block_bindings naming_by_label (typed_by_ordinal noted) j (relabel_block naming_by_spelling (label_from_ordinal naming_by_spelling) (typed_scope noted) k b))
+      → AreValuesBetween k (ordinal_after_block k b) (λ d. constant_value_in_block known d k b) (block_bindings naming_by_label (typed_by_ordinal noted) j (relabel_block naming_by_spelling (label_from_ordinal naming_by_spelling) (typed_scope noted) k b))
   block-evaluates known noted j k knows below (forms_block (declares cs ts vs ps) statements) h =
       let b : Tree Name block = forms_block (declares cs ts vs ps) statements in
       let b' : Tree Label block = relabel_block naming_by_spelling (label_from_ordinal naming_by_spelling) (typed_scope noted) k b in
@@ -511,16 +511,16 @@ mutual
       let o : Opened known noted k b parts.0 = block-opened known noted j k knows below b parts.0 parts.1 in
       let names : List Name = declared_type_names (section_types ts) ++ variable_names (section_variables vs) in
       let p = procedures-evaluate (bind_names names non_constant_placeholder o.constants.known_after) o.last (constructors_before_procedures j b') (first_procedure_ordinal k b) (o.others.knows o.constants.known_after o.constants.knows) o.below (block_statements b') ps
-      ((λ i. procedures_are_well_typed naming_by_label (sym o.reads i) (constructors_before_procedures j b') (block_statements b') (relabel_procedures naming_by_spelling (label_from_ordinal naming_by_spelling) (o.scoped i) (first_procedure_ordinal k b) ps)) ∙ parts.2) in
-      let P : TypeEnvironment Label = procedures_bindings naming_by_label (typed_by_ordinal o.last) (constructors_before_procedures j b') (relabel_procedures naming_by_spelling (label_from_ordinal naming_by_spelling) (typed_scope o.last) (first_procedure_ordinal k b) ps) in
-      subst (AreValuesBetween k (ordinal_after_block k b) (λ d. value_in_block known d k b))
-      ((λ i. procedures_bindings naming_by_label (sym o.reads i) (constructors_before_procedures j b') (relabel_procedures naming_by_spelling (label_from_ordinal naming_by_spelling) (o.scoped i) (first_procedure_ordinal k b) ps) ++ sym (opened-bindings_since known noted k b parts.0 o) i)
+      ((λ i. procedures_are_well_typed naming_by_label (sym o.reads i) (constructors_before_procedures j b') (block_statements b') (relabel_procedure_list naming_by_spelling (label_from_ordinal naming_by_spelling) (o.scoped i) (first_procedure_ordinal k b) ps)) ∙ parts.2) in
+      let P : TypeEnvironment Label = procedures_bindings naming_by_label (typed_by_ordinal o.last) (constructors_before_procedures j b') (relabel_procedure_list naming_by_spelling (label_from_ordinal naming_by_spelling) (typed_scope o.last) (first_procedure_ordinal k b) ps) in
+      subst (AreValuesBetween k (ordinal_after_block k b) (λ d. constant_value_in_block known d k b))
+      ((λ i. procedures_bindings naming_by_label (sym o.reads i) (constructors_before_procedures j b') (relabel_procedure_list naming_by_spelling (label_from_ordinal naming_by_spelling) (o.scoped i) (first_procedure_ordinal k b) ps) ++ sym (opened-bindings_since known noted k b parts.0 o) i)
       ∙ sym (block-listed (typed_by_ordinal noted) j b' parts.0 parts.1))
       (block-values known noted k b parts.0 P o p)
 
   pub procedures-evaluate : (known : ConstantEnvironment) (noted : TypeNoted Name) (j k : ℕ) → Knows known noted → TypedBelow k noted → (statements : Tree Label (maybe body)) (ps : Tree Name (items procedure))
-      → procedures_are_well_typed naming_by_label (typed_by_ordinal noted) j statements (relabel_procedures naming_by_spelling (label_from_ordinal naming_by_spelling) (typed_scope noted) k ps) ≡ true
-      → AreValuesBetween k (ordinal_after_procedures k ps) (λ d. value_in_procedures known d k ps) (procedures_bindings naming_by_label (typed_by_ordinal noted) j (relabel_procedures naming_by_spelling (label_from_ordinal naming_by_spelling) (typed_scope noted) k ps))
+      → procedures_are_well_typed naming_by_label (typed_by_ordinal noted) j statements (relabel_procedure_list naming_by_spelling (label_from_ordinal naming_by_spelling) (typed_scope noted) k ps) ≡ true
+      → AreValuesBetween k (ordinal_after_procedure_list k ps) (λ d. constant_value_in_procedures known d k ps) (procedures_bindings naming_by_label (typed_by_ordinal noted) j (relabel_procedure_list naming_by_spelling (label_from_ordinal naming_by_spelling) (typed_scope noted) k ps))
   procedures-evaluate known noted j k knows below statements end h = no-procedures known noted j k
   procedures-evaluate known noted j k knows below statements (more (declares_procedure x fs b closing) rest) h =
       let scope : Scope Name = typed_scope noted in
@@ -530,19 +530,19 @@ mutual
       let q : ℕ = ordinal_after_procedure (suc k) (declares_procedure x fs b closing) in
       let fs' : Tree Label (maybe formals) = relabel_formals naming_by_spelling (label_from_ordinal naming_by_spelling) scope (suc k) fs in
       let b' : Tree Label block = relabel_block naming_by_spelling (label_from_ordinal naming_by_spelling) (declare_names (suc k) xs ((x, k) ∷ scope)) m b in
-      let rest' : Tree Label (items procedure) = relabel_procedures naming_by_spelling (label_from_ordinal naming_by_spelling) ((x, k) ∷ scope) q rest in
+      let rest' : Tree Label (items procedure) = relabel_procedure_list naming_by_spelling (label_from_ordinal naming_by_spelling) ((x, k) ∷ scope) q rest in
       let jb : ℕ = j + formals_constructor_count (formal_sections fs') in
       let jr : ℕ = j + procedure_constructor_count (declares_procedure (declared k) fs' b' (declared k)) in
       let f : FitParts env j statements (declared k) fs' b' (declared k) rest' = procedure-parts env j statements (declared k) fs' b' (declared k) rest' h in
       let e : Entered known noted k x xs f.listed = procedure-entered known noted j k knows below x fs f.listed f.typed in
       let inside_block = block-evaluates (bind_names xs non_constant_placeholder ((x, non_constant_placeholder) ∷ known)) e.inner jb m e.knows e.below b ((λ i. block_is_well_typed naming_by_label (e.opened i) jb (relabel_block naming_by_spelling (label_from_ordinal naming_by_spelling) (e.scoped i) m b)) ∙ f.block_right) in
       let later = procedures-evaluate ((x, non_constant_placeholder) ∷ known) e.own jr q e.own_knows (TypedBelow-weaken (suc k) q e.own (le-ordinal_after_procedure (suc k) (declares_procedure x fs b closing)) e.own_below) statements rest
-      ((λ i. procedures_are_well_typed naming_by_label (e.headed i) jr statements (relabel_procedures naming_by_spelling (label_from_ordinal naming_by_spelling) (e.own_scope i) q rest)) ∙ f.rest_right) in
-      subst (AreValuesBetween k (ordinal_after_procedures q rest) (λ d. value_in_procedures known d k (more (declares_procedure x fs b closing) rest)))
-      ((λ i. procedures_bindings naming_by_label (e.headed i) jr (relabel_procedures naming_by_spelling (label_from_ordinal naming_by_spelling) (e.own_scope i) q rest) ++ (block_bindings naming_by_label (e.opened i) jb (relabel_block naming_by_spelling (label_from_ordinal naming_by_spelling) (e.scoped i) m b) ++ bind_typed_parameters f.listed (bind_procedure (declared k) f.listed [])))
+      ((λ i. procedures_are_well_typed naming_by_label (e.headed i) jr statements (relabel_procedure_list naming_by_spelling (label_from_ordinal naming_by_spelling) (e.own_scope i) q rest)) ∙ f.rest_right) in
+      subst (AreValuesBetween k (ordinal_after_procedure_list q rest) (λ d. constant_value_in_procedures known d k (more (declares_procedure x fs b closing) rest)))
+      ((λ i. procedures_bindings naming_by_label (e.headed i) jr (relabel_procedure_list naming_by_spelling (label_from_ordinal naming_by_spelling) (e.own_scope i) q rest) ++ (block_bindings naming_by_label (e.opened i) jb (relabel_block naming_by_spelling (label_from_ordinal naming_by_spelling) (e.scoped i) m b) ++ bind_typed_parameters f.listed (bind_procedure (declared k) f.listed [])))
       ∙ sym (procedures-listed env j statements (declared k) fs' b' (declared k) rest' f))
       (procedure-values known k x closing fs b rest (block_bindings naming_by_label (typed_by_ordinal e.inner) jb (relabel_block naming_by_spelling (label_from_ordinal naming_by_spelling) (typed_scope e.inner) m b)) (bind_typed_parameters f.listed (bind_procedure (declared k) f.listed []))
-      (procedures_bindings naming_by_label (typed_by_ordinal e.own) jr (relabel_procedures naming_by_spelling (label_from_ordinal naming_by_spelling) (typed_scope e.own) q rest)) inside_block e.binds e.plain later)
+      (procedures_bindings naming_by_label (typed_by_ordinal e.own) jr (relabel_procedure_list naming_by_spelling (label_from_ordinal naming_by_spelling) (typed_scope e.own) q rest)) inside_block e.binds e.plain later)
 
 -- The predeclared environments of both definitions give each name the same constant, or none.
 same_known : (o : Object Shape Signature) → constant_of (Some (constant_or_placeholder o)) ≡ constant_of (Some o)
@@ -550,7 +550,7 @@ same_known (a_type s) = refl
 same_known (a_constant v) = refl
 same_known (a_variable s) = refl
 same_known (a_procedure fs) = refl
-same_known (a_standard p) = refl
+same_known (a_standard_procedure p) = refl
 
 unfoldable pub all_known : TypeNoted Name → ConstantEnvironment
 all_known [] = []
@@ -567,19 +567,19 @@ predeclared-below = (lit< tt, (lit< tt, (lit< tt, (lit< tt, (lit< tt, (lit< tt, 
 pub outermost-binds : Binds 0 7 (outermost_environment naming_by_label)
 outermost-binds = ((6, refl, omega arith, omega arith), ((5, refl, omega arith, omega arith), ((4, refl, omega arith, omega arith), ((3, refl, omega arith, omega arith), ((2, refl, omega arith, omega arith), ((1, refl, omega arith, omega arith), ((0, refl, omega arith, omega arith), tt)))))))
 
-module-evaluates : (m : Tree Name module_text) → passes_type_check naming_by_label (numbered m) ≡ true → (d : ℕ) → 7 ≤ d → value_in_block predeclared_constants d 7 (module_block m) ≡ constant_of (declared_object m d)
+module-evaluates : (m : Tree Name module_text) → passes_type_check naming_by_label (numbered m) ≡ true → (d : ℕ) → 7 ≤ d → constant_value_in_block predeclared_constants d 7 (module_block m) ≡ constant_of (declared_object m d)
 unfolding passes_type_check all_known
-module-evaluates (is_module x b closing) h d l =
+module-evaluates (forms_module x b closing) h d l =
     let w = block-evaluates predeclared_constants (typed_outermost naming_by_spelling) 0 7 (knows-all (typed_outermost naming_by_spelling)) predeclared-below b h in
     w.has_value_is d l ∙ sym (ap constant_of (bound-first 0 7 d (block_bindings naming_by_label (outermost_environment naming_by_label) 0 (relabel_block naming_by_spelling (label_from_ordinal naming_by_spelling) (typed_scope (typed_outermost naming_by_spelling)) 7 b)) (outermost_environment naming_by_label) outermost-binds (λ a z. omega (arith, l, z))))
 
 -- In a well-typed module a constant's value is the value in the binding of its declaration.
 pub predeclared-none : (m : Tree Name module_text) (d : ℕ) → d < 7 → None ≡ value_of_constant m d
 unfolding value_of_constant
-predeclared-none m d l = sym (ap (λ t. if t then None else value_in_block predeclared_constants d 7 (module_block m)) (lt-ltb d 7 l))
+predeclared-none m d l = sym (ap (λ t. if t then None else constant_value_in_block predeclared_constants d 7 (module_block m)) (lt-ltb d 7 l))
 
 pub constant-declared : (m : Tree Name module_text) → WellTyped m → (d : ℕ) → 7 ≤ d → constant_of (declared_object m d) ≡ value_of_constant m d
 unfolding WellTyped value_of_constant
 constant-declared m well d l =
-    sym (ap (λ t. if t then None else value_in_block predeclared_constants d 7 (module_block m)) (le-ltb d 7 l)
+    sym (ap (λ t. if t then None else constant_value_in_block predeclared_constants d 7 (module_block m)) (le-ltb d 7 l)
     ∙ module-evaluates m (sym (numbering_keeps_type_check-holds m) ∙ well.1) d l)

@@ -1,9 +1,9 @@
 -- A relabelled tree has the same number of words ARRAY and RECORD.
 use Rattle.std.proofs.Common.{◌≡◌, ℕ, suc, ◌+◌, ◌∷◌, None, refl, ap, ◌∙◌}
-use Rattle.ob0_tree.specs.Tree.{Tree, block, declares, declares_procedure, declares_type, declares_variable, end, further_section, forms_block, item, items, more, procedure, then_section, type_definition, variable}
+use Rattle.ob0_tree.specs.Tree.{Tree, block, declares, declares_procedure, declares_type, declares_variable, end, section_after_semicolon, forms_block, item, items, more, procedure, semicolon_then_section, type_definition, variable}
 use Rattle.ob0_language_names.specs.Names.{Naming}
-use Rattle.ob0_language_names.specs.Parts.{formal_names, formal_sections, names_in_list, procedure_name, parameter_section_names, parameter_section_type, section_types, section_variables}
-use Rattle.ob0_language_names.specs.Scopes.{Labelling, Scope, ordinal_after_names, ordinal_after_procedure, declare_names, first_procedure_ordinal, first_type_ordinal, first_variable_ordinal, label_of, scope_before_procedures, relabel_block, relabel_procedure, relabel_procedures, relabel_parameter_sections, relabel_types, relabel_variables, scope_before_types, scope_before_variables}
+use Rattle.ob0_language_names.specs.BlockParts.{formal_names, formal_sections, names_in_list, procedure_name, parameter_section_names, parameter_section_type, section_types, section_variables}
+use Rattle.ob0_language_names.specs.Scopes.{Labelling, Scope, ordinal_after_names, ordinal_after_procedure, declare_names, first_procedure_ordinal, first_type_ordinal, first_variable_ordinal, label_of, scope_before_procedures, relabel_block, relabel_procedure, relabel_procedure_list, relabel_parameter_section_list, relabel_types, relabel_variables, scope_before_types, scope_before_variables}
 use Rattle.ob0_language_names.proofs.Relabelled.{formals-section, parameter_section_type-relabel, types-section, variables-section}
 use Rattle.ob0_language_types.specs.Declarations.{block_constructor_count, formals_constructor_count, procedure_constructor_count, procedures_constructor_count, types_constructor_count, variables_constructor_count}
 use Rattle.ob0_language_types.specs.Typing.{constructor_count}
@@ -19,9 +19,9 @@ variables_constructor_count-relabel naming label scope k end = refl
 variables_constructor_count-relabel naming label scope k (more (declares_variable ns u) gs) = λ i.
     constructor_count-map (label_of naming label scope) (label None) u i + variables_constructor_count-relabel naming label (declare_names k (names_in_list ns) scope) (ordinal_after_names k (names_in_list ns)) gs i
 
-pub formals_constructor_count-relabel : {N M : Type 0} (naming : Naming N) (label : Labelling N M) (scope : Scope N) (k : ℕ) (fs : Tree N (items further_section)) → formals_constructor_count (relabel_parameter_sections naming label scope k fs) ≡ formals_constructor_count fs
+pub formals_constructor_count-relabel : {N M : Type 0} (naming : Naming N) (label : Labelling N M) (scope : Scope N) (k : ℕ) (fs : Tree N (items section_after_semicolon)) → formals_constructor_count (relabel_parameter_section_list naming label scope k fs) ≡ formals_constructor_count fs
 formals_constructor_count-relabel naming label scope k end = refl
-formals_constructor_count-relabel naming label scope k (more (then_section f) fs) = λ i.
+formals_constructor_count-relabel naming label scope k (more (semicolon_then_section f) fs) = λ i.
     (ap constructor_count (parameter_section_type-relabel naming label scope k f) ∙ constructor_count-map (label_of naming label scope) (label None) (parameter_section_type f)) i + formals_constructor_count-relabel naming label (declare_names k (parameter_section_names f) scope) (ordinal_after_names k (parameter_section_names f)) fs i
 
 mutual
@@ -31,7 +31,7 @@ mutual
       + ((ap variables_constructor_count (variables-section naming label (scope_before_variables k (forms_block (declares cs ts vs ps) statements) scope) (first_variable_ordinal k (forms_block (declares cs ts vs ps) statements)) vs) ∙ variables_constructor_count-relabel naming label (scope_before_variables k (forms_block (declares cs ts vs ps) statements) scope) (first_variable_ordinal k (forms_block (declares cs ts vs ps) statements)) (section_variables vs)) i
       + procedures_constructor_count-relabel naming label (scope_before_procedures k (forms_block (declares cs ts vs ps) statements) scope) (first_procedure_ordinal k (forms_block (declares cs ts vs ps) statements)) ps i)
 
-  pub procedures_constructor_count-relabel : {N M : Type 0} (naming : Naming N) (label : Labelling N M) (scope : Scope N) (k : ℕ) (ps : Tree N (items procedure)) → procedures_constructor_count (relabel_procedures naming label scope k ps) ≡ procedures_constructor_count ps
+  pub procedures_constructor_count-relabel : {N M : Type 0} (naming : Naming N) (label : Labelling N M) (scope : Scope N) (k : ℕ) (ps : Tree N (items procedure)) → procedures_constructor_count (relabel_procedure_list naming label scope k ps) ≡ procedures_constructor_count ps
   procedures_constructor_count-relabel naming label scope k end = refl
   procedures_constructor_count-relabel naming label scope k (more p rest) = λ i.
       procedure_constructor_count-relabel naming label scope k p i + procedures_constructor_count-relabel naming label ((procedure_name p, k) ∷ scope) (ordinal_after_procedure (suc k) p) rest i

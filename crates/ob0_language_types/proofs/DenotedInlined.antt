@@ -1,10 +1,10 @@
 -- Replacing uses of a constant by its literal leaves the values of constant expressions and the types that texts denote
 -- unchanged.
 use Rattle.std.proofs.Common.{List, Some, [], ap, length, map, option_and_then, option_map, refl, suc, ℕ, ◌+◌, ◌∙◌, ◌∷◌, ◌≡◌}
-use Rattle.ob0_tree.specs.Tree.{Tree, array_type, end, expression, factor, fields, further_fields, items, more, named_type, no_fields, occurrences, record_type, some_fields, then_fields, written_type}
+use Rattle.ob0_tree.specs.Tree.{Tree, array_type, end, expression, factor, fields, fields_after_semicolon, items, more, named_type, no_fields, occurrences, record_type, some_fields, semicolon_then_fields, written_type}
 use Rattle.ob0_language_names.specs.Inlining.{OccurrenceSet, inline_in_tree}
 use Rattle.ob0_language_names.specs.Names.{Name}
-use Rattle.ob0_language_names.specs.Parts.{names_in_list}
+use Rattle.ob0_language_names.specs.BlockParts.{names_in_list}
 use Rattle.ob0_language_values.specs.Values.{FieldShapes, Place, Shape, Value, array_shape, succeeds_with, record_shape}
 use Rattle.ob0_language_types.specs.Expressions.{Meanings, a_constant, evaluate_factor}
 use Rattle.ob0_language_types.specs.Laws.{EachUseHas}
@@ -43,9 +43,9 @@ mutual
   group_constructor_count-inlined uses v k no_fields = refl
   group_constructor_count-inlined uses v k (some_fields ns t) = constructor_count-inlined uses v k t
 
-  pub groups_constructor_count-inlined : (uses : OccurrenceSet) (v : Tree Name factor) (k : ℕ) (gs : Tree Name (items further_fields)) → groups_constructor_count (inline_in_tree uses v k gs) ≡ groups_constructor_count gs
+  pub groups_constructor_count-inlined : (uses : OccurrenceSet) (v : Tree Name factor) (k : ℕ) (gs : Tree Name (items fields_after_semicolon)) → groups_constructor_count (inline_in_tree uses v k gs) ≡ groups_constructor_count gs
   groups_constructor_count-inlined uses v k end = refl
-  groups_constructor_count-inlined uses v k (more (then_fields g) rest) = λ i. group_constructor_count-inlined uses v k g i + groups_constructor_count-inlined uses v (k + length (occurrences g)) rest i
+  groups_constructor_count-inlined uses v k (more (semicolon_then_fields g) rest) = λ i. group_constructor_count-inlined uses v k g i + groups_constructor_count-inlined uses v (k + length (occurrences g)) rest i
 
 mutual
   unfolding denoted_type
@@ -67,10 +67,10 @@ mutual
   denoted_group_fields-written meaning uses v w h k j later (some_fields ns t) u = λ i.
       denoted_type-written meaning uses v w h k j t u i >>= (λ s. Some (prepend_fields (map meaning.written (names_in_list ns)) s later))
 
-  pub denoted_further_fields-written : {V P : Type 0} (meaning : Meanings Name V P) (uses : OccurrenceSet) (v : Tree Name factor) (w : Value) → ConstantWritten meaning v w → (k j : ℕ) (gs : Tree Name (items further_fields)) → EachUseHas uses (NamesConstant meaning w) k (occurrences gs)
+  pub denoted_further_fields-written : {V P : Type 0} (meaning : Meanings Name V P) (uses : OccurrenceSet) (v : Tree Name factor) (w : Value) → ConstantWritten meaning v w → (k j : ℕ) (gs : Tree Name (items fields_after_semicolon)) → EachUseHas uses (NamesConstant meaning w) k (occurrences gs)
       → denoted_further_fields meaning j (inline_in_tree uses v k gs) ≡ denoted_further_fields meaning j gs
   denoted_further_fields-written meaning uses v w h k j end u = refl
-  denoted_further_fields-written meaning uses v w h k j (more (then_fields g) rest) u =
+  denoted_further_fields-written meaning uses v w h k j (more (semicolon_then_fields g) rest) u =
       let s = uses-split uses (NamesConstant meaning w) k (occurrences g) (occurrences rest) u in
       λ i. ((λ m. denoted_further_fields meaning (j + group_constructor_count-inlined uses v k g m) (inline_in_tree uses v (k + length (occurrences g)) rest)) ∙ denoted_further_fields-written meaning uses v w h (k + length (occurrences g)) (j + group_constructor_count g) rest s.1) i
       >>= (λ later. denoted_group_fields-written meaning uses v w h k j later g s.0 i)

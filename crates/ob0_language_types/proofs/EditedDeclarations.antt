@@ -2,13 +2,13 @@
 use Rattle.std.proofs.Common.{Bool, None, Option, Some, ap, arith, eq-eqb, eqb-true, false, if◌then◌else◌, le_refl, length, ne_eqb, option_and_then, refl, subst, subst₂, suc, sym, true, ℕ, ◌+◌, ◌<◌, ◌==◌, ◌∙◌, ◌∷◌, ◌≡◌, ◌≤◌}
 use Rattle.ob0_tree.specs.Tree.{Tree, constant, declares_constant, declares_type, end, expression, items, more, occurrences, type_definition}
 use Rattle.ob0_language_names.specs.Names.{Name, naming_by_spelling}
-use Rattle.ob0_language_names.specs.Parts.{constant_names, declared_type_names}
+use Rattle.ob0_language_names.specs.BlockParts.{constant_names, declared_type_names}
 use Rattle.ob0_language_names.specs.Scopes.{Scope, ordinal_after_names, declare_names}
 use Rattle.ob0_language_names.proofs.EditedTrees.{Edit, edited_constants, leaf}
 use Rattle.ob0_language_names.proofs.Ordinals.{le-ordinal_after_names}
 use Rattle.ob0_language_names.proofs.Places.{EachConstant, EachType}
 use Rattle.ob0_language_values.specs.Values.{Value}
-use Rattle.ob0_language_types.specs.ConstantValues.{ConstantEnvironment, non_constant_placeholder, value_in_constants}
+use Rattle.ob0_language_types.specs.ConstantValues.{ConstantEnvironment, non_constant_placeholder, constant_value_in_section}
 use Rattle.ob0_language_types.specs.Declarations.{declare_constants, declare_types}
 use Rattle.ob0_language_types.specs.Environments.{meanings}
 use Rattle.ob0_language_types.specs.Expressions.{Object, a_constant, a_type}
@@ -55,21 +55,21 @@ pub record Left {V P : Type 0} (edit : Edit) (w : Value) (X : Marks V P → Name
 -- A list of constants, the first of which may be the edited one, is bound as before. `next` proves the same about the
 -- later constants.
 constants-tail : {V P Q : Type 0} (edit : Edit) (w : Value) (X : Marks V P → Name → ℕ → P → Type 0) (p q : ℕ → P → Q) (k : ℕ) (marks : Marks V P) → Sound edit w X k marks → 7 ≤ k → (x : Name) (e : Tree Name expression) (cs cs' : Tree Name (items constant))
-    → HasValueBetween edit w k (ordinal_after_names (suc k) (constant_names cs)) (value_in_constants (knowns marks) edit.constant k (more (declares_constant x e) cs))
-    → ((b : Mark V P) → IsRight edit w b → (b.ordinal ≡ k) → OfProcedure (X marks b.name b.ordinal) b.object → b.name ≡ x → HasValueBetween edit w (suc k) (ordinal_after_names (suc k) (constant_names cs)) (value_in_constants (knowns (b ∷ marks)) edit.constant (suc k) cs)
+    → HasValueBetween edit w k (ordinal_after_names (suc k) (constant_names cs)) (constant_value_in_section (knowns marks) edit.constant k (more (declares_constant x e) cs))
+    → ((b : Mark V P) → IsRight edit w b → (b.ordinal ≡ k) → OfProcedure (X marks b.name b.ordinal) b.object → b.name ≡ x → HasValueBetween edit w (suc k) (ordinal_after_names (suc k) (constant_names cs)) (constant_value_in_section (knowns (b ∷ marks)) edit.constant (suc k) cs)
     → Agree (read p) (read_edited edit q) (Left edit w X (ordinal_after_names (suc k) (constant_names cs)) (declare_names (suc k) (constant_names cs) (scope_marked (b ∷ marks))) (declare_constants naming_by_spelling (knowns (b ∷ marks)) cs))
     (declare_constants naming_by_spelling (read p (b ∷ marks)) cs) (declare_constants naming_by_spelling (read_edited edit q (b ∷ marks)) cs'))
     → (v : Value) → constant_value (meanings naming_by_spelling (knowns marks)) e ≡ Some v
     → Agree (read p) (read_edited edit q) (Left edit w X (ordinal_after_names (suc k) (constant_names cs)) (declare_names (suc k) (constant_names cs) ((x, k) ∷ scope_marked marks)) (declare_constants naming_by_spelling (knowns marks) (more (declares_constant x e) cs)))
     (declare_constants naming_by_spelling ((x, a_constant v) ∷ read p marks) cs) (declare_constants naming_by_spelling (read_edited edit q (record { name = x; ordinal = k; object = a_constant v } ∷ marks)) cs')
-unfolding declare_constants value_in_constants
+unfolding declare_constants constant_value_in_section
 constants-tail {V} {P} {Q} edit w X p q k marks s seven x e cs cs' has_value next v known =
     let n : ℕ = ordinal_after_names (suc k) (constant_names cs) in
     let below : suc k ≤ n = le-ordinal_after_names (suc k) (constant_names cs) in
     let b : Mark V P = record { name = x; ordinal = k; object = a_constant v } in
-    let choice : Bool → Option Value = λ t. if t then Some v else value_in_constants ((x, a_constant v) ∷ knowns marks) edit.constant (suc k) cs in
+    let choice : Bool → Option Value = λ t. if t then Some v else constant_value_in_section ((x, a_constant v) ∷ knowns marks) edit.constant (suc k) cs in
     let value : k ≤ edit.constant → edit.constant < n → choice (k == edit.constant) ≡ Some w = λ l m.
-    sym (ap (option_and_then (λ v. if k == edit.constant then Some v else value_in_constants ((x, a_constant v) ∷ knowns marks) edit.constant (suc k) cs)) known) ∙ has_value l m in
+    sym (ap (option_and_then (λ v. if k == edit.constant then Some v else constant_value_in_section ((x, a_constant v) ∷ knowns marks) edit.constant (suc k) cs)) known) ∙ has_value l m in
     subst (λ o. Agree (read p) (read_edited edit q) (Left edit w X n (declare_names (suc k) (constant_names cs) ((x, k) ∷ scope_marked marks)) (option_and_then (λ v. declare_constants naming_by_spelling ((x, a_constant v) ∷ knowns marks) cs) o))
     (declare_constants naming_by_spelling ((x, a_constant v) ∷ read p marks) cs) (declare_constants naming_by_spelling (read_edited edit q (b ∷ marks)) cs')) (sym known)
     (next b record {
@@ -78,16 +78,16 @@ constants-tail {V} {P} {Q} edit w X p q k marks s seven x e cs cs' has_value nex
       no_is = λ t. absurd (omega (arith, t, seven));
     } refl tt refl (λ l m. sym (ap choice (ne_eqb k edit.constant (λ t. omega (arith, t, l)))) ∙ value (omega (arith, l)) m))
 
-value-known : (known : ConstantEnvironment) (d k : ℕ) (x : Name) (e : Tree Name expression) (cs : Tree Name (items constant)) (w : Value) → value_in_constants known d k (more (declares_constant x e) cs) ≡ Some w → (v : Value) × (constant_value (meanings naming_by_spelling known) e ≡ Some v)
-unfolding value_in_constants
+value-known : (known : ConstantEnvironment) (d k : ℕ) (x : Name) (e : Tree Name expression) (cs : Tree Name (items constant)) (w : Value) → constant_value_in_section known d k (more (declares_constant x e) cs) ≡ Some w → (v : Value) × (constant_value (meanings naming_by_spelling known) e ≡ Some v)
+unfolding constant_value_in_section
 value-known known d k x e cs w h = go (constant_value (meanings naming_by_spelling known) e) h
   where
-    go : (o : Option Value) → option_and_then (λ v. if k == d then Some v else value_in_constants ((x, a_constant v) ∷ known) d (suc k) cs) o ≡ Some w → (v : Value) × (o ≡ Some v)
+    go : (o : Option Value) → option_and_then (λ v. if k == d then Some v else constant_value_in_section ((x, a_constant v) ∷ known) d (suc k) cs) o ≡ Some w → (v : Value) × (o ≡ Some v)
     go None h = absurd (cc)
     go (Some v) h = (v, refl)
 
 pub constants-edited : {V P Q : Type 0} (edit : Edit) (w : Value) → Literal edit w → (X : Marks V P → Name → ℕ → P → Type 0) (p q : ℕ → P → Q) (j k : ℕ) (marks : Marks V P) → Sound edit w X k marks → 7 ≤ k → (cs : Tree Name (items constant))
-    → EachConstant (Here edit w) j (scope_marked marks) k cs → HasValueBetween edit w k (ordinal_after_names k (constant_names cs)) (value_in_constants (knowns marks) edit.constant k cs)
+    → EachConstant (Here edit w) j (scope_marked marks) k cs → HasValueBetween edit w k (ordinal_after_names k (constant_names cs)) (constant_value_in_section (knowns marks) edit.constant k cs)
     → Agree (read p) (read_edited edit q) (Left edit w X (ordinal_after_names k (constant_names cs)) (declare_names k (constant_names cs) (scope_marked marks)) (declare_constants naming_by_spelling (knowns marks) cs))
     (declare_constants naming_by_spelling (read p marks) cs) (declare_constants naming_by_spelling (read_edited edit q marks) (edited_constants edit j k cs))
 unfolding declare_constants

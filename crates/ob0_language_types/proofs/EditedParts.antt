@@ -1,15 +1,15 @@
 -- The parts of an edited block: the bindings of its names, the value of its constant, and its number of words ARRAY and
 -- RECORD.
 use Rattle.std.proofs.Common.{List, None, Option, Some, [], ap, arith, if◌then◌else◌, le-ltb, le_refl, le_trans, length, lt-ltb, nat_lt, option_and_then, option_map, refl, subst, subst₂, suc, sym, ℕ, ◌++◌, ◌+◌, ◌∙◌, ◌∷◌, ◌≡◌, ◌≤◌}
-use Rattle.ob0_tree.specs.Tree.{Tree, block, constants, declares, declares_constants, declares_procedure, declares_type, declares_types, declares_variable, declares_variables, end, formals, further_section, forms_block, item, items, maybe, more, no_formals, none, occurrences, one, procedure, section, some_formals, then_section, type_definition, type_definitions, value_section, variable, variable_section, variables}
+use Rattle.ob0_tree.specs.Tree.{Tree, block, constants, declares, declares_const_section, declares_procedure, declares_type, declares_type_section, declares_variable, declares_var_section, end, formals, section_after_semicolon, forms_block, item, items, maybe, more, no_formals, none, occurrences, one, procedure, section, some_formals, semicolon_then_section, type_definition, type_definitions, value_section, variable, variable_section, variables}
 use Rattle.ob0_language_names.specs.Names.{Name, naming_by_spelling}
-use Rattle.ob0_language_names.specs.Parts.{block_constants, block_procedures, block_types, block_variables, constant_names, formal_names, formal_sections, declared_type_names, procedure_name, section_constants, parameter_section_names, parameter_section_type, section_types, section_variables, variable_names}
-use Rattle.ob0_language_names.specs.Scopes.{Scope, ordinal_after_block, ordinal_after_names, ordinal_after_procedure, ordinal_after_procedures, declare_names, first_procedure_ordinal, first_type_ordinal, first_variable_ordinal, scope_before_types, scope_before_variables}
+use Rattle.ob0_language_names.specs.BlockParts.{block_constants, block_procedures, block_types, block_variables, constant_names, formal_names, formal_sections, declared_type_names, procedure_name, section_constants, parameter_section_names, parameter_section_type, section_types, section_variables, variable_names}
+use Rattle.ob0_language_names.specs.Scopes.{Scope, ordinal_after_block, ordinal_after_names, ordinal_after_procedure, ordinal_after_procedure_list, declare_names, first_procedure_ordinal, first_type_ordinal, first_variable_ordinal, scope_before_types, scope_before_variables}
 use Rattle.ob0_language_names.proofs.EditedTrees.{Edit, edited_block, edited_constants, edited_procedure, edited_procedures, edited_section, leaf}
-use Rattle.ob0_language_names.proofs.Ordinals.{ordinal_after_names-append, declare_names-append, le-ordinal_after_block, le-ordinal_after_names, le-ordinal_after_procedure, le-ordinal_after_procedures}
+use Rattle.ob0_language_names.proofs.Ordinals.{ordinal_after_names-append, declare_names-append, le-ordinal_after_block, le-ordinal_after_names, le-ordinal_after_procedure, le-ordinal_after_procedure_list}
 use Rattle.ob0_language_names.proofs.Places.{EachBlock, EachType}
 use Rattle.ob0_language_values.specs.Values.{Value}
-use Rattle.ob0_language_types.specs.ConstantValues.{ConstantEnvironment, non_constant_placeholder, value_in_constants, value_in_block, value_in_procedure, value_in_procedures}
+use Rattle.ob0_language_types.specs.ConstantValues.{ConstantEnvironment, non_constant_placeholder, constant_value_in_section, constant_value_in_block, constant_value_in_procedure, constant_value_in_procedures}
 use Rattle.ob0_language_types.specs.Declarations.{block_constructor_count, declare_constants, declare_constants_and_types, declare_types, formals_constructor_count, procedure_constructor_count, procedures_constructor_count, types_constructor_count, variables_constructor_count}
 use Rattle.ob0_language_types.specs.Environments.{Environment}
 use Rattle.ob0_language_types.specs.Expressions.{Object, a_variable}
@@ -96,15 +96,15 @@ agree-weaken p q P P' r s f (a, e, e', holds) = (a, e, e', go a holds)
 
 pub constants-of : (edit : Edit) (j k : ℕ) (cs : Tree Name (maybe constants)) → section_constants (edited_section edit j k cs) ≡ edited_constants edit j k (section_constants cs)
 constants-of edit j k none = refl
-constants-of edit j k (one (declares_constants cs)) = refl
+constants-of edit j k (one (declares_const_section cs)) = refl
 
 pub types-of : (edit : Edit) (j : ℕ) (ts : Tree Name (maybe type_definitions)) → section_types (leaf edit j ts) ≡ leaf edit j (section_types ts)
 types-of edit j none = refl
-types-of edit j (one (declares_types ts)) = refl
+types-of edit j (one (declares_type_section ts)) = refl
 
 pub variables-of : (edit : Edit) (j : ℕ) (vs : Tree Name (maybe variables)) → section_variables (leaf edit j vs) ≡ leaf edit j (section_variables vs)
 variables-of edit j none = refl
-variables-of edit j (one (declares_variables vs)) = refl
+variables-of edit j (one (declares_var_section vs)) = refl
 
 pub formals-of : (edit : Edit) (j : ℕ) (fs : Tree Name (maybe formals)) → formal_sections (leaf edit j fs) ≡ leaf edit j (formal_sections fs)
 formals-of edit j none = refl
@@ -133,9 +133,9 @@ pub variables_constructor_count-leaf : (edit : Edit) (j : ℕ) (gs : Tree Name (
 variables_constructor_count-leaf edit j end = refl
 variables_constructor_count-leaf edit j (more (declares_variable ns t) gs) = λ i. constructor_count-inlined edit.uses edit.literal j t i + variables_constructor_count-leaf edit (j + length (occurrences t)) gs i
 
-pub formals_constructor_count-leaf : (edit : Edit) (j : ℕ) (fs : Tree Name (items further_section)) → formals_constructor_count (leaf edit j fs) ≡ formals_constructor_count fs
+pub formals_constructor_count-leaf : (edit : Edit) (j : ℕ) (fs : Tree Name (items section_after_semicolon)) → formals_constructor_count (leaf edit j fs) ≡ formals_constructor_count fs
 formals_constructor_count-leaf edit j end = refl
-formals_constructor_count-leaf edit j (more (then_section s) fs) = λ i.
+formals_constructor_count-leaf edit j (more (semicolon_then_section s) fs) = λ i.
     (ap constructor_count (parameter_section_type-leaf edit j s) ∙ constructor_count-inlined edit.uses edit.literal j (parameter_section_type s)) i + formals_constructor_count-leaf edit (j + length (occurrences s)) fs i
 
 mutual
@@ -160,97 +160,97 @@ mutual
 pub first_type_ordinal-below : (k : ℕ) (b : Tree Name block) → first_type_ordinal k b ≤ ordinal_after_block k b
 first_type_ordinal-below k (forms_block (declares cs ts vs ps) statements) =
     le_trans (le-ordinal_after_names (first_type_ordinal k (forms_block (declares cs ts vs ps) statements)) (declared_type_names (section_types ts)))
-    (le_trans (le-ordinal_after_names (first_variable_ordinal k (forms_block (declares cs ts vs ps) statements)) (variable_names (section_variables vs))) (le-ordinal_after_procedures (first_procedure_ordinal k (forms_block (declares cs ts vs ps) statements)) ps))
+    (le_trans (le-ordinal_after_names (first_variable_ordinal k (forms_block (declares cs ts vs ps) statements)) (variable_names (section_variables vs))) (le-ordinal_after_procedure_list (first_procedure_ordinal k (forms_block (declares cs ts vs ps) statements)) ps))
 
 pub first_procedure_ordinal-below : (k : ℕ) (b : Tree Name block) → first_procedure_ordinal k b ≤ ordinal_after_block k b
-first_procedure_ordinal-below k (forms_block (declares cs ts vs ps) statements) = le-ordinal_after_procedures (first_procedure_ordinal k (forms_block (declares cs ts vs ps) statements)) ps
+first_procedure_ordinal-below k (forms_block (declares cs ts vs ps) statements) = le-ordinal_after_procedure_list (first_procedure_ordinal k (forms_block (declares cs ts vs ps) statements)) ps
 
 pub types-below : (k : ℕ) (b : Tree Name block) → first_type_ordinal k b ≤ first_procedure_ordinal k b
 types-below k b = le_trans (le-ordinal_after_names (first_type_ordinal k b) (declared_type_names (block_types b))) (le-ordinal_after_names (first_variable_ordinal k b) (variable_names (block_variables b)))
 
-pub constants-has_value : (edit : Edit) (w : Value) (known : ConstantEnvironment) (k : ℕ) (b : Tree Name block) → HasValueBetween edit w k (ordinal_after_block k b) (value_in_block known edit.constant k b)
-    → HasValueBetween edit w k (first_type_ordinal k b) (value_in_constants known edit.constant k (block_constants b))
-unfolding value_in_block
+pub constants-has_value : (edit : Edit) (w : Value) (known : ConstantEnvironment) (k : ℕ) (b : Tree Name block) → HasValueBetween edit w k (ordinal_after_block k b) (constant_value_in_block known edit.constant k b)
+    → HasValueBetween edit w k (first_type_ordinal k b) (constant_value_in_section known edit.constant k (block_constants b))
+unfolding constant_value_in_block
 constants-has_value edit w known k (forms_block (declares cs ts vs ps) statements) has_value l m =
     let b : Tree Name block = forms_block (declares cs ts vs ps) statements in
     let below : first_type_ordinal k b ≤ ordinal_after_block k b = first_type_ordinal-below k b in
-    sym (ap (λ t. if t then value_in_constants known edit.constant k (section_constants cs) else if nat_lt edit.constant (first_procedure_ordinal k b) then None else option_and_then (λ inner. value_in_procedures (bind_names (declared_type_names (section_types ts) ++ variable_names (section_variables vs)) non_constant_placeholder inner) edit.constant (first_procedure_ordinal k b) ps) (declare_constants naming_by_spelling known (section_constants cs)))
+    sym (ap (λ t. if t then constant_value_in_section known edit.constant k (section_constants cs) else if nat_lt edit.constant (first_procedure_ordinal k b) then None else option_and_then (λ inner. constant_value_in_procedures (bind_names (declared_type_names (section_types ts) ++ variable_names (section_variables vs)) non_constant_placeholder inner) edit.constant (first_procedure_ordinal k b) ps) (declare_constants naming_by_spelling known (section_constants cs)))
     (lt-ltb edit.constant (first_type_ordinal k b) m)) ∙ has_value l (omega (arith, m, below))
 
-pub types-outside : (edit : Edit) (w : Value) (known : ConstantEnvironment) (k : ℕ) (b : Tree Name block) → HasValueBetween edit w k (ordinal_after_block k b) (value_in_block known edit.constant k b) → Outside edit (first_type_ordinal k b) (first_procedure_ordinal k b)
-unfolding value_in_block
+pub types-outside : (edit : Edit) (w : Value) (known : ConstantEnvironment) (k : ℕ) (b : Tree Name block) → HasValueBetween edit w k (ordinal_after_block k b) (constant_value_in_block known edit.constant k b) → Outside edit (first_type_ordinal k b) (first_procedure_ordinal k b)
+unfolding constant_value_in_block
 types-outside edit w known k (forms_block (declares cs ts vs ps) statements) has_value l m =
     let b : Tree Name block = forms_block (declares cs ts vs ps) statements in
     let below : first_procedure_ordinal k b ≤ ordinal_after_block k b = first_procedure_ordinal-below k b in
     let above : k ≤ first_type_ordinal k b = le-ordinal_after_names k (constant_names (section_constants cs)) in
-    let last : Option Value = option_and_then (λ inner. value_in_procedures (bind_names (declared_type_names (section_types ts) ++ variable_names (section_variables vs)) non_constant_placeholder inner) edit.constant (first_procedure_ordinal k b) ps) (declare_constants naming_by_spelling known (section_constants cs)) in
+    let last : Option Value = option_and_then (λ inner. constant_value_in_procedures (bind_names (declared_type_names (section_types ts) ++ variable_names (section_variables vs)) non_constant_placeholder inner) edit.constant (first_procedure_ordinal k b) ps) (declare_constants naming_by_spelling known (section_constants cs)) in
     let e : None ≡ Some w =
-    sym (ap (λ t. if t then value_in_constants known edit.constant k (section_constants cs) else if nat_lt edit.constant (first_procedure_ordinal k b) then None else last) (le-ltb edit.constant (first_type_ordinal k b) l)
+    sym (ap (λ t. if t then constant_value_in_section known edit.constant k (section_constants cs) else if nat_lt edit.constant (first_procedure_ordinal k b) then None else last) (le-ltb edit.constant (first_type_ordinal k b) l)
     ∙ ap (λ t. if t then None else last) (lt-ltb edit.constant (first_procedure_ordinal k b) m)) ∙ has_value (omega (arith, l, above)) (omega (arith, m, below)) in
     absurd (cc)
 
-pub procedures-has_value : (edit : Edit) (w : Value) (known inner : ConstantEnvironment) (k : ℕ) (b : Tree Name block) → HasValueBetween edit w k (ordinal_after_block k b) (value_in_block known edit.constant k b)
+pub procedures-has_value : (edit : Edit) (w : Value) (known inner : ConstantEnvironment) (k : ℕ) (b : Tree Name block) → HasValueBetween edit w k (ordinal_after_block k b) (constant_value_in_block known edit.constant k b)
     → option_map (bind_names (variable_names (block_variables b)) non_constant_placeholder) (option_map (bind_names (declared_type_names (block_types b)) non_constant_placeholder) (declare_constants naming_by_spelling known (block_constants b))) ≡ Some inner
-    → HasValueBetween edit w (first_procedure_ordinal k b) (ordinal_after_block k b) (value_in_procedures inner edit.constant (first_procedure_ordinal k b) (block_procedures b))
-unfolding value_in_block
+    → HasValueBetween edit w (first_procedure_ordinal k b) (ordinal_after_block k b) (constant_value_in_procedures inner edit.constant (first_procedure_ordinal k b) (block_procedures b))
+unfolding constant_value_in_block
 procedures-has_value edit w known inner k (forms_block (declares cs ts vs ps) statements) has_value e l m =
     let b : Tree Name block = forms_block (declares cs ts vs ps) statements in
     let above : k ≤ first_type_ordinal k b = le-ordinal_after_names k (constant_names (section_constants cs)) in
     let types : first_type_ordinal k b ≤ first_procedure_ordinal k b = types-below k b in
-    let last : Option ConstantEnvironment → Option Value = option_and_then (λ inner. value_in_procedures (bind_names (declared_type_names (section_types ts) ++ variable_names (section_variables vs)) non_constant_placeholder inner) edit.constant (first_procedure_ordinal k b) ps) in
+    let last : Option ConstantEnvironment → Option Value = option_and_then (λ inner. constant_value_in_procedures (bind_names (declared_type_names (section_types ts) ++ variable_names (section_variables vs)) non_constant_placeholder inner) edit.constant (first_procedure_ordinal k b) ps) in
     go (declare_constants naming_by_spelling known (section_constants cs)) e
-    (sym (ap (λ t. if t then value_in_constants known edit.constant k (section_constants cs) else if nat_lt edit.constant (first_procedure_ordinal k b) then None else last (declare_constants naming_by_spelling known (section_constants cs))) (le-ltb edit.constant (first_type_ordinal k b) (omega (arith, l, types)))
+    (sym (ap (λ t. if t then constant_value_in_section known edit.constant k (section_constants cs) else if nat_lt edit.constant (first_procedure_ordinal k b) then None else last (declare_constants naming_by_spelling known (section_constants cs))) (le-ltb edit.constant (first_type_ordinal k b) (omega (arith, l, types)))
     ∙ ap (λ t. if t then None else last (declare_constants naming_by_spelling known (section_constants cs))) (le-ltb edit.constant (first_procedure_ordinal k b) l)) ∙ has_value (omega (arith, l, above, types)) m)
   where
     go : (o : Option ConstantEnvironment) → option_map (bind_names (variable_names (section_variables vs)) non_constant_placeholder) (option_map (bind_names (declared_type_names (section_types ts)) non_constant_placeholder) o) ≡ Some inner
-        → option_and_then (λ inner. value_in_procedures (bind_names (declared_type_names (section_types ts) ++ variable_names (section_variables vs)) non_constant_placeholder inner) edit.constant (first_procedure_ordinal k (forms_block (declares cs ts vs ps) statements)) ps) o ≡ Some w
-        → value_in_procedures inner edit.constant (first_procedure_ordinal k (forms_block (declares cs ts vs ps) statements)) ps ≡ Some w
+        → option_and_then (λ inner. constant_value_in_procedures (bind_names (declared_type_names (section_types ts) ++ variable_names (section_variables vs)) non_constant_placeholder inner) edit.constant (first_procedure_ordinal k (forms_block (declares cs ts vs ps) statements)) ps) o ≡ Some w
+        → constant_value_in_procedures inner edit.constant (first_procedure_ordinal k (forms_block (declares cs ts vs ps) statements)) ps ≡ Some w
     go None e h = absurd (cc)
     go (Some known) e h =
-        ap (λ env. value_in_procedures env edit.constant (first_procedure_ordinal k (forms_block (declares cs ts vs ps) statements)) ps)
+        ap (λ env. constant_value_in_procedures env edit.constant (first_procedure_ordinal k (forms_block (declares cs ts vs ps) statements)) ps)
         (sym (bind_names-append (declared_type_names (section_types ts)) (variable_names (section_variables vs)) non_constant_placeholder known ∙ some_inverse e)) ∙ h
 
-pub own-has_value : (edit : Edit) (w : Value) (known : ConstantEnvironment) (k : ℕ) (p : Tree Name (item procedure)) (rest : Tree Name (items procedure)) → HasValueBetween edit w k (ordinal_after_procedures k (more p rest)) (value_in_procedures known edit.constant k (more p rest))
-    → HasValueBetween edit w k (ordinal_after_procedure (suc k) p) (value_in_procedure ((procedure_name p, non_constant_placeholder) ∷ known) edit.constant (suc k) p)
-unfolding value_in_block
+pub own-has_value : (edit : Edit) (w : Value) (known : ConstantEnvironment) (k : ℕ) (p : Tree Name (item procedure)) (rest : Tree Name (items procedure)) → HasValueBetween edit w k (ordinal_after_procedure_list k (more p rest)) (constant_value_in_procedures known edit.constant k (more p rest))
+    → HasValueBetween edit w k (ordinal_after_procedure (suc k) p) (constant_value_in_procedure ((procedure_name p, non_constant_placeholder) ∷ known) edit.constant (suc k) p)
+unfolding constant_value_in_block
 own-has_value edit w known k p rest has_value l m =
-    let below : ordinal_after_procedure (suc k) p ≤ ordinal_after_procedures (ordinal_after_procedure (suc k) p) rest = le-ordinal_after_procedures (ordinal_after_procedure (suc k) p) rest in
-    sym (ap (λ t. if t then value_in_procedure ((procedure_name p, non_constant_placeholder) ∷ known) edit.constant (suc k) p else value_in_procedures ((procedure_name p, non_constant_placeholder) ∷ known) edit.constant (ordinal_after_procedure (suc k) p) rest)
+    let below : ordinal_after_procedure (suc k) p ≤ ordinal_after_procedure_list (ordinal_after_procedure (suc k) p) rest = le-ordinal_after_procedure_list (ordinal_after_procedure (suc k) p) rest in
+    sym (ap (λ t. if t then constant_value_in_procedure ((procedure_name p, non_constant_placeholder) ∷ known) edit.constant (suc k) p else constant_value_in_procedures ((procedure_name p, non_constant_placeholder) ∷ known) edit.constant (ordinal_after_procedure (suc k) p) rest)
     (lt-ltb edit.constant (ordinal_after_procedure (suc k) p) m)) ∙ has_value l (omega (arith, m, below))
 
-pub rest-has_value : (edit : Edit) (w : Value) (known : ConstantEnvironment) (k : ℕ) (p : Tree Name (item procedure)) (rest : Tree Name (items procedure)) → HasValueBetween edit w k (ordinal_after_procedures k (more p rest)) (value_in_procedures known edit.constant k (more p rest))
-    → HasValueBetween edit w (ordinal_after_procedure (suc k) p) (ordinal_after_procedures (ordinal_after_procedure (suc k) p) rest) (value_in_procedures ((procedure_name p, non_constant_placeholder) ∷ known) edit.constant (ordinal_after_procedure (suc k) p) rest)
-unfolding value_in_block
+pub rest-has_value : (edit : Edit) (w : Value) (known : ConstantEnvironment) (k : ℕ) (p : Tree Name (item procedure)) (rest : Tree Name (items procedure)) → HasValueBetween edit w k (ordinal_after_procedure_list k (more p rest)) (constant_value_in_procedures known edit.constant k (more p rest))
+    → HasValueBetween edit w (ordinal_after_procedure (suc k) p) (ordinal_after_procedure_list (ordinal_after_procedure (suc k) p) rest) (constant_value_in_procedures ((procedure_name p, non_constant_placeholder) ∷ known) edit.constant (ordinal_after_procedure (suc k) p) rest)
+unfolding constant_value_in_block
 rest-has_value edit w known k p rest has_value l m =
     let below : suc k ≤ ordinal_after_procedure (suc k) p = le-ordinal_after_procedure (suc k) p in
-    sym (ap (λ t. if t then value_in_procedure ((procedure_name p, non_constant_placeholder) ∷ known) edit.constant (suc k) p else value_in_procedures ((procedure_name p, non_constant_placeholder) ∷ known) edit.constant (ordinal_after_procedure (suc k) p) rest)
+    sym (ap (λ t. if t then constant_value_in_procedure ((procedure_name p, non_constant_placeholder) ∷ known) edit.constant (suc k) p else constant_value_in_procedures ((procedure_name p, non_constant_placeholder) ∷ known) edit.constant (ordinal_after_procedure (suc k) p) rest)
     (le-ltb edit.constant (ordinal_after_procedure (suc k) p) l)) ∙ has_value (omega (arith, l, below)) m
 
 -- Neither the procedure's ordinal nor its parameters' ordinals are the constant's.
 pub bind_procedure-outside : (edit : Edit) (w : Value) (known : ConstantEnvironment) (k : ℕ) (x closing : Name) (fs : Tree Name (maybe formals)) (b : Tree Name block)
-    → HasValueBetween edit w k (ordinal_after_procedure (suc k) (declares_procedure x fs b closing)) (value_in_procedure known edit.constant (suc k) (declares_procedure x fs b closing)) → Outside edit k (ordinal_after_names (suc k) (formal_names (formal_sections fs)))
-unfolding value_in_block
+    → HasValueBetween edit w k (ordinal_after_procedure (suc k) (declares_procedure x fs b closing)) (constant_value_in_procedure known edit.constant (suc k) (declares_procedure x fs b closing)) → Outside edit k (ordinal_after_names (suc k) (formal_names (formal_sections fs)))
+unfolding constant_value_in_block
 bind_procedure-outside edit w known k x closing fs b has_value l m =
     let n : ℕ = ordinal_after_names (suc k) (formal_names (formal_sections fs)) in
     let below : n ≤ ordinal_after_block n b = le-ordinal_after_block n b in
     let e : None ≡ Some w =
-    sym (ap (λ t. if t then None else value_in_block (bind_names (formal_names (formal_sections fs)) non_constant_placeholder known) edit.constant n b) (lt-ltb edit.constant n m)) ∙ has_value l (omega (arith, m, below)) in
+    sym (ap (λ t. if t then None else constant_value_in_block (bind_names (formal_names (formal_sections fs)) non_constant_placeholder known) edit.constant n b) (lt-ltb edit.constant n m)) ∙ has_value l (omega (arith, m, below)) in
     absurd (cc)
 
 pub body-has_value : (edit : Edit) (w : Value) (known : ConstantEnvironment) (k : ℕ) (x closing : Name) (fs : Tree Name (maybe formals)) (b : Tree Name block)
-    → HasValueBetween edit w k (ordinal_after_procedure (suc k) (declares_procedure x fs b closing)) (value_in_procedure known edit.constant (suc k) (declares_procedure x fs b closing))
+    → HasValueBetween edit w k (ordinal_after_procedure (suc k) (declares_procedure x fs b closing)) (constant_value_in_procedure known edit.constant (suc k) (declares_procedure x fs b closing))
     → HasValueBetween edit w (ordinal_after_names (suc k) (formal_names (formal_sections fs))) (ordinal_after_block (ordinal_after_names (suc k) (formal_names (formal_sections fs))) b)
-    (value_in_block (bind_names (formal_names (formal_sections fs)) non_constant_placeholder known) edit.constant (ordinal_after_names (suc k) (formal_names (formal_sections fs))) b)
-unfolding value_in_block
+    (constant_value_in_block (bind_names (formal_names (formal_sections fs)) non_constant_placeholder known) edit.constant (ordinal_after_names (suc k) (formal_names (formal_sections fs))) b)
+unfolding constant_value_in_block
 body-has_value edit w known k x closing fs b has_value l m =
     let n : ℕ = ordinal_after_names (suc k) (formal_names (formal_sections fs)) in
     let above : suc k ≤ n = le-ordinal_after_names (suc k) (formal_names (formal_sections fs)) in
-    sym (ap (λ t. if t then None else value_in_block (bind_names (formal_names (formal_sections fs)) non_constant_placeholder known) edit.constant n b) (le-ltb edit.constant n l)) ∙ has_value (omega (arith, l, above)) m
+    sym (ap (λ t. if t then None else constant_value_in_block (bind_names (formal_names (formal_sections fs)) non_constant_placeholder known) edit.constant n b) (le-ltb edit.constant n l)) ∙ has_value (omega (arith, l, above)) m
 
 -- Declaring the constants and then the types of an edited block gives the same bindings as before, except a removed
 -- one.
 pub first-edited : {V P Q : Type 0} (edit : Edit) (w : Value) → Literal edit w → (X : Marks V P → Name → ℕ → P → Type 0) (p q : ℕ → P → Q) (i j k : ℕ) (marks : Marks V P) → Sound edit w X k marks → 7 ≤ k → (b : Tree Name block)
-    → EachBlock (Here edit w) j (scope_marked marks) k b → HasValueBetween edit w k (ordinal_after_block k b) (value_in_block (knowns marks) edit.constant k b)
+    → EachBlock (Here edit w) j (scope_marked marks) k b → HasValueBetween edit w k (ordinal_after_block k b) (constant_value_in_block (knowns marks) edit.constant k b)
     → Agree (read p) (read_edited edit q) (Left edit w X (first_variable_ordinal k b) (scope_before_variables k b (scope_marked marks)) (option_map (bind_names (declared_type_names (block_types b)) non_constant_placeholder) (declare_constants naming_by_spelling (knowns marks) (block_constants b))))
     (declare_constants_and_types naming_by_spelling (read p marks) i b) (declare_constants_and_types naming_by_spelling (read_edited edit q marks) i (edited_block edit j k b))
 unfolding declare_constants_and_types

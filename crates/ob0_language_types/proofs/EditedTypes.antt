@@ -1,20 +1,20 @@
 -- An edited module passes the type check exactly if the original module does.
 use Rattle.std.proofs.Common.{List, None, Option, Some, [], ap, arith, false, if◌then◌else◌, le_of_lt, le_refl, le_trans, length, map, nat_lt, negsuc, option_and_then, option_map, pos, refl, subst, subst₂, suc, sym, true, ℕ, ⊎_elim, ◌&&◌, ◌++◌, ◌+◌, ◌<◌, ◌∙◌, ◌∷◌, ◌≡◌, ◌≤◌}
-use Rattle.ob0_tree.specs.Tree.{Tree, adds, begins, block, body, compares, declares, declares_procedure, declares_variable, end, factor, further_section, forms_block, integer, item, items, maybe, more, none, occurrences, one, parenthesised, procedure, product, sequence, sum, then_section, variable, written_type}
+use Rattle.ob0_tree.specs.Tree.{Tree, adds, begins, block, body, compares, declares, declares_procedure, declares_variable, end, factor, section_after_semicolon, forms_block, integer, item, items, maybe, more, none, occurrences, one, parenthesised, procedure, product, sequence, sum, semicolon_then_section, variable, written_type}
 use Rattle.ob0_language_names.specs.Names.{Name, naming_by_spelling}
-use Rattle.ob0_language_names.specs.Parts.{block_constants, block_types, block_variables, constant_names, formal_names, formal_sections, declared_type_names, names_in_list, section_constants, parameter_section_names, parameter_section_type, section_types, section_variables, variable_names}
-use Rattle.ob0_language_names.specs.Scopes.{Scope, ordinal_after_block, ordinal_after_names, ordinal_after_procedure, ordinal_after_procedures, declare_names, declare_procedure_names, first_procedure_ordinal, first_type_ordinal, first_variable_ordinal, scope_before_procedures, scope_before_variables}
+use Rattle.ob0_language_names.specs.BlockParts.{block_constants, block_types, block_variables, constant_names, formal_names, formal_sections, declared_type_names, names_in_list, section_constants, parameter_section_names, parameter_section_type, section_types, section_variables, variable_names}
+use Rattle.ob0_language_names.specs.Scopes.{Scope, ordinal_after_block, ordinal_after_names, ordinal_after_procedure, ordinal_after_procedure_list, declare_names, declare_procedure_names, first_procedure_ordinal, first_type_ordinal, first_variable_ordinal, scope_before_procedures, scope_before_variables}
 use Rattle.ob0_language_names.proofs.EditedTrees.{Edit, SameAt, edited_block, edited_procedure, edited_procedures, inline-nothing, leaf, map_names-same}
 use Rattle.ob0_language_names.proofs.Ordinals.{ordinal_after_names-append, le-ordinal_after_names, le-ordinal_after_procedure}
 use Rattle.ob0_language_names.proofs.Places.{EachBlock, EachProcedure, EachSection, EachVariable}
 use Rattle.ob0_language_values.specs.Values.{Shape, Value, elements, members, number, truth}
-use Rattle.ob0_language_types.specs.ConstantValues.{ConstantEnvironment, non_constant_placeholder, value_in_block, value_in_procedure, value_in_procedures}
+use Rattle.ob0_language_types.specs.ConstantValues.{ConstantEnvironment, non_constant_placeholder, constant_value_in_block, constant_value_in_procedure, constant_value_in_procedures}
 use Rattle.ob0_language_types.specs.Declarations.{constructors_before_variables, constructors_before_procedures, declare_constants, declare_constants_and_types, formals_constructor_count, procedure_constructor_count, types_constructor_count, variables_constructor_count}
 use Rattle.ob0_language_types.specs.EditLaws.{Is32BitScalar}
 use Rattle.ob0_language_types.specs.Environments.{meanings}
 use Rattle.ob0_language_types.specs.Expressions.{Meanings, a_procedure, a_variable}
 use Rattle.ob0_language_types.specs.Typing.{constructor_count, denoted_type, lone_designator, type_after_selectors}
-use Rattle.ob0_language_types.specs.WellTyped.{Mode, Signature, TypeEnvironment, TypeMeanings, TypedParameter, bind_names, bind_typed_parameters, block_is_well_typed, body_is_well_typed, declare_typed_variables, bind_procedure, option_satisfies, procedure_is_well_typed, procedures_are_well_typed, parameter_section_mode, sequence_is_well_typed, typed_parameters, variable_type}
+use Rattle.ob0_language_types.specs.WellTyped.{ParameterMode, Signature, TypeEnvironment, TypeMeanings, TypedParameter, bind_names, bind_typed_parameters, block_is_well_typed, body_is_well_typed, declare_typed_variables, bind_procedure, option_satisfies, procedure_is_well_typed, procedures_are_well_typed, parameter_section_mode, sequence_is_well_typed, typed_parameters, variable_type}
 use Rattle.ob0_language_types.specs.Written.{value_literal}
 use Rattle.ob0_language_types.proofs.Agreeing.{Agree, agree-then}
 use Rattle.ob0_language_types.proofs.DenotedInlined.{constructor_count-inlined}
@@ -135,21 +135,21 @@ variables-edited edit w lit i j k marks s seven (more (declares_variable ns t) g
     (subst (λ scope. EachVariable (Here edit w) (j + length (occurrences t)) scope n gs) (sym bound.0.scoped) here.1) (λ l m. outside (omega (arith, l, above)) (omega (arith, m, joined)))))))
 
 -- The parameters of a heading are the same before and after the edit.
-pub parameters-edited : (edit : Edit) (w : Value) → Literal edit w → (i j k : ℕ) (marks : Marks Shape Signature) → Checked edit w k marks → 7 ≤ k → (fs : Tree Name (items further_section))
+pub parameters-edited : (edit : Edit) (w : Value) → Literal edit w → (i j k : ℕ) (marks : Marks Shape Signature) → Checked edit w k marks → 7 ≤ k → (fs : Tree Name (items section_after_semicolon))
     → EachSection (Here edit w) j (scope_marked marks) k fs → Outside edit k (ordinal_after_names k (formal_names fs))
     → Agree (λ ps. ps) (λ ps. ps) (λ ps. typed_names ps ≡ formal_names fs) (typed_parameters naming_by_spelling (read as_signed marks) i fs) (typed_parameters naming_by_spelling (read_edited edit as_signed marks) i (leaf edit j fs))
 unfolding typed_parameters
 parameters-edited edit w lit i j k marks s seven end here outside = (Some [], refl, refl, refl)
-parameters-edited edit w lit i j k marks s seven (more (then_section f) fs) here outside =
+parameters-edited edit w lit i j k marks s seven (more (semicolon_then_section f) fs) here outside =
     let xs : List Name = parameter_section_names f in
     let ys : List Name = formal_names fs in
     let n : ℕ = ordinal_after_names k xs in
     let t : Tree Name written_type = parameter_section_type f in
-    let fs' : Tree Name (items further_section) = leaf edit (j + length (occurrences f)) fs in
+    let fs' : Tree Name (items section_after_semicolon) = leaf edit (j + length (occurrences f)) fs in
     let above : k ≤ n = le-ordinal_after_names k xs in
     let joined : ordinal_after_names k (xs ++ ys) ≡ ordinal_after_names n ys = ordinal_after_names-append k xs ys in
     let last : n ≤ ordinal_after_names n ys = le-ordinal_after_names n ys in
-    let whole : Mode → List Name → Shape → Option (List (TypedParameter Name)) → Option (List (TypedParameter Name)) = λ m xs shape. option_and_then (λ rest. Some (map (typed_parameter record { mode = m; shape = shape }) xs ++ rest)) in
+    let whole : ParameterMode → List Name → Shape → Option (List (TypedParameter Name)) → Option (List (TypedParameter Name)) = λ m xs shape. option_and_then (λ rest. Some (map (typed_parameter record { mode = m; shape = shape }) xs ++ rest)) in
     let before : Shape → Option (List (TypedParameter Name)) = λ shape. whole (parameter_section_mode f) xs shape (typed_parameters naming_by_spelling (bind_names xs (a_variable shape) (read as_signed marks)) (i + constructor_count t) fs) in
     let after : Shape → Option (List (TypedParameter Name)) = λ shape. whole (parameter_section_mode f) xs shape (typed_parameters naming_by_spelling (bind_names xs (a_variable shape) (read_edited edit as_signed marks)) (i + constructor_count t) fs') in
     subst (λ z. Agree (λ ps. ps) (λ ps. ps) (λ ps. typed_names ps ≡ xs ++ ys) (option_and_then before (denoted_type (read_meanings as_signed marks) i t)) z)
@@ -170,7 +170,7 @@ parameters-edited edit w lit i j k marks s seven (more (then_section f) fs) here
 
 -- A block's constants, types and variables have the same bindings before and after the edit, except a removed one.
 pub declarations-edited : (edit : Edit) (w : Value) → Literal edit w → (i j k : ℕ) (marks : Marks Shape Signature) → Checked edit w k marks → 7 ≤ k → (b : Tree Name block)
-    → EachBlock (Here edit w) j (scope_marked marks) k b → HasValueBetween edit w k (ordinal_after_block k b) (value_in_block (knowns marks) edit.constant k b)
+    → EachBlock (Here edit w) j (scope_marked marks) k b → HasValueBetween edit w k (ordinal_after_block k b) (constant_value_in_block (knowns marks) edit.constant k b)
     → Agree (read as_signed) (read_edited edit as_signed)
     (LeftTyped edit w (first_procedure_ordinal k b) (scope_before_procedures k b (scope_marked marks)) (option_map (bind_names (variable_names (block_variables b)) non_constant_placeholder) (option_map (bind_names (declared_type_names (block_types b)) non_constant_placeholder) (declare_constants naming_by_spelling (knowns marks) (block_constants b)))))
     (option_and_then (declare_typed_variables naming_by_spelling (constructors_before_variables i b) (block_variables b)) (declare_constants_and_types naming_by_spelling (read as_signed marks) i b))
@@ -220,7 +220,7 @@ mutual
   unfolding block_is_well_typed
 
   pub block_is_well_typed-edited : (edit : Edit) (w : Value) → Literal edit w → (i j k : ℕ) (marks : Marks Shape Signature) → Checked edit w k marks → 7 ≤ k → (b : Tree Name block)
-      → EachBlock (Here edit w) j (scope_marked marks) k b → HasValueBetween edit w k (ordinal_after_block k b) (value_in_block (knowns marks) edit.constant k b)
+      → EachBlock (Here edit w) j (scope_marked marks) k b → HasValueBetween edit w k (ordinal_after_block k b) (constant_value_in_block (knowns marks) edit.constant k b)
       → block_is_well_typed naming_by_spelling (read_edited edit as_signed marks) i (edited_block edit j k b) ≡ block_is_well_typed naming_by_spelling (read as_signed marks) i b
   block_is_well_typed-edited edit w lit i j k marks s seven (forms_block (declares cs ts vs ps) statements) here has_value =
       let b : Tree Name block = forms_block (declares cs ts vs ps) statements in
@@ -246,7 +246,7 @@ mutual
       (procedures-has_value edit w (knowns marks) (knowns inner) k b has_value left.value))
 
   pub procedures_are_well_typed-edited : (edit : Edit) (w : Value) → Literal edit w → (i j js k : ℕ) (marks : Marks Shape Signature) → Checked edit w k marks → 7 ≤ k → (statements : Tree Name (maybe body)) (ps : Tree Name (items procedure))
-      → EachProcedure (Here edit w) j (scope_marked marks) k ps → Here edit w (maybe body) js (declare_procedure_names k ps (scope_marked marks)) statements → HasValueBetween edit w k (ordinal_after_procedures k ps) (value_in_procedures (knowns marks) edit.constant k ps)
+      → EachProcedure (Here edit w) j (scope_marked marks) k ps → Here edit w (maybe body) js (declare_procedure_names k ps (scope_marked marks)) statements → HasValueBetween edit w k (ordinal_after_procedure_list k ps) (constant_value_in_procedures (knowns marks) edit.constant k ps)
       → procedures_are_well_typed naming_by_spelling (read_edited edit as_signed marks) i (leaf edit js statements) (edited_procedures edit j k ps) ≡ procedures_are_well_typed naming_by_spelling (read as_signed marks) i statements ps
   procedures_are_well_typed-edited edit w lit i j js k marks s seven statements end here below has_value = body_is_well_typed-edited edit w lit k marks s js statements below
   procedures_are_well_typed-edited edit w lit i j js k marks s seven statements (more (declares_procedure x fs b closing) rest) here below has_value =
@@ -257,7 +257,7 @@ mutual
       let jr : ℕ = j + length (occurrences p) in
       let rest' : Tree Name (items procedure) = edited_procedures edit jr (ordinal_after_procedure (suc k) p) rest in
       let statements' : Tree Name (maybe body) = leaf edit js statements in
-      let mine : HasValueBetween edit w k (ordinal_after_procedure (suc k) p) (value_in_procedure ((x, non_constant_placeholder) ∷ knowns marks) edit.constant (suc k) p) = own-has_value edit w (knowns marks) k p rest has_value in
+      let mine : HasValueBetween edit w k (ordinal_after_procedure (suc k) p) (constant_value_in_procedure ((x, non_constant_placeholder) ∷ knowns marks) edit.constant (suc k) p) = own-has_value edit w (knowns marks) k p rest has_value in
       let outside : Outside edit k n = bind_procedure-outside edit w ((x, non_constant_placeholder) ∷ knowns marks) k x closing fs b mine in
       let above : suc k ≤ n = le-ordinal_after_names (suc k) (formal_names (formal_sections fs)) in
       let following : suc k ≤ ordinal_after_procedure (suc k) p = le-ordinal_after_procedure (suc k) p in
@@ -285,7 +285,7 @@ mutual
       (i + (ap formals_constructor_count (formals-of edit j fs) ∙ formals_constructor_count-leaf edit j (formal_sections fs)) m) (edited_block edit jb n b))
       ∙ (block_is_well_typed-edited edit w lit (i + formals_constructor_count (formal_sections fs)) jb n (mark_all (suc k) pairs inner) left.sound (omega (arith, seven, above)) b
       (subst (λ scope. EachBlock (Here edit w) jb scope n b) (sym left.scoped) here.0.1)
-      (subst (λ known. HasValueBetween edit w n (ordinal_after_block n b) (value_in_block known edit.constant n b)) (some_inverse left.value) (body-has_value edit w ((x, non_constant_placeholder) ∷ knowns marks) k x closing fs b mine))
+      (subst (λ known. HasValueBetween edit w n (ordinal_after_block n b) (constant_value_in_block known edit.constant n b)) (some_inverse left.value) (body-has_value edit w ((x, non_constant_placeholder) ∷ knowns marks) k x closing fs b mine))
       ∙ sym (ap (λ env. block_is_well_typed naming_by_spelling env (i + formals_constructor_count (formal_sections fs)) b) (bind_typed_parameters-all ps (bind_procedure x ps (read as_signed marks)) ∙ read-all as_signed (suc k) pairs inner))) in
       let second : procedures_are_well_typed naming_by_spelling (bind_procedure x ps (read_edited edit as_signed marks)) (i + procedure_constructor_count p') statements' rest' ≡ procedures_are_well_typed naming_by_spelling (bind_procedure x ps (read as_signed marks)) (i + procedure_constructor_count p) statements rest =
       (λ m. procedures_are_well_typed naming_by_spelling (bound m) (i + procedure_constructor_count-edited edit j (suc k) p m) statements' rest')

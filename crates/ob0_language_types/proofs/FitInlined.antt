@@ -1,6 +1,6 @@
 -- Replacing uses of a constant by its literal leaves a statement well-typed exactly if it was.
 use Rattle.std.proofs.Common.{List, None, Option, Some, [], ap, false, if◌then◌else◌, length, refl, suc, sym, true, ℕ, ◌&&◌, ◌++◌, ◌+◌, ◌∙◌, ◌∷◌, ◌≡◌}
-use Rattle.ob0_tree.specs.Tree.{Tree, addend, arguments, assigns, branches, calls, compares, comparison, designator, else_branch, else_part, elsif_branch, elsif_part, empty, end, expression, factor, further_argument, further_statement, integer, item, items, maybe, more, multiplier, negation, no_arguments, none, occurrences, one, parenthesised, product, repeat_loop, runs, selector, sequence, some_arguments, statement, sum, then_argument, then_statement, while_loop}
+use Rattle.ob0_tree.specs.Tree.{Tree, addend, arguments, assigns, branches, calls, compares, comparison, designator, else_branch, else_part, elsif_branch, elsif_part, empty, end, expression, factor, argument_after_comma, statement_after_semicolon, integer, item, items, maybe, more, multiplier, negation, no_arguments, none, occurrences, one, parenthesised, product, repeat_loop, runs, selector, sequence, some_arguments, statement, sum, comma_then_argument, semicolon_then_statement, while_loop}
 use Rattle.ob0_language_names.specs.Inlining.{OccurrenceSet, inline_in_tree}
 use Rattle.ob0_language_names.specs.Names.{Name}
 use Rattle.ob0_language_values.specs.Values.{Value, boolean_shape}
@@ -76,13 +76,13 @@ unfolding argument_matches
 argument_matches-written checked uses v w h f k e u = λ i.
     same_known_shape (Some f.shape) (elim f.mode [ by_value ↦ type-written checked uses v w h k e u i | by_place ↦ lone_designator-written checked uses v w h k e u i ])
 
-pub further_fit-written : (checked : TypeMeanings Name) (uses : OccurrenceSet) (v : Tree Name factor) (w : Value) → Written checked v w → (fs : Signature) (k : ℕ) (es : Tree Name (items further_argument)) → AreUses checked w uses k (occurrences es)
+pub further_fit-written : (checked : TypeMeanings Name) (uses : OccurrenceSet) (v : Tree Name factor) (w : Value) → Written checked v w → (fs : Signature) (k : ℕ) (es : Tree Name (items argument_after_comma)) → AreUses checked w uses k (occurrences es)
     → arguments_match checked fs (further_arguments (inline_in_tree uses v k es)) ≡ arguments_match checked fs (further_arguments es)
 unfolding arguments_match
 further_fit-written checked uses v w h [] k end u = refl
 further_fit-written checked uses v w h (f ∷ fs) k end u = refl
-further_fit-written checked uses v w h [] k (more (then_argument e) es) u = refl
-further_fit-written checked uses v w h (f ∷ fs) k (more (then_argument e) es) u =
+further_fit-written checked uses v w h [] k (more (comma_then_argument e) es) u = refl
+further_fit-written checked uses v w h (f ∷ fs) k (more (comma_then_argument e) es) u =
     let s = uses-split uses (IsConstant checked w) k (occurrences e) (occurrences es) u in
     λ i. argument_matches-written checked uses v w h f k e s.0 i && further_fit-written checked uses v w h fs (k + length (occurrences e)) es s.1 i
 
@@ -138,10 +138,10 @@ mutual
       let s = uses-split uses (IsConstant checked w) k (occurrences a) (occurrences rest) u in
       λ i. statement_is_well_typed-written checked uses v w h k a s.0 i && further_statements_are_well_typed-written checked uses v w h (k + length (occurrences a)) rest s.1 i
 
-  pub further_statements_are_well_typed-written : (checked : TypeMeanings Name) (uses : OccurrenceSet) (v : Tree Name factor) (w : Value) → Written checked v w → (k : ℕ) (a : Tree Name (items further_statement)) → AreUses checked w uses k (occurrences a)
+  pub further_statements_are_well_typed-written : (checked : TypeMeanings Name) (uses : OccurrenceSet) (v : Tree Name factor) (w : Value) → Written checked v w → (k : ℕ) (a : Tree Name (items statement_after_semicolon)) → AreUses checked w uses k (occurrences a)
       → further_statements_are_well_typed checked (inline_in_tree uses v k a) ≡ further_statements_are_well_typed checked a
   further_statements_are_well_typed-written checked uses v w h k end u = refl
-  further_statements_are_well_typed-written checked uses v w h k (more (then_statement a) rest) u =
+  further_statements_are_well_typed-written checked uses v w h k (more (semicolon_then_statement a) rest) u =
       let s = uses-split uses (IsConstant checked w) k (occurrences a) (occurrences rest) u in
       λ i. statement_is_well_typed-written checked uses v w h k a s.0 i && further_statements_are_well_typed-written checked uses v w h (k + length (occurrences a)) rest s.1 i
 

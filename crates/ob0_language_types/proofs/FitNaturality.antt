@@ -1,8 +1,8 @@
 -- A statement in which names are mapped is well-typed exactly if the original statement is, with the meanings of the
 -- new names.
 use Rattle.std.proofs.Common.{◌≡◌, ◌&&◌, List, [], ◌∷◌, map, Some, None, Option, option_map, refl, ap, ◌∙◌}
-use Rattle.ob0_tree.specs.Tree.{Tree, arguments, assigns, branches, calls, else_branch, else_part, elsif_branch, elsif_part, empty, end, expression, further_statement, items, maybe, more, none, one, repeat_loop, runs, selector, sequence, statement, then_statement, while_loop}
-use Rattle.ob0_language_names.specs.Mapping.{map_names}
+use Rattle.ob0_tree.specs.Tree.{Tree, arguments, assigns, branches, calls, else_branch, else_part, elsif_branch, elsif_part, empty, end, expression, statement_after_semicolon, items, maybe, more, none, one, repeat_loop, runs, selector, sequence, statement, semicolon_then_statement, while_loop}
+use Rattle.ob0_language_names.specs.MappedNames.{map_names}
 use Rattle.ob0_language_types.specs.Arguments.{call_arguments}
 use Rattle.ob0_language_types.specs.Expressions.{Meanings, a_variable}
 use Rattle.ob0_language_types.specs.Typing.{lone_designator}
@@ -53,9 +53,9 @@ mutual
   pub sequence_is_well_typed-map : {N M : Type 0} (f h : N → M) (meaning : TypeMeanings M) (a : Tree N sequence) → sequence_is_well_typed meaning (map_names f h a) ≡ sequence_is_well_typed (through f h meaning) a
   sequence_is_well_typed-map f h meaning (runs a rest) = λ i. statement_is_well_typed-map f h meaning a i && further_statements_are_well_typed-map f h meaning rest i
 
-  pub further_statements_are_well_typed-map : {N M : Type 0} (f h : N → M) (meaning : TypeMeanings M) (a : Tree N (items further_statement)) → further_statements_are_well_typed meaning (map_names f h a) ≡ further_statements_are_well_typed (through f h meaning) a
+  pub further_statements_are_well_typed-map : {N M : Type 0} (f h : N → M) (meaning : TypeMeanings M) (a : Tree N (items statement_after_semicolon)) → further_statements_are_well_typed meaning (map_names f h a) ≡ further_statements_are_well_typed (through f h meaning) a
   further_statements_are_well_typed-map f h meaning end = refl
-  further_statements_are_well_typed-map f h meaning (more (then_statement a) rest) = λ i. statement_is_well_typed-map f h meaning a i && further_statements_are_well_typed-map f h meaning rest i
+  further_statements_are_well_typed-map f h meaning (more (semicolon_then_statement a) rest) = λ i. statement_is_well_typed-map f h meaning a i && further_statements_are_well_typed-map f h meaning rest i
 
   pub elsifs_are_well_typed-map : {N M : Type 0} (f h : N → M) (meaning : TypeMeanings M) (a : Tree N (items elsif_part)) → elsifs_are_well_typed meaning (map_names f h a) ≡ elsifs_are_well_typed (through f h meaning) a
   elsifs_are_well_typed-map f h meaning end = refl

@@ -3,7 +3,7 @@ use Rattle.std.proofs.Common.{List, Some, [], add-zero, ap, arith, false, if◌t
 use Rattle.ob0_tree.specs.Tree.{Tree, addend, adds, compares, designator, end, expression, factor, field, index, integer, items, more, multiplier, multiplies, negation, none, occurrences, one, parenthesised, product, relates, selector, simple, sum, term}
 use Rattle.ob0_language_names.specs.Inlining.{OccurrenceSet, inline_in_tree}
 use Rattle.ob0_language_names.specs.Names.{Name}
-use Rattle.ob0_language_values.specs.Values.{Place, Store, Value, add, add_short_circuits, at_field, value_at_path, succeeds_with, multiply, multiply_short_circuits, negate, or_stuck, value_at_step, apply_relation, apply_sign, ◌>>=◌}
+use Rattle.ob0_language_values.specs.Values.{Place, Store, Value, add, add_operator_short_circuits, at_field, value_at_path, succeeds_with, multiply, multiply_operator_short_circuits, negate, or_stuck, value_at_step, apply_relation, apply_sign, ◌>>=◌}
 use Rattle.ob0_language_types.specs.Expressions.{Meanings, a_constant, element_step, evaluate, evaluate_addends, evaluate_factor, evaluate_multipliers, evaluate_simple, evaluate_term, evaluate_selectors, object_value}
 use Rattle.ob0_language_types.specs.Laws.{InliningKeepsEvaluation, EachUseHas}
 
@@ -39,7 +39,7 @@ mutual
   evaluate_addends-inlined meaning store uses v w h k x end u = refl
   evaluate_addends-inlined meaning store uses v w h k x (more (adds o t) rest) u =
       let s = uses-split uses (IsConstantOf meaning w) k (occurrences t) (occurrences rest) u in
-      λ i. (elim (add_short_circuits o x) [ true ↦ succeeds_with x | false ↦ evaluate_term-inlined meaning store uses v w h k t s.0 i >>= add o x ]) >>= (λ y. evaluate_addends-inlined meaning store uses v w h (k + length (occurrences t)) y rest s.1 i)
+      λ i. (elim (add_operator_short_circuits o x) [ true ↦ succeeds_with x | false ↦ evaluate_term-inlined meaning store uses v w h k t s.0 i >>= add o x ]) >>= (λ y. evaluate_addends-inlined meaning store uses v w h (k + length (occurrences t)) y rest s.1 i)
 
   pub evaluate_term-inlined : {P : Type 0} (meaning : Meanings Name Place P) (store : Store) (uses : OccurrenceSet) (v : Tree Name factor) (w : Value) → Writing meaning store v w → (k : ℕ) (a : Tree Name term) → EachUseHas uses (IsConstantOf meaning w) k (occurrences a) → evaluate_term meaning store (inline_in_tree uses v k a) ≡ evaluate_term meaning store a
   evaluate_term-inlined meaning store uses v w h k (product f rest) u =
@@ -50,7 +50,7 @@ mutual
   evaluate_multipliers-inlined meaning store uses v w h k x end u = refl
   evaluate_multipliers-inlined meaning store uses v w h k x (more (multiplies o f) rest) u =
       let s = uses-split uses (IsConstantOf meaning w) k (occurrences f) (occurrences rest) u in
-      λ i. (elim (multiply_short_circuits o x) [ true ↦ succeeds_with x | false ↦ evaluate_factor-inlined meaning store uses v w h k f s.0 i >>= multiply o x ]) >>= (λ y. evaluate_multipliers-inlined meaning store uses v w h (k + length (occurrences f)) y rest s.1 i)
+      λ i. (elim (multiply_operator_short_circuits o x) [ true ↦ succeeds_with x | false ↦ evaluate_factor-inlined meaning store uses v w h k f s.0 i >>= multiply o x ]) >>= (λ y. evaluate_multipliers-inlined meaning store uses v w h (k + length (occurrences f)) y rest s.1 i)
 
   pub evaluate_factor-inlined : {P : Type 0} (meaning : Meanings Name Place P) (store : Store) (uses : OccurrenceSet) (v : Tree Name factor) (w : Value) → Writing meaning store v w → (k : ℕ) (a : Tree Name factor) → EachUseHas uses (IsConstantOf meaning w) k (occurrences a) → evaluate_factor meaning store (inline_in_tree uses v k a) ≡ evaluate_factor meaning store a
   evaluate_factor-inlined {P} meaning store uses v w h k (designator x end) u =

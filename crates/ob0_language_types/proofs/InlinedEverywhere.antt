@@ -1,11 +1,11 @@
 -- A well-typed module remains well-typed if a constant is inlined everywhere.
 use Rattle.std.proofs.Common.{List, Some, [], ap, arith, codes, eq-eqb, false, if◌then◌else◌, le_refl, nat_lt, negsuc, option_and_then, pos, refl, slice_get, subst, suc, sym, true, true≢false, zero-add, ℕ, ⊎_elim, ◌∙◌, ◌∷◌, ◌≡◌, ◌≤◌}
-use Rattle.ob0_tree.specs.Tree.{Sort, Tree, adds, compares, end, factor, integer, is_module, module_text, more, none, occurrences, parenthesised, product, sum}
+use Rattle.ob0_tree.specs.Tree.{Sort, Tree, adds, compares, end, factor, integer, forms_module, module_text, more, none, occurrences, parenthesised, product, sum}
 use Rattle.ob0_language_names.specs.Inlining.{OccurrenceSet, occurrences_bound_to}
 use Rattle.ob0_language_names.specs.Names.{Label, Name, naming_by_spelling}
 use Rattle.ob0_language_names.specs.Occurrences.{bindings, ordinal_bound_at, label_ordinal}
-use Rattle.ob0_language_names.specs.Parts.{module_block}
-use Rattle.ob0_language_names.specs.OccurrenceLookup.{naming_for_lookup_of}
+use Rattle.ob0_language_names.specs.BlockParts.{module_block}
+use Rattle.ob0_language_names.specs.OccurrenceLookup.{naming_that_looks_up}
 use Rattle.ob0_language_names.proofs.EditedTrees.{Edit, inline-nothing, leaf, no_uses, writing}
 use Rattle.ob0_language_names.proofs.EverywhereTrees.{everywhere, gone-module}
 use Rattle.ob0_language_names.proofs.InliningLeavesNoUse.{AllGiveWay, NoneOf, none-left}
@@ -70,7 +70,7 @@ here-everywhere edit w lit s j scope t reported alone_there = (
       (cases_Bool (shown w scope))),
 )
 
-reported-from : (edit : Edit) (w : Value) (j : ℕ) (scope : Scope Name) (xs : List Name) → Each (Both naming_by_spelling (naming_for_lookup_of (truth_name w)) (IsUseOf edit.uses edit.constant) (IsShownAs edit.uses w)) j scope xs
+reported-from : (edit : Edit) (w : Value) (j : ℕ) (scope : Scope Name) (xs : List Name) → Each (Both naming_by_spelling (naming_that_looks_up (truth_name w)) (IsUseOf edit.uses edit.constant) (IsShownAs edit.uses w)) j scope xs
     → Each (Writes edit w) j scope xs × AllGiveWay edit.uses (IsOf edit.constant scope) j xs
 reported-from edit w j scope [] both = (tt, tt)
 reported-from edit w j scope (x ∷ xs) both =
@@ -99,8 +99,8 @@ bound-exactly m d i l e =
 -- In a well-typed module each use of the constant is a whole factor.
 pub alone-module : (m : Tree Name module_text) (d : ℕ) (w : Value) (v : Tree Name factor) → IsConstantWithLiteral m d w v → WellTyped m → EachBlock (UsesAreFactors d) 0 (predeclared_scope naming_by_spelling) 7 (module_block m)
 unfolding WellTyped passes_type_check
-alone-module (is_module x b closing) d w v c well =
-    let m : Tree Name module_text = is_module x b closing in
+alone-module (forms_module x b closing) d w v c well =
+    let m : Tree Name module_text = forms_module x b closing in
     let low = seven-or-less m d w c.value in
     let plain : Edit = writing no_uses v d in
     let plain_lit : Literal plain w = record { written = c.literal; scalar = c.scalar; ordinal = low.0 } in
@@ -111,15 +111,15 @@ alone-module (is_module x b closing) d w v c well =
     alone-block plain w plain_lit 0 0 7 marked_outermost (outermost-sound plain w anything low.0) (le_refl 7) b plain_here (λ l n. low.1) well.1
 
 pub everywhere-fitted : (m : Tree Name module_text) (d : ℕ) (w : Value) (v : Tree Name factor) → IsConstantWithLiteral m d w v → ((k : ℕ) → ordinal_bound_at m k ≡ Some d → MeansPredeclaredTruth m k w) → WellTyped m → IsFitted (everywhere (occurrences_bound_to m d) v d) w m
-everywhere-fitted (is_module x b closing) d w v c seen well =
-    let m : Tree Name module_text = is_module x b closing in
+everywhere-fitted (forms_module x b closing) d w v c seen well =
+    let m : Tree Name module_text = forms_module x b closing in
     let uses : OccurrenceSet = occurrences_bound_to m d in
     let edit : Edit = everywhere uses v d in
     let low = seven-or-less m d w c.value in
     let lit : Literal edit w = record { written = c.literal; scalar = c.scalar; ordinal = low.0 } in
     let scope : Scope Name = predeclared_scope naming_by_spelling in
     let reported : EachBlock (IsLabelled edit w) 0 scope 7 b =
-    each-block naming_by_spelling (naming_for_lookup_of (truth_name w)) (IsUseOf uses d) (IsShownAs uses w) (IsLabelled edit w) (λ s j scope t both. reported-from edit w j scope (occurrences t) both) 0 scope 7 b
+    each-block naming_by_spelling (naming_that_looks_up (truth_name w)) (IsUseOf uses d) (IsShownAs uses w) (IsLabelled edit w) (λ s j scope t both. reported-from edit w j scope (occurrences t) both) 0 scope 7 b
     (all-at (IsUseOf uses d) 0 (occurrences (relabel_module naming_by_spelling (label_from_ordinal naming_by_spelling) m)) (λ i l e. subst (λ n. IsUseOf uses d n l) (sym (zero-add i)) (bound-exactly m d i l e)))
     (all-shown m w uses (λ k u. seen k (same_ordinal-true (ordinal_bound_at m k) d u))) in
     record { literal = lit; here = both-block (IsLabelled edit w) (UsesAreFactors d) (Here edit w) (here-everywhere edit w lit) 0 scope 7 b reported (alone-module m d w v c well); has_value = low.1 }

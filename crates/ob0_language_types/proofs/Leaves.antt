@@ -3,7 +3,7 @@
 -- lemmas of naturality are used. So no induction over expressions or statements is needed.
 use Rattle.std.proofs.Common.{Bool, List, None, Option, Some, [], ap, codes, eqb-true, false, option_map, refl, suc, sym, true, true≢false, ℕ, ⊎_elim, ◌∙◌, ◌∷◌, ◌≡◌, ◌≤◌}
 use Rattle.ob0_tree.specs.Tree.{Tree, expression, occurrences, written_type}
-use Rattle.ob0_language_names.specs.Mapping.{map_names}
+use Rattle.ob0_language_names.specs.MappedNames.{map_names}
 use Rattle.ob0_language_names.specs.Names.{Name, naming_by_spelling}
 use Rattle.ob0_language_names.specs.Scopes.{Scope, ordinal_in_scope, same_ordinal}
 use Rattle.ob0_language_names.proofs.EditedTrees.{Edit, SameAt, UsesNone, inline-nothing, leaf, map_names-same}
@@ -13,7 +13,7 @@ use Rattle.ob0_language_values.specs.Values.{Place, Shape, Value, elements, memb
 use Rattle.ob0_language_types.specs.ConstantValues.{constant_or_placeholder}
 use Rattle.ob0_language_types.specs.EditLaws.{Is32BitScalar}
 use Rattle.ob0_language_types.specs.Environments.{Environment, meanings, newest_object}
-use Rattle.ob0_language_types.specs.Expressions.{Meanings, Object, a_constant, a_procedure, a_standard, a_type, a_variable}
+use Rattle.ob0_language_types.specs.Expressions.{Meanings, Object, a_constant, a_procedure, a_standard_procedure, a_type, a_variable}
 use Rattle.ob0_language_types.specs.Laws.{EachUseHas}
 use Rattle.ob0_language_types.specs.Typing.{constant_of, constant_value, constant_meanings, denoted_type, type_of_type_object}
 use Rattle.ob0_language_types.specs.Written.{value_literal}
@@ -121,7 +121,7 @@ plain_object (a_type s) = a_type s
 plain_object (a_constant v) = a_constant v
 plain_object (a_variable p) = a_variable tt
 plain_object (a_procedure p) = a_procedure tt
-plain_object (a_standard p) = a_standard p
+plain_object (a_standard_procedure p) = a_standard_procedure p
 
 abbrev pub plain_tag : {V P : Type 0} → Environment Name V P → Name → Tag (Unit {0}) (Unit {0})
 plain_tag env x = record { object = option_map plain_object ((meanings naming_by_spelling env).object_for x); text = [] }
@@ -132,7 +132,7 @@ constant_of-plain (Some (a_type s)) = refl
 constant_of-plain (Some (a_constant v)) = refl
 constant_of-plain (Some (a_variable p)) = refl
 constant_of-plain (Some (a_procedure p)) = refl
-constant_of-plain (Some (a_standard p)) = refl
+constant_of-plain (Some (a_standard_procedure p)) = refl
 
 pub type_of_type_object-plain : {V P : Type 0} (o : Option (Object V P)) → type_of_type_object (option_map plain_object o) ≡ type_of_type_object o
 type_of_type_object-plain None = refl
@@ -140,7 +140,7 @@ type_of_type_object-plain (Some (a_type s)) = refl
 type_of_type_object-plain (Some (a_constant v)) = refl
 type_of_type_object-plain (Some (a_variable p)) = refl
 type_of_type_object-plain (Some (a_procedure p)) = refl
-type_of_type_object-plain (Some (a_standard p)) = refl
+type_of_type_object-plain (Some (a_standard_procedure p)) = refl
 
 constant_value-tagged : {V P : Type 0} (env : Environment Name V P) (e : Tree Name expression) → constant_value tagged (map_names (plain_tag env) as_field e) ≡ constant_value (meanings naming_by_spelling env) e
 constant_value-tagged env e =
@@ -167,7 +167,7 @@ plain-same {V} {P} {Q} p q (Some b) = of_object b.object
     of_object (a_constant v) = refl
     of_object (a_variable s) = refl
     of_object (a_procedure s) = refl
-    of_object (a_standard s) = refl
+    of_object (a_standard_procedure s) = refl
 
 pub edited-same : {V P Q : Type 0} (edit : Edit) (p q : ℕ → P → Q) (marks : Marks V P) (xs : List Name) → AllStay edit (scope_marked marks) xs → SameAt (plain_tag (read_edited edit q marks)) (plain_tag (read p marks)) xs
 edited-same edit p q marks [] stay = tt
@@ -210,7 +210,7 @@ known-value {V} {P} {Q} p marks e =
     of_object k (a_constant v) = refl
     of_object k (a_variable s) = refl
     of_object k (a_procedure s) = refl
-    of_object k (a_standard s) = refl
+    of_object k (a_standard_procedure s) = refl
 
     same : (o : Option (Mark V P)) → constant_of (option_map (λ b. constant_or_placeholder b.object) o) ≡ constant_of (option_map (object_of p) o)
     same None = refl

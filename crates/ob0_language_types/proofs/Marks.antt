@@ -8,7 +8,7 @@ use Rattle.ob0_language_names.proofs.EditedTrees.{Edit}
 use Rattle.ob0_language_values.specs.Values.{Value, truth}
 use Rattle.ob0_language_types.specs.ConstantValues.{ConstantEnvironment, constant_or_placeholder}
 use Rattle.ob0_language_types.specs.Environments.{Environment, environment_from_binding, newest_object}
-use Rattle.ob0_language_types.specs.Expressions.{Object, a_constant, a_procedure, a_standard, a_type, a_variable}
+use Rattle.ob0_language_types.specs.Expressions.{Object, a_constant, a_procedure, a_standard_procedure, a_type, a_variable}
 use Rattle.ob0_language_types.proofs.Agreeing.{HoldsOf}
 use Rattle.ob0_language_types.proofs.Literals.{some_inverse}
 use Rattle.std.proofs.lemmas.Bool.{and_parts, false_from_ne_true}
@@ -26,7 +26,7 @@ object_as f (a_type s) = a_type s
 object_as f (a_constant v) = a_constant v
 object_as f (a_variable p) = a_variable p
 object_as f (a_procedure p) = a_procedure (f p)
-object_as f (a_standard p) = a_standard p
+object_as f (a_standard_procedure p) = a_standard_procedure p
 
 abbrev pub read : {V P Q : Type 0} → (ℕ → P → Q) → Marks V P → Environment Name V Q
 read q [] = []
@@ -130,7 +130,7 @@ OfProcedure X (a_procedure p) = X p
 OfProcedure X (a_type s) = Unit {0}
 OfProcedure X (a_constant v) = Unit {0}
 OfProcedure X (a_variable p) = Unit {0}
-OfProcedure X (a_standard p) = Unit {0}
+OfProcedure X (a_standard_procedure p) = Unit {0}
 
 -- Holds if newer marks have greater ordinals, all below `n`, and each has its object. `X` must hold for each procedure.
 abbrev pub Sound : {V P : Type 0} → Edit → Value → (Marks V P → Name → ℕ → P → Type 0) → ℕ → Marks V P → Type 0

@@ -1,11 +1,11 @@
 -- A tree in which names are mapped means the same as the original tree, with the meanings of the new names.
 use Rattle.std.proofs.Common.{◌≡◌, true, false, ◌∷◌, ◌++◌, map, None, option_map, refl}
-use Rattle.ob0_tree.specs.Tree.{Tree, addend, adds, arguments, compares, designator, end, expression, factor, field, further_argument, index, integer, items, maybe, more, multiplier, multiplies, negation, no_arguments, none, one, parenthesised, product, relates, selector, simple, some_arguments, sum, term, then_argument}
-use Rattle.ob0_language_names.specs.Mapping.{map_names}
+use Rattle.ob0_tree.specs.Tree.{Tree, addend, adds, arguments, compares, designator, end, expression, factor, field, argument_after_comma, index, integer, items, maybe, more, multiplier, multiplies, negation, no_arguments, none, one, parenthesised, product, relates, selector, simple, some_arguments, sum, term, comma_then_argument}
+use Rattle.ob0_language_names.specs.MappedNames.{map_names}
 use Rattle.ob0_language_types.specs.Arguments.{call_arguments, further_arguments}
 use Rattle.ob0_language_types.specs.Expressions.{Meanings, designated_place, element_step, evaluate, evaluate_addends, evaluate_factor, evaluate_multipliers, evaluate_simple, evaluate_term, evaluate_selectors, object_place, object_value}
 use Rattle.ob0_language_types.specs.Typing.{lone_designator}
-use Rattle.ob0_language_values.specs.Values.{Place, Store, Value, add, add_short_circuits, at_field, value_at_path, succeeds_with, multiply, multiply_short_circuits, negate, or_stuck, value_at_step, read_place, apply_relation, apply_sign, ◌>>=◌}
+use Rattle.ob0_language_values.specs.Values.{Place, Store, Value, add, add_operator_short_circuits, at_field, value_at_path, succeeds_with, multiply, multiply_operator_short_circuits, negate, or_stuck, value_at_step, read_place, apply_relation, apply_sign, ◌>>=◌}
 
 -- returns the meanings of names, each looked up under its new name
 abbrev pub through : {N M V P : Type 0} → (N → M) → (N → M) → Meanings M V P → Meanings N V P
@@ -26,7 +26,7 @@ mutual
   pub evaluate_addends-map : {N M P : Type 0} (f h : N → M) (meaning : Meanings M Place P) (store : Store) (x : Value) (rest : Tree N (items addend)) → evaluate_addends meaning store x (map_names f h rest) ≡ evaluate_addends (through f h meaning) store x rest
   evaluate_addends-map f h meaning store x end = refl
   evaluate_addends-map f h meaning store x (more (adds o t) rest) = λ i.
-      (elim (add_short_circuits o x) [ true ↦ succeeds_with x | false ↦ evaluate_term-map f h meaning store t i >>= add o x ])
+      (elim (add_operator_short_circuits o x) [ true ↦ succeeds_with x | false ↦ evaluate_term-map f h meaning store t i >>= add o x ])
       >>= (λ y. evaluate_addends-map f h meaning store y rest i)
 
   pub evaluate_term-map : {N M P : Type 0} (f h : N → M) (meaning : Meanings M Place P) (store : Store) (t : Tree N term) → evaluate_term meaning store (map_names f h t) ≡ evaluate_term (through f h meaning) store t
@@ -36,7 +36,7 @@ mutual
   pub evaluate_multipliers-map : {N M P : Type 0} (f h : N → M) (meaning : Meanings M Place P) (store : Store) (x : Value) (rest : Tree N (items multiplier)) → evaluate_multipliers meaning store x (map_names f h rest) ≡ evaluate_multipliers (through f h meaning) store x rest
   evaluate_multipliers-map f h meaning store x end = refl
   evaluate_multipliers-map f h meaning store x (more (multiplies o a) rest) = λ i.
-      (elim (multiply_short_circuits o x) [ true ↦ succeeds_with x | false ↦ evaluate_factor-map f h meaning store a i >>= multiply o x ])
+      (elim (multiply_operator_short_circuits o x) [ true ↦ succeeds_with x | false ↦ evaluate_factor-map f h meaning store a i >>= multiply o x ])
       >>= (λ y. evaluate_multipliers-map f h meaning store y rest i)
 
   pub evaluate_factor-map : {N M P : Type 0} (f h : N → M) (meaning : Meanings M Place P) (store : Store) (a : Tree N factor) → evaluate_factor meaning store (map_names f h a) ≡ evaluate_factor (through f h meaning) store a
@@ -66,9 +66,9 @@ pub lone_designator-map : {N M : Type 0} (f h : N → M) (e : Tree N expression)
 lone_designator-map f h (compares (sum None (product (designator x path) end) end) none) = refl
 lone_designator-map f h _ = refl
 
-pub further_arguments-map : {N M : Type 0} (f h : N → M) (es : Tree N (items further_argument)) → further_arguments (map_names f h es) ≡ map (map_names f h) (further_arguments es)
+pub further_arguments-map : {N M : Type 0} (f h : N → M) (es : Tree N (items argument_after_comma)) → further_arguments (map_names f h es) ≡ map (map_names f h) (further_arguments es)
 further_arguments-map f h end = refl
-further_arguments-map f h (more (then_argument e) es) = λ i. map_names f h e ∷ further_arguments-map f h es i
+further_arguments-map f h (more (comma_then_argument e) es) = λ i. map_names f h e ∷ further_arguments-map f h es i
 
 pub arguments-map : {N M : Type 0} (f h : N → M) (es : Tree N (maybe arguments)) → call_arguments (map_names f h es) ≡ map (map_names f h) (call_arguments es)
 arguments-map f h none = refl

@@ -1,9 +1,9 @@
 -- A tree in which names are mapped has the same types and constants as the original tree, with the meanings of the new
 -- names.
 use Rattle.std.proofs.Common.{◌≡◌, ℕ, suc, ◌+◌, [], ◌∷◌, map, Some, option_map, refl, ◌∙◌}
-use Rattle.ob0_tree.specs.Tree.{Tree, addend, adds, array_type, compares, designator, end, expression, factor, field, fields, further_fields, further_name, index, integer, items, listed, more, multiplier, multiplies, named_type, names, negation, no_fields, none, one, parenthesised, product, record_type, relates, selector, simple, some_fields, sum, term, then_fields, then_name, written_type}
-use Rattle.ob0_language_names.specs.Mapping.{map_names}
-use Rattle.ob0_language_names.specs.Parts.{further_names, names_in_list}
+use Rattle.ob0_tree.specs.Tree.{Tree, addend, adds, array_type, compares, designator, end, expression, factor, field, fields, fields_after_semicolon, name_after_comma, index, integer, items, listed, more, multiplier, multiplies, named_type, names, negation, no_fields, none, one, parenthesised, product, record_type, relates, selector, simple, some_fields, sum, term, semicolon_then_fields, comma_then_name, written_type}
+use Rattle.ob0_language_names.specs.MappedNames.{map_names}
+use Rattle.ob0_language_names.specs.BlockParts.{names_after_first, names_in_list}
 use Rattle.ob0_language_types.specs.Expressions.{Meanings, a_constant, evaluate}
 use Rattle.ob0_language_types.specs.Typing.{addition_type, array_length, negation_type, constant_of, constant_value, constant_meanings, constructor_count, denoted_type, denoted_group_fields, denoted_further_fields, element_type, field_type, outcome_value, group_constructor_count, groups_constructor_count, multiplication_type, type_of_variable_or_constant, relation_type, sign_type, type_after_selectors, type_of, type_of_addends, type_of_factor, type_of_multipliers, type_of_type_object, type_of_simple, type_of_term, prepend_fields, type_within_limits, ◌>>=◌}
 use Rattle.ob0_language_values.specs.Values.{FieldShapes, Shape, array_shape, record_shape}
@@ -65,14 +65,14 @@ mutual
   group_constructor_count-map f h no_fields = refl
   group_constructor_count-map f h (some_fields ns t) = constructor_count-map f h t
 
-  pub groups_constructor_count-map : {N M : Type 0} (f h : N → M) (t : Tree N (items further_fields)) → groups_constructor_count (map_names f h t) ≡ groups_constructor_count t
+  pub groups_constructor_count-map : {N M : Type 0} (f h : N → M) (t : Tree N (items fields_after_semicolon)) → groups_constructor_count (map_names f h t) ≡ groups_constructor_count t
   groups_constructor_count-map f h end = refl
-  groups_constructor_count-map f h (more (then_fields g) rest) = λ i. group_constructor_count-map f h g i + groups_constructor_count-map f h rest i
+  groups_constructor_count-map f h (more (semicolon_then_fields g) rest) = λ i. group_constructor_count-map f h g i + groups_constructor_count-map f h rest i
 
 pub further_fields_written : {N M V P W Q : Type 0} (f h : N → M) (there : Meanings M V P) (here : Meanings N W Q) → ((x : N) → there.written (h x) ≡ here.written x)
-    → (xs : Tree N (items further_name)) → map there.written (further_names (map_names f h xs)) ≡ map here.written (further_names xs)
+    → (xs : Tree N (items name_after_comma)) → map there.written (names_after_first (map_names f h xs)) ≡ map here.written (names_after_first xs)
 further_fields_written f h there here hw end = refl
-further_fields_written f h there here hw (more (then_name x) xs) = λ i. hw x i ∷ further_fields_written f h there here hw xs i
+further_fields_written f h there here hw (more (comma_then_name x) xs) = λ i. hw x i ∷ further_fields_written f h there here hw xs i
 
 pub fields_written : {N M V P W Q : Type 0} (f h : N → M) (there : Meanings M V P) (here : Meanings N W Q) → ((x : N) → there.written (h x) ≡ here.written x)
     → (ns : Tree N names) → map there.written (names_in_list (map_names f h ns)) ≡ map here.written (names_in_list ns)
@@ -100,8 +100,8 @@ mutual
 
   pub denoted_further_fields-map : {N M V P W Q : Type 0} (f h : N → M) (there : Meanings M V P) (here : Meanings N W Q)
       → ((x : N) → constant_of (there.object_for (f x)) ≡ constant_of (here.object_for x)) → ((x : N) → type_of_type_object (there.object_for (f x)) ≡ type_of_type_object (here.object_for x)) → ((x : N) → there.written (h x) ≡ here.written x)
-      → (k : ℕ) (gs : Tree N (items further_fields)) → denoted_further_fields there k (map_names f h gs) ≡ denoted_further_fields here k gs
+      → (k : ℕ) (gs : Tree N (items fields_after_semicolon)) → denoted_further_fields there k (map_names f h gs) ≡ denoted_further_fields here k gs
   denoted_further_fields-map f h there here hc ht hw k end = refl
-  denoted_further_fields-map f h there here hc ht hw k (more (then_fields g) rest) = λ i.
+  denoted_further_fields-map f h there here hc ht hw k (more (semicolon_then_fields g) rest) = λ i.
       ((λ j. denoted_further_fields there (k + group_constructor_count-map f h g j) (map_names f h rest)) ∙ denoted_further_fields-map f h there here hc ht hw (k + group_constructor_count g) rest) i
       >>= (λ later. denoted_group_fields-map f h there here hc ht hw k later g i)

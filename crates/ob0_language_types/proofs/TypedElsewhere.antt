@@ -1,15 +1,15 @@
 -- In a well-typed tree each use of a constant is a whole factor.
 use Rattle.std.proofs.Common.{None, Option, Some, [], ap, map, option_and_then, option_map, refl, suc, sym, true, true≢false, ℕ, ◌&&◌, ◌++◌, ◌+◌, ◌∙◌, ◌∷◌, ◌≡◌}
-use Rattle.ob0_tree.specs.Tree.{Tree, addend, adds, arguments, array_type, assigns, branches, calls, compares, designator, else_branch, else_part, elsif_branch, elsif_part, empty, end, expression, factor, field, fields, further_argument, further_fields, further_statement, index, integer, item, items, maybe, more, multiplier, multiplies, named_type, negation, no_arguments, no_fields, none, one, parenthesised, product, record_type, relates, repeat_loop, runs, selector, sequence, simple, some_arguments, some_fields, statement, sum, term, then_argument, then_fields, then_statement, while_loop, written_type}
+use Rattle.ob0_tree.specs.Tree.{Tree, addend, adds, arguments, array_type, assigns, branches, calls, compares, designator, else_branch, else_part, elsif_branch, elsif_part, empty, end, expression, factor, field, fields, argument_after_comma, fields_after_semicolon, statement_after_semicolon, index, integer, item, items, maybe, more, multiplier, multiplies, named_type, negation, no_arguments, no_fields, none, one, parenthesised, product, record_type, relates, repeat_loop, runs, selector, sequence, simple, some_arguments, some_fields, statement, sum, term, comma_then_argument, semicolon_then_fields, semicolon_then_statement, while_loop, written_type}
 use Rattle.ob0_language_names.specs.NonFactorNames.{non_factor_occurrences}
 use Rattle.ob0_language_names.specs.Names.{Name}
-use Rattle.ob0_language_names.specs.Parts.{names_in_list}
+use Rattle.ob0_language_names.specs.BlockParts.{names_in_list}
 use Rattle.ob0_language_names.proofs.InliningLeavesNoUse.{NoneOf, none-of-join}
 use Rattle.ob0_language_values.specs.Values.{FieldShapes, Shape, Value, array_shape, boolean_shape, elements, integer_shape, members, number, record_shape, truth}
 use Rattle.ob0_language_types.specs.Arguments.{call_arguments, further_arguments}
-use Rattle.ob0_language_types.specs.Expressions.{Meanings, Object, a_constant, a_procedure, a_standard, a_type, a_variable, evaluate}
+use Rattle.ob0_language_types.specs.Expressions.{Meanings, Object, a_constant, a_procedure, a_standard_procedure, a_type, a_variable, evaluate}
 use Rattle.ob0_language_types.specs.Typing.{addition_type, array_length, negation_type, constant_of, constant_value, constant_meanings, denoted_type, denoted_group_fields, denoted_further_fields, lone_designator, element_type, field_type, outcome_value, group_constructor_count, multiplication_type, type_of_variable_or_constant, relation_type, sign_type, type_after_selectors, type_of, type_of_addends, type_of_factor, type_of_multipliers, type_of_type_object, type_of_simple, type_of_term, value_type, prepend_fields, type_within_limits}
-use Rattle.ob0_language_types.specs.WellTyped.{FormalParameter, Mode, Signature, TypeMeanings, same_known_shape, argument_matches, arguments_match, by_place, by_value, call_is_well_typed, condition_is_boolean, else_is_well_typed, elsifs_are_well_typed, sequence_is_well_typed, signature_of, statement_is_well_typed, further_statements_are_well_typed, variable_type}
+use Rattle.ob0_language_types.specs.WellTyped.{FormalParameter, ParameterMode, Signature, TypeMeanings, same_known_shape, argument_matches, arguments_match, by_place, by_value, call_is_well_typed, condition_is_boolean, else_is_well_typed, elsifs_are_well_typed, sequence_is_well_typed, signature_of, statement_is_well_typed, further_statements_are_well_typed, variable_type}
 use Rattle.std.proofs.lemmas.Bool.{and_parts}
 
 pub then_some : {A B : Type 0} (o : Option A) (next : A → Option B) (b : B) → option_and_then next o ≡ Some b → (a : A) × (o ≡ Some a) × (next a ≡ Some b)
@@ -120,9 +120,9 @@ mutual
   denoted_group_fields-elsewhere K meaning w c j later (some_fields ns t) fs h =
       let (s, es, h₁) = then_some (denoted_type meaning j t) (λ s. Some (prepend_fields (map meaning.written (names_in_list ns)) s later)) fs h in denoted_type-elsewhere K meaning w c j t s es
 
-  pub denoted_further_fields-elsewhere : {V P : Type 0} (K : Name → Type 0) (meaning : Meanings Name V P) (w : Value) → AreConstant K meaning w → (j : ℕ) (gs : Tree Name (items further_fields)) (fs : FieldShapes) → denoted_further_fields meaning j gs ≡ Some fs → NoneOf K (non_factor_occurrences gs)
+  pub denoted_further_fields-elsewhere : {V P : Type 0} (K : Name → Type 0) (meaning : Meanings Name V P) (w : Value) → AreConstant K meaning w → (j : ℕ) (gs : Tree Name (items fields_after_semicolon)) (fs : FieldShapes) → denoted_further_fields meaning j gs ≡ Some fs → NoneOf K (non_factor_occurrences gs)
   denoted_further_fields-elsewhere K meaning w c j end fs h = tt
-  denoted_further_fields-elsewhere K meaning w c j (more (then_fields g) rest) fs h =
+  denoted_further_fields-elsewhere K meaning w c j (more (semicolon_then_fields g) rest) fs h =
       let (later, el, h₁) = then_some (denoted_further_fields meaning (j + group_constructor_count g) rest) (λ later. denoted_group_fields meaning j later g) fs h in
       none-of-join K (non_factor_occurrences g) (non_factor_occurrences rest) (denoted_group_fields-elsewhere K meaning w c j later g fs h₁) (denoted_further_fields-elsewhere K meaning w c (j + group_constructor_count g) rest later el)
 
@@ -140,7 +140,7 @@ variable-parts meaning path (Some (a_type s)) t h = absurd (cc)
 variable-parts meaning path (Some (a_constant v)) t h = absurd (cc)
 variable-parts meaning path (Some (a_variable s)) t h = (s, refl, h)
 variable-parts meaning path (Some (a_procedure p)) t h = absurd (cc)
-variable-parts meaning path (Some (a_standard p)) t h = absurd (cc)
+variable-parts meaning path (Some (a_standard_procedure p)) t h = absurd (cc)
 
 pub variable-elsewhere : (K : Name → Type 0) (meaning : TypeMeanings Name) (w : Value) → AreConstant K meaning w → (x : Name) (path : Tree Name (items selector)) (t : Shape) → variable_type meaning (Some (x, path)) ≡ Some t → (K x → ⊥) × NoneOf K (non_factor_occurrences path)
 unfolding variable_type
@@ -160,15 +160,15 @@ pub argument-elsewhere : (K : Name → Type 0) (meaning : TypeMeanings Name) (w 
 unfolding argument_matches
 argument-elsewhere K meaning w c f e h = go f.mode h
   where
-    go : (m : Mode) → same_known_shape (Some f.shape) (elim m [ by_value ↦ type_of meaning e | by_place ↦ variable_type meaning (lone_designator e) ]) ≡ true → NoneOf K (non_factor_occurrences e)
+    go : (m : ParameterMode) → same_known_shape (Some f.shape) (elim m [ by_value ↦ type_of meaning e | by_place ↦ variable_type meaning (lone_designator e) ]) ≡ true → NoneOf K (non_factor_occurrences e)
     go by_value h = let (s, t, a, b) = same_known_shape-parts (Some f.shape) (type_of meaning e) h in type_of-elsewhere K meaning w c e t b
     go by_place h = let (s, t, a, b) = same_known_shape-parts (Some f.shape) (variable_type meaning (lone_designator e)) h in lone_designator-elsewhere K meaning w c e t b
 
-pub further-elsewhere : (K : Name → Type 0) (meaning : TypeMeanings Name) (w : Value) → AreConstant K meaning w → (fs : Signature) (es : Tree Name (items further_argument)) → arguments_match meaning fs (further_arguments es) ≡ true → NoneOf K (non_factor_occurrences es)
+pub further-elsewhere : (K : Name → Type 0) (meaning : TypeMeanings Name) (w : Value) → AreConstant K meaning w → (fs : Signature) (es : Tree Name (items argument_after_comma)) → arguments_match meaning fs (further_arguments es) ≡ true → NoneOf K (non_factor_occurrences es)
 unfolding arguments_match
 further-elsewhere K meaning w c fs end h = tt
-further-elsewhere K meaning w c [] (more (then_argument e) es) h = absurd (true≢false (sym h))
-further-elsewhere K meaning w c (f ∷ fs) (more (then_argument e) es) h =
+further-elsewhere K meaning w c [] (more (comma_then_argument e) es) h = absurd (true≢false (sym h))
+further-elsewhere K meaning w c (f ∷ fs) (more (comma_then_argument e) es) h =
     let p = and_parts (argument_matches meaning f e) (arguments_match meaning fs (further_arguments es)) h in
     none-of-join K (non_factor_occurrences e) (non_factor_occurrences es) (argument-elsewhere K meaning w c f e p.0) (further-elsewhere K meaning w c fs es p.1)
 
@@ -219,9 +219,9 @@ mutual
       let p = and_parts (statement_is_well_typed meaning a) (further_statements_are_well_typed meaning rest) h in
       none-of-join K (non_factor_occurrences a) (non_factor_occurrences rest) (statement-elsewhere K meaning w c a p.0) (statements-elsewhere K meaning w c rest p.1)
 
-  statements-elsewhere : (K : Name → Type 0) (meaning : TypeMeanings Name) (w : Value) → AreConstant K meaning w → (a : Tree Name (items further_statement)) → further_statements_are_well_typed meaning a ≡ true → NoneOf K (non_factor_occurrences a)
+  statements-elsewhere : (K : Name → Type 0) (meaning : TypeMeanings Name) (w : Value) → AreConstant K meaning w → (a : Tree Name (items statement_after_semicolon)) → further_statements_are_well_typed meaning a ≡ true → NoneOf K (non_factor_occurrences a)
   statements-elsewhere K meaning w c end h = tt
-  statements-elsewhere K meaning w c (more (then_statement a) rest) h =
+  statements-elsewhere K meaning w c (more (semicolon_then_statement a) rest) h =
       let p = and_parts (statement_is_well_typed meaning a) (further_statements_are_well_typed meaning rest) h in
       none-of-join K (non_factor_occurrences a) (non_factor_occurrences rest) (statement-elsewhere K meaning w c a p.0) (statements-elsewhere K meaning w c rest p.1)
 

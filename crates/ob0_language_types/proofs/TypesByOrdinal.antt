@@ -1,15 +1,15 @@
 -- The type check by names accepts a module exactly if the check by ordinals accepts its numbered tree.
 use Rattle.std.proofs.Common.{◌≡◌, ℕ, suc, ◌+◌, ◌<◌, ◌≤◌, Bool, true, false, ◌&&◌, List, [], ◌∷◌, ◌++◌, map, Some, None, Option, option_map, option_and_then, sym, refl, ap, ◌∙◌, subst, subst₂, le_refl, le_of_lt, arith, lit<}
-use Rattle.ob0_tree.specs.Tree.{Tree, begins, block, body, constant, declares, declares_constant, declares_procedure, declares_type, declares_variable, end, further_section, forms_block, is_module, item, items, maybe, module_text, more, none, one, procedure, section, then_section, type_definition, value_section, variable, variable_section, written_type}
-use Rattle.ob0_language_names.specs.Mapping.{map_names}
+use Rattle.ob0_tree.specs.Tree.{Tree, begins, block, body, constant, declares, declares_constant, declares_procedure, declares_type, declares_variable, end, section_after_semicolon, forms_block, forms_module, item, items, maybe, module_text, more, none, one, procedure, section, semicolon_then_section, type_definition, value_section, variable, variable_section, written_type}
+use Rattle.ob0_language_names.specs.MappedNames.{map_names}
 use Rattle.ob0_language_names.specs.Names.{Label, Naming, naming_by_label, declared, same_label}
-use Rattle.ob0_language_names.specs.Parts.{block_variables, constant_names, formal_names, formal_sections, declared_type_names, names_in_list, section_constants, parameter_section_names, parameter_section_type, section_types, section_variables, variable_names}
-use Rattle.ob0_language_names.specs.Scopes.{Labelling, Scope, ordinal_after_names, ordinal_after_procedure, label_from_ordinal, body_scope, declare_names, declare_procedure_names, first_procedure_ordinal, first_type_ordinal, first_variable_ordinal, labels_of_declared_names, label_of, ordinal_in_scope, scope_before_procedures, relabel_block, relabel_constants, relabel_formals, relabel_procedure, relabel_procedures, relabel_parameter_section, relabel_parameter_sections, relabel_types, relabel_uses, relabel_variables, relabel_module, scope_before_types, scope_before_variables}
+use Rattle.ob0_language_names.specs.BlockParts.{block_variables, constant_names, formal_names, formal_sections, declared_type_names, names_in_list, section_constants, parameter_section_names, parameter_section_type, section_types, section_variables, variable_names}
+use Rattle.ob0_language_names.specs.Scopes.{Labelling, Scope, ordinal_after_names, ordinal_after_procedure, label_from_ordinal, body_scope, declare_names, declare_procedure_names, first_procedure_ordinal, first_type_ordinal, first_variable_ordinal, labels_of_declared_names, label_of, ordinal_in_scope, scope_before_procedures, relabel_block, relabel_constants, relabel_formals, relabel_procedure, relabel_procedure_list, relabel_parameter_section, relabel_parameter_section_list, relabel_types, relabel_uses, relabel_variables, relabel_module, scope_before_types, scope_before_variables}
 use Rattle.ob0_language_names.proofs.Ordinals.{ordinal_after_names-append, declare_names-append, le-ordinal_after_procedure}
 use Rattle.ob0_language_names.proofs.Relabelled.{constants-section, formals-section, names-relabel, parameter_section_names-relabel, parameter_section_type-relabel, types-section, variables-section}
 use Rattle.ob0_language_types.specs.Declarations.{constructors_before_variables, constructors_before_procedures, declare_constants, declare_constants_and_types, declare_types, formals_constructor_count, procedure_constructor_count, types_constructor_count, variables_constructor_count}
 use Rattle.ob0_language_types.specs.Environments.{environment_from_binding, meanings, newest_object}
-use Rattle.ob0_language_types.specs.Expressions.{Object, a_constant, a_procedure, a_standard, a_type, a_variable, read_procedure, write_procedure, write_line_procedure}
+use Rattle.ob0_language_types.specs.Expressions.{Object, a_constant, a_procedure, a_standard_procedure, a_type, a_variable, read_procedure, write_procedure, write_line_procedure}
 use Rattle.ob0_language_types.specs.Typing.{constant_of, constant_value, constructor_count, denoted_type, type_of_type_object}
 use Rattle.ob0_language_values.specs.Values.{Shape, boolean_shape, integer_shape, truth}
 use Rattle.ob0_language_types.specs.WellTyped.{FormalParameter, Signature, TypeEnvironment, TypedParameter, bind_names, bind_typed_parameters, block_is_well_typed, body_is_well_typed, declare_typed_variables, passes_type_check, bind_procedure, option_satisfies, procedure_is_well_typed, procedures_are_well_typed, parameter_section_mode, sequence_is_well_typed, typed_parameters}
@@ -190,24 +190,24 @@ pub parameter_section_mode-relabel : {N M : Type 0} (naming : Naming N) (label :
 parameter_section_mode-relabel naming label scope k (value_section ns t) = refl
 parameter_section_mode-relabel naming label scope k (variable_section ns t) = refl
 
-pub parameters_typed : {N : Type 0} (naming : Naming N) (j k : ℕ) (noted : TypeNoted N) → TypedBelow k noted → (fs : Tree N (items further_section))
+pub parameters_typed : {N : Type 0} (naming : Naming N) (j k : ℕ) (noted : TypeNoted N) → TypedBelow k noted → (fs : Tree N (items section_after_semicolon))
     → Agree (λ ps. ps) (label_typed k) (λ ps. typed_names ps ≡ formal_names fs)
-    (typed_parameters naming (typed_by_name noted) j fs) (typed_parameters naming_by_label (typed_by_ordinal noted) j (relabel_parameter_sections naming (label_from_ordinal naming) (typed_scope noted) k fs))
+    (typed_parameters naming (typed_by_name noted) j fs) (typed_parameters naming_by_label (typed_by_ordinal noted) j (relabel_parameter_section_list naming (label_from_ordinal naming) (typed_scope noted) k fs))
 unfolding typed_parameters
 parameters_typed naming j k noted below end = (Some [], refl, refl, refl)
-parameters_typed {N} naming j k noted below (more (then_section f) fs) =
+parameters_typed {N} naming j k noted below (more (semicolon_then_section f) fs) =
     rw (parameter_section_type-relabel naming (label_from_ordinal naming) (typed_scope noted) k f, parameter_section_names-relabel naming (label_from_ordinal naming) (typed_scope noted) k f, parameter_section_mode-relabel naming (label_from_ordinal naming) (typed_scope noted) k f, constructor_count-map (label_of naming (label_from_ordinal naming) (typed_scope noted)) (label_from_ordinal naming None) (parameter_section_type f))
     (agree-value (λ ps. ps) (label_typed k) (λ ps. typed_names ps ≡ parameter_section_names f ++ formal_names fs)
     (λ s. option_and_then (λ rest. Some (map (typed_parameter record { mode = (parameter_section_mode f); shape = s }) (parameter_section_names f) ++ rest)) (typed_parameters naming (bind_names (parameter_section_names f) (a_variable s) (typed_by_name noted)) (j + constructor_count (parameter_section_type f)) fs))
-    (λ s. option_and_then (λ rest. Some (map (typed_parameter record { mode = (parameter_section_mode f); shape = s }) (labels_of_declared_names (label_from_ordinal naming) k (parameter_section_names f)) ++ rest)) (typed_parameters naming_by_label (bind_names (labels_of_declared_names (label_from_ordinal naming) k (parameter_section_names f)) (a_variable s) (typed_by_ordinal noted)) (j + constructor_count (parameter_section_type f)) (relabel_parameter_sections naming (label_from_ordinal naming) (declare_names k (parameter_section_names f) (typed_scope noted)) (ordinal_after_names k (parameter_section_names f)) fs)))
+    (λ s. option_and_then (λ rest. Some (map (typed_parameter record { mode = (parameter_section_mode f); shape = s }) (labels_of_declared_names (label_from_ordinal naming) k (parameter_section_names f)) ++ rest)) (typed_parameters naming_by_label (bind_names (labels_of_declared_names (label_from_ordinal naming) k (parameter_section_names f)) (a_variable s) (typed_by_ordinal noted)) (j + constructor_count (parameter_section_type f)) (relabel_parameter_section_list naming (label_from_ordinal naming) (declare_names k (parameter_section_names f) (typed_scope noted)) (ordinal_after_names k (parameter_section_names f)) fs)))
     (denoted_type (meanings naming (typed_by_name noted)) j (parameter_section_type f)) (denoted_type (meanings naming_by_label (typed_by_ordinal noted)) j (relabel_uses naming (label_from_ordinal naming) (typed_scope noted) (parameter_section_type f)))
     (denoted_type-agrees naming k noted below j (parameter_section_type f))
     (λ s. agree-then (λ ps. ps) (label_typed (ordinal_after_names k (parameter_section_names f))) (λ ps. typed_names ps ≡ formal_names fs) (λ ps. ps) (label_typed k) (λ ps. typed_names ps ≡ parameter_section_names f ++ formal_names fs)
     (λ rest. Some (map (typed_parameter record { mode = (parameter_section_mode f); shape = s }) (parameter_section_names f) ++ rest)) (λ rest. Some (map (typed_parameter record { mode = (parameter_section_mode f); shape = s }) (labels_of_declared_names (label_from_ordinal naming) k (parameter_section_names f)) ++ rest))
     (typed_parameters naming (bind_names (parameter_section_names f) (a_variable s) (typed_by_name noted)) (j + constructor_count (parameter_section_type f)) fs)
-    (typed_parameters naming_by_label (bind_names (labels_of_declared_names (label_from_ordinal naming) k (parameter_section_names f)) (a_variable s) (typed_by_ordinal noted)) (j + constructor_count (parameter_section_type f)) (relabel_parameter_sections naming (label_from_ordinal naming) (declare_names k (parameter_section_names f) (typed_scope noted)) (ordinal_after_names k (parameter_section_names f)) fs))
+    (typed_parameters naming_by_label (bind_names (labels_of_declared_names (label_from_ordinal naming) k (parameter_section_names f)) (a_variable s) (typed_by_ordinal noted)) (j + constructor_count (parameter_section_type f)) (relabel_parameter_section_list naming (label_from_ordinal naming) (declare_names k (parameter_section_names f) (typed_scope noted)) (ordinal_after_names k (parameter_section_names f)) fs))
     (typed_moved naming (λ scope a b. Agree (λ ps. ps) (label_typed (ordinal_after_names k (parameter_section_names f))) (λ ps. typed_names ps ≡ formal_names fs) (typed_parameters naming a (j + constructor_count (parameter_section_type f)) fs)
-    (typed_parameters naming_by_label b (j + constructor_count (parameter_section_type f)) (relabel_parameter_sections naming (label_from_ordinal naming) scope (ordinal_after_names k (parameter_section_names f)) fs)))
+    (typed_parameters naming_by_label b (j + constructor_count (parameter_section_type f)) (relabel_parameter_section_list naming (label_from_ordinal naming) scope (ordinal_after_names k (parameter_section_names f)) fs)))
     k (parameter_section_names f) (a_variable s) noted below
     (parameters_typed naming (j + constructor_count (parameter_section_type f)) (ordinal_after_names k (parameter_section_names f)) (noted_names k (parameter_section_names f) (a_variable s) noted) (noted_names-within k (parameter_section_names f) (a_variable s) noted below).1 fs))
     (λ rest e. (
@@ -307,29 +307,29 @@ mutual
       (declare_constants_and_types naming_by_label (typed_by_ordinal noted) j (relabel_block naming (label_from_ordinal naming) (typed_scope noted) k b)))
       (λ inner. procedures_are_well_typed naming inner (constructors_before_procedures j b) statements ps)
       (λ inner. procedures_are_well_typed naming_by_label inner (constructors_before_procedures j (relabel_block naming (label_from_ordinal naming) (typed_scope noted) k b)) (relabel_uses naming (label_from_ordinal naming) (body_scope k b (typed_scope noted)) statements)
-      (relabel_procedures naming (label_from_ordinal naming) (scope_before_procedures k b (typed_scope noted)) (first_procedure_ordinal k b) ps))
+      (relabel_procedure_list naming (label_from_ordinal naming) (scope_before_procedures k b (typed_scope noted)) (first_procedure_ordinal k b) ps))
       (declarations_typed naming j k noted below b)
       (λ inner within. (λ i. procedures_are_well_typed naming_by_label (typed_by_ordinal inner)
       (j + (ap types_constructor_count (types-section naming (label_from_ordinal naming) (scope_before_types k b (typed_scope noted)) (first_type_ordinal k b) ts) ∙ types_constructor_count-relabel naming (label_from_ordinal naming) (scope_before_types k b (typed_scope noted)) (first_type_ordinal k b) (section_types ts)) i
       + (ap variables_constructor_count (variables-section naming (label_from_ordinal naming) (scope_before_variables k b (typed_scope noted)) (first_variable_ordinal k b) vs) ∙ variables_constructor_count-relabel naming (label_from_ordinal naming) (scope_before_variables k b (typed_scope noted)) (first_variable_ordinal k b) (section_variables vs)) i)
-      (relabel_uses naming (label_from_ordinal naming) (declare_procedure_names (first_procedure_ordinal k b) ps (sym within.0 i)) statements) (relabel_procedures naming (label_from_ordinal naming) (sym within.0 i) (first_procedure_ordinal k b) ps))
+      (relabel_uses naming (label_from_ordinal naming) (declare_procedure_names (first_procedure_ordinal k b) ps (sym within.0 i)) statements) (relabel_procedure_list naming (label_from_ordinal naming) (sym within.0 i) (first_procedure_ordinal k b) ps))
       ∙ procedures_are_well_typed-agrees naming (constructors_before_procedures j b) (first_procedure_ordinal k b) inner within.1 statements ps)
 
   pub procedures_are_well_typed-agrees : {N : Type 0} (naming : Naming N) (j k : ℕ) (noted : TypeNoted N) → TypedBelow k noted → (statements : Tree N (maybe body)) (ps : Tree N (items procedure))
-      → procedures_are_well_typed naming_by_label (typed_by_ordinal noted) j (relabel_uses naming (label_from_ordinal naming) (declare_procedure_names k ps (typed_scope noted)) statements) (relabel_procedures naming (label_from_ordinal naming) (typed_scope noted) k ps)
+      → procedures_are_well_typed naming_by_label (typed_by_ordinal noted) j (relabel_uses naming (label_from_ordinal naming) (declare_procedure_names k ps (typed_scope noted)) statements) (relabel_procedure_list naming (label_from_ordinal naming) (typed_scope noted) k ps)
       ≡ procedures_are_well_typed naming (typed_by_name noted) j statements ps
   procedures_are_well_typed-agrees naming j k noted below statements end = body_is_well_typed-agrees naming k noted below statements
   procedures_are_well_typed-agrees {N} naming j k noted below statements (more (declares_procedure x fs b closing) rest) =
       let p : Tree N (item procedure) = declares_procedure x fs b closing in
       let scope : Scope N = typed_scope noted in
-      let labelled : formal_sections (relabel_formals naming (label_from_ordinal naming) scope (suc k) fs) ≡ relabel_parameter_sections naming (label_from_ordinal naming) scope (suc k) (formal_sections fs) = formals-section naming (label_from_ordinal naming) scope (suc k) fs in
+      let labelled : formal_sections (relabel_formals naming (label_from_ordinal naming) scope (suc k) fs) ≡ relabel_parameter_section_list naming (label_from_ordinal naming) scope (suc k) (formal_sections fs) = formals-section naming (label_from_ordinal naming) scope (suc k) fs in
       ap (λ gs. option_satisfies (typed_parameters naming_by_label (typed_by_ordinal noted) j gs) (λ ps. procedure_is_well_typed naming_by_label (bind_typed_parameters ps (bind_procedure (declared k) ps (typed_by_ordinal noted))) j (relabel_procedure naming (label_from_ordinal naming) scope k p)
-      && procedures_are_well_typed naming_by_label (bind_procedure (declared k) ps (typed_by_ordinal noted)) (j + procedure_constructor_count (relabel_procedure naming (label_from_ordinal naming) scope k p)) (relabel_uses naming (label_from_ordinal naming) (declare_procedure_names (ordinal_after_procedure (suc k) p) rest ((x, k) ∷ scope)) statements) (relabel_procedures naming (label_from_ordinal naming) ((x, k) ∷ scope) (ordinal_after_procedure (suc k) p) rest))) labelled
+      && procedures_are_well_typed naming_by_label (bind_procedure (declared k) ps (typed_by_ordinal noted)) (j + procedure_constructor_count (relabel_procedure naming (label_from_ordinal naming) scope k p)) (relabel_uses naming (label_from_ordinal naming) (declare_procedure_names (ordinal_after_procedure (suc k) p) rest ((x, k) ∷ scope)) statements) (relabel_procedure_list naming (label_from_ordinal naming) ((x, k) ∷ scope) (ordinal_after_procedure (suc k) p) rest))) labelled
       ∙ hold-agrees (λ ps. ps) (label_typed (suc k)) (λ ps. typed_names ps ≡ formal_names (formal_sections fs))
-      (typed_parameters naming (typed_by_name noted) j (formal_sections fs)) (typed_parameters naming_by_label (typed_by_ordinal noted) j (relabel_parameter_sections naming (label_from_ordinal naming) scope (suc k) (formal_sections fs)))
+      (typed_parameters naming (typed_by_name noted) j (formal_sections fs)) (typed_parameters naming_by_label (typed_by_ordinal noted) j (relabel_parameter_section_list naming (label_from_ordinal naming) scope (suc k) (formal_sections fs)))
       (λ ps. procedure_is_well_typed naming (bind_typed_parameters ps (bind_procedure x ps (typed_by_name noted))) j p && procedures_are_well_typed naming (bind_procedure x ps (typed_by_name noted)) (j + procedure_constructor_count p) statements rest)
       (λ ps. procedure_is_well_typed naming_by_label (bind_typed_parameters ps (bind_procedure (declared k) ps (typed_by_ordinal noted))) j (relabel_procedure naming (label_from_ordinal naming) scope k p)
-      && procedures_are_well_typed naming_by_label (bind_procedure (declared k) ps (typed_by_ordinal noted)) (j + procedure_constructor_count (relabel_procedure naming (label_from_ordinal naming) scope k p)) (relabel_uses naming (label_from_ordinal naming) (declare_procedure_names (ordinal_after_procedure (suc k) p) rest ((x, k) ∷ scope)) statements) (relabel_procedures naming (label_from_ordinal naming) ((x, k) ∷ scope) (ordinal_after_procedure (suc k) p) rest))
+      && procedures_are_well_typed naming_by_label (bind_procedure (declared k) ps (typed_by_ordinal noted)) (j + procedure_constructor_count (relabel_procedure naming (label_from_ordinal naming) scope k p)) (relabel_uses naming (label_from_ordinal naming) (declare_procedure_names (ordinal_after_procedure (suc k) p) rest ((x, k) ∷ scope)) statements) (relabel_procedure_list naming (label_from_ordinal naming) ((x, k) ∷ scope) (ordinal_after_procedure (suc k) p) rest))
       (parameters_typed naming j (suc k) noted (TypedBelow-weaken k (suc k) noted (le_of_lt (le_refl (suc k))) below) (formal_sections fs))
       (λ ps e.
       let own : TypeNoted N = record { name = x; ordinal = k; object = a_procedure (map (λ p. p.formal) ps) } ∷ noted in
@@ -340,19 +340,19 @@ mutual
       (relabel_block naming (label_from_ordinal naming) ((ap (λ xs. declare_names (suc k) xs ((x, k) ∷ scope)) (sym e) ∙ sym within.0) i) (ordinal_after_names (suc k) (sym e i)) b))
       ∙ (block_is_well_typed-agrees naming (j + formals_constructor_count (formal_sections fs)) (ordinal_after_names (suc k) (typed_names ps)) (noted_parameters (suc k) ps own) within.1 b
       ∙ sym (ap (λ env. block_is_well_typed naming env (j + formals_constructor_count (formal_sections fs)) b) (bind_typed_parameters-by_name (suc k) ps own))) in
-      let second : procedures_are_well_typed naming_by_label (bind_procedure (declared k) (label_typed (suc k) ps) (typed_by_ordinal noted)) (j + procedure_constructor_count (relabel_procedure naming (label_from_ordinal naming) scope k p)) (relabel_uses naming (label_from_ordinal naming) (declare_procedure_names (ordinal_after_procedure (suc k) p) rest ((x, k) ∷ scope)) statements) (relabel_procedures naming (label_from_ordinal naming) ((x, k) ∷ scope) (ordinal_after_procedure (suc k) p) rest)
+      let second : procedures_are_well_typed naming_by_label (bind_procedure (declared k) (label_typed (suc k) ps) (typed_by_ordinal noted)) (j + procedure_constructor_count (relabel_procedure naming (label_from_ordinal naming) scope k p)) (relabel_uses naming (label_from_ordinal naming) (declare_procedure_names (ordinal_after_procedure (suc k) p) rest ((x, k) ∷ scope)) statements) (relabel_procedure_list naming (label_from_ordinal naming) ((x, k) ∷ scope) (ordinal_after_procedure (suc k) p) rest)
       ≡ procedures_are_well_typed naming (bind_procedure x ps (typed_by_name noted)) (j + procedure_constructor_count p) statements rest =
-      (λ i. procedures_are_well_typed naming_by_label ((declared k, a_procedure (label_typed-formals (suc k) ps i)) ∷ typed_by_ordinal noted) (j + procedure_constructor_count-relabel naming (label_from_ordinal naming) scope k p i) (relabel_uses naming (label_from_ordinal naming) (declare_procedure_names (ordinal_after_procedure (suc k) p) rest ((x, k) ∷ scope)) statements) (relabel_procedures naming (label_from_ordinal naming) ((x, k) ∷ scope) (ordinal_after_procedure (suc k) p) rest))
+      (λ i. procedures_are_well_typed naming_by_label ((declared k, a_procedure (label_typed-formals (suc k) ps i)) ∷ typed_by_ordinal noted) (j + procedure_constructor_count-relabel naming (label_from_ordinal naming) scope k p i) (relabel_uses naming (label_from_ordinal naming) (declare_procedure_names (ordinal_after_procedure (suc k) p) rest ((x, k) ∷ scope)) statements) (relabel_procedure_list naming (label_from_ordinal naming) ((x, k) ∷ scope) (ordinal_after_procedure (suc k) p) rest))
       ∙ procedures_are_well_typed-agrees naming (j + procedure_constructor_count p) (ordinal_after_procedure (suc k) p) own (le-ordinal_after_procedure (suc k) p, below) statements rest in
       λ i. first i && second i)
 
 abbrev pub typed_outermost : {N : Type 0} → Naming N → TypeNoted N
 typed_outermost naming =
-    record { name = naming.predeclared 6; ordinal = 6; object = a_standard write_line_procedure } ∷ record { name = naming.predeclared 5; ordinal = 5; object = a_standard write_procedure } ∷ record { name = naming.predeclared 4; ordinal = 4; object = a_standard read_procedure }
+    record { name = naming.predeclared 6; ordinal = 6; object = a_standard_procedure write_line_procedure } ∷ record { name = naming.predeclared 5; ordinal = 5; object = a_standard_procedure write_procedure } ∷ record { name = naming.predeclared 4; ordinal = 4; object = a_standard_procedure read_procedure }
     ∷ record { name = naming.predeclared 3; ordinal = 3; object = a_constant (truth false) } ∷ record { name = naming.predeclared 2; ordinal = 2; object = a_constant (truth true) }
     ∷ record { name = naming.predeclared 1; ordinal = 1; object = a_type boolean_shape } ∷ record { name = naming.predeclared 0; ordinal = 0; object = a_type integer_shape } ∷ []
 
 pub fits-relabel : {N : Type 0} (naming : Naming N) (m : Tree N module_text) → passes_type_check naming_by_label (relabel_module naming (label_from_ordinal naming) m) ≡ passes_type_check naming m
 unfolding passes_type_check
-fits-relabel naming (is_module x b closing) =
+fits-relabel naming (forms_module x b closing) =
     block_is_well_typed-agrees naming 0 7 (typed_outermost naming) (lit< tt, (lit< tt, (lit< tt, (lit< tt, (lit< tt, (lit< tt, (lit< tt, tt))))))) b

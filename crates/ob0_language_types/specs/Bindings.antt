@@ -4,9 +4,9 @@
 use Rattle.std.specs.Prelude.{ℕ, ◌+◌, ◌-◌, List, [], ◌++◌, length, take, Some, None, Option}
 use Rattle.ob0_tree.specs.Tree.{Tree, block, declares, declares_procedure, end, forms_block, item, items, module_text, more, procedure}
 use Rattle.ob0_language_names.specs.Names.{Label, Name, Naming, naming_by_label, declared}
-use Rattle.ob0_language_names.specs.Parts.{formal_sections, module_block}
+use Rattle.ob0_language_names.specs.BlockParts.{formal_sections, module_block}
 use Rattle.ob0_language_names.specs.Scopes.{numbered}
-use Rattle.ob0_language_types.specs.Declaring.{declare_block, declare_procedure}
+use Rattle.ob0_language_types.specs.BlockDeclarations.{declare_block, declare_procedure}
 use Rattle.ob0_language_types.specs.Declarations.{constructors_before_procedures, formals_constructor_count, procedure_constructor_count}
 use Rattle.ob0_language_types.specs.Environments.{environment_from_binding, newest_object, outermost_environment}
 use Rattle.ob0_language_types.specs.Expressions.{Object, a_variable}

@@ -3,10 +3,10 @@
 use Rattle.std.specs.Prelude.{◌≡◌, ℕ, ◌+◌, List, [], ◌∷◌, ◌++◌, Some, All}
 use Rattle.ob0_tree.specs.Tree.{Tree, block, body, declares, declares_procedure, end, forms_block, item, items, maybe, module_text, more, procedure}
 use Rattle.ob0_language_names.specs.Names.{Label, Name, Naming, naming_by_label}
-use Rattle.ob0_language_names.specs.Parts.{formal_sections, module_block, procedure_formals, procedure_name}
+use Rattle.ob0_language_names.specs.BlockParts.{formal_sections, module_block, procedure_formals, procedure_name}
 use Rattle.ob0_language_names.specs.Scopes.{numbered}
 use Rattle.ob0_language_types.specs.Bindings.{declared_object, list_if_some, object_of_ordinal}
-use Rattle.ob0_language_types.specs.Declaring.{declare_block}
+use Rattle.ob0_language_types.specs.BlockDeclarations.{declare_block}
 use Rattle.ob0_language_types.specs.Declarations.{constructors_before_procedures, formals_constructor_count, procedure_constructor_count}
 use Rattle.ob0_language_types.specs.Environments.{outermost_environment}
 use Rattle.ob0_language_types.specs.Expressions.{Object}

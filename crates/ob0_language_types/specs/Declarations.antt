@@ -2,9 +2,9 @@
 -- Also the numbers of words ARRAY and RECORD in declarations.
 -- Rule: docs/LANGUAGE.md, Scopes 2, Types 1.
 use Rattle.std.specs.Prelude.{ℕ, ◌+◌, ◌∷◌, Some, Option}
-use Rattle.ob0_tree.specs.Tree.{Tree, block, constant, declares, declares_constant, declares_procedure, declares_type, declares_variable, end, further_section, forms_block, item, items, more, procedure, then_section, type_definition, variable}
+use Rattle.ob0_tree.specs.Tree.{Tree, block, constant, declares, declares_constant, declares_procedure, declares_type, declares_variable, end, section_after_semicolon, forms_block, item, items, more, procedure, semicolon_then_section, type_definition, variable}
 use Rattle.ob0_language_names.specs.Names.{Naming}
-use Rattle.ob0_language_names.specs.Parts.{block_constants, block_types, block_variables, formal_sections, procedure_formals, parameter_section_type, section_types, section_variables}
+use Rattle.ob0_language_names.specs.BlockParts.{block_constants, block_types, block_variables, formal_sections, procedure_formals, parameter_section_type, section_types, section_variables}
 use Rattle.ob0_language_types.specs.Environments.{Environment, meanings}
 use Rattle.ob0_language_types.specs.Expressions.{a_constant, a_type}
 use Rattle.ob0_language_types.specs.Typing.{constant_value, constructor_count, denoted_type, ◌>>=◌}
@@ -64,9 +64,9 @@ variables_constructor_count (more (declares_variable ns u) gs) =
     constructor_count u + variables_constructor_count gs
 
 -- returns the number of words ARRAY and RECORD in the types of formal parameters
-abbrev pub formals_constructor_count : {N : Type 0} → Tree N (items further_section) → ℕ
+abbrev pub formals_constructor_count : {N : Type 0} → Tree N (items section_after_semicolon) → ℕ
 formals_constructor_count end = 0
-formals_constructor_count (more (then_section f) fs) =
+formals_constructor_count (more (semicolon_then_section f) fs) =
     constructor_count (parameter_section_type f) + formals_constructor_count fs
 
 -- Returns the number of words ARRAY and RECORD in a block, including its procedures.

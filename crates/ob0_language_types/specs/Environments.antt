@@ -2,7 +2,7 @@
 -- Rule: docs/LANGUAGE.md, Scopes 4.
 use Rattle.std.specs.Prelude.{true, false, List, [], ◌∷◌, Some, None, Option}
 use Rattle.ob0_language_names.specs.Names.{Naming}
-use Rattle.ob0_language_types.specs.Expressions.{Meanings, Object, a_constant, a_standard, a_type, read_procedure, write_procedure, write_line_procedure}
+use Rattle.ob0_language_types.specs.Expressions.{Meanings, Object, a_constant, a_standard_procedure, a_type, read_procedure, write_procedure, write_line_procedure}
 use Rattle.ob0_language_values.specs.Values.{boolean_shape, integer_shape, truth}
 
 -- a list of bindings of names to objects, newest first, the predeclared names last
@@ -30,9 +30,9 @@ meanings naming env =
 -- returns the environment of the outermost block: INTEGER, BOOLEAN, TRUE, FALSE, Read, Write and WriteLn
 abbrev pub outermost_environment : {N V P : Type 0} → Naming N → Environment N V P
 outermost_environment naming =
-    (naming.predeclared 6, a_standard write_line_procedure)
-    ∷ (naming.predeclared 5, a_standard write_procedure)
-    ∷ (naming.predeclared 4, a_standard read_procedure)
+    (naming.predeclared 6, a_standard_procedure write_line_procedure)
+    ∷ (naming.predeclared 5, a_standard_procedure write_procedure)
+    ∷ (naming.predeclared 4, a_standard_procedure read_procedure)
     ∷ (naming.predeclared 3, a_constant (truth false))
     ∷ (naming.predeclared 2, a_constant (truth true))
     ∷ (naming.predeclared 1, a_type boolean_shape)

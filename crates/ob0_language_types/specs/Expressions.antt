@@ -4,7 +4,7 @@
 use Rattle.std.specs.Prelude.{true, false, List, [], ◌∷◌, ◌++◌, pos, negsuc, if◌then◌else◌, nat_lt, Some, Option}
 use Rattle.ob0_tree.specs.Tree.{Tree, addend, adds, compares, designator, end, expression, factor, field, index, integer, items, more, multiplier, multiplies, negation, none, one, parenthesised, product, relates, selector, simple, sum, term}
 use Rattle.ob0_language_names.specs.Names.{Name}
-use Rattle.ob0_language_values.specs.Values.{Index, Outcome, Place, Shape, Step, Store, Stuck, Value, add, add_short_circuits, at_field, at_index, value_at_path, count_values, elements, ends_run_with, succeeds_with, multiply, multiply_short_circuits, negate, number, or_stuck, value_at_step, read_place, apply_relation, apply_sign, ◌>>=◌}
+use Rattle.ob0_language_values.specs.Values.{Index, Outcome, Place, Shape, Step, Store, Stuck, Value, add, add_operator_short_circuits, at_field, at_index, value_at_path, count_values, elements, ends_run_with, succeeds_with, multiply, multiply_operator_short_circuits, negate, number, or_stuck, value_at_step, read_place, apply_relation, apply_sign, ◌>>=◌}
 
 -- the standard procedures: Read, Write and WriteLn
 pub data StandardProcedure : Type 0 where
@@ -17,7 +17,7 @@ pub data Object (V P : Type 0) : Type 0 where
   a_constant : Value → Object V P
   a_variable : V → Object V P
   a_procedure : P → Object V P
-  a_standard : StandardProcedure → Object V P
+  a_standard_procedure : StandardProcedure → Object V P
 
 -- The meanings of names at a place in the text. `object_for` returns the object that a name means, or None if the name
 -- is unbound. `written` returns a name's spelling, which is used to look up fields.
@@ -71,7 +71,7 @@ unfoldable mutual
       → Outcome Value
   evaluate_addends meaning store x end = succeeds_with x
   evaluate_addends meaning store x (more (adds o t) rest) = do
-    y ← elim (add_short_circuits o x)
+    y ← elim (add_operator_short_circuits o x)
         [ true ↦ succeeds_with x | false ↦ evaluate_term meaning store t >>= add o x ]
     evaluate_addends meaning store y rest
 
@@ -91,7 +91,7 @@ unfoldable mutual
       → Outcome Value
   evaluate_multipliers meaning store x end = succeeds_with x
   evaluate_multipliers meaning store x (more (multiplies o f) rest) = do
-    y ← elim (multiply_short_circuits o x)
+    y ← elim (multiply_operator_short_circuits o x)
         [ true ↦ succeeds_with x | false ↦ evaluate_factor meaning store f >>= multiply o x ]
     evaluate_multipliers meaning store y rest
 

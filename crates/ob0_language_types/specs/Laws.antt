@@ -11,7 +11,7 @@ use Rattle.ob0_language_types.specs.Expressions.{Meanings, a_constant, evaluate,
 use Rattle.ob0_language_types.specs.Typing.{constant_of, constant_value, type_of, type_of_factor, value_type}
 use Rattle.ob0_language_values.specs.Values.{Place, Store, Value, succeeds_with}
 use Rattle.ob0_language_names.specs.ConsistentNames.{has_consistent_names}
-use Rattle.ob0_language_types.specs.WellTyped.{Mode, TypeMeanings, WellTyped, passes_type_check}
+use Rattle.ob0_language_types.specs.WellTyped.{ParameterMode, TypeMeanings, WellTyped, passes_type_check}
 
 -- States that the type check by names accepts a module exactly if the type check by ordinals accepts the module's
 -- numbered tree. In this tree, each bound name is replaced by the ordinal of its declaration.
@@ -34,7 +34,7 @@ NumberedTreeDecidesTyping =
 -- the checker must mean the same constant in the run. Each name must also have the same spelling in both.
 abbrev pub ConstantsHaveSameValueInRunAndChecker : Type 0
 ConstantsHaveSameValueInRunAndChecker =
-    (checked : TypeMeanings Name) (active : Meanings Name Place (List Mode)) (store : Store)
+    (checked : TypeMeanings Name) (active : Meanings Name Place (List ParameterMode)) (store : Store)
     (e : Tree Name expression) (v : Value)
     → ((x : Name) → checked.written x ≡ active.written x)
     → ((x : Name) (w : Value)
@@ -53,7 +53,7 @@ EachUseHas uses P k (x ∷ xs) = (uses k ≡ true → P x) × EachUseHas uses P 
 -- text order.
 abbrev pub InliningKeepsEvaluation : Type 0
 InliningKeepsEvaluation =
-    (meaning : Meanings Name Place (List Mode)) (store : Store) (uses : OccurrenceSet) (v : Tree Name factor)
+    (meaning : Meanings Name Place (List ParameterMode)) (store : Store) (uses : OccurrenceSet) (v : Tree Name factor)
     (w : Value) (k : ℕ) (e : Tree Name expression)
     → evaluate_factor meaning store v ≡ succeeds_with w
     → EachUseHas uses (λ x. meaning.object_for x ≡ Some (a_constant w)) k (occurrences e)

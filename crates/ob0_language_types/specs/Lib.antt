@@ -6,9 +6,9 @@ pub mod Declarations
 pub mod WellTyped
 pub mod Written
 pub mod Laws
-pub mod Selected
+pub mod DesignatorSelectors
 pub mod EditLaws
 pub mod ConstantValues
-pub mod Declaring
+pub mod BlockDeclarations
 pub mod Bindings
 pub mod Bodies

@@ -10,9 +10,9 @@ use Rattle.ob0_tree.specs.declared.tree.AddOperator.{AddOperator}
 use Rattle.ob0_tree.specs.declared.tree.AddOperator.TheVariants as add_operator
 use Rattle.ob0_tree.specs.declared.tree.MultiplyOperator.{MultiplyOperator}
 use Rattle.ob0_tree.specs.declared.tree.MultiplyOperator.TheVariants as multiply_operator
-use Rattle.ob0_tree.specs.Tree.{Tree, addend, adds, array_type, compares, designator, end, expression, factor, field, fields, further_fields, index, integer, items, more, multiplier, multiplies, named_type, negation, no_fields, none, one, parenthesised, product, record_type, relates, selector, simple, some_fields, sum, term, then_fields, written_type}
+use Rattle.ob0_tree.specs.Tree.{Tree, addend, adds, array_type, compares, designator, end, expression, factor, field, fields, fields_after_semicolon, index, integer, items, more, multiplier, multiplies, named_type, negation, no_fields, none, one, parenthesised, product, record_type, relates, selector, simple, some_fields, sum, term, semicolon_then_fields, written_type}
 use Rattle.ob0_language_names.specs.Names.{Name, same_name}
-use Rattle.ob0_language_names.specs.Parts.{names_in_list}
+use Rattle.ob0_language_names.specs.BlockParts.{names_in_list}
 use Rattle.ob0_language_types.specs.Expressions.{Meanings, Object, a_constant, a_type, a_variable, evaluate}
 use Rattle.ob0_language_values.specs.Values.{FieldShapes, Outcome, Shape, Value, array_shape, boolean_shape, ends_run_with, succeeds_with, integer_shape, next_field_shape, no_field_shape, number, record_shape, truth}
 
@@ -197,8 +197,8 @@ abbrev pub max_scalars : ℕ
 max_scalars = 65536
 
 -- the greatest depth to which arrays and records may be nested
-abbrev pub max_depth : ℕ
-max_depth = 100
+abbrev pub max_type_depth : ℕ
+max_type_depth = 100
 
 -- returns the length of an array, given the value of its length expression; None if this value isn't a number from 1 to
 -- 65,536
@@ -241,7 +241,7 @@ abbrev mutual
 -- otherwise None
 abbrev pub type_within_limits : Shape → Option Shape
 type_within_limits s =
-    if nat_le (scalars s) max_scalars && nat_le (depth s) max_depth then Some s else None
+    if nat_le (scalars s) max_scalars && nat_le (depth s) max_type_depth then Some s else None
 
 -- Returns the number of words ARRAY and RECORD in a type's text.
 abbrev mutual
@@ -258,9 +258,9 @@ abbrev mutual
   group_constructor_count (some_fields ns t) = constructor_count t
 
   -- returns the number of words ARRAY and RECORD in the groups of fields after the first group
-  pub groups_constructor_count : {N : Type 0} → Tree N (items further_fields) → ℕ
+  pub groups_constructor_count : {N : Type 0} → Tree N (items fields_after_semicolon) → ℕ
   groups_constructor_count end = 0
-  groups_constructor_count (more (then_fields g) rest) = group_constructor_count g + groups_constructor_count rest
+  groups_constructor_count (more (semicolon_then_fields g) rest) = group_constructor_count g + groups_constructor_count rest
 
 -- returns the type that a type's name means; None for any other object
 abbrev pub type_of_type_object : {V P : Type 0} → Option (Object V P) → Option Shape
@@ -309,10 +309,10 @@ unfoldable mutual
   pub denoted_further_fields : {N V P : Type 0}
       → Meanings N V P
       → ℕ
-      → Tree N (items further_fields)
+      → Tree N (items fields_after_semicolon)
       → Option FieldShapes
   denoted_further_fields meaning k end = Some no_field_shape
-  denoted_further_fields meaning k (more (then_fields g) rest) = do
+  denoted_further_fields meaning k (more (semicolon_then_fields g) rest) = do
     later ← denoted_further_fields meaning (k + group_constructor_count g) rest
     denoted_group_fields meaning k later g
 

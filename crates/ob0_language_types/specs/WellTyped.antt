@@ -1,14 +1,14 @@
 -- Valid modules: the type checks of statements, declarations, blocks and modules.
 -- Rule: docs/LANGUAGE.md, Types 8.
 use Rattle.std.specs.Prelude.{ℕ, ◌+◌, Bool, true, false, ◌&&◌, List, [], ◌∷◌, ◌++◌, map, IsTrue, ◌==◌, Some, None, Option}
-use Rattle.ob0_tree.specs.Tree.{Tree, assigns, begins, block, body, branches, calls, declares, declares_procedure, declares_variable, else_branch, else_part, elsif_branch, elsif_part, empty, end, expression, further_section, further_statement, forms_block, item, items, maybe, module_text, more, none, one, procedure, repeat_loop, runs, section, selector, sequence, statement, then_section, then_statement, value_section, variable, variable_section, while_loop}
+use Rattle.ob0_tree.specs.Tree.{Tree, assigns, begins, block, body, branches, calls, declares, declares_procedure, declares_variable, else_branch, else_part, elsif_branch, elsif_part, empty, end, expression, section_after_semicolon, statement_after_semicolon, forms_block, item, items, maybe, module_text, more, none, one, procedure, repeat_loop, runs, section, selector, sequence, statement, semicolon_then_section, semicolon_then_statement, value_section, variable, variable_section, while_loop}
 use Rattle.ob0_language_names.specs.ConsistentNames.{has_consistent_names}
 use Rattle.ob0_language_names.specs.Names.{Name, Naming, naming_by_spelling, same_name}
-use Rattle.ob0_language_names.specs.Parts.{formal_sections, module_block, names_in_list, procedure_formals, procedure_name, parameter_section_names, parameter_section_type, section_variables}
+use Rattle.ob0_language_names.specs.BlockParts.{formal_sections, module_block, names_in_list, procedure_formals, procedure_name, parameter_section_names, parameter_section_type, section_variables}
 use Rattle.ob0_language_types.specs.Arguments.{call_arguments}
 use Rattle.ob0_language_types.specs.Declarations.{constructors_before_variables, constructors_before_procedures, declare_constants_and_types, formals_constructor_count, procedure_constructor_count}
 use Rattle.ob0_language_types.specs.Environments.{Environment, meanings, outermost_environment}
-use Rattle.ob0_language_types.specs.Expressions.{Meanings, Object, a_procedure, a_standard, a_variable, read_procedure, write_procedure, write_line_procedure}
+use Rattle.ob0_language_types.specs.Expressions.{Meanings, Object, a_procedure, a_standard_procedure, a_variable, read_procedure, write_procedure, write_line_procedure}
 use Rattle.ob0_language_types.specs.Typing.{constructor_count, denoted_type, lone_designator, type_after_selectors, type_of, ◌>>=◌}
 use Rattle.ob0_language_values.specs.Values.{FieldShapes, Shape, array_shape, boolean_shape, integer_shape, next_field_shape, no_field_shape, record_shape}
 
@@ -32,17 +32,17 @@ abbrev mutual
 
 -- the mode of a parameter: a VAR parameter gets the place of its argument, any other parameter gets the argument's
 -- value
-pub data Mode : Type 0 where
-  by_value by_place : Mode
+pub data ParameterMode : Type 0 where
+  by_value by_place : ParameterMode
 
 -- returns the mode of a section of parameters: by place if the section begins with VAR, otherwise by value
-abbrev pub parameter_section_mode : {N : Type 0} → Tree N section → Mode
+abbrev pub parameter_section_mode : {N : Type 0} → Tree N section → ParameterMode
 parameter_section_mode (value_section ns t) = by_value
 parameter_section_mode (variable_section ns t) = by_place
 
 -- a formal parameter: its mode and its type
 pub record FormalParameter : Type 0 where
-  pub mode : Mode
+  pub mode : ParameterMode
   pub shape : Shape
 
 -- the modes and types of a procedure's parameters
@@ -78,11 +78,11 @@ variable_type meaning (Some (x, path)) =
 -- returns the signature of a procedure or a standard procedure; None for any other object
 abbrev pub signature_of : Option (Object Shape Signature) → Option Signature
 signature_of (Some (a_procedure signature)) = Some signature
-signature_of (Some (a_standard read_procedure)) =
+signature_of (Some (a_standard_procedure read_procedure)) =
     Some (record { mode = by_place; shape = integer_shape } ∷ [])
-signature_of (Some (a_standard write_procedure)) =
+signature_of (Some (a_standard_procedure write_procedure)) =
     Some (record { mode = by_value; shape = integer_shape } ∷ [])
-signature_of (Some (a_standard write_line_procedure)) = Some []
+signature_of (Some (a_standard_procedure write_line_procedure)) = Some []
 signature_of _ = None
 
 -- Returns whether an argument has its parameter's type. For a VAR parameter, the argument must also be a variable or
@@ -150,9 +150,9 @@ unfoldable mutual
   sequence_is_well_typed meaning (runs a rest) = statement_is_well_typed meaning a && further_statements_are_well_typed meaning rest
 
   -- returns whether each statement of a sequence after the first one is well-typed
-  pub further_statements_are_well_typed : {N : Type 0} → TypeMeanings N → Tree N (items further_statement) → Bool
+  pub further_statements_are_well_typed : {N : Type 0} → TypeMeanings N → Tree N (items statement_after_semicolon) → Bool
   further_statements_are_well_typed meaning end = true
-  further_statements_are_well_typed meaning (more (then_statement a) rest) =
+  further_statements_are_well_typed meaning (more (semicolon_then_statement a) rest) =
       statement_is_well_typed meaning a && further_statements_are_well_typed meaning rest
 
   -- returns whether the condition and the statements of each ELSIF part are well-typed
@@ -202,11 +202,11 @@ unfoldable pub typed_parameters : {N : Type 0}
     → Naming N
     → TypeEnvironment N
     → ℕ
-    → Tree N (items further_section)
+    → Tree N (items section_after_semicolon)
     → Option (List (TypedParameter N))
 unfolding denoted_type
 typed_parameters naming env k end = Some []
-typed_parameters naming env k (more (then_section f) fs) = do
+typed_parameters naming env k (more (semicolon_then_section f) fs) = do
   s ← denoted_type (meanings naming env) k (parameter_section_type f)
   rest ← typed_parameters naming (bind_names (parameter_section_names f) (a_variable s) env)
       (k + constructor_count (parameter_section_type f)) fs

@@ -4,7 +4,7 @@ use Rattle.std.specs.Prelude.{suc, true, false, ℤ, pos, negsuc, if◌then◌el
 use Rattle.ob0_tree.specs.declared.tree.Sign.TheVariants as sign
 use Rattle.ob0_tree.specs.declared.tree.AddOperator.TheVariants as add_operator
 use Rattle.ob0_tree.specs.Tree.{Tree, adds, compares, designator, end, factor, integer, more, none, parenthesised, product, sum}
-use Rattle.ob0_scan.specs.Classes.{max_integer}
+use Rattle.ob0_scan.specs.LexemeClasses.{max_integer}
 use Rattle.ob0_language_names.specs.Names.{Name}
 use Rattle.ob0_language_values.specs.Values.{Value, number, truth}
 

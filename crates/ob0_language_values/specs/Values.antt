@@ -102,14 +102,14 @@ multiply multiply_operator.And (truth a) (truth b) = succeeds_with (truth (a && 
 multiply _ _ _ = ends_run_with Stuck
 
 -- returns whether the operator is OR and the left operand is TRUE; the right operand isn't evaluated then
-abbrev pub add_short_circuits : AddOperator → Value → Bool
-add_short_circuits add_operator.Or (truth true) = true
-add_short_circuits _ _ = false
+abbrev pub add_operator_short_circuits : AddOperator → Value → Bool
+add_operator_short_circuits add_operator.Or (truth true) = true
+add_operator_short_circuits _ _ = false
 
 -- returns whether the operator is `&` and the left operand is FALSE; the right operand isn't evaluated then
-abbrev pub multiply_short_circuits : MultiplyOperator → Value → Bool
-multiply_short_circuits multiply_operator.And (truth false) = true
-multiply_short_circuits _ _ = false
+abbrev pub multiply_operator_short_circuits : MultiplyOperator → Value → Bool
+multiply_operator_short_circuits multiply_operator.And (truth false) = true
+multiply_operator_short_circuits _ _ = false
 
 -- returns whether two truth values are equal
 abbrev pub same_truth : Bool → Bool → Bool

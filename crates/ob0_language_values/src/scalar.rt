@@ -1,7 +1,7 @@
 //! Numbers and truth values, and the operators on them (Wirth, Compiler Construction, Oberon-0).
 
 ghost use Rattle.std.specs.Prelude.{◌≡◌};
-ghost use Rattle.ob0_language_values.specs.Values.{add, add_short_circuits, compare_numbers, division_outcome, checked_number, multiply, multiply_short_circuits, negate, number, apply_relation, apply_sign, truth};
+ghost use Rattle.ob0_language_values.specs.Values.{add, add_operator_short_circuits, compare_numbers, division_outcome, checked_number, multiply, multiply_operator_short_circuits, negate, number, apply_relation, apply_sign, truth};
 ghost use Rattle.ob0_language_values.specs.Scalars.{number_outcome, scalar_outcome, scalar_value};
 ghost use Rattle.ob0_tree.specs.declared.tree.MultiplyOperator.TheVariants.{Divide, Modulo};
 
@@ -76,19 +76,23 @@ pub fn add(operator: AddOperator, left: Scalar, right: Scalar) -> Result<Scalar,
 {
     match left {
         Scalar::Number(a) => match right {
-            Scalar::Number(b) => add_numbers(operator, a, b),
+            Scalar::Number(b) => apply_add_operator_to_numbers(operator, a, b),
             Scalar::Truth(_) => Err(OperatorFault::Operand),
         },
         Scalar::Truth(a) => match right {
             Scalar::Number(_) => Err(OperatorFault::Operand),
-            Scalar::Truth(b) => add_truths(operator, a, b),
+            Scalar::Truth(b) => apply_add_operator_to_truths(operator, a, b),
         },
     }
 }
 
 /// Returns `a + b` or `a - b`. Returns the error `Overflow` if the result doesn't fit in 32 bits,
 /// and the error `Operand` if the operator is OR.
-fn add_numbers(operator: AddOperator, a: i32, b: i32) -> Result<Scalar, OperatorFault>
+fn apply_add_operator_to_numbers(
+    operator: AddOperator,
+    a: i32,
+    b: i32,
+) -> Result<Scalar, OperatorFault>
     ensures { scalar_outcome result ≡ add operator (number a) (number b) }
 {
     match operator {
@@ -99,7 +103,11 @@ fn add_numbers(operator: AddOperator, a: i32, b: i32) -> Result<Scalar, Operator
 }
 
 /// Returns `a OR b`. Returns the error `Operand` if the operator is `+` or `-`.
-fn add_truths(operator: AddOperator, a: bool, b: bool) -> Result<Scalar, OperatorFault>
+fn apply_add_operator_to_truths(
+    operator: AddOperator,
+    a: bool,
+    b: bool,
+) -> Result<Scalar, OperatorFault>
     ensures { scalar_outcome result ≡ add operator (truth a) (truth b) }
 {
     match operator {
@@ -125,19 +133,23 @@ pub fn multiply(
 {
     match left {
         Scalar::Number(a) => match right {
-            Scalar::Number(b) => multiply_numbers(operator, a, b),
+            Scalar::Number(b) => apply_multiply_operator_to_numbers(operator, a, b),
             Scalar::Truth(_) => Err(OperatorFault::Operand),
         },
         Scalar::Truth(a) => match right {
             Scalar::Number(_) => Err(OperatorFault::Operand),
-            Scalar::Truth(b) => multiply_truths(operator, a, b),
+            Scalar::Truth(b) => apply_multiply_operator_to_truths(operator, a, b),
         },
     }
 }
 
 /// Returns `a * b`, `a DIV b` or `a MOD b`. Returns the error `Overflow` if the result doesn't fit
 /// in 32 bits. Returns `Divisor` if the divisor is below 1, and `Operand` if the operator is `&`.
-fn multiply_numbers(operator: MultiplyOperator, a: i32, b: i32) -> Result<Scalar, OperatorFault>
+fn apply_multiply_operator_to_numbers(
+    operator: MultiplyOperator,
+    a: i32,
+    b: i32,
+) -> Result<Scalar, OperatorFault>
     ensures { scalar_outcome result ≡ multiply operator (number a) (number b) }
 {
     match operator {
@@ -149,7 +161,11 @@ fn multiply_numbers(operator: MultiplyOperator, a: i32, b: i32) -> Result<Scalar
 }
 
 /// Returns `a & b`. Returns the error `Operand` if the operator is `*`, DIV or MOD.
-fn multiply_truths(operator: MultiplyOperator, a: bool, b: bool) -> Result<Scalar, OperatorFault>
+fn apply_multiply_operator_to_truths(
+    operator: MultiplyOperator,
+    a: bool,
+    b: bool,
+) -> Result<Scalar, OperatorFault>
     ensures { scalar_outcome result ≡ multiply operator (truth a) (truth b) }
 {
     match operator {
@@ -162,8 +178,8 @@ fn multiply_truths(operator: MultiplyOperator, a: bool, b: bool) -> Result<Scala
 
 /// Returns whether the operator is OR and the left operand is TRUE. The right operand isn't
 /// evaluated then.
-pub fn add_short_circuits(operator: AddOperator, left: Scalar) -> bool
-    ensures { result ≡ add_short_circuits operator (scalar_value left) }
+pub fn add_operator_short_circuits(operator: AddOperator, left: Scalar) -> bool
+    ensures { result ≡ add_operator_short_circuits operator (scalar_value left) }
 {
     match operator {
         AddOperator::Add => false,
@@ -177,8 +193,8 @@ pub fn add_short_circuits(operator: AddOperator, left: Scalar) -> bool
 
 /// Returns whether the operator is `&` and the left operand is FALSE. The right operand isn't
 /// evaluated then.
-pub fn multiply_short_circuits(operator: MultiplyOperator, left: Scalar) -> bool
-    ensures { result ≡ multiply_short_circuits operator (scalar_value left) }
+pub fn multiply_operator_short_circuits(operator: MultiplyOperator, left: Scalar) -> bool
+    ensures { result ≡ multiply_operator_short_circuits operator (scalar_value left) }
 {
     match operator {
         MultiplyOperator::Multiply => false,
@@ -206,7 +222,7 @@ pub fn apply_relation(
 {
     match left {
         Scalar::Number(a) => match right {
-            Scalar::Number(b) => Ok(Scalar::Truth(compare(relation, a, b))),
+            Scalar::Number(b) => Ok(Scalar::Truth(compare_numbers(relation, a, b))),
             Scalar::Truth(_) => Err(OperatorFault::Operand),
         },
         Scalar::Truth(a) => match right {
@@ -217,7 +233,7 @@ pub fn apply_relation(
 }
 
 /// Returns whether the relation holds between the numbers `a` and `b`, in this order.
-fn compare(relation: Relation, a: i32, b: i32) -> bool
+fn compare_numbers(relation: Relation, a: i32, b: i32) -> bool
     ensures { result ≡ compare_numbers relation a b }
 {
     match relation {

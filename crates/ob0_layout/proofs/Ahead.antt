@@ -22,14 +22,14 @@ use Rattle.ob0_scan.specs.TextWithTokens.{TextWithTokens, IsScan, span_from, tok
 use Rattle.ob0_scan.proofs.Cuts.{nonempty}
 use Rattle.ob0_scan.proofs.Spans.{LexemesFrom, next_from}
 use Rattle.ob0_layout.specs.declared.gap.Gap.{Gap}
-use Rattle.ob0_layout.specs.declared.sites.GapSite.{GapSite}
-use Rattle.ob0_layout.specs.declared.sites.TokenOrComment.{TokenOrComment}
-use Rattle.ob0_layout.specs.declared.sites.TokenOrComment.TheVariants as next
-use Rattle.ob0_layout.specs.declared.sites.KindAndRole.{KindAndRole}
+use Rattle.ob0_layout.specs.declared.gap_sites.GapSite.{GapSite}
+use Rattle.ob0_layout.specs.declared.gap_sites.TokenOrComment.{TokenOrComment}
+use Rattle.ob0_layout.specs.declared.gap_sites.TokenOrComment.TheVariants as next
+use Rattle.ob0_layout.specs.declared.gap_sites.KindAndRole.{KindAndRole}
 use Rattle.ob0_layout.specs.declared.line_role.LineRole.{LineRole}
-use Rattle.ob0_layout.specs.Cuts.{changed_sites, gap_before, gap_cut, last_gap, next_token_or_comment}
+use Rattle.ob0_layout.specs.Cuts.{gap_sites_to_change, gap_before, gap_cut, gap_at_text_end, next_token_or_comment}
 use Rattle.ob0_layout.specs.Gaps.{all_gaps, changed_gaps, gaps_of_lexemes, gaps_after, formatting_changes_gap}
-use Rattle.ob0_layout.specs.Layout.{LexemeWithRole, lexemes_with_roles, next_line_level, next_line_role, contains_line_break, comment_role, gap_text_between, indentation}
+use Rattle.ob0_layout.specs.Layout.{LexemeWithRole, lexemes_with_roles, next_token_line_level, next_token_role, contains_line_break, comment_role, gap_text_between, indentation}
 use Rattle.ob0_layout.proofs.Apart.{IsSolid}
 
 break_append : (xs ys : List ℕ) → contains_line_break (xs ++ ys) ≡ (contains_line_break xs || contains_line_break ys)
@@ -200,16 +200,16 @@ module _ (indent : Indent) (text : List ℕ) where
   one_gap None start b bs = ap (λ cs. record { from = start; to = b.span.start; new = [] } ∷ cs) (sym (same_after b bs))
   one_gap (Some a) start b bs = ap (λ cs. gap_cut indent (make_site start b.span.start (gap_before (Some a) b.lexeme.kind b.role)) ∷ cs) (sym (same_after b bs))
 
-  final_gap : (before : Option KindAndRole) (start : ℕ) → gap_cut indent (make_site start (length text) (last_gap before)) ∷ [] ≡ gaps_left before start []
+  final_gap : (before : Option KindAndRole) (start : ℕ) → gap_cut indent (make_site start (length text) (gap_at_text_end before)) ∷ [] ≡ gaps_left before start []
   final_gap None start = refl
   final_gap (Some a) start = ap (λ xs. record { from = start; to = length text; new = 10 ∷ xs } ∷ []) (no_indent indent)
 
   -- Adding one more gap to the list adds it to the changed gaps if it changes.
   one_more : (out : List GapSite) (g : GapSite) (cs : List Cut)
-      → map (gap_cut indent) (out ++ changed_sites indent text (g ∷ [])) ++ changed_gaps text cs ≡ map (gap_cut indent) out ++ changed_gaps text (gap_cut indent g ∷ cs)
+      → map (gap_cut indent) (out ++ gap_sites_to_change indent text (g ∷ [])) ++ changed_gaps text cs ≡ map (gap_cut indent) out ++ changed_gaps text (gap_cut indent g ∷ cs)
   one_more out g cs =
-      ap (λ xs. xs ++ changed_gaps text cs) (map-append (gap_cut indent) out (changed_sites indent text (g ∷ [])))
-      ∙ append_assoc (map (gap_cut indent) out) (map (gap_cut indent) (changed_sites indent text (g ∷ []))) (changed_gaps text cs)
+      ap (λ xs. xs ++ changed_gaps text cs) (map-append (gap_cut indent) out (gap_sites_to_change indent text (g ∷ [])))
+      ∙ append_assoc (map (gap_cut indent) out) (map (gap_cut indent) (gap_sites_to_change indent text (g ∷ []))) (changed_gaps text cs)
       ∙ ap (λ xs. map (gap_cut indent) out ++ xs) (by_test (formatting_changes_gap text (gap_cut indent g)))
     where
       by_test : (b : Bool) → map (gap_cut indent) (cond b (g ∷ []) []) ++ changed_gaps text cs ≡ cond b (gap_cut indent g ∷ changed_gaps text cs) (changed_gaps text cs)
@@ -250,7 +250,7 @@ module _ (indent : Indent) (text : List ℕ) where
 
   module _ (whole : List Cut) (left : List Token) (comments : List Span) (ss : List LineRole) (before : Option KindAndRole) (level start : ℕ) (out : List GapSite) where
     abbrev with_gap : ℕ → Gap → List GapSite
-    with_gap end g = out ++ changed_sites indent text (make_site start end g ∷ [])
+    with_gap end g = out ++ gap_sites_to_change indent text (make_site start end g ∷ [])
 
     -- states that the pass moves over a token or comment
     pub record Passes (kind : LexemeKind) (span : Span) (role : LineRole) (left' : List Token) (comments' : List Span) (ss' : List LineRole) (level' : ℕ) : Type 0 where
@@ -260,18 +260,18 @@ module _ (indent : Indent) (text : List ℕ) where
       pub after : Passing whole left' comments' ss' (Some (make_solid kind role)) level' span.end (with_gap span.start (gap_before before kind role))
 
     abbrev role_at : Span → LineRole
-    role_at span = comment_role (is_none before || contains_line_break (slice_range text start span.start)) (next_line_level level ss)
+    role_at span = comment_role (is_none before || contains_line_break (slice_range text start span.start)) (next_token_line_level level ss)
 
     abbrev Goes : Option TokenOrComment → Type 0
-    Goes None = (start ≤ length text) × (map (gap_cut indent) (with_gap (length text) (last_gap before)) ≡ changed_gaps text whole)
+    Goes None = (start ≤ length text) × (map (gap_cut indent) (with_gap (length text) (gap_at_text_end before)) ≡ changed_gaps text whole)
     Goes (Some (next.Comment span)) = Passes lexeme.Comment span (role_at span) left (drop 1 comments) ss level
-    Goes (Some (next.Token token)) = Passes (lexeme.Token token.kind) token.span (next_line_role ss) (drop 1 left) comments (drop 1 ss) (next_line_level level ss)
+    Goes (Some (next.Token token)) = Passes (lexeme.Token token.kind) token.span (next_token_role ss) (drop 1 left) comments (drop 1 ss) (next_token_line_level level ss)
 
     module _ (h : Passing whole left comments ss before level start out) where
       ends : NoMore text start h.rest → Goes None
       ends n = (
         n.up,
-        sym (append-nil _) ∙ one_more out (make_site start (length text) (last_gap before)) []
+        sym (append-nil _) ∙ one_more out (make_site start (length text) (gap_at_text_end before)) []
             ∙ ap (λ cs. map (gap_cut indent) out ++ changed_gaps text cs) (final_gap before start ∙ ap (gaps_left before start) (sym (n.none level (is_none before) ss)))
             ∙ h.same,
       )
@@ -307,7 +307,7 @@ module _ (indent : Indent) (text : List ℕ) where
       passes_kind lexeme.Comment place t ls solid up s tokens others found =
           passes lexeme.Comment place t ls (role_at (span_from place (length t))) left (drop 1 comments) ss level up s tokens (ap (drop 1) others) found
       passes_kind (lexeme.Token k) place t ls solid up s tokens others found =
-          passes (lexeme.Token k) place t ls (next_line_role ss) (drop 1 left) comments (drop 1 ss) (next_line_level level ss) up s (ap (drop 1) tokens) others found
+          passes (lexeme.Token k) place t ls (next_token_role ss) (drop 1 left) comments (drop 1 ss) (next_token_line_level level ss) up s (ap (drop 1) tokens) others found
 
       goes : Goes (next_token_or_comment left comments)
       goes = elim (ahead text start h.rest h.from_there) [
@@ -321,8 +321,8 @@ module _ (indent : Indent) (text : List ℕ) where
       pub at_comment : (span : Span) → next_token_or_comment left comments ≡ Some (next.Comment span) → Passes lexeme.Comment span (role_at span) left (drop 1 comments) ss level
       at_comment span e = subst Goes e goes
 
-      pub at_token : (token : Token) → next_token_or_comment left comments ≡ Some (next.Token token) → Passes (lexeme.Token token.kind) token.span (next_line_role ss) (drop 1 left) comments (drop 1 ss) (next_line_level level ss)
+      pub at_token : (token : Token) → next_token_or_comment left comments ≡ Some (next.Token token) → Passes (lexeme.Token token.kind) token.span (next_token_role ss) (drop 1 left) comments (drop 1 ss) (next_token_line_level level ss)
       at_token token e = subst Goes e goes
 
-      pub at_end : next_token_or_comment left comments ≡ None → (start ≤ length text) × (map (gap_cut indent) (with_gap (length text) (last_gap before)) ≡ changed_gaps text whole)
+      pub at_end : next_token_or_comment left comments ≡ None → (start ≤ length text) × (map (gap_cut indent) (with_gap (length text) (gap_at_text_end before)) ≡ changed_gaps text whole)
       at_end e = subst Goes e goes

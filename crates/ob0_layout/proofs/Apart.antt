@@ -13,9 +13,9 @@ use Rattle.ob0_scan.specs.declared.lexeme.TokenKind.{TokenKind}
 use Rattle.ob0_scan.specs.declared.lexeme.TokenKind.TheVariants as token
 use Rattle.ob0_scan.specs.declared.lexeme.LexemeKind.{LexemeKind}
 use Rattle.ob0_scan.specs.declared.lexeme.LexemeKind.TheVariants as lexeme
-use Rattle.ob0_scan.specs.Classes.{symbol_text, is_white_space, IsNonEmptySequenceOf, IsLexemeOfKind}
+use Rattle.ob0_scan.specs.LexemeClasses.{symbol_text, is_white_space, IsNonEmptySequenceOf, IsLexemeOfKind}
 use Rattle.ob0_scan.specs.Lexed.{Lexeme, text_of_lexemes}
-use Rattle.ob0_scan.specs.Ends.{continues_symbol, continues_lexeme, EachLexemeEndsBeforeNext}
+use Rattle.ob0_scan.specs.LexemeEnds.{continues_symbol, continues_lexeme, EachLexemeEndsBeforeNext}
 use Rattle.ob0_scan.specs.TextWithTokens.{span_from, words_of_lexemes}
 use Rattle.ob0_scan.proofs.Families.{Family, Blank, Letter, Digit, family, family_of, family-blank, head_family}
 use Rattle.ob0_scan.proofs.Families as families
@@ -28,9 +28,9 @@ use Rattle.ob0_tree.specs.Tree.{Sort, Tree, spell}
 use Rattle.ob0_layout.proofs.Named.{named_lexeme}
 use Rattle.ob0_layout.specs.declared.gap.Gap.TheVariants.{Nothing, Space}
 use Rattle.ob0_layout.specs.declared.line_role.LineRole.{LineRole}
-use Rattle.ob0_layout.specs.declared.line_role.LineRole.TheVariants.{Begins, Opening, Joining, Plain}
+use Rattle.ob0_layout.specs.declared.line_role.LineRole.TheVariants.{BeginsLine, OpensParameters, JoinsNextToken, Plain}
 use Rattle.ob0_layout.specs.LineRoles.{line_roles}
-use Rattle.ob0_layout.specs.Layout.{LexemeWithRole, lexemes_with_roles, next_line_level, next_line_role, contains_line_break, comment_role, is_comment, has_no_space_before, has_no_space_after, indentation, gap_text_between, gap_between, gap_in_line, gap_text, optional_white_space_lexeme, lexemes_with_formatted_gaps_after, lexemes_with_formatted_gaps, formatted_lexemes}
+use Rattle.ob0_layout.specs.Layout.{LexemeWithRole, lexemes_with_roles, next_token_line_level, next_token_role, contains_line_break, comment_role, is_comment, has_no_space_before, has_no_space_after, indentation, gap_text_between, gap_between, gap_in_line, gap_text, optional_white_space_lexeme, lexemes_with_formatted_gaps_after, lexemes_with_formatted_gaps, formatted_lexemes}
 use Rattle.ob0_layout.proofs.Pairs.{Calm, calm_next, calm_paren, is_paren, is_star, calm_spelled}
 
 -- holds if a lexeme is a token or comment
@@ -164,9 +164,9 @@ gap_in_line_fits indent a b n = in_line_fits indent a b n _ _ refl refl
 
 gap_between_fits : (indent : Indent) (a : LexemeWithRole) (l : Lexeme) (u : Span) (s : LineRole) → Neighbours a (record { lexeme = l; span = u; role = s })
     → Fits a.lexeme.kind (get_or l.text 0 0) (gap_text indent (gap_between a.lexeme.kind a.role l.kind s))
-gap_between_fits indent a l u (Begins level) n = line_fits a.lexeme.kind (get_or l.text 0 0) indent level
-gap_between_fits indent a l u Opening n = gap_in_line_fits indent a (record { lexeme = l; span = u; role = Opening }) n
-gap_between_fits indent a l u Joining n = gap_in_line_fits indent a (record { lexeme = l; span = u; role = Joining }) n
+gap_between_fits indent a l u (BeginsLine level) n = line_fits a.lexeme.kind (get_or l.text 0 0) indent level
+gap_between_fits indent a l u OpensParameters n = gap_in_line_fits indent a (record { lexeme = l; span = u; role = OpensParameters }) n
+gap_between_fits indent a l u JoinsNextToken n = gap_in_line_fits indent a (record { lexeme = l; span = u; role = JoinsNextToken }) n
 gap_between_fits indent a l u Plain n = gap_in_line_fits indent a (record { lexeme = l; span = u; role = Plain }) n
 
 gap_fits : (indent : Indent) (a b : LexemeWithRole) → Neighbours a b → Fits a.lexeme.kind (get_or b.lexeme.text 0 0) (gap_text_between indent a b)
@@ -211,17 +211,17 @@ Spread indent ls = (at level : ℕ) (broken : Bool) (ss : List LineRole) (a : Le
 
 comment_spread : (indent : Indent) (text : List ℕ) (ls : List Lexeme) → Spread indent ls → Spread indent (record { kind = lexeme.Comment; text = text } ∷ ls)
 comment_spread indent text ls rest at level broken ss a solid h after calm apart =
-    let c : LexemeWithRole = record { lexeme = record { kind = lexeme.Comment; text = text }; span = span_from at (length text); role = comment_role broken (next_line_level level ss) } in
+    let c : LexemeWithRole = record { lexeme = record { kind = lexeme.Comment; text = text }; span = span_from at (length text); role = comment_role broken (next_token_line_level level ss) } in
     let n : Neighbours a c = record { left = solid; right = tt; right_belongs = apart.0.belongs; starless = λ paren uncommented. absurd (differ (sym uncommented)) } in
     fits_apart a c (lexemes_with_formatted_gaps_after indent c (lexemes_with_roles (at + length text) level false ss ls)) (gap_text_between indent a c) n h (gap_fits indent a c n)
     (rest (at + length text) level false ss c tt apart.0.belongs (λ e. cc) calm apart.1)
 
 token_spread : (indent : Indent) (k : TokenKind) (text : List ℕ) (ls : List Lexeme) → Spread indent ls → Spread indent (record { kind = lexeme.Token k; text = text } ∷ ls)
 token_spread indent k text ls rest at level broken ss a solid h after calm apart =
-    let t : LexemeWithRole = record { lexeme = record { kind = lexeme.Token k; text = text }; span = span_from at (length text); role = next_line_role ss } in
+    let t : LexemeWithRole = record { lexeme = record { kind = lexeme.Token k; text = text }; span = span_from at (length text); role = next_token_role ss } in
     let n : Neighbours a t = record { left = solid; right = tt; right_belongs = apart.0.belongs; starless = λ paren uncommented. token_first k text apart.0.belongs (after paren) } in
-    fits_apart a t (lexemes_with_formatted_gaps_after indent t (lexemes_with_roles (at + length text) (next_line_level level ss) false (drop 1 ss) ls)) (gap_text_between indent a t) n h (gap_fits indent a t n)
-    (rest (at + length text) (next_line_level level ss) false (drop 1 ss) t tt apart.0.belongs (λ e. calm_first calm (paren_of k text e)) (calm_following calm) apart.1)
+    fits_apart a t (lexemes_with_formatted_gaps_after indent t (lexemes_with_roles (at + length text) (next_token_line_level level ss) false (drop 1 ss) ls)) (gap_text_between indent a t) n h (gap_fits indent a t n)
+    (rest (at + length text) (next_token_line_level level ss) false (drop 1 ss) t tt apart.0.belongs (λ e. calm_first calm (paren_of k text e)) (calm_following calm) apart.1)
 
 kind_spread : (indent : Indent) (k : LexemeKind) (text : List ℕ) (ls : List Lexeme) → Spread indent ls → Spread indent (record { kind = k; text = text } ∷ ls)
 kind_spread indent lexeme.Space text ls rest = λ at level broken ss a solid h after calm apart. rest (at + length text) level (broken || contains_line_break text) ss a solid h after calm apart.1
@@ -244,11 +244,11 @@ FirstSpread indent ls = (at level : ℕ) (broken : Bool) (ss : List LineRole) �
 kind_first_spread : (indent : Indent) (k : LexemeKind) (text : List ℕ) (ls : List Lexeme) → FirstSpread indent ls → FirstSpread indent (record { kind = k; text = text } ∷ ls)
 kind_first_spread indent lexeme.Space text ls rest = λ at level broken ss calm apart. rest (at + length text) level (broken || contains_line_break text) ss calm apart.1
 kind_first_spread indent lexeme.Comment text ls rest = λ at level broken ss calm apart.
-    let c : LexemeWithRole = record { lexeme = record { kind = lexeme.Comment; text = text }; span = span_from at (length text); role = comment_role broken (next_line_level level ss) } in
+    let c : LexemeWithRole = record { lexeme = record { kind = lexeme.Comment; text = text }; span = span_from at (length text); role = comment_role broken (next_token_line_level level ss) } in
     following_spread indent ls (at + length text) level false ss c tt apart.0.belongs (λ e. cc) calm apart.1
 kind_first_spread indent (lexeme.Token k) text ls rest = λ at level broken ss calm apart.
-    let t : LexemeWithRole = record { lexeme = record { kind = lexeme.Token k; text = text }; span = span_from at (length text); role = next_line_role ss } in
-    following_spread indent ls (at + length text) (next_line_level level ss) false (drop 1 ss) t tt apart.0.belongs (λ e. calm_first calm (paren_of k text e)) (calm_following calm) apart.1
+    let t : LexemeWithRole = record { lexeme = record { kind = lexeme.Token k; text = text }; span = span_from at (length text); role = next_token_role ss } in
+    following_spread indent ls (at + length text) (next_token_line_level level ss) false (drop 1 ss) t tt apart.0.belongs (λ e. calm_first calm (paren_of k text e)) (calm_following calm) apart.1
 
 first_spread : (indent : Indent) (ls : List Lexeme) → FirstSpread indent ls
 first_spread indent [] = λ at level broken ss calm apart. tt

@@ -8,14 +8,14 @@ use Rattle.ob0_text.specs.declared.position_types.Range.{Range}
 use Rattle.ob0_text.specs.declared.position_types.Unit as counting
 use Rattle.ob0_text.specs.Texts.{position_of}
 use Rattle.ob0_text.specs.Units.{width_of}
-use Rattle.ob0_edits_tokens.specs.ByteCuts.{edit_at_cut}
-use Rattle.ob0_edits_tokens.specs.Replaced.{range_and_text}
-use Rattle.ob0_layout.specs.declared.sites.GapSite.{GapSite}
+use Rattle.ob0_edits_tokens.specs.ByteCuts.{edit_of_cut}
+use Rattle.ob0_edits_tokens.specs.Replacements.{range_and_text}
+use Rattle.ob0_layout.specs.declared.gap_sites.GapSite.{GapSite}
 use Rattle.ob0_layout.specs.Cuts.{gap_cut}
 
 -- returns the edit of a gap that the code found
 abbrev pub edit_of_site : counting.Unit → List ℕ → Indent → GapSite → Range × List ℕ
-edit_of_site unit content indent g = edit_at_cut unit content (gap_cut indent g)
+edit_of_site unit content indent g = edit_of_cut unit content (gap_cut indent g)
 
 module _ (unit : counting.Unit) (content : List ℕ) (gs : List GapSite) (i : ℕ) (low : i < length gs) (d : GapSite) where
   pub position_at : (part : GapSite → ℕ) (offsets : List ℕ) (ps : List Position) (p : Position) → ps ≡ map (position_of (width_of unit) content) offsets → offsets ≡ map part gs → get_or ps i p ≡ position_of (width_of unit) content (part (get_or gs i d))

@@ -6,7 +6,7 @@ use Rattle.std.specs.List.{AllPass}
 use Rattle.std.specs.Str.{IsUtf8}
 use Rattle.std.proofs.lemmas.List.{take_at}
 use Rattle.std.proofs.lemmas.List.Elements.{All-append, All-nil}
-use Rattle.ob0_scan.specs.Classes.{is_white_space}
+use Rattle.ob0_scan.specs.LexemeClasses.{is_white_space}
 use Rattle.ob0_scan.specs.declared.lexeme.LexemeKind.{LexemeKind}
 use Rattle.ob0_scan.specs.declared.lexeme.LexemeKind.TheVariants as lexeme
 use Rattle.ob0_scan.specs.Lexed.{Lexeme, text_of_lexemes}
@@ -14,7 +14,7 @@ use Rattle.ob0_scan.specs.TextWithTokens.{TextWithTokens, IsScan, text_in_span, 
 use Rattle.ob0_edits_tokens.proofs.Borders.{IsBorder, IsRest, next_rest, scan_rest}
 use Rattle.ob0_edits_tokens.proofs.TextCuts.{none_taken, two_parts}
 use Rattle.ob0_layout.specs.declared.line_role.LineRole.{LineRole}
-use Rattle.ob0_layout.specs.Layout.{LexemeWithRole, lexemes_with_roles, next_line_level, next_line_role, contains_line_break, comment_role}
+use Rattle.ob0_layout.specs.Layout.{LexemeWithRole, lexemes_with_roles, next_token_line_level, next_token_role, contains_line_break, comment_role}
 
 abbrev pub White : List ℕ → Type 0
 White = AllPass is_white_space
@@ -72,8 +72,8 @@ module _ (text : List ℕ) (u : IsUtf8 text) where
   placed_kind : (k : LexemeKind) (at : ℕ) (t : List ℕ) (ls : List Lexeme) → IsRest text at (record { kind = k; text = t } ∷ ls) → Placed (at + length t) ls → Placed at (record { kind = k; text = t } ∷ ls)
   placed_kind lexeme.Space at t ls s more = λ from level broken ss up start white.
       more from level (broken || contains_line_break t) ss (omega (arith, up)) start (longer from at t (text_of_lexemes ls) up s.whole white s.apart.0.belongs.all)
-  placed_kind lexeme.Comment at t ls s more = λ from level broken ss. placed_solid lexeme.Comment at t ls s more (comment_role broken (next_line_level level ss)) from level ss
-  placed_kind (lexeme.Token k) at t ls s more = λ from level broken ss. placed_solid (lexeme.Token k) at t ls s more (next_line_role ss) from (next_line_level level ss) (drop 1 ss)
+  placed_kind lexeme.Comment at t ls s more = λ from level broken ss. placed_solid lexeme.Comment at t ls s more (comment_role broken (next_token_line_level level ss)) from level ss
+  placed_kind (lexeme.Token k) at t ls s more = λ from level broken ss. placed_solid (lexeme.Token k) at t ls s more (next_token_role ss) from (next_token_line_level level ss) (drop 1 ss)
 
   placed_from : (rest : List Lexeme) (at : ℕ) → IsRest text at rest → Placed at rest
   unfolding AreIn

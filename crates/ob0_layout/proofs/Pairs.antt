@@ -11,7 +11,7 @@ use Rattle.ob0_tree.specs.declared.tree.MultiplyOperator.{MultiplyOperator}
 use Rattle.ob0_tree.specs.declared.tree.MultiplyOperator.TheVariants as multiply_operator
 use Rattle.ob0_scan.specs.declared.lexeme.TokenKind.TheVariants as kind
 use Rattle.ob0_tree.specs.Lexeme.{Terminal, WordOrSymbol, relation_token_kind, sign_tokens, add_operator_token_kind, multiply_operator_token_kind}
-use Rattle.ob0_tree.specs.Tree.{Sort, Tree, expression, simple, term, factor, section, names, spell, one, more, compares, relates, sum, adds, product, multiplies, designator, integer, parenthesised, negation, field, index, assigns, calls, branches, while_loop, repeat_loop, no_arguments, some_arguments, then_argument, runs, then_statement, elsif_branch, else_branch, listed, then_name, named_type, array_type, record_type, some_fields, then_fields, no_formals, some_formals, value_section, variable_section, then_section, declares_constant, declares_constants, declares_type, declares_types, declares_variable, declares_variables, declares_procedure, declares, begins, forms_block, is_module}
+use Rattle.ob0_tree.specs.Tree.{Sort, Tree, expression, simple, term, factor, section, names, spell, one, more, compares, relates, sum, adds, product, multiplies, designator, integer, parenthesised, negation, field, index, assigns, calls, branches, while_loop, repeat_loop, no_arguments, some_arguments, comma_then_argument, runs, semicolon_then_statement, elsif_branch, else_branch, listed, comma_then_name, named_type, array_type, record_type, some_fields, semicolon_then_fields, no_formals, some_formals, value_section, variable_section, semicolon_then_section, declares_constant, declares_const_section, declares_type, declares_type_section, declares_variable, declares_var_section, declares_procedure, declares, begins, forms_block, forms_module}
 
 abbrev pub is_paren : {N : Type 0} → Terminal N → Bool
 is_paren (WordOrSymbol (kind.Symbol symbol.LeftParen)) = true
@@ -109,32 +109,32 @@ calm_spelled (while_loop condition s) = calm_next refl (calm_append (calm_spelle
 calm_spelled (repeat_loop s condition) = calm_next refl (calm_append (calm_spelled s) (calm_next refl (calm_spelled condition)))
 calm_spelled no_arguments = calm_paren refl (calm_next refl calm_end)
 calm_spelled (some_arguments e es) = calm_open _ (starts_append _ (expression_starts e)) (calm_append (calm_spelled e) (calm_append (calm_spelled es) (calm_next refl calm_end)))
-calm_spelled (then_argument e) = calm_next refl (calm_spelled e)
+calm_spelled (comma_then_argument e) = calm_next refl (calm_spelled e)
 calm_spelled (runs first statements) = calm_append (calm_spelled first) (calm_spelled statements)
-calm_spelled (then_statement s) = calm_next refl (calm_spelled s)
+calm_spelled (semicolon_then_statement s) = calm_next refl (calm_spelled s)
 calm_spelled (elsif_branch condition s) = calm_next refl (calm_append (calm_spelled condition) (calm_next refl (calm_spelled s)))
 calm_spelled (else_branch s) = calm_next refl (calm_spelled s)
 calm_spelled (listed name others) = calm_next refl (calm_spelled others)
-calm_spelled (then_name name) = calm_next refl (calm_next refl calm_end)
+calm_spelled (comma_then_name name) = calm_next refl (calm_next refl calm_end)
 calm_spelled (named_type name) = calm_next refl calm_end
 calm_spelled (array_type size t) = calm_next refl (calm_append (calm_spelled size) (calm_next refl (calm_spelled t)))
 calm_spelled (record_type first others) = calm_next refl (calm_append (calm_spelled first) (calm_append (calm_spelled others) (calm_next refl calm_end)))
 calm_spelled (some_fields ns t) = calm_append (calm_spelled ns) (calm_next refl (calm_spelled t))
-calm_spelled (then_fields f) = calm_next refl (calm_spelled f)
+calm_spelled (semicolon_then_fields f) = calm_next refl (calm_spelled f)
 calm_spelled no_formals = calm_paren refl (calm_next refl calm_end)
 calm_spelled (some_formals first others) = calm_open _ (starts_append _ (section_starts first)) (calm_append (calm_spelled first) (calm_append (calm_spelled others) (calm_next refl calm_end)))
 calm_spelled (value_section ns t) = calm_append (calm_spelled ns) (calm_next refl (calm_spelled t))
 calm_spelled (variable_section ns t) = calm_next refl (calm_append (calm_spelled ns) (calm_next refl (calm_spelled t)))
-calm_spelled (then_section s) = calm_next refl (calm_spelled s)
+calm_spelled (semicolon_then_section s) = calm_next refl (calm_spelled s)
 calm_spelled (declares_constant name e) = calm_next refl (calm_next refl (calm_append (calm_spelled e) (calm_next refl calm_end)))
-calm_spelled (declares_constants cs) = calm_next refl (calm_spelled cs)
+calm_spelled (declares_const_section cs) = calm_next refl (calm_spelled cs)
 calm_spelled (declares_type name t) = calm_next refl (calm_next refl (calm_append (calm_spelled t) (calm_next refl calm_end)))
-calm_spelled (declares_types ts) = calm_next refl (calm_spelled ts)
+calm_spelled (declares_type_section ts) = calm_next refl (calm_spelled ts)
 calm_spelled (declares_variable ns t) = calm_append (calm_spelled ns) (calm_next refl (calm_append (calm_spelled t) (calm_next refl calm_end)))
-calm_spelled (declares_variables vs) = calm_next refl (calm_spelled vs)
+calm_spelled (declares_var_section vs) = calm_next refl (calm_spelled vs)
 calm_spelled (declares_procedure name fs b closing) = calm_next refl (calm_next refl (calm_append (calm_spelled fs) (calm_next refl (calm_append (calm_spelled b) (calm_next refl (calm_next refl (calm_next refl calm_end)))))))
 calm_spelled (declares cs ts vs ps) = calm_append (calm_spelled cs) (calm_append (calm_spelled ts) (calm_append (calm_spelled vs) (calm_spelled ps)))
 calm_spelled (begins s) = calm_next refl (calm_spelled s)
 calm_spelled (forms_block ds b) = calm_append (calm_spelled ds) (calm_spelled b)
-calm_spelled (is_module name b closing) = calm_next refl (calm_next refl (calm_next refl (calm_append (calm_spelled b) (calm_next refl (calm_next refl (calm_next refl calm_end))))))
+calm_spelled (forms_module name b closing) = calm_next refl (calm_next refl (calm_next refl (calm_append (calm_spelled b) (calm_next refl (calm_next refl (calm_next refl calm_end))))))
 calm_spelled _ = calm_end

@@ -10,10 +10,10 @@ use Rattle.ob0_text.specs.Patches.{Cut}
 use Rattle.ob0_layout.specs.declared.gap.Gap.{Gap}
 use Rattle.ob0_layout.specs.declared.gap.Gap.TheVariants.{Nothing, Line}
 use Rattle.ob0_layout.specs.declared.line_role.LineRole.{LineRole}
-use Rattle.ob0_layout.specs.declared.sites.GapSite.{GapSite}
-use Rattle.ob0_layout.specs.declared.sites.TokenOrComment.{TokenOrComment}
-use Rattle.ob0_layout.specs.declared.sites.TokenOrComment.TheVariants as next
-use Rattle.ob0_layout.specs.declared.sites.KindAndRole.{KindAndRole}
+use Rattle.ob0_layout.specs.declared.gap_sites.GapSite.{GapSite}
+use Rattle.ob0_layout.specs.declared.gap_sites.TokenOrComment.{TokenOrComment}
+use Rattle.ob0_layout.specs.declared.gap_sites.TokenOrComment.TheVariants as next
+use Rattle.ob0_layout.specs.declared.gap_sites.KindAndRole.{KindAndRole}
 use Rattle.ob0_layout.specs.Gaps.{formatting_changes_gap}
 use Rattle.ob0_layout.specs.Layout.{gap_between, gap_text}
 
@@ -35,17 +35,17 @@ gap_before (Some b) kind role = gap_between b.kind b.role kind role
 
 -- Returns the formatted gap at the end of the text: a line feed after the last token or comment. If
 -- the text has no token or comment (None), the gap is empty.
-abbrev pub last_gap : Option KindAndRole → Gap
-last_gap None = Nothing
-last_gap (Some b) = Line 0
+abbrev pub gap_at_text_end : Option KindAndRole → Gap
+gap_at_text_end None = Nothing
+gap_at_text_end (Some b) = Line 0
 
 -- Returns the cut (a replacement of a range of bytes) that replaces a gap by its formatted text.
 abbrev pub gap_cut : Indent → GapSite → Cut
 gap_cut indent g = record { from = g.start; to = g.end; new = gap_text indent g.gap }
 
 -- Returns the gaps among `gs` that formatting changes, in the same order.
-abbrev pub changed_sites : Indent → List ℕ → List GapSite → List GapSite
-changed_sites indent text gs = filter (λ (g : GapSite). formatting_changes_gap text (gap_cut indent g)) gs
+abbrev pub gap_sites_to_change : Indent → List ℕ → List GapSite → List GapSite
+gap_sites_to_change indent text gs = filter (λ (g : GapSite). formatting_changes_gap text (gap_cut indent g)) gs
 
 -- States that the gap `g` lies in a text of `len` bytes: its start isn't after its end, and its end
 -- is at most `len`.

@@ -2,7 +2,7 @@
 -- Rule: docs/PROTOCOL.md, Requests on documents 8.
 use Rattle.std.specs.Prelude.{ℕ, Bool, true, not, bytes_eq, List, [], ◌∷◌, length, filter, slice_range}
 use Rattle.std.specs.List.{AllPass}
-use Rattle.ob0_scan.specs.Classes.{is_white_space}
+use Rattle.ob0_scan.specs.LexemeClasses.{is_white_space}
 use Rattle.ob0_scan.specs.Lexed.{Lexeme}
 use Rattle.ob0_text.specs.declared.edits.Indent.{Indent}
 use Rattle.ob0_text.specs.Patches.{Cut}

@@ -8,15 +8,15 @@ ghost use Rattle.ob0_text.specs.Patches.{patched_text};
 ghost use Rattle.ob0_text.specs.Units.{width_of};
 ghost use Rattle.ob0_text.specs.declared.refusals.EditRefusal.TheVariants.{TooLong, Memory};
 ghost use Rattle.ob0_tree.specs.ParsedModule.{named_tree_of};
-ghost use Rattle.ob0_edits_tokens.specs.ByteCuts.{edit_at_cut, length_with_cuts};
-ghost use Rattle.ob0_edits_tokens.specs.Replaced.{range_and_text};
+ghost use Rattle.ob0_edits_tokens.specs.ByteCuts.{edit_of_cut, length_with_cuts};
+ghost use Rattle.ob0_edits_tokens.specs.Replacements.{range_and_text};
 ghost use Rattle.ob0_layout.specs.Layout.{formatted_text};
 ghost use Rattle.ob0_layout.specs.LineRoles.{line_roles};
 ghost use Rattle.ob0_layout.specs.Cuts.{gap_cut, GapLiesWithin};
 ghost use Rattle.ob0_layout.specs.Gaps.{all_gaps, changed_gaps};
 
-use crate::sites::{GapSite, changed_sites};
-use crate::walk::line_roles;
+use crate::gap_sites::{GapSite, gap_sites_to_change};
+use crate::token_line_roles::line_roles;
 use ob0_scan::MAX_TEXT_LENGTH;
 use ob0_text::{Edit, EditRefusal, Indent, Range, TextStore};
 use ob0_tree::Module;
@@ -35,7 +35,7 @@ pub fn format<T: TextStore>(
 ) -> Result<Vec<Edit>, EditRefusal>
     ensures edits { (scan : IsScan module.now.source)
         → IfOk result (λ edits. map range_and_text edits.items ≡
-        map (edit_at_cut (T.unit_of store.now) (T.content store.now))
+        map (edit_of_cut (T.unit_of store.now) (T.content store.now))
         (changed_gaps module.now.source.text (all_gaps indent module.now.source.text
         (line_roles 0 (named_tree_of module.now)) scan.lexemes))) }
     ensures fits { (scan : IsScan module.now.source)
@@ -52,24 +52,24 @@ pub fn format<T: TextStore>(
 {
     let tokens = module.tokens();
     let roles = line_roles(alloc, module)?;
-    let sites = changed_sites(alloc, tokens, &roles, indent)?;
-    if !is_formatted_text_within_limit(&sites, tokens.text().len(), indent) {
+    let gap_sites = gap_sites_to_change(alloc, tokens, &roles, indent)?;
+    if !is_formatted_text_within_limit(&gap_sites, tokens.text().len(), indent) {
         return Err(EditRefusal::TooLong);
     }
-    Ok(edits(alloc, store, &sites, indent)?)
+    Ok(edits(alloc, store, &gap_sites, indent)?)
 }
 
-/// Returns whether a text of `len` bytes has at most `MAX_TEXT_LENGTH` bytes after the gaps `sites`
+/// Returns whether a text of `len` bytes has at most `MAX_TEXT_LENGTH` bytes after the gaps `gap_sites`
 /// are formatted.
-fn is_formatted_text_within_limit(sites: &[GapSite], len: usize, indent: Indent) -> bool
+fn is_formatted_text_within_limit(gap_sites: &[GapSite], len: usize, indent: Indent) -> bool
     requires length { len ≤ max_text_length }
-    requires within { All (GapLiesWithin len) sites.now }
+    requires within { All (GapLiesWithin len) gap_sites.now }
     ensures { IsTrue result
-        ↔ length_with_cuts len 0 (map (gap_cut indent) sites.now) ≤ max_text_length }
+        ↔ length_with_cuts len 0 (map (gap_cut indent) gap_sites.now) ≤ max_text_length }
 {
     let mut made = 0;
     let mut at = 0;
-    for site in sites {
+    for site in gap_sites {
         made += site.start.saturating_sub(at) + site.gap.len(indent);
         if made > MAX_TEXT_LENGTH {
             return false;
@@ -79,23 +79,23 @@ fn is_formatted_text_within_limit(sites: &[GapSite], len: usize, indent: Indent)
     made + len.saturating_sub(at) <= MAX_TEXT_LENGTH
 }
 
-/// Returns the edits that replace the gaps `sites` by their formatted texts, in the same order.
+/// Returns the edits that replace the gaps `gap_sites` by their formatted texts, in the same order.
 fn edits<T: TextStore>(
     alloc: Global,
     store: &T,
-    sites: &[GapSite],
+    gap_sites: &[GapSite],
     indent: Indent,
 ) -> Result<Vec<Edit>, AllocError>
     ensures { IfOk result (λ edits. map range_and_text edits.items
-        ≡ map (λ site. edit_at_cut (T.unit_of store.now) (T.content store.now)
-        (gap_cut indent site)) sites.now) }
+        ≡ map (λ site. edit_of_cut (T.unit_of store.now) (T.content store.now)
+        (gap_cut indent site)) gap_sites.now) }
 {
-    let gap_starts = gap_starts(alloc, sites)?;
-    let gap_ends = gap_ends(alloc, sites)?;
+    let gap_starts = gap_starts(alloc, gap_sites)?;
+    let gap_ends = gap_ends(alloc, gap_sites)?;
     let from = store.positions(alloc, &gap_starts)?;
     let to = store.positions(alloc, &gap_ends)?;
-    let mut edits = Vec::with_capacity(alloc, sites.len())?;
-    for (i, site) in sites.iter().enumerate() {
+    let mut edits = Vec::with_capacity(alloc, gap_sites.len())?;
+    for (i, site) in gap_sites.iter().enumerate() {
         let range = Range {
             start: from[i],
             end: to[i],
@@ -106,16 +106,16 @@ fn edits<T: TextStore>(
     Ok(edits)
 }
 
-/// Returns the byte offsets in the text at which the gaps `sites` start, in the same order.
-fn gap_starts(alloc: Global, sites: &[GapSite]) -> Result<Vec<usize>, AllocError>
-    ensures { IfOk result (λ offsets. offsets.items ≡ map (λ site. site.start) sites.now) }
+/// Returns the byte offsets in the text at which the gaps `gap_sites` start, in the same order.
+fn gap_starts(alloc: Global, gap_sites: &[GapSite]) -> Result<Vec<usize>, AllocError>
+    ensures { IfOk result (λ offsets. offsets.items ≡ map (λ site. site.start) gap_sites.now) }
 {
-    sites.iter().map(|site| site.start).collect(alloc)
+    gap_sites.iter().map(|site| site.start).collect(alloc)
 }
 
-/// Returns the byte offsets in the text at which the gaps `sites` end, in the same order.
-fn gap_ends(alloc: Global, sites: &[GapSite]) -> Result<Vec<usize>, AllocError>
-    ensures { IfOk result (λ offsets. offsets.items ≡ map (λ site. site.end) sites.now) }
+/// Returns the byte offsets in the text at which the gaps `gap_sites` end, in the same order.
+fn gap_ends(alloc: Global, gap_sites: &[GapSite]) -> Result<Vec<usize>, AllocError>
+    ensures { IfOk result (λ offsets. offsets.items ≡ map (λ site. site.end) gap_sites.now) }
 {
-    sites.iter().map(|site| site.end).collect(alloc)
+    gap_sites.iter().map(|site| site.end).collect(alloc)
 }

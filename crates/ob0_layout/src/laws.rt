@@ -5,10 +5,10 @@
 ghost use Rattle.std.specs.Prelude.{◌≡◌, ℕ, List, length};
 ghost use Rattle.std.specs.List.{All, AllPass};
 ghost use Rattle.std.specs.Str.{IsUtf8};
-ghost use Rattle.ob0_scan.specs.Classes.{is_white_space};
+ghost use Rattle.ob0_scan.specs.LexemeClasses.{is_white_space};
 ghost use Rattle.ob0_scan.specs.Lexed.{LexesInto};
 ghost use Rattle.ob0_scan.specs.TextWithTokens.{TextWithTokens, IsScan};
-ghost use Rattle.ob0_text.specs.Patches.{Cut, text_with_cuts};
+ghost use Rattle.ob0_text.specs.Patches.{Cut, text_from_place_with_cuts};
 ghost use Rattle.ob0_text.specs.declared.edits.Indent.{Indent};
 ghost use Rattle.ob0_tree.specs.Tree.{Tree, module_text};
 ghost use Rattle.ob0_tree.specs.Module.{IsModuleWithTree};
@@ -54,7 +54,7 @@ pub fn gaps_give_formatted_text()
         → IsUtf8 (formatted_text indent tree scan.lexemes) }
     ensures made { (indent : Indent) (s : TextWithTokens) (scan : IsScan s)
         (tree : Tree (List ℕ) module_text)
-        → text_with_cuts s.text 0
+        → text_from_place_with_cuts s.text 0
         (changed_gaps s.text (all_gaps indent s.text (line_roles 0 tree) scan.lexemes))
         ≡ formatted_text indent tree scan.lexemes }
     ensures length { (indent : Indent) (s : TextWithTokens) (scan : IsScan s)

@@ -4,10 +4,10 @@
 
 mod formatting_edits;
 mod gap;
+mod gap_sites;
 pub mod laws;
 mod line_role;
-mod sites;
-mod walk;
+mod token_line_roles;
 
 pub use formatting_edits::format;
 pub use line_role::LineRole;

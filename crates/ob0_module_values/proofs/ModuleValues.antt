@@ -15,11 +15,11 @@ use Rattle.ob0_tree_values.proofs.TreeValues.{tree_made}
 use Rattle.ob0_parse.proofs.Whole.{indexes_again, module_spelled, texts}
 use Rattle.ob0_scope_table.proofs.FewTokens.{few_tokens}
 use Rattle.ob0_scope_table.specs.DuplicatesAndEndNames.{declaration_faults}
-use Rattle.ob0_scope_table.specs.Resolution.{IsResolution, Resolution, undeclared_faults_by_table}
+use Rattle.ob0_scope_table.specs.Resolution.{IsResolution, Resolution, undeclared_faults_from_table}
 use Rattle.ob0_scope_numbering.specs.MarkWalk.{initial_walk_state}
 use Rattle.ob0_scope_numbering.specs.IdentifierWalk.{visit_module}
-use Rattle.ob0_scope_numbering.specs.Marks.{with_marks}
-use Rattle.ob0_scope_numbering.specs.Written.{original_spellings}
+use Rattle.ob0_scope_numbering.specs.OrdinalMarks.{with_marks}
+use Rattle.ob0_scope_numbering.specs.IdentifierSpellings.{original_spellings}
 use Rattle.ob0_scope.proofs.Made.{resolution_made}
 
 abbrev pub OneTree : Type 0
@@ -74,7 +74,7 @@ pub resolution_of : (m : ParsedModule) → IsParsed m → (r : Resolution) × Is
 resolution_of m parsed =
     let visit = visit_module (tree_of m) (initial_walk_state (original_spellings m.source)) in
     let ordinals = with_marks (replicate (length m.source.tokens) None) visit.marks in
-    let faults = declaration_faults m ++ undeclared_faults_by_table m.source ordinals visit.uses in (
+    let faults = declaration_faults m ++ undeclared_faults_from_table m.source ordinals visit.uses in (
       record { module_read = m; ordinals = ordinals; declaration_tokens = visit.declaration_tokens; uses = visit.uses; faults = faults },
       resolution_made m visit ordinals visit.declaration_tokens visit.uses (declaration_faults m) faults parsed refl refl refl refl refl refl,
       refl,

@@ -5,10 +5,10 @@ use Rattle.std.proofs.lemmas.List.{drop-drop, drop-take, length-map, take-take}
 use Rattle.std.proofs.lemmas.List.Elements.{All-nil, All-cons, All-head, All-tail, All-weaker}
 use Rattle.ob0_scan.specs.declared.lexeme.Token.{Token}
 use Rattle.ob0_scan.specs.declared.tokens.CommonPrefixAndSuffix.{CommonPrefixAndSuffix}
-use Rattle.ob0_scan.specs.Reused.{kind_without_value, kinds}
+use Rattle.ob0_scan.specs.ReusedLexemes.{kind_without_value, kinds}
 use Rattle.ob0_tree.specs.Tree.{Sort, Tree}
 use Rattle.ob0_scan.specs.SameKinds.{PrefixAndSuffixHaveSameKinds}
-use Rattle.ob0_parse.specs.KeptTokens.{indexed_terminals_of_kinds, HasTokensAt, IsKeptTreeInPlace, AreKeptTreesInPlace}
+use Rattle.ob0_parse.specs.KeptTreeTokens.{indexed_terminals_of_kinds, HasTokensAt, IsKeptTreeInPlace, AreKeptTreesInPlace}
 use Rattle.ob0_parse.specs.declared.kept.KeptTree.{KeptTree}
 use Rattle.ob0_parse.specs.declared.kept.KeptTrees.{KeptTrees}
 

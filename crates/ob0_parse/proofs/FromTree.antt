@@ -15,13 +15,13 @@ use Rattle.ob0_tree.specs.Lexeme.{Terminal, Name, WordOrSymbol, EndOfText}
 use Rattle.ob0_tree.specs.Module.{max_nesting}
 use Rattle.ob0_tree.specs.ParsedModule.{ParsedModule, IsParsed, tree_of, parsed_module}
 use Rattle.ob0_tree.specs.Places.{indexed_terminals, token_text_at, token_value_at}
-use Rattle.ob0_tree.specs.Tree.{procedure, item, items, Tree, declares_procedure, declares, forms_block, is_module, spell, nesting}
+use Rattle.ob0_tree.specs.Tree.{procedure, item, items, Tree, declares_procedure, declares, forms_block, forms_module, spell, nesting}
 use Rattle.ob0_tree.specs.View.{items_of, procedure_of, constant_section_of, type_section_of, variable_section_of, body_of}
 use Rattle.ob0_tree.proofs.Mapped.{nesting_mapped}
 use Rattle.ob0_tree.proofs.Viewed.{block_parts}
-use Rattle.ob0_parse_descent.specs.Reading.{rest}
+use Rattle.ob0_parse_descent.specs.ParserPromises.{rest}
 use Rattle.ob0_parse_descent.proofs.Items.{Taking}
-use Rattle.ob0_parse.specs.KeptTokens.{IsTreeInPlace, AreSpelled, EndsWithParts}
+use Rattle.ob0_parse.specs.KeptTreeTokens.{IsTreeInPlace, TokensContainProcedures, ModuleEndsWithParts}
 use Rattle.ob0_parse.proofs.MovedParts.{block_between}
 use Rattle.ob0_parse.proofs.Keeping.{count_rest, kept_there, name_at, placed, rest_following}
 
@@ -39,8 +39,8 @@ nesting_snoc [] p n h = (omega arith, omega (arith, h))
 nesting_snoc (q ∷ ps) p n h = let k = nesting_snoc ps p n (omega (arith, h)) in (omega (arith, h, k.0), k.1)
 
 -- The last procedure is in place, and the others are before it.
-pub last_procedure : (ts : List Token) (ps : List Procedure) (p : Procedure) (h : AreSpelled ts (ps ++ (p ∷ [])))
-    → AreSpelled ts ps × IsTreeInPlace ts ((out-Procedure p).name - 1) ((out-Procedure p).closing + 2) (procedure_of p) × ((out-Procedure p).closing + 2 ≡ h.next)
+pub last_procedure : (ts : List Token) (ps : List Procedure) (p : Procedure) (h : TokensContainProcedures ts (ps ++ (p ∷ [])))
+    → TokensContainProcedures ts ps × IsTreeInPlace ts ((out-Procedure p).name - 1) ((out-Procedure p).closing + 2) (procedure_of p) × ((out-Procedure p).closing + 2 ≡ h.next)
 last_procedure ts ps p h =
     let t : Tree ℕ (item procedure) = procedure_of p in
     let others : Tree ℕ (items procedure) = items_of procedure_of ps in
@@ -56,7 +56,7 @@ last_procedure ts ps p h =
       names.1,
     )
 
-pub spelled_so_far : {ts : List Token} {ps : List Procedure} {at next : ℕ} → Taking (items_of procedure_of ps) max_nesting ts at next → AreSpelled ts ps
+pub spelled_so_far : {ts : List Token} {ps : List Procedure} {at next : ℕ} → Taking (items_of procedure_of ps) max_nesting ts at next → TokensContainProcedures ts ps
 spelled_so_far {at = at} {next = next} h = record { at = at; next = next; spelled = h.spelled; shallow = h.shallow; within = h.within }
 
 -- ---- the procedures and the body of a module
@@ -68,7 +68,7 @@ all_rest : (ts : List Token) → rest ts 0 ≡ indexed_terminals ts
 unfolding rest
 all_rest ts = refl
 
-parts_of : (m : ParsedModule) → IsParsed m → EndsWithParts m.source.tokens (out-Block m.block).procedures.items (out-Block m.block).body m.closing
+parts_of : (m : ParsedModule) → IsParsed m → ModuleEndsWithParts m.source.tokens (out-Block m.block).procedures.items (out-Block m.block).body m.closing
 parts_of m parsed =
     let ts = m.source.tokens in
     let b = out-Block m.block in
@@ -81,7 +81,7 @@ parts_of m parsed =
     let last : List (Terminal ℕ) = Name m.closing ∷ WordOrSymbol (kind.Symbol symbol.Dot) ∷ EndOfText ∷ [] in
     let begun : List (Terminal ℕ) = WordOrSymbol (kind.ReservedWord reserved.Module) ∷ Name m.name ∷ WordOrSymbol (kind.Symbol symbol.Semicolon) ∷ (spell cs ++ (spell ds ++ spell vs)) in
     let whole : rest ts 0 ≡ begun ++ (spell ps ++ (spell s ++ (end ++ last))) =
-    all_rest ts ∙ sym parsed.places ∙ ap (λ t. spell (is_module m.name t m.closing) ++ (EndOfText ∷ [])) (block_parts m.block)
+    all_rest ts ∙ sym parsed.places ∙ ap (λ t. spell (forms_module m.name t m.closing) ++ (EndOfText ∷ [])) (block_parts m.block)
     ∙ ap (λ w. WordOrSymbol (kind.ReservedWord reserved.Module) ∷ Name m.name ∷ WordOrSymbol (kind.Symbol symbol.Semicolon) ∷ w)
     (cut (spell cs) (spell ds) (spell vs) (spell ps) (spell s) (WordOrSymbol (kind.ReservedWord reserved.End) ∷ Name m.closing ∷ WordOrSymbol (kind.Symbol symbol.Dot) ∷ []) (EndOfText ∷ [])) in
     let at : ℕ = 0 + length begun in
@@ -94,7 +94,7 @@ parts_of m parsed =
     let within : next ≤ length ts = omega (arith, count_rest ts next, four) in
     let closing : m.closing ≡ next + 1 = name_at ts (next + 1) m.closing _ (omega (arith, count_rest ts next, four)) (rest_following ts next end last ended) in
     let named : nesting (tree_of m) ≤ max_nesting = subst (λ n. n ≤ max_nesting) (nesting_mapped (token_text_at m.source) (token_value_at m.source) (tree_of m)) parsed.module_of.shallow in
-    let shallow : nesting (is_module m.name (forms_block (declares cs ds vs ps) s) m.closing) ≤ max_nesting = subst (λ t. nesting (is_module m.name t m.closing) ≤ max_nesting) (block_parts m.block) named in
+    let shallow : nesting (forms_module m.name (forms_block (declares cs ds vs ps) s) m.closing) ≤ max_nesting = subst (λ t. nesting (forms_module m.name t m.closing) ≤ max_nesting) (block_parts m.block) named in
     record {
       procedures = record { at = at; next = begin; spelled = first ∙ ap (λ w. spell ps ++ w) (sym middle); shallow = omega (arith, shallow); within = omega (arith, within) };
       next = next;
@@ -105,7 +105,7 @@ parts_of m parsed =
     }
 
 -- The body begins after the last procedure, and ends before END.
-pub body_there : (ts : List Token) (ps : List Procedure) (p : Procedure) (statements : Vec Statement Global) (closing next : ℕ) → EndsWithParts ts (ps ++ (p ∷ [])) (Some statements) closing → next + 1 ≡ closing
+pub body_there : (ts : List Token) (ps : List Procedure) (p : Procedure) (statements : Vec Statement Global) (closing next : ℕ) → ModuleEndsWithParts ts (ps ++ (p ∷ [])) (Some statements) closing → next + 1 ≡ closing
     → IsTreeInPlace ts ((out-Procedure p).closing + 2) next (body_of (Some statements))
 body_there ts ps p statements closing next h closed =
     let begin = (last_procedure ts ps p h.procedures).2 in
@@ -120,9 +120,9 @@ pub parts_taken : (s : TextWithTokens) (tree : ModuleTree) → IsParsed (parsed_
     → statements ≡ (out-Block b).body
     → left ≡ roll-Block record { constants = (out-Block b).constants; types = (out-Block b).types; variables = (out-Block b).variables; procedures = (out-Block b).procedures; body = without }
     → ps ≡ (out-Block left).procedures
-    → EndsWithParts s.tokens ps.items statements tree.closing
+    → ModuleEndsWithParts s.tokens ps.items statements tree.closing
 parts_taken s tree parsed b left without statements ps is_b is_statements is_left is_ps =
     let all : (out-Block tree.block).procedures ≡ ps = sym (is_ps ∙ ap (λ o. o.procedures) (block_between left _ is_left) ∙ ap (λ x. (out-Block x).procedures) is_b) in
     let own : (out-Block tree.block).body ≡ statements = sym (is_statements ∙ ap (λ x. (out-Block x).body) is_b) in
-    subst (λ (v : Vec Procedure Global). EndsWithParts s.tokens v.items statements tree.closing) all
-    (subst (λ o. EndsWithParts s.tokens (out-Block tree.block).procedures.items o tree.closing) own (parts_of (parsed_module s tree) parsed))
+    subst (λ (v : Vec Procedure Global). ModuleEndsWithParts s.tokens v.items statements tree.closing) all
+    (subst (λ o. ModuleEndsWithParts s.tokens (out-Block tree.block).procedures.items o tree.closing) own (parts_of (parsed_module s tree) parsed))

@@ -6,7 +6,7 @@ use Rattle.ob0_scan.specs.declared.lexeme.TokenKind.TheVariants as kind
 use Rattle.ob0_scan.specs.declared.lexeme.Symbol.TheVariants as symbol
 use Rattle.ob0_scan.specs.declared.lexeme.ReservedWord.TheVariants as reserved
 use Rattle.ob0_scan.specs.declared.lexeme.Token.{Token}
-use Rattle.ob0_scan.specs.Reused.{kind_without_value, kinds}
+use Rattle.ob0_scan.specs.ReusedLexemes.{kind_without_value, kinds}
 use Rattle.ob0_tree.specs.declared.tree.Procedure.{Procedure, out-Procedure}
 use Rattle.ob0_tree.specs.Lexeme.{Terminal, Name, WordOrSymbol, EndOfText}
 use Rattle.ob0_tree.specs.Module.{max_nesting}
@@ -14,8 +14,8 @@ use Rattle.ob0_tree.specs.Places.{indexed_terminals_from, indexed_terminals}
 use Rattle.ob0_tree.specs.Tree.{procedure, Sort, item, Tree, spell, nesting}
 use Rattle.ob0_tree.specs.View.{procedure_of, formals_of, block_of}
 use Rattle.ob0_tree.proofs.Viewed.{procedure_parts}
-use Rattle.ob0_parse_descent.specs.Reading.{rest}
-use Rattle.ob0_parse.specs.KeptTokens.{indexed_terminals_of_kinds, IsTreeInPlace}
+use Rattle.ob0_parse_descent.specs.ParserPromises.{rest}
+use Rattle.ob0_parse.specs.KeptTreeTokens.{indexed_terminals_of_kinds, IsTreeInPlace}
 use Rattle.ob0_parse.proofs.TerminalsOfKinds.{drop_terminals, first_name, length_terminals, take_terminals, terminals_of_tokens}
 
 -- ---- the remaining tokens

@@ -4,8 +4,8 @@ use Rattle.ob0_tree.specs.declared.tree.Expression.{Expression}
 use Rattle.ob0_tree.specs.declared.tree.Statement.{Statement}
 use Rattle.ob0_tree.specs.declared.tree.OptionalFieldGroup.{OptionalFieldGroup}
 use Rattle.ob0_tree.specs.declared.tree.ParameterSection.{ParameterSection}
-use Rattle.ob0_tree.specs.Tree.{Sort, GrammarItem, item, Tree, more, some_arguments, then_argument, runs, then_statement, record_type, then_fields, some_formals, then_section}
-use Rattle.ob0_tree.specs.View.{items_of, expression_of, further_argument_of, arguments_of_list, statement_of, further_statement_of, sequence_of_list, optional_field_group_of, further_field_group_of, record_type_of_list, parameter_section_of, further_parameter_section_of, formals_of_list}
+use Rattle.ob0_tree.specs.Tree.{Sort, GrammarItem, item, Tree, more, some_arguments, comma_then_argument, runs, semicolon_then_statement, record_type, semicolon_then_fields, some_formals, semicolon_then_section}
+use Rattle.ob0_tree.specs.View.{items_of, expression_of, argument_after_comma_of, arguments_of_list, statement_of, statement_after_semicolon_of, sequence_of_list, optional_field_group_of, field_group_after_semicolon_of, record_type_of_list, parameter_section_of, parameter_section_after_semicolon_of, formals_of_list}
 use Rattle.ob0_parse.specs.ShiftedTrees.{tree_with_shifted_leaves}
 use Rattle.ob0_parse.specs.declared.leaf_shifts.TokenIndexShift.{TokenIndexShift}
 use Rattle.ob0_parse_descent.proofs.Unique.{head_of, tail_of}
@@ -95,29 +95,29 @@ arguments_moved by [] [] h = refl
 arguments_moved by [] (y ∷ ys) h = absurd (nothing_there h)
 arguments_moved by (x ∷ xs) [] h = absurd h
 arguments_moved by (x ∷ xs) (y ∷ ys) h =
-    ap (λ t. some_arguments t (items_of further_argument_of ys)) h.0
-    ∙ ap (some_arguments (tree_with_shifted_leaves by (expression_of x))) (items_moved expression_of then_argument by (λ t. refl) xs ys h.1)
+    ap (λ t. some_arguments t (items_of argument_after_comma_of ys)) h.0
+    ∙ ap (some_arguments (tree_with_shifted_leaves by (expression_of x))) (items_moved expression_of comma_then_argument by (λ t. refl) xs ys h.1)
 
 pub sequence_moved : (by : TokenIndexShift) (xs ys : List Statement) → AllMoved statement_of by xs ys → sequence_of_list ys ≡ tree_with_shifted_leaves by (sequence_of_list xs)
 sequence_moved by [] [] h = refl
 sequence_moved by [] (y ∷ ys) h = absurd (nothing_there h)
 sequence_moved by (x ∷ xs) [] h = absurd h
 sequence_moved by (x ∷ xs) (y ∷ ys) h =
-    ap (λ t. runs t (items_of further_statement_of ys)) h.0
-    ∙ ap (runs (tree_with_shifted_leaves by (statement_of x))) (items_moved statement_of then_statement by (λ t. refl) xs ys h.1)
+    ap (λ t. runs t (items_of statement_after_semicolon_of ys)) h.0
+    ∙ ap (runs (tree_with_shifted_leaves by (statement_of x))) (items_moved statement_of semicolon_then_statement by (λ t. refl) xs ys h.1)
 
 pub record_moved : (by : TokenIndexShift) (xs ys : List OptionalFieldGroup) → AllMoved optional_field_group_of by xs ys → record_type_of_list ys ≡ tree_with_shifted_leaves by (record_type_of_list xs)
 record_moved by [] [] h = refl
 record_moved by [] (y ∷ ys) h = absurd (nothing_there h)
 record_moved by (x ∷ xs) [] h = absurd h
 record_moved by (x ∷ xs) (y ∷ ys) h =
-    ap (λ t. record_type t (items_of further_field_group_of ys)) h.0
-    ∙ ap (record_type (tree_with_shifted_leaves by (optional_field_group_of x))) (items_moved optional_field_group_of then_fields by (λ t. refl) xs ys h.1)
+    ap (λ t. record_type t (items_of field_group_after_semicolon_of ys)) h.0
+    ∙ ap (record_type (tree_with_shifted_leaves by (optional_field_group_of x))) (items_moved optional_field_group_of semicolon_then_fields by (λ t. refl) xs ys h.1)
 
 pub formals_moved : (by : TokenIndexShift) (xs ys : List ParameterSection) → AllMoved parameter_section_of by xs ys → formals_of_list ys ≡ tree_with_shifted_leaves by (formals_of_list xs)
 formals_moved by [] [] h = refl
 formals_moved by [] (y ∷ ys) h = absurd (nothing_there h)
 formals_moved by (x ∷ xs) [] h = absurd h
 formals_moved by (x ∷ xs) (y ∷ ys) h =
-    ap (λ t. some_formals t (items_of further_parameter_section_of ys)) h.0
-    ∙ ap (some_formals (tree_with_shifted_leaves by (parameter_section_of x))) (items_moved parameter_section_of then_section by (λ t. refl) xs ys h.1)
+    ap (λ t. some_formals t (items_of parameter_section_after_semicolon_of ys)) h.0
+    ∙ ap (some_formals (tree_with_shifted_leaves by (parameter_section_of x))) (items_moved parameter_section_of semicolon_then_section by (λ t. refl) xs ys h.1)

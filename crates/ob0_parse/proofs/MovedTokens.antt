@@ -2,11 +2,11 @@
 use Rattle.std.proofs.Common.{◌≡◌, ℕ, ◌+◌, ◌-◌, ◌^◌, ◌≤◌, List, map, length, ◌∙◌, ap, arith, slice_range}
 use Rattle.ob0_scan.specs.declared.lexeme.TokenKind.{TokenKind}
 use Rattle.ob0_scan.specs.declared.lexeme.Token.{Token}
-use Rattle.ob0_scan.specs.Reused.{kinds}
+use Rattle.ob0_scan.specs.ReusedLexemes.{kinds}
 use Rattle.ob0_tree.specs.Lexeme.{mapped_terminal}
 use Rattle.ob0_tree.specs.Tree.{Sort, Tree, spell, nesting}
 use Rattle.ob0_tree.proofs.Mapped.{spell_mapped, nesting_mapped}
-use Rattle.ob0_parse.specs.KeptTokens.{HasTokensAt, IsTreeInPlace}
+use Rattle.ob0_parse.specs.KeptTreeTokens.{HasTokensAt, IsTreeInPlace}
 use Rattle.ob0_parse.specs.ShiftedTrees.{tree_with_shifted_leaves, shifted_leaf}
 use Rattle.ob0_parse.specs.declared.leaf_shifts.TokenIndexShift.{TokenIndexShift}
 use Rattle.ob0_parse.proofs.Keeping.{count_slice}

@@ -4,7 +4,7 @@ use Rattle.std.proofs.Common.{◌≡◌, ℕ, ◌+◌, ◌≤◌, List, [], ◌�
 use Rattle.std.proofs.lemmas.List.{map-append, length-map, take-map}
 use Rattle.ob0_scan.specs.declared.lexeme.Token.{Token}
 use Rattle.ob0_scan.specs.TextWithTokens.{TextWithTokens, max_text_length}
-use Rattle.ob0_scan.specs.Reused.{kind_without_value, kinds}
+use Rattle.ob0_scan.specs.ReusedLexemes.{kind_without_value, kinds}
 use Rattle.ob0_tree.specs.Lexeme.{Terminal, EndOfText, mapped_terminal}
 use Rattle.ob0_tree.specs.Tree.{Tree, module_text, nesting, spell, mapped_tree}
 use Rattle.ob0_tree.specs.Module.{max_nesting, terminals_of_text}
@@ -16,7 +16,7 @@ use Rattle.ob0_parse_descent.specs.Descent.{TextDescentEndsWith, Expects, TooDee
 use Rattle.ob0_parse.specs.IsRightParseRefusal.{NoModuleBeginsWithTokens, IsRightParseRefusal}
 use Rattle.ob0_parse_descent.specs.declared.refusal.ParseRefusal.{ParseRefusal}
 use Rattle.ob0_parse_descent.specs.declared.refusal.ParseRefusal.TheVariants.{Syntax, TooDeep, Memory}
-use Rattle.ob0_parse.specs.KeptTokens.{indexed_terminals_of_kinds}
+use Rattle.ob0_parse.specs.KeptTreeTokens.{indexed_terminals_of_kinds}
 use Rattle.ob0_parse.proofs.TerminalsOfKinds.{terminals_of_tokens}
 use Rattle.ob0_parse.proofs.Whole.{module_spelled, texts, indexes_again, reindexed-take}
 

@@ -9,12 +9,12 @@ use Rattle.ob0_tree.specs.Lexeme.{Terminal, WordOrSymbol}
 use Rattle.ob0_tree.specs.Module.{max_nesting}
 use Rattle.ob0_tree.specs.Tree.{Sort, Tree, spell}
 use Rattle.ob0_parse_descent.specs.Descent.{nonterminal, Descends}
-use Rattle.ob0_parse_descent.specs.Reading.{rest, HaveSameFirstToken, IsReadTree, ReadsToken, TellsIfTokenAt}
-use Rattle.ob0_parse_descent.specs.Follow.{level, NextTokenEndsConstruct}
+use Rattle.ob0_parse_descent.specs.ParserPromises.{rest, HaveSameFirstToken, IsReadTree, ReadsToken, TellsIfTokenAt}
+use Rattle.ob0_parse_descent.specs.TokenRanks.{level, NextTokenEndsConstruct}
 use Rattle.ob0_parse_descent.specs.declared.refusal.ParseRefusal.{ParseRefusal}
 use Rattle.ob0_parse_descent.proofs.Finished.{finishes}
 use Rattle.ob0_parse_descent.proofs.Unique.{same}
-use Rattle.ob0_parse.specs.KeptTokens.{IsTreeInPlace}
+use Rattle.ob0_parse.specs.KeptTreeTokens.{IsTreeInPlace}
 use Rattle.ob0_parse.proofs.Keeping.{count_rest, rest_pieces}
 
 -- If a token stops a tree, the token does so whatever comes after it.

@@ -4,11 +4,11 @@ use Rattle.std.proofs.lemmas.List.{drop_at}
 use Rattle.ob0_scan.specs.declared.lexeme.TokenKind.{TokenKind}
 use Rattle.ob0_scan.specs.declared.lexeme.TokenKind.TheVariants as kind
 use Rattle.ob0_scan.specs.declared.lexeme.Token.{Token}
-use Rattle.ob0_scan.specs.Reused.{kind_without_value, kinds}
+use Rattle.ob0_scan.specs.ReusedLexemes.{kind_without_value, kinds}
 use Rattle.ob0_tree.specs.Lexeme.{Terminal, Name, Number, EndOfText, mapped_terminal}
 use Rattle.ob0_tree.specs.Places.{indexed_terminal, indexed_terminals_from}
 use Rattle.ob0_parse_descent.proofs.Unique.{head_of}
-use Rattle.ob0_parse.specs.KeptTokens.{indexed_terminals_of_kinds}
+use Rattle.ob0_parse.specs.KeptTreeTokens.{indexed_terminals_of_kinds}
 
 -- An integer's terminal at an index has the index in place of the value, so the value doesn't
 -- matter.

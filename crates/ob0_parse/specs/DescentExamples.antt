@@ -16,13 +16,13 @@ use Rattle.ob0_parse_descent.specs.declared.refusal.ExpectedSyntax.TheVariants a
 -- Returns the tokens of a text as they are spelled by a tree whose leaves are token indexes,
 -- followed by the end of the text. The tokens are given by their kinds, and the first has the index
 -- `i`.
-abbrev pub indexed_text_terminals_of_kinds : ℕ → List TokenKind → List (Terminal ℕ)
-indexed_text_terminals_of_kinds i [] = EndOfText ∷ []
-indexed_text_terminals_of_kinds i (k ∷ ks) = indexed_terminal i k ∷ indexed_text_terminals_of_kinds (i + 1) ks
+abbrev pub indexed_terminals_of_kinds_with_end : ℕ → List TokenKind → List (Terminal ℕ)
+indexed_terminals_of_kinds_with_end i [] = EndOfText ∷ []
+indexed_terminals_of_kinds_with_end i (k ∷ ks) = indexed_terminal i k ∷ indexed_terminals_of_kinds_with_end (i + 1) ks
 
 -- States that the descent through a text whose tokens have the kinds `kinds` has the end `stop`.
 abbrev pub DescentOfKindsEndsWith : List TokenKind → DescentEnd → Type 0
-DescentOfKindsEndsWith kinds stop = TextDescentEndsWith (indexed_text_terminals_of_kinds 0 kinds) stop
+DescentOfKindsEndsWith kinds stop = TextDescentEndsWith (indexed_terminals_of_kinds_with_end 0 kinds) stop
 
 -- Returns the kind of a reserved word.
 abbrev pub reserved_word_kind : ReservedWord → TokenKind

@@ -5,9 +5,9 @@ use Rattle.std.specs.Prelude.{ℕ, List, [], ◌∷◌, Result, Ok, Err, length}
 use Rattle.ob0_scan.specs.declared.lexeme.Token.{Token}
 use Rattle.ob0_tree.specs.declared.tree.Procedure.{Procedure}
 use Rattle.ob0_tree.specs.Module.{max_nesting}
-use Rattle.ob0_tree.specs.Tree.{procedure, items, block, module_text, Tree, declares, forms_block, is_module}
+use Rattle.ob0_tree.specs.Tree.{procedure, items, block, module_text, Tree, declares, forms_block, forms_module}
 use Rattle.ob0_tree.specs.View.{constant_section_of, type_section_of, variable_section_of, items_of, procedure_of, body_of}
-use Rattle.ob0_parse_descent.specs.Reading.{nonterminal, text_end, IsReadTree, FailsToRead}
+use Rattle.ob0_parse_descent.specs.ParserPromises.{nonterminal, text_end, IsReadTree, FailsToRead}
 use Rattle.ob0_parse.specs.declared.parse_module_block.ModuleBlockWithoutProcedures.{ModuleBlockWithoutProcedures}
 use Rattle.ob0_parse_descent.specs.declared.refusal.ParseRefusal.{ParseRefusal}
 
@@ -33,5 +33,5 @@ abbrev pub ReadsModule : List Procedure
     → List Token
     → Result (ℕ × ModuleBlockWithoutProcedures × ℕ) ParseRefusal
     → Type 0
-ReadsModule ps ts (Ok x) = IsReadTree (is_module x.0 (block_with_procedures ps x.1) x.2) max_nesting ts 0 (length ts)
+ReadsModule ps ts (Ok x) = IsReadTree (forms_module x.0 (block_with_procedures ps x.1) x.2) max_nesting ts 0 (length ts)
 ReadsModule ps ts (Err e) = FailsToRead (nonterminal module_text max_nesting ∷ text_end ∷ []) ts 0 e

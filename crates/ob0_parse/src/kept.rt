@@ -4,7 +4,7 @@
 //! `HasTokensAt` states that the tokens in a tree's range have the kinds that the tree spells, and
 //! that the tree's leaves are the indexes of these tokens in the present or an earlier text. So a
 //! tree still fits a changed text if that text has tokens of the same kinds
-//! (`KeptTrees::relocate`). If a text has a syntax error, the procedures before the error are kept.
+//! (`KeptTrees::move_to_changed_text`). If a text has a syntax error, the procedures before the error are kept.
 //! The older trees after the error are also kept.
 //!
 //! A kept tree can be reused, whichever parse made it, if the token after the tree can't continue
@@ -31,8 +31,8 @@ ghost use Rattle.ob0_scan.specs.TextWithTokens.{TextWithTokens};
 ghost use Rattle.ob0_scan.specs.declared.lexeme.Token.{Token};
 ghost use Rattle.ob0_scan.specs.declared.lexeme.TokenKind.TheVariants as kind;
 ghost use Rattle.ob0_tree.specs.ParsedModule.{IsParsed, parsed_module};
-ghost use Rattle.ob0_parse_descent.specs.Reading.{TellsIfTokenAt};
-ghost use Rattle.ob0_parse.specs.KeptTokens.{AreKeptTreesInPlace, AreSpelled, EndsTree, EndsWithParts, IsReusedAt, IsKeptTreeInPlace, RelocatesTree};
+ghost use Rattle.ob0_parse_descent.specs.ParserPromises.{TellsIfTokenAt};
+ghost use Rattle.ob0_parse.specs.KeptTreeTokens.{AreKeptTreesInPlace, TokensContainProcedures, TokenEndsTree, ModuleEndsWithParts, IsReadConstructAt, IsKeptTreeInPlace, RelocatesTree};
 
 use crate::leaf_shifts::{self, TokenIndexShift};
 use ob0_parse_descent::Parser;
@@ -43,7 +43,7 @@ use std::alloc::{AllocError, Global};
 /// A construct whose tree can be reused: a procedure declared directly in the module, or the
 /// statements of the module's body.
 #[derive(Drop)]
-pub enum Construct {
+pub enum ReusableConstruct {
     Procedure(Procedure),
     Body(Vec<Statement>),
 }
@@ -53,7 +53,7 @@ pub enum Construct {
 /// text in which its first token has the index `from`.
 #[derive(Drop)]
 pub struct KeptTree {
-    pub construct: Construct,
+    pub construct: ReusableConstruct,
     pub from: usize,
     pub at: usize,
     pub next: usize,
@@ -90,7 +90,7 @@ impl KeptTrees {
         let statements = block.body.take();
         let procedures = block.into_procedures();
         let mut trees = Vec::new(alloc);
-        if let Some(body) = locate_body(&procedures, statements, closing) {
+        if let Some(body) = kept_tree_of_body(&procedures, statements, closing) {
             trees.push(body)?;
         }
         keep_procedures(&mut trees, procedures)?;
@@ -101,17 +101,17 @@ impl KeptTrees {
     /// tokens in the changed text. `same` describes the tokens that the old and the changed text
     /// share: those before and those after the change. The trees whose tokens have changed are
     /// dropped.
-    pub fn relocate(self, same: CommonPrefixAndSuffix) -> KeptTrees
+    pub fn move_to_changed_text(self, same: CommonPrefixAndSuffix) -> KeptTrees
         ensures { (old new : List Token)
             → PrefixAndSuffixHaveSameKinds same old new
             → AreKeptTreesInPlace old self
             → AreKeptTreesInPlace new result }
     {
         let KeptTrees { mut trees } = self;
-        let relocate = |tree: &mut KeptTree| -> bool
+        let move_to_changed_text = |tree: &mut KeptTree| -> bool
             ensures { RelocatesTree same tree.entry.now tree.exit.now result }
-        { tree.relocate(same) };
-        trees.retain_mut(relocate);
+        { tree.move_to_changed_text(same) };
+        trees.retain_mut(move_to_changed_text);
         KeptTrees { trees }
     }
 }
@@ -120,13 +120,13 @@ impl KeptTrees {
 /// `procedures`, and its closing name has the token index `closing`. BEGIN is the token after the
 /// last procedure, and END is the token before the closing name. Returns None if the module has no
 /// body or no procedures, or if an index would be out of range.
-fn locate_body(
+fn kept_tree_of_body(
     procedures: &Vec<Procedure>,
     body: Option<Vec<Statement>>,
     closing: usize,
 ) -> Option<KeptTree>
     ensures { IfSome result (λ k. (ts : List Token)
-        → EndsWithParts ts procedures.now.items body closing
+        → ModuleEndsWithParts ts procedures.now.items body closing
         → IsKeptTreeInPlace ts k) }
 {
     let statements = body?;
@@ -134,7 +134,7 @@ fn locate_body(
     let from = last.closing.checked_add(2)?;
     let next = closing.checked_sub(1)?;
     Some(KeptTree {
-        construct: Construct::Body(statements),
+        construct: ReusableConstruct::Body(statements),
         from,
         at: from,
         next,
@@ -150,7 +150,7 @@ pub(crate) fn keep_procedures(
     mut procedures: Vec<Procedure>,
 ) -> Result<(), AllocError>
     ensures { (ts : List Token)
-        → AreSpelled ts procedures.items
+        → TokensContainProcedures ts procedures.items
         → All (IsKeptTreeInPlace ts) kept.old.items
         → All (IsKeptTreeInPlace ts) kept.new.items }
 {
@@ -160,7 +160,7 @@ pub(crate) fn keep_procedures(
             return Ok(());
         };
         kept.push(KeptTree {
-            construct: Construct::Procedure(procedure),
+            construct: ReusableConstruct::Procedure(procedure),
             from: at,
             at,
             next,
@@ -177,9 +177,9 @@ pub(crate) fn take_tree_at(
     parser: &Parser<'_>,
     kept: &mut Vec<KeptTree>,
     at: usize,
-) -> Option<(Construct, usize)>
+) -> Option<(ReusableConstruct, usize)>
     requires { All (IsKeptTreeInPlace parser.now.tokens.now) kept.old.items }
-    ensures taken { IfSome result (IsReusedAt parser.now.tokens.now at) }
+    ensures taken { IfSome result (IsReadConstructAt parser.now.tokens.now at) }
     ensures kept { All (IsKeptTreeInPlace parser.now.tokens.now) kept.new.items }
 {
     while let Some(tree) = kept.pop() {
@@ -198,16 +198,16 @@ pub(crate) fn take_tree_at(
 impl KeptTree {
     /// Changes the tree's range to the range of its tokens in the changed text, and returns true.
     /// Returns false if the changed text doesn't have these tokens.
-    fn relocate(&mut self, same: CommonPrefixAndSuffix) -> bool
+    fn move_to_changed_text(&mut self, same: CommonPrefixAndSuffix) -> bool
         ensures { RelocatesTree same self.old self.new result }
     {
         if self.next <= same.prefix {
             return true;
         }
-        let Some(at) = relocated_index(self.at, same) else {
+        let Some(at) = index_in_changed_text(self.at, same) else {
             return false;
         };
-        let Some(next) = relocated_index(self.next, same) else {
+        let Some(next) = index_in_changed_text(self.next, same) else {
             return false;
         };
         self.at = at;
@@ -220,14 +220,14 @@ impl KeptTree {
     fn is_reusable_at(&self, parser: &Parser<'_>, at: usize) -> bool
         requires { self.now.next ≤ length parser.now.tokens.now }
         ensures at { result ≡ true → self.now.at ≡ at }
-        ensures ends { result ≡ true → EndsTree parser.now.tokens.now self.now.construct self.now.next }
+        ensures ends { result ≡ true → TokenEndsTree parser.now.tokens.now self.now.construct self.now.next }
     {
         if self.at != at {
             return false;
         }
         match &self.construct {
-            Construct::Procedure(_procedure) => true,
-            Construct::Body(_statements) => has_reserved_word_at(
+            ReusableConstruct::Procedure(_procedure) => true,
+            ReusableConstruct::Body(_statements) => has_reserved_word_at(
                 parser,
                 self.next,
                 ReservedWord::End,
@@ -237,11 +237,11 @@ impl KeptTree {
 
     /// Changes each leaf of the tree to the index of its token in the present text. Returns the
     /// tree and the index of the token after it.
-    fn shift_token_indexes(self) -> (Construct, usize)
+    fn shift_token_indexes(self) -> (ReusableConstruct, usize)
         ensures { (ts : List Token)
             → IsKeptTreeInPlace ts self
-            → EndsTree ts self.construct self.next
-            → IsReusedAt ts self.at result }
+            → TokenEndsTree ts self.construct self.next
+            → IsReadConstructAt ts self.at result }
     {
         let KeptTree {
             construct,
@@ -253,19 +253,19 @@ impl KeptTree {
             return (construct, next);
         }
         match construct {
-            Construct::Procedure(mut procedure) => {
+            ReusableConstruct::Procedure(mut procedure) => {
                 leaf_shifts::shift_indexes_in_procedure(
                     &mut procedure,
                     TokenIndexShift { from, to: at },
                 );
-                (Construct::Procedure(procedure), next)
+                (ReusableConstruct::Procedure(procedure), next)
             }
-            Construct::Body(mut statements) => {
+            ReusableConstruct::Body(mut statements) => {
                 leaf_shifts::shift_indexes_in_sequence(
                     &mut statements,
                     TokenIndexShift { from, to: at },
                 );
-                (Construct::Body(statements), next)
+                (ReusableConstruct::Body(statements), next)
             }
         }
     }
@@ -274,7 +274,7 @@ impl KeptTree {
 /// Returns the index in the changed text of a token that follows all changed tokens, given the
 /// token's index in the old text (`index`). Returns None if the token doesn't follow all changed
 /// tokens, or if the returned index would be out of range.
-fn relocated_index(index: usize, same: CommonPrefixAndSuffix) -> Option<usize>
+fn index_in_changed_text(index: usize, same: CommonPrefixAndSuffix) -> Option<usize>
     ensures { IfSome result (λ place. (same.old_suffix ≤ index)
         × (place + same.old_suffix ≡ index + same.new_suffix)) }
 {

@@ -2,7 +2,7 @@
 //! they are shifted if tokens are added or removed before them.
 
 ghost use Rattle.std.specs.Prelude.{◌≡◌};
-ghost use Rattle.ob0_tree.specs.Tree.{then_name};
+ghost use Rattle.ob0_tree.specs.Tree.{comma_then_name};
 ghost use Rattle.ob0_tree.specs.View.{expression_of, compound_expression_of, maybe_comparison_of, comparison_of, simple_expression_of, addend_of, term_of, multiplier_of, factor_of, designator_of, selector_of, items_of, names_of, assignment_of, call_of, arguments_of_vec, statement_of, if_of, elsif_of, elsifs_of_vec, sequence_of_vec, type_of, record_type_of_list, optional_field_group_of, parameter_section_of, formals_of, formals_of_list, constant_of, constant_section_of, constant_declarations_of_vec, type_declaration_of, type_section_of, type_declarations_of_vec, variable_of, variable_section_of, variable_declarations_of_vec, body_of, procedure_of, procedures_of_vec, block_of};
 ghost use Rattle.ob0_tree.specs.declared.tree.CompoundExpression.{back-CompoundExpression-compared};
 ghost use Rattle.ob0_parse.specs.ShiftedTrees.{tree_with_shifted_leaves, shifted_leaf};
@@ -282,12 +282,12 @@ fn shift_indexes_in_names(ns: &mut Names, by: TokenIndexShift)
     ensures { names_of ns.new ≡ tree_with_shifted_leaves by (names_of ns.old) }
 {
     ns.first = by.shifted_leaf(ns.first);
-    shift_indexes_in_further_names(&mut ns.more, by);
+    shift_indexes_in_names_after_first(&mut ns.more, by);
 }
 
 /// Applies the shift `by` to the token index of each name after the first in a list of names.
-fn shift_indexes_in_further_names(leaves: &mut Vec<usize>, by: TokenIndexShift)
-    ensures { items_of then_name leaves.new.items ≡ tree_with_shifted_leaves by (items_of then_name leaves.old.items) }
+fn shift_indexes_in_names_after_first(leaves: &mut Vec<usize>, by: TokenIndexShift)
+    ensures { items_of comma_then_name leaves.new.items ≡ tree_with_shifted_leaves by (items_of comma_then_name leaves.old.items) }
 {
     for i in 0..leaves.len() {
         let leaf = &mut leaves[i];

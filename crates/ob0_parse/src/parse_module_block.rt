@@ -4,12 +4,12 @@
 ghost use Rattle.std.specs.Prelude.{◌≡◌, ◌≤◌, All, length};
 ghost use Rattle.ob0_tree.specs.View.{block_of, body_of, procedure_of};
 ghost use Rattle.ob0_tree.specs.Module.{max_nesting};
-ghost use Rattle.ob0_parse_descent.specs.Reading.{Reads, ReadsItem};
-ghost use Rattle.ob0_parse.specs.KeptTokens.{AreSpelled, IsKeptTreeInPlace};
+ghost use Rattle.ob0_parse_descent.specs.ParserPromises.{Reads, ReadsItem};
+ghost use Rattle.ob0_parse.specs.KeptTreeTokens.{TokensContainProcedures, IsKeptTreeInPlace};
 ghost use Rattle.ob0_parse.specs.ModuleBlock.{block_with_procedures, ReadsModule, ReadsModuleProcedures};
 
 use crate::kept::{has_reserved_word_at, take_tree_at};
-use crate::{Construct, KeptTree};
+use crate::{KeptTree, ReusableConstruct};
 use ob0_parse_descent::{
     ConstructResult, ExpectedSyntax, ItemResult, ParseRefusal, Parser, push_with_doubling,
     syntax_error,
@@ -30,11 +30,11 @@ fn parse_module_block(
 ) -> ConstructResult<ModuleBlockWithoutProcedures>
     requires at { at ≤ length parser.now.tokens.now }
     requires kept { All (IsKeptTreeInPlace parser.now.tokens.now) kept.old.items }
-    requires procedures { AreSpelled parser.now.tokens.now procedures.old.items }
+    requires procedures { TokensContainProcedures parser.now.tokens.now procedures.old.items }
     ensures read { Reads (block_with_procedures procedures.new.items) max_nesting parser.now.tokens.now
         at result }
     ensures kept { All (IsKeptTreeInPlace parser.now.tokens.now) kept.new.items }
-    ensures procedures { AreSpelled parser.now.tokens.now procedures.new.items }
+    ensures procedures { TokensContainProcedures parser.now.tokens.now procedures.new.items }
 {
     let (constants, next) = parser.parse_constant_section(at, MAX_NESTING)?;
     let (types, next) = parser.parse_type_section(next, MAX_NESTING)?;
@@ -65,7 +65,7 @@ fn parse_module_procedures(
     requires kept { All (IsKeptTreeInPlace parser.now.tokens.now) kept.old.items }
     ensures read { ReadsModuleProcedures procedures.new.items parser.now.tokens.now at result }
     ensures kept { All (IsKeptTreeInPlace parser.now.tokens.now) kept.new.items }
-    ensures procedures { AreSpelled parser.now.tokens.now procedures.new.items }
+    ensures procedures { TokensContainProcedures parser.now.tokens.now procedures.new.items }
 {
     procedures.clear();
     let mut next = at;
@@ -96,8 +96,8 @@ fn parse_or_reuse_module_procedure(
         return parser.parse_procedure(at, MAX_NESTING);
     };
     match construct {
-        Construct::Procedure(procedure) => Ok(Some((procedure, next))),
-        Construct::Body(_statements) => parser.parse_procedure(at, MAX_NESTING),
+        ReusableConstruct::Procedure(procedure) => Ok(Some((procedure, next))),
+        ReusableConstruct::Body(_statements) => parser.parse_procedure(at, MAX_NESTING),
     }
 }
 
@@ -118,8 +118,8 @@ fn parse_module_body(
         return parser.parse_body(at, MAX_NESTING);
     };
     match construct {
-        Construct::Body(statements) => Ok((Some(statements), next)),
-        Construct::Procedure(_procedure) => parser.parse_body(at, MAX_NESTING),
+        ReusableConstruct::Body(statements) => Ok((Some(statements), next)),
+        ReusableConstruct::Procedure(_procedure) => parser.parse_body(at, MAX_NESTING),
     }
 }
 
@@ -132,10 +132,10 @@ pub(crate) fn parse_module(
     procedures: &mut Vec<Procedure>,
 ) -> Result<(usize, ModuleBlockWithoutProcedures, usize), ParseRefusal>
     requires kept { All (IsKeptTreeInPlace parser.now.tokens.now) kept.old.items }
-    requires procedures { AreSpelled parser.now.tokens.now procedures.old.items }
+    requires procedures { TokensContainProcedures parser.now.tokens.now procedures.old.items }
     ensures read { ReadsModule procedures.new.items parser.now.tokens.now result }
     ensures kept { All (IsKeptTreeInPlace parser.now.tokens.now) kept.new.items }
-    ensures procedures { AreSpelled parser.now.tokens.now procedures.new.items }
+    ensures procedures { TokensContainProcedures parser.now.tokens.now procedures.new.items }
 {
     let start = parser.expect_reserved_word(0, ReservedWord::Module)?;
     let (name, next) = parser.expect_identifier(start)?;

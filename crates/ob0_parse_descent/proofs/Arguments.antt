@@ -5,9 +5,9 @@ use Rattle.ob0_scan.specs.declared.lexeme.TokenKind.TheVariants as kind
 use Rattle.ob0_scan.specs.declared.lexeme.Symbol.TheVariants as symbol
 use Rattle.ob0_scan.specs.declared.lexeme.Token.{Token}
 use Rattle.ob0_tree.specs.Lexeme.{Terminal, Name, Number, WordOrSymbol, EndOfText}
-use Rattle.ob0_tree.specs.Tree.{arguments, further_argument, expression, simple, term, factor, compares, sum, product, designator, integer, parenthesised, negation, no_arguments, some_arguments, item, items, Tree, spell, single_token_list}
-use Rattle.ob0_parse_descent.specs.Follow.{NextTokenHasRank, may_begin_expression}
-use Rattle.ob0_parse_descent.specs.Reading.{rest, terminal_or_end, ProductionPart, token, nonterminal, BeginsWithParts, HaveSameFirstToken, DescentsHaveSameEnd, IsReadTree, FailsToRead, ItemBeginsButCantBeRead, IsReadList}
+use Rattle.ob0_tree.specs.Tree.{arguments, argument_after_comma, expression, simple, term, factor, compares, sum, product, designator, integer, parenthesised, negation, no_arguments, some_arguments, item, items, Tree, spell, single_token_list}
+use Rattle.ob0_parse_descent.specs.TokenRanks.{NextTokenHasRank, may_begin_expression}
+use Rattle.ob0_parse_descent.specs.ParserPromises.{rest, terminal_or_end, ProductionPart, token, nonterminal, BeginsWithParts, HaveSameFirstToken, DescentsHaveSameEnd, IsReadTree, FailsToRead, ItemBeginsButCantBeRead, IsReadList}
 use Rattle.ob0_parse_descent.specs.Descent.{parts, symbol_part, is_expression_next}
 use Rattle.ob0_parse_descent.proofs.Descent.{both, by, read_mark, read_led}
 use Rattle.ob0_parse_descent.specs.declared.refusal.ParseRefusal.{ParseRefusal}
@@ -17,7 +17,7 @@ use Rattle.ob0_parse_descent.proofs.Expressions.{joined}
 use Rattle.ob0_parse_descent.proofs.Leads.{only_zero}
 use Rattle.ob0_tree.specs.declared.tree.Expression.{Expression}
 use Rattle.ob0_tree.specs.declared.tree.Sign.TheVariants as signs
-use Rattle.ob0_tree.specs.View.{expression_of, further_argument_of, arguments_of_list, items_of}
+use Rattle.ob0_tree.specs.View.{expression_of, argument_after_comma_of, arguments_of_list, items_of}
 use Rattle.ob0_parse_descent.proofs.OneToken.{mark_is}
 
 -- Returns true if an expression may begin with this token.
@@ -65,17 +65,17 @@ true_false p q = let e = sym p ∙ q in cc
 
 -- The token after `(` determines the production of the arguments.
 arguments_read : {room : ℕ} {ts : List Token} {at : ℕ} {b : Bool} → is_expression_next (rest ts (at + 1)) ≡ b → rest ts at ≡ WordOrSymbol (kind.Symbol symbol.LeftParen) ∷ rest ts (at + 1)
-    → DescentsHaveSameEnd (nonterminal (item arguments) room ∷ []) (if b then nonterminal expression room ∷ nonterminal (items further_argument) room ∷ token (kind.Symbol symbol.RightParen) ∷ [] else token (kind.Symbol symbol.RightParen) ∷ []) ts at (at + 1)
-arguments_read {room = room} {ts = ts} {at = at} {b = true} e here = read_led (nonterminal expression room ∷ nonterminal (items further_argument) room ∷ token (kind.Symbol symbol.RightParen) ∷ [])
-    (ap (λ b. if b then parts (symbol_part symbol.LeftParen ∷ nonterminal expression room ∷ nonterminal (items further_argument) room ∷ symbol_part symbol.RightParen ∷ []) else parts (symbol_part symbol.LeftParen ∷ symbol_part symbol.RightParen ∷ [])) e) here
+    → DescentsHaveSameEnd (nonterminal (item arguments) room ∷ []) (if b then nonterminal expression room ∷ nonterminal (items argument_after_comma) room ∷ token (kind.Symbol symbol.RightParen) ∷ [] else token (kind.Symbol symbol.RightParen) ∷ []) ts at (at + 1)
+arguments_read {room = room} {ts = ts} {at = at} {b = true} e here = read_led (nonterminal expression room ∷ nonterminal (items argument_after_comma) room ∷ token (kind.Symbol symbol.RightParen) ∷ [])
+    (ap (λ b. if b then parts (symbol_part symbol.LeftParen ∷ nonterminal expression room ∷ nonterminal (items argument_after_comma) room ∷ symbol_part symbol.RightParen ∷ []) else parts (symbol_part symbol.LeftParen ∷ symbol_part symbol.RightParen ∷ [])) e) here
 arguments_read {room = room} {ts = ts} {at = at} {b = false} e here = read_led (token (kind.Symbol symbol.RightParen) ∷ [])
-    (ap (λ b. if b then parts (symbol_part symbol.LeftParen ∷ nonterminal expression room ∷ nonterminal (items further_argument) room ∷ symbol_part symbol.RightParen ∷ []) else parts (symbol_part symbol.LeftParen ∷ symbol_part symbol.RightParen ∷ [])) e) here
+    (ap (λ b. if b then parts (symbol_part symbol.LeftParen ∷ nonterminal expression room ∷ nonterminal (items argument_after_comma) room ∷ symbol_part symbol.RightParen ∷ []) else parts (symbol_part symbol.LeftParen ∷ symbol_part symbol.RightParen ∷ [])) e) here
 
 expression_next : (ts : List Token) (at : ℕ) {b : Bool} (f : Option TokenKind) → may_begin_expression f ≡ b → rest ts at ≡ terminal_or_end at f ∷ rest ts (at + 1) → is_expression_next (rest ts at) ≡ b
 expression_next ts at f opened first = ap is_expression_next first ∙ (next_opening (terminal_or_end at f) (rest ts (at + 1)) ∙ (opening_at at f ∙ opened))
 
 abbrev pub arguments_following : ℕ → List ProductionPart
-arguments_following room = nonterminal expression room ∷ nonterminal (items further_argument) room ∷ token (kind.Symbol symbol.RightParen) ∷ []
+arguments_following room = nonterminal expression room ∷ nonterminal (items argument_after_comma) room ∷ token (kind.Symbol symbol.RightParen) ∷ []
 
 -- If no expression can begin after `(`, `)` must come next.
 none_parts : (room i : ℕ) (f : Option TokenKind) (xs z w : List (Terminal ℕ)) → may_begin_expression f ≡ false → xs ≡ terminal_or_end i f ∷ z → HaveSameFirstToken xs w → BeginsWithParts (nonterminal (item arguments) room ∷ []) (WordOrSymbol (kind.Symbol symbol.LeftParen) ∷ w) → BeginsWithParts (token (kind.Symbol symbol.RightParen) ∷ []) w
@@ -120,10 +120,10 @@ taken_no_arguments here close = record {
   forward = omega (arith, close.2);
 }
 
-pub taken_arguments : {room : ℕ} {ts : List Token} {at m n : ℕ} (xs : List Expression) → rest ts at ≡ WordOrSymbol (kind.Symbol symbol.LeftParen) ∷ rest ts (at + 1) → IsReadList expression_of further_argument_of xs room ts (at + 1) m → (rest ts m ≡ WordOrSymbol (kind.Symbol symbol.RightParen) ∷ rest ts n) × (m < length ts) × (n ≡ m + 1) → IsReadTree (arguments_of_list xs) room ts at n
+pub taken_arguments : {room : ℕ} {ts : List Token} {at m n : ℕ} (xs : List Expression) → rest ts at ≡ WordOrSymbol (kind.Symbol symbol.LeftParen) ∷ rest ts (at + 1) → IsReadList expression_of argument_after_comma_of xs room ts (at + 1) m → (rest ts m ≡ WordOrSymbol (kind.Symbol symbol.RightParen) ∷ rest ts n) × (m < length ts) × (n ≡ m + 1) → IsReadTree (arguments_of_list xs) room ts at n
 taken_arguments {room = room} {ts = ts} {at = at} {n = n} xs here p close =
     let a = expression_of p.first in
-    let es = items_of further_argument_of p.others in
+    let es = items_of argument_after_comma_of p.others in
     subst (λ l. IsReadTree (arguments_of_list l) room ts at n) (sym p.is) record {
       spelled = here ∙ ap (λ y. WordOrSymbol (kind.Symbol symbol.LeftParen) ∷ y) (joined _ (spell a) _ p.head.spelled (joined _ (spell es) (single_token_list (kind.Symbol symbol.RightParen)) p.tail.spelled close.0));
       shallow = omega (arith, p.head.shallow, p.tail.shallow);

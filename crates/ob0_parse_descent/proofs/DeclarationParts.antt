@@ -6,10 +6,10 @@ use Rattle.ob0_scan.specs.declared.lexeme.ReservedWord.TheVariants as reserved
 use Rattle.ob0_scan.specs.declared.lexeme.Symbol.TheVariants as symbol
 use Rattle.ob0_scan.specs.declared.lexeme.Token.{Token}
 use Rattle.ob0_tree.specs.Lexeme.{Terminal, Name, WordOrSymbol, EndOfText}
-use Rattle.ob0_tree.specs.Tree.{formals, further_section, constant, constants, type_definition, type_definitions, variable, variables, procedure, body, expression, names, written_type, fields, section, block, module_text, some_fields, listed, no_formals, some_formals, value_section, variable_section, declares_constant, declares_type, declares_variable, declares_procedure, declares, forms_block, is_module, item, items, maybe, Tree, spell, single_token_list}
+use Rattle.ob0_tree.specs.Tree.{formals, section_after_semicolon, constant, constants, type_definition, type_definitions, variable, variables, procedure, body, expression, names, written_type, fields, section, block, module_text, some_fields, listed, no_formals, some_formals, value_section, variable_section, declares_constant, declares_type, declares_variable, declares_procedure, declares, forms_block, forms_module, item, items, maybe, Tree, spell, single_token_list}
 use Rattle.ob0_tree.specs.Places.{indexed_terminal}
-use Rattle.ob0_parse_descent.specs.Follow.{rank, NextTokenEndsConstruct, NextTokenHasRank}
-use Rattle.ob0_parse_descent.specs.Reading.{rest, ProductionPart, token, name, nonterminal, text_end, BeginsWithParts, HaveSameFirstToken, DescentsHaveSameEnd, IsReadTree, FailsToRead, ItemBeginsButCantBeRead, IsTokenOtherThan, IsNotIdentifier, TellsIfTokenAt, TellsIfIdentifierAt, TellsIfParameterSectionMayBegin, IsReadList}
+use Rattle.ob0_parse_descent.specs.TokenRanks.{rank, NextTokenEndsConstruct, NextTokenHasRank}
+use Rattle.ob0_parse_descent.specs.ParserPromises.{rest, ProductionPart, token, name, nonterminal, text_end, BeginsWithParts, HaveSameFirstToken, DescentsHaveSameEnd, IsReadTree, FailsToRead, ItemBeginsButCantBeRead, IsTokenOtherThan, IsNotIdentifier, TellsIfTokenAt, TellsIfIdentifierAt, TellsIfParameterSectionMayBegin, IsReadList}
 use Rattle.ob0_parse_descent.specs.Descent.{parts, symbol_part, is_parameter_section_next, chosen_production, made, deep}
 use Rattle.ob0_parse_descent.specs.declared.refusal.ExpectedSyntax.TheVariants as expected
 use Rattle.ob0_parse_descent.proofs.Descent.{both, by, read_name, read_mark, read_made, read_led, read_opened, read_back, unmade}
@@ -20,7 +20,7 @@ use Rattle.ob0_parse_descent.proofs.Refusals.{select, fails_by, fails_weaken, fa
 use Rattle.ob0_parse_descent.proofs.Expressions.{joined, head_at, too_deep_at_once}
 use Rattle.ob0_parse_descent.proofs.Leads.{fails_here, stops_here, only_zero}
 use Rattle.ob0_tree.specs.declared.tree.ParameterSection.{ParameterSection}
-use Rattle.ob0_tree.specs.View.{parameter_section_of, further_parameter_section_of, formals_of_list, items_of}
+use Rattle.ob0_tree.specs.View.{parameter_section_of, parameter_section_after_semicolon_of, formals_of_list, items_of}
 use Rattle.ob0_parse_descent.proofs.TypeParts.{unnested, typed_following, chosen_fields}
 use Rattle.ob0_parse_descent.proofs.Apart.{name_not_mark}
 
@@ -60,7 +60,7 @@ variable_section_fails {room = room} here q = fails_following {qs = typed_follow
 -- Lemmas on formal parameters: `"(" [section {";" section}] ")"`.
 
 abbrev pub formals_following : ℕ → List ProductionPart
-formals_following room = nonterminal section room ∷ nonterminal (items further_section) room ∷ token (kind.Symbol symbol.RightParen) ∷ []
+formals_following room = nonterminal section room ∷ nonterminal (items section_after_semicolon) room ∷ token (kind.Symbol symbol.RightParen) ∷ []
 
 -- The token after `(` determines the production of formal parameters.
 formals_read : {room : ℕ} {ts : List Token} {at : ℕ} {b : Bool} → is_parameter_section_next (rest ts (at + 1)) ≡ b → rest ts at ≡ WordOrSymbol (kind.Symbol symbol.LeftParen) ∷ rest ts (at + 1) → DescentsHaveSameEnd (nonterminal (item formals) room ∷ []) (if b then formals_following room else token (kind.Symbol symbol.RightParen) ∷ []) ts at (at + 1)
@@ -116,10 +116,10 @@ formals_fail {room = room} {ts = ts} {at = at} o here q = record {
 pub taken_no_formals : {room : ℕ} {ts : List Token} {at n : ℕ} → rest ts at ≡ WordOrSymbol (kind.Symbol symbol.LeftParen) ∷ rest ts (at + 1) → (rest ts (at + 1) ≡ WordOrSymbol (kind.Symbol symbol.RightParen) ∷ rest ts n) × (at + 1 < length ts) × (n ≡ at + 1 + 1) → IsReadTree no_formals room ts at n
 taken_no_formals here close = record { spelled = here ∙ ap (λ y. WordOrSymbol (kind.Symbol symbol.LeftParen) ∷ y) close.0; shallow = omega arith; only = λ u z w h s e. only_zero no_formals u z w refl s e; reads = by (formals_read (ap is_parameter_section_next close.0) here) (read_mark close); within = omega (arith, close.1, close.2); forward = omega (arith, close.2) }
 
-pub taken_formals : {room : ℕ} {ts : List Token} {at m n : ℕ} (xs : List ParameterSection) → rest ts at ≡ WordOrSymbol (kind.Symbol symbol.LeftParen) ∷ rest ts (at + 1) → IsReadList parameter_section_of further_parameter_section_of xs room ts (at + 1) m → (rest ts m ≡ WordOrSymbol (kind.Symbol symbol.RightParen) ∷ rest ts n) × (m < length ts) × (n ≡ m + 1) → IsReadTree (formals_of_list xs) room ts at n
+pub taken_formals : {room : ℕ} {ts : List Token} {at m n : ℕ} (xs : List ParameterSection) → rest ts at ≡ WordOrSymbol (kind.Symbol symbol.LeftParen) ∷ rest ts (at + 1) → IsReadList parameter_section_of parameter_section_after_semicolon_of xs room ts (at + 1) m → (rest ts m ≡ WordOrSymbol (kind.Symbol symbol.RightParen) ∷ rest ts n) × (m < length ts) × (n ≡ m + 1) → IsReadTree (formals_of_list xs) room ts at n
 taken_formals {room = room} {ts = ts} {at = at} {n = n} xs here p close =
     let a = parameter_section_of p.first in
-    let fs = items_of further_parameter_section_of p.others in
+    let fs = items_of parameter_section_after_semicolon_of p.others in
     subst (λ l. IsReadTree (formals_of_list l) room ts at n) (sym p.is) record {
       spelled = here ∙ ap (λ y. WordOrSymbol (kind.Symbol symbol.LeftParen) ∷ y) (joined _ (spell a) _ p.head.spelled (joined _ (spell fs) (single_token_list (kind.Symbol symbol.RightParen)) p.tail.spelled close.0));
       shallow = omega (arith, p.head.shallow, p.tail.shallow);
@@ -287,11 +287,11 @@ procedure_too_deep {ts = ts} {at = at} {e = e} l o here = record {
 
 -- Lemmas on modules: `MODULE ident ";" block END ident "."`.
 
-pub taken_module : {room : ℕ} {ts : List Token} {m n p : ℕ} (i a j k : ℕ) (b : Tree ℕ block) (x y : ℕ) → (rest ts 0 ≡ WordOrSymbol (kind.ReservedWord reserved.Module) ∷ rest ts i) × (0 < length ts) × (i ≡ 0 + 1) → (rest ts i ≡ Name x ∷ rest ts a) × (a ≡ i + 1) → (rest ts a ≡ WordOrSymbol (kind.Symbol symbol.Semicolon) ∷ rest ts m) × (a < length ts) × (m ≡ a + 1) → IsReadTree b room ts m n → (rest ts n ≡ WordOrSymbol (kind.ReservedWord reserved.End) ∷ rest ts j) × (n < length ts) × (j ≡ n + 1) → (rest ts j ≡ Name y ∷ rest ts k) × (k ≡ j + 1) → (rest ts k ≡ WordOrSymbol (kind.Symbol symbol.Dot) ∷ rest ts p) × (k < length ts) × (p ≡ k + 1) → IsReadTree (is_module x b y) room ts 0 p
+pub taken_module : {room : ℕ} {ts : List Token} {m n p : ℕ} (i a j k : ℕ) (b : Tree ℕ block) (x y : ℕ) → (rest ts 0 ≡ WordOrSymbol (kind.ReservedWord reserved.Module) ∷ rest ts i) × (0 < length ts) × (i ≡ 0 + 1) → (rest ts i ≡ Name x ∷ rest ts a) × (a ≡ i + 1) → (rest ts a ≡ WordOrSymbol (kind.Symbol symbol.Semicolon) ∷ rest ts m) × (a < length ts) × (m ≡ a + 1) → IsReadTree b room ts m n → (rest ts n ≡ WordOrSymbol (kind.ReservedWord reserved.End) ∷ rest ts j) × (n < length ts) × (j ≡ n + 1) → (rest ts j ≡ Name y ∷ rest ts k) × (k ≡ j + 1) → (rest ts k ≡ WordOrSymbol (kind.Symbol symbol.Dot) ∷ rest ts p) × (k < length ts) × (p ≡ k + 1) → IsReadTree (forms_module x b y) room ts 0 p
 taken_module i a j k b x y here named semi qb last closing close = record {
   spelled = here.0 ∙ ap (λ z. WordOrSymbol (kind.ReservedWord reserved.Module) ∷ z) (named.0 ∙ ap (λ z. Name x ∷ z) (semi.0 ∙ ap (λ z. WordOrSymbol (kind.Symbol symbol.Semicolon) ∷ z) (joined _ (spell b) _ qb.spelled (last.0 ∙ ap (λ z. WordOrSymbol (kind.ReservedWord reserved.End) ∷ z) (closing.0 ∙ ap (λ z. Name y ∷ z) close.0)))));
   shallow = qb.shallow;
-  only = λ u z w h s e. only_zero (is_module x b y) u z w refl s e;
+  only = λ u z w h s e. only_zero (forms_module x b y) u z w refl s e;
   reads = by (read_made refl) (both (read_mark here) (both (read_name named.0 named.1) (both (read_mark semi) (both qb.reads (both (read_mark last) (both (read_name closing.0 closing.1) (read_mark close)))))));
   within = omega (arith, close.1, close.2);
   forward = omega arith;
@@ -301,7 +301,7 @@ abbrev pub module_parts : List ProductionPart
 module_parts = token (kind.ReservedWord reserved.Module) ∷ name ∷ token (kind.Symbol symbol.Semicolon) ∷ nonterminal block 100 ∷ token (kind.ReservedWord reserved.End) ∷ name ∷ token (kind.Symbol symbol.Dot) ∷ text_end ∷ []
 
 module_head : (w : List (Terminal ℕ)) → BeginsWithParts (nonterminal module_text 100 ∷ text_end ∷ []) w → BeginsWithParts module_parts w
-module_head w (is_module x b y, z, e, n, s, q) =
+module_head w (forms_module x b y, z, e, n, s, q) =
     (_, e, (x, _, refl, (_, refl, (b, WordOrSymbol (kind.ReservedWord reserved.End) ∷ Name y ∷ WordOrSymbol (kind.Symbol symbol.Dot) ∷ z, append_assoc (spell b) _ z, n, omega arith, (_, refl, (y, _, refl, (z, refl, q)))))))
 
 pub module_fails : {ts : List Token} {e : ParseRefusal} → FailsToRead module_parts ts 0 e → FailsToRead (nonterminal module_text 100 ∷ text_end ∷ []) ts 0 e

@@ -4,9 +4,9 @@ use Rattle.ob0_scan.specs.declared.lexeme.TokenKind.{TokenKind}
 use Rattle.ob0_scan.specs.declared.lexeme.Token.{Token}
 use Rattle.ob0_tree.specs.Lexeme.{Terminal, Name, Number, WordOrSymbol}
 use Rattle.ob0_tree.specs.Tree.{GrammarItem, item, items, maybe, Sort}
-use Rattle.ob0_parse_descent.specs.Follow.{rank, item_start_rank, NextTokenHasRank}
+use Rattle.ob0_parse_descent.specs.TokenRanks.{rank, item_start_rank, NextTokenHasRank}
 use Rattle.ob0_parse_descent.specs.Descent.{ProductionPart, token, name, number, nonterminal, parts, missing, too_deep, nested_construct_choice, is_item_next, chosen_production, MatchesPart, DescentEnd, Expects, Descends, done, taken, other, made, absent, deep}
-use Rattle.ob0_parse_descent.specs.Reading.{rest, DescentsHaveSameEnd}
+use Rattle.ob0_parse_descent.specs.ParserPromises.{rest, DescentsHaveSameEnd}
 use Rattle.ob0_parse_descent.specs.declared.refusal.ExpectedSyntax.{ExpectedSyntax}
 
 -- ---- there is only one stop

@@ -16,8 +16,8 @@ use Rattle.ob0_tree.specs.declared.tree.MultiplyOperator.{MultiplyOperator}
 use Rattle.ob0_tree.specs.Lexeme.{Terminal, Name, Number, WordOrSymbol, EndOfText, relation_token_kind, sign_token_kind, sign_tokens, add_operator_token_kind, multiply_operator_token_kind}
 use Rattle.ob0_tree.specs.Tree.{GrammarItem, selector, multiplier, addend, comparison, Sort, item, items, maybe, expression, simple, term, factor, Tree, none, one, compares, relates, sum, adds, product, multiplies, designator, integer, parenthesised, negation, field, index, spell, single_token_list}
 use Rattle.ob0_tree.specs.Places.{indexed_terminal}
-use Rattle.ob0_parse_descent.specs.Follow.{rank, kind_rank, item_start_rank, item_level, NextTokenEndsConstruct, NextTokenHasRank}
-use Rattle.ob0_parse_descent.specs.Reading.{rest, terminal_or_end, ProductionPart, token, name, nonterminal, BeginsWithParts, HaveSameFirstToken, CantBeginWithParts, DescentsHaveSameEnd, IsReadTree, DescentEndsWith, FailsToRead, IsSignAt, ItemBeginsButCantBeRead, BeginsWithoutSign, IsTokenOtherThan}
+use Rattle.ob0_parse_descent.specs.TokenRanks.{rank, kind_rank, item_start_rank, item_level, NextTokenEndsConstruct, NextTokenHasRank}
+use Rattle.ob0_parse_descent.specs.ParserPromises.{rest, terminal_or_end, ProductionPart, token, name, nonterminal, BeginsWithParts, HaveSameFirstToken, CantBeginWithParts, DescentsHaveSameEnd, IsReadTree, DescentEndsWith, FailsToRead, IsSignAt, ItemBeginsButCantBeRead, BeginsWithoutSign, IsTokenOtherThan}
 use Rattle.ob0_parse_descent.specs.declared.refusal.ParseRefusal.{ParseRefusal}
 use Rattle.ob0_parse_descent.specs.declared.refusal.ParseRefusal.TheVariants.{Syntax, TooDeep}
 use Rattle.ob0_parse_descent.proofs.Unique.{not_here, starts_item, stops_items, stops_maybe, stops_less, below, regroup, unsigned_term, tail_of, head_of, relation_rank, add_rank, multiply_rank, same_signs, same_relation, same_add, same_multiply, mark_of, name_of}

@@ -6,8 +6,8 @@ use Rattle.ob0_scan.specs.declared.lexeme.ReservedWord.TheVariants as reserved
 use Rattle.ob0_scan.specs.declared.lexeme.Symbol.TheVariants as symbol
 use Rattle.ob0_tree.specs.declared.tree.Sign.TheVariants as signs
 use Rattle.ob0_tree.specs.Lexeme.{Terminal, Name, Number, WordOrSymbol}
-use Rattle.ob0_tree.specs.Tree.{GrammarItem, arguments, further_argument, further_section, Sort, item, items, maybe, expression, statement, fields, section, Tree, none, one, end, more, compares, relates, sum, adds, product, multiplies, designator, integer, parenthesised, negation, field, index, empty, assigns, calls, branches, while_loop, repeat_loop, no_arguments, some_arguments, then_argument, runs, then_statement, elsif_branch, else_branch, listed, then_name, named_type, array_type, record_type, no_fields, some_fields, then_fields, no_formals, some_formals, value_section, variable_section, then_section, declares_constant, declares_constants, declares_type, declares_types, declares_variable, declares_variables, declares_procedure, declares, begins, forms_block, is_module, spell, nesting}
-use Rattle.ob0_parse_descent.specs.Follow.{rank, item_start_rank, item_level, level, NextTokenEndsConstruct, NextTokenHasRank}
+use Rattle.ob0_tree.specs.Tree.{GrammarItem, arguments, argument_after_comma, section_after_semicolon, Sort, item, items, maybe, expression, statement, fields, section, Tree, none, one, end, more, compares, relates, sum, adds, product, multiplies, designator, integer, parenthesised, negation, field, index, empty, assigns, calls, branches, while_loop, repeat_loop, no_arguments, some_arguments, comma_then_argument, runs, semicolon_then_statement, elsif_branch, else_branch, listed, comma_then_name, named_type, array_type, record_type, no_fields, some_fields, semicolon_then_fields, no_formals, some_formals, value_section, variable_section, semicolon_then_section, declares_constant, declares_const_section, declares_type, declares_type_section, declares_variable, declares_var_section, declares_procedure, declares, begins, forms_block, forms_module, spell, nesting}
+use Rattle.ob0_parse_descent.specs.TokenRanks.{rank, item_start_rank, item_level, level, NextTokenEndsConstruct, NextTokenHasRank}
 use Rattle.ob0_parse_descent.specs.Descent.{ProductionPart, token, name, number, nonterminal, parts, symbol_part, is_item_next, is_expression_next, is_parameter_section_next, is_assignment_next, chosen_production, DescentEnd, Descends, taken, made}
 use Rattle.ob0_parse_descent.proofs.Unique.{starts_item, stops_less, stops_items, stops_maybe, stops_else, stops_branches, stops_closed, below, unsigned_term}
 use Rattle.ob0_parse_descent.proofs.Refusals.{no_end}
@@ -107,15 +107,15 @@ finishes (repeat_loop t c) zero ps z n s r = absurd (omega arith)
 finishes (repeat_loop t c) (suc inner) ps z n s r = prod refl (tok (assoc (spell t) _ z (finishes t inner _ _ (omega arith) (omega arith) (tok (finishes c inner ps z (omega arith) (stops_less z 4 8 (omega arith) s) r)))))
 finishes no_arguments room ps z n s r = prod refl (tok (tok r))
 finishes (some_arguments e es) room ps z n s r =
-    prod (ap (λ b. if b then parts (symbol_part symbol.LeftParen ∷ nonterminal expression room ∷ nonterminal (items further_argument) room ∷ symbol_part symbol.RightParen ∷ []) else parts (symbol_part symbol.LeftParen ∷ symbol_part symbol.RightParen ∷ [])) (ap is_expression_next (append_assoc (spell e) _ z) ∙ tree_next e _))
+    prod (ap (λ b. if b then parts (symbol_part symbol.LeftParen ∷ nonterminal expression room ∷ nonterminal (items argument_after_comma) room ∷ symbol_part symbol.RightParen ∷ []) else parts (symbol_part symbol.LeftParen ∷ symbol_part symbol.RightParen ∷ [])) (ap is_expression_next (append_assoc (spell e) _ z) ∙ tree_next e _))
     (tok (assoc (spell e) _ z (finishes e room _ _ (omega arith) (stops_closed es (kind.Symbol symbol.RightParen) z 4 (omega arith) (omega arith)) (assoc (spell es) _ z (finishes es room _ _ (omega arith) (omega arith) (tok r))))))
-finishes (then_argument e) room ps z n s r = prod refl (tok (finishes e room ps z n s r))
+finishes (comma_then_argument e) room ps z n s r = prod refl (tok (finishes e room ps z n s r))
 finishes (runs a c) room ps z n s r = prod refl (assoc (spell a) (spell c) z (finishes a room _ _ (omega arith) (stops_items c z 8 (omega arith) s) (finishes c room ps z (omega arith) s r)))
-finishes (then_statement t) room ps z n s r = prod refl (tok (finishes t room ps z n s r))
+finishes (semicolon_then_statement t) room ps z n s r = prod refl (tok (finishes t room ps z n s r))
 finishes (elsif_branch c t) room ps z n s r = prod refl (tok (assoc (spell c) _ z (finishes c room _ _ (omega arith) (omega arith) (tok (finishes t room ps z (omega arith) s r)))))
 finishes (else_branch t) room ps z n s r = prod refl (tok (finishes t room ps z n s r))
 finishes (listed x others) room ps z n s r = prod refl (nam (finishes others room ps z (omega (arith, nameless others)) s r))
-finishes (then_name x) room ps z n s r = prod refl (tok (nam r))
+finishes (comma_then_name x) room ps z n s r = prod refl (tok (nam r))
 finishes (named_type x) room ps z n s r = prod refl (nam r)
 finishes (array_type c t) zero ps z n s r = absurd (omega arith)
 finishes (array_type c t) (suc inner) ps z n s r = prod refl (tok (assoc (spell c) _ z (finishes c inner _ _ (omega arith) (omega arith) (tok (finishes t inner ps z (omega arith) s r)))))
@@ -125,21 +125,21 @@ finishes (record_type f fs) (suc inner) ps z n s r =
 finishes no_fields room ps z n s r = prod {qs = []} (no_field room z s) r
 finishes (some_fields ns t) room ps z n s r =
     prod (chosen_fields room ns _ (append_assoc (spell ns) _ z)) (assoc (spell ns) _ z (finishes ns 0 _ _ (unnested ns) (omega arith) (tok (finishes t room ps z n (stops_less z 0 7 (omega arith) s) r))))
-finishes (then_fields f) room ps z n s r = prod refl (tok (finishes f room ps z n s r))
+finishes (semicolon_then_fields f) room ps z n s r = prod refl (tok (finishes f room ps z n s r))
 finishes no_formals room ps z n s r = prod refl (tok (tok r))
 finishes (some_formals f fs) room ps z n s r =
-    prod (ap (λ b. if b then parts (symbol_part symbol.LeftParen ∷ nonterminal section room ∷ nonterminal (items further_section) room ∷ symbol_part symbol.RightParen ∷ []) else parts (symbol_part symbol.LeftParen ∷ symbol_part symbol.RightParen ∷ [])) (ap is_parameter_section_next (append_assoc (spell f) _ z) ∙ section_next f _))
+    prod (ap (λ b. if b then parts (symbol_part symbol.LeftParen ∷ nonterminal section room ∷ nonterminal (items section_after_semicolon) room ∷ symbol_part symbol.RightParen ∷ []) else parts (symbol_part symbol.LeftParen ∷ symbol_part symbol.RightParen ∷ [])) (ap is_parameter_section_next (append_assoc (spell f) _ z) ∙ section_next f _))
     (tok (assoc (spell f) _ z (finishes f room _ _ (omega arith) (stops_closed fs (kind.Symbol symbol.RightParen) z 0 (omega arith) (omega arith)) (assoc (spell fs) _ z (finishes fs room _ _ (omega arith) (omega arith) (tok r))))))
 finishes (value_section ns t) room ps z n s r =
     prod (chosen_typed room ns _ (append_assoc (spell ns) _ z)) (assoc (spell ns) _ z (finishes ns 0 _ _ (unnested ns) (omega arith) (tok (finishes t room ps z n s r))))
 finishes (variable_section ns t) room ps z n s r = prod refl (tok (assoc (spell ns) _ z (finishes ns 0 _ _ (unnested ns) (omega arith) (tok (finishes t room ps z n s r)))))
-finishes (then_section f) room ps z n s r = prod refl (tok (finishes f room ps z n s r))
+finishes (semicolon_then_section f) room ps z n s r = prod refl (tok (finishes f room ps z n s r))
 finishes (declares_constant x e) room ps z n s r = prod refl (nam (tok (assoc (spell e) _ z (finishes e room _ _ n (omega arith) (tok r)))))
-finishes (declares_constants cs) room ps z n s r = prod refl (tok (finishes cs room ps z n s r))
+finishes (declares_const_section cs) room ps z n s r = prod refl (tok (finishes cs room ps z n s r))
 finishes (declares_type x t) room ps z n s r = prod refl (nam (tok (assoc (spell t) _ z (finishes t room _ _ n (omega arith) (tok r)))))
-finishes (declares_types ts) room ps z n s r = prod refl (tok (finishes ts room ps z n s r))
+finishes (declares_type_section ts) room ps z n s r = prod refl (tok (finishes ts room ps z n s r))
 finishes (declares_variable ns t) room ps z n s r = prod refl (assoc (spell ns) _ z (finishes ns 0 _ _ (unnested ns) (omega arith) (tok (assoc (spell t) _ z (finishes t room _ _ n (omega arith) (tok r))))))
-finishes (declares_variables vs) room ps z n s r = prod refl (tok (finishes vs room ps z n s r))
+finishes (declares_var_section vs) room ps z n s r = prod refl (tok (finishes vs room ps z n s r))
 finishes (declares_procedure x fs b y) zero ps z n s r = absurd (omega arith)
 finishes (declares_procedure x fs b y) (suc inner) ps z n s r =
     prod refl (tok (nam (assoc (spell fs) _ z (finishes fs inner _ _ (omega arith) (omega arith) (tok (assoc (spell b) _ z (finishes b inner _ _ (omega arith) (omega arith) (tok (nam (tok r))))))))))
@@ -154,4 +154,4 @@ finishes (declares cs ds vs us) room ps z n s r =
     long a b c d z = simp append_assoc
 finishes (begins t) room ps z n s r = prod refl (tok (finishes t room ps z n s r))
 finishes (forms_block ds b) room ps z n s r = prod refl (assoc (spell ds) (spell b) z (finishes ds room _ _ (omega arith) (stops_maybe b z 15 (omega arith) s) (finishes b room ps z (omega arith) s r)))
-finishes (is_module x b y) room ps z n s r = prod refl (tok (nam (tok (assoc (spell b) _ z (finishes b room _ _ n (omega arith) (tok (nam (tok r))))))))
+finishes (forms_module x b y) room ps z n s r = prod refl (tok (nam (tok (assoc (spell b) _ z (finishes b room _ _ n (omega arith) (tok (nam (tok r))))))))

@@ -4,8 +4,8 @@ use Rattle.ob0_scan.specs.declared.lexeme.Token.{Token}
 use Rattle.ob0_tree.specs.Lexeme.{Terminal}
 use Rattle.ob0_tree.specs.Tree.{GrammarItem, item, items, Tree, end, more, spell, nesting}
 use Rattle.ob0_tree.specs.View.{items_of}
-use Rattle.ob0_parse_descent.specs.Follow.{item_start_rank, item_level, NextTokenEndsConstruct, NextTokenHasRank}
-use Rattle.ob0_parse_descent.specs.Reading.{rest, ProductionPart, nonterminal, BeginsWithParts, HaveSameFirstToken, DescentsHaveSameEnd, IsReadTree, FailsToRead, ItemBeginsButCantBeRead}
+use Rattle.ob0_parse_descent.specs.TokenRanks.{item_start_rank, item_level, NextTokenEndsConstruct, NextTokenHasRank}
+use Rattle.ob0_parse_descent.specs.ParserPromises.{rest, ProductionPart, nonterminal, BeginsWithParts, HaveSameFirstToken, DescentsHaveSameEnd, IsReadTree, FailsToRead, ItemBeginsButCantBeRead}
 use Rattle.ob0_parse_descent.proofs.Descent.{as_is, both, by, read_more, read_end}
 use Rattle.ob0_parse_descent.specs.declared.refusal.ParseRefusal.{ParseRefusal}
 use Rattle.ob0_parse_descent.proofs.Unique.{not_here, starts_item, stops_items, below}

@@ -10,9 +10,9 @@ use Rattle.ob0_parse_descent.specs.declared.refusal.ExpectedSyntax.{ExpectedSynt
 use Rattle.ob0_parse_descent.specs.declared.refusal.ParseRefusal.{ParseRefusal}
 use Rattle.ob0_parse_descent.specs.declared.refusal.ParseRefusal.TheVariants.{Syntax}
 use Rattle.ob0_tree.specs.Tree.{Sort, Tree, spell}
-use Rattle.ob0_parse_descent.specs.Follow.{rank, kind_rank, level, NextTokenHasRank, NextTokenEndsConstruct}
+use Rattle.ob0_parse_descent.specs.TokenRanks.{rank, kind_rank, level, NextTokenHasRank, NextTokenEndsConstruct}
 use Rattle.ob0_parse_descent.proofs.Unique.{same}
-use Rattle.ob0_parse_descent.specs.Reading.{rest, ProductionPart, token, name, BeginsWithParts, DescentEndsWith, FailsToRead, IsTokenOtherThan, IsNotIdentifier}
+use Rattle.ob0_parse_descent.specs.ParserPromises.{rest, ProductionPart, token, name, BeginsWithParts, DescentEndsWith, FailsToRead, IsTokenOtherThan, IsNotIdentifier}
 use Rattle.ob0_parse_descent.specs.Descent.{MatchesPart, syntax_expected_for_part, syntax_expected_for_kind, Expects, Descends, other}
 use Rattle.ob0_parse_descent.specs.declared.refusal.ExpectedSyntax.TheVariants as expected
 use Rattle.ob0_parse_descent.proofs.Refusals.{at_once, fails_by, in_name, in_token}

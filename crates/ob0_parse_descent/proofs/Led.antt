@@ -6,9 +6,9 @@ use Rattle.ob0_scan.specs.declared.lexeme.ReservedWord.TheVariants as reserved
 use Rattle.ob0_scan.specs.declared.lexeme.Symbol.TheVariants as symbol
 use Rattle.ob0_scan.specs.declared.lexeme.Token.{Token}
 use Rattle.ob0_tree.specs.Lexeme.{Terminal, WordOrSymbol}
-use Rattle.ob0_tree.specs.Tree.{GrammarItem, then_argument, then_statement, else_branch, then_fields, then_section, begins, declares_constants, declares_types, declares_variables, further_argument, further_statement, else_part, further_fields, further_section, body, constants, type_definitions, variables, constant, type_definition, variable, expression, statement, sequence, fields, section, Sort, item, items, Tree, spell, nesting}
-use Rattle.ob0_parse_descent.specs.Follow.{kind_rank, item_start_rank, item_level, level, NextTokenHasRank}
-use Rattle.ob0_parse_descent.specs.Reading.{rest, token, nonterminal, BeginsWithParts, DescentsHaveSameEnd, IsReadTree, FailsToRead, ItemBeginsButCantBeRead}
+use Rattle.ob0_tree.specs.Tree.{GrammarItem, comma_then_argument, semicolon_then_statement, else_branch, semicolon_then_fields, semicolon_then_section, begins, declares_const_section, declares_type_section, declares_var_section, argument_after_comma, statement_after_semicolon, else_part, fields_after_semicolon, section_after_semicolon, body, constants, type_definitions, variables, constant, type_definition, variable, expression, statement, sequence, fields, section, Sort, item, items, Tree, spell, nesting}
+use Rattle.ob0_parse_descent.specs.TokenRanks.{kind_rank, item_start_rank, item_level, level, NextTokenHasRank}
+use Rattle.ob0_parse_descent.specs.ParserPromises.{rest, token, nonterminal, BeginsWithParts, DescentsHaveSameEnd, IsReadTree, FailsToRead, ItemBeginsButCantBeRead}
 use Rattle.ob0_parse_descent.specs.Descent.{parts, chosen_item_production}
 use Rattle.ob0_parse_descent.proofs.Descent.{by, read_led}
 use Rattle.ob0_parse_descent.specs.declared.refusal.ParseRefusal.{ParseRefusal}
@@ -56,16 +56,16 @@ led_fails {s = s} {i = i} {k = k} {room = room} l here q = record {
   fails = fails_following {qs = nonterminal s room ∷ []} (led_read l here) here (led_parts room l) q;
 }
 
-back_then_argument : (u : Tree ℕ (item further_argument)) → (v : Tree ℕ expression) × (u ≡ then_argument v)
-back_then_argument (then_argument v) = (v, refl)
+back_then_argument : (u : Tree ℕ (item argument_after_comma)) → (v : Tree ℕ expression) × (u ≡ comma_then_argument v)
+back_then_argument (comma_then_argument v) = (v, refl)
 
-pub leads_then_argument : Leads (kind.Symbol symbol.Comma) then_argument
+pub leads_then_argument : Leads (kind.Symbol symbol.Comma) comma_then_argument
 leads_then_argument = record { spelled = λ t. refl; deep = λ t. refl; back = back_then_argument; lower = omega arith; ranked = refl; chosen_production = λ room w. refl }
 
-back_then_statement : (u : Tree ℕ (item further_statement)) → (v : Tree ℕ statement) × (u ≡ then_statement v)
-back_then_statement (then_statement v) = (v, refl)
+back_then_statement : (u : Tree ℕ (item statement_after_semicolon)) → (v : Tree ℕ statement) × (u ≡ semicolon_then_statement v)
+back_then_statement (semicolon_then_statement v) = (v, refl)
 
-pub leads_then_statement : Leads (kind.Symbol symbol.Semicolon) then_statement
+pub leads_then_statement : Leads (kind.Symbol symbol.Semicolon) semicolon_then_statement
 leads_then_statement = record { spelled = λ t. refl; deep = λ t. refl; back = back_then_statement; lower = omega arith; ranked = refl; chosen_production = λ room w. refl }
 
 back_else_branch : (u : Tree ℕ (item else_part)) → (v : Tree ℕ sequence) × (u ≡ else_branch v)
@@ -74,16 +74,16 @@ back_else_branch (else_branch v) = (v, refl)
 pub leads_else_branch : Leads (kind.ReservedWord reserved.Else) else_branch
 leads_else_branch = record { spelled = λ t. refl; deep = λ t. refl; back = back_else_branch; lower = omega arith; ranked = refl; chosen_production = λ room w. refl }
 
-back_then_fields : (u : Tree ℕ (item further_fields)) → (v : Tree ℕ fields) × (u ≡ then_fields v)
-back_then_fields (then_fields v) = (v, refl)
+back_then_fields : (u : Tree ℕ (item fields_after_semicolon)) → (v : Tree ℕ fields) × (u ≡ semicolon_then_fields v)
+back_then_fields (semicolon_then_fields v) = (v, refl)
 
-pub leads_then_fields : Leads (kind.Symbol symbol.Semicolon) then_fields
+pub leads_then_fields : Leads (kind.Symbol symbol.Semicolon) semicolon_then_fields
 leads_then_fields = record { spelled = λ t. refl; deep = λ t. refl; back = back_then_fields; lower = omega arith; ranked = refl; chosen_production = λ room w. refl }
 
-back_then_section : (u : Tree ℕ (item further_section)) → (v : Tree ℕ section) × (u ≡ then_section v)
-back_then_section (then_section v) = (v, refl)
+back_then_section : (u : Tree ℕ (item section_after_semicolon)) → (v : Tree ℕ section) × (u ≡ semicolon_then_section v)
+back_then_section (semicolon_then_section v) = (v, refl)
 
-pub leads_then_section : Leads (kind.Symbol symbol.Semicolon) then_section
+pub leads_then_section : Leads (kind.Symbol symbol.Semicolon) semicolon_then_section
 leads_then_section = record { spelled = λ t. refl; deep = λ t. refl; back = back_then_section; lower = omega arith; ranked = refl; chosen_production = λ room w. refl }
 
 back_begins : (u : Tree ℕ (item body)) → (v : Tree ℕ sequence) × (u ≡ begins v)
@@ -92,20 +92,20 @@ back_begins (begins v) = (v, refl)
 pub leads_begins : Leads (kind.ReservedWord reserved.Begin) begins
 leads_begins = record { spelled = λ t. refl; deep = λ t. refl; back = back_begins; lower = omega arith; ranked = refl; chosen_production = λ room w. refl }
 
-back_declares_constants : (u : Tree ℕ (item constants)) → (v : Tree ℕ (items constant)) × (u ≡ declares_constants v)
-back_declares_constants (declares_constants v) = (v, refl)
+back_declares_constants : (u : Tree ℕ (item constants)) → (v : Tree ℕ (items constant)) × (u ≡ declares_const_section v)
+back_declares_constants (declares_const_section v) = (v, refl)
 
-pub leads_declares_constants : Leads (kind.ReservedWord reserved.Const) declares_constants
+pub leads_declares_constants : Leads (kind.ReservedWord reserved.Const) declares_const_section
 leads_declares_constants = record { spelled = λ t. refl; deep = λ t. refl; back = back_declares_constants; lower = omega arith; ranked = refl; chosen_production = λ room w. refl }
 
-back_declares_types : (u : Tree ℕ (item type_definitions)) → (v : Tree ℕ (items type_definition)) × (u ≡ declares_types v)
-back_declares_types (declares_types v) = (v, refl)
+back_declares_types : (u : Tree ℕ (item type_definitions)) → (v : Tree ℕ (items type_definition)) × (u ≡ declares_type_section v)
+back_declares_types (declares_type_section v) = (v, refl)
 
-pub leads_declares_types : Leads (kind.ReservedWord reserved.Type) declares_types
+pub leads_declares_types : Leads (kind.ReservedWord reserved.Type) declares_type_section
 leads_declares_types = record { spelled = λ t. refl; deep = λ t. refl; back = back_declares_types; lower = omega arith; ranked = refl; chosen_production = λ room w. refl }
 
-back_declares_variables : (u : Tree ℕ (item variables)) → (v : Tree ℕ (items variable)) × (u ≡ declares_variables v)
-back_declares_variables (declares_variables v) = (v, refl)
+back_declares_variables : (u : Tree ℕ (item variables)) → (v : Tree ℕ (items variable)) × (u ≡ declares_var_section v)
+back_declares_variables (declares_var_section v) = (v, refl)
 
-pub leads_declares_variables : Leads (kind.ReservedWord reserved.Var) declares_variables
+pub leads_declares_variables : Leads (kind.ReservedWord reserved.Var) declares_var_section
 leads_declares_variables = record { spelled = λ t. refl; deep = λ t. refl; back = back_declares_variables; lower = omega arith; ranked = refl; chosen_production = λ room w. refl }

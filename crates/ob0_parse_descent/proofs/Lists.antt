@@ -3,8 +3,8 @@ use Rattle.std.proofs.Common.{◌≡◌, ℕ, List, [], ◌∷◌, ◌++◌, ref
 use Rattle.ob0_scan.specs.declared.lexeme.Token.{Token}
 use Rattle.ob0_tree.specs.Tree.{GrammarItem, Sort, item, items, Tree}
 use Rattle.ob0_tree.specs.View.{items_of}
-use Rattle.ob0_parse_descent.specs.Follow.{item_start_rank, NextTokenHasRank}
-use Rattle.ob0_parse_descent.specs.Reading.{rest, ProductionPart, nonterminal, IsReadTree, FailsToRead, ItemBeginsButCantBeRead, IsReadList}
+use Rattle.ob0_parse_descent.specs.TokenRanks.{item_start_rank, NextTokenHasRank}
+use Rattle.ob0_parse_descent.specs.ParserPromises.{rest, ProductionPart, nonterminal, IsReadTree, FailsToRead, ItemBeginsButCantBeRead, IsReadList}
 use Rattle.ob0_parse_descent.specs.declared.refusal.ParseRefusal.{ParseRefusal}
 use Rattle.ob0_parse_descent.proofs.Refusals.{fails_pass}
 use Rattle.ob0_parse_descent.proofs.Items.{Taking, taking_none, taking_more, taking_done, taking_fails}

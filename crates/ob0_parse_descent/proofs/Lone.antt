@@ -9,8 +9,8 @@ use Rattle.ob0_tree.specs.declared.tree.SimpleExpression.{SimpleExpression, out-
 use Rattle.ob0_tree.specs.declared.tree.Term.{out-Term}
 use Rattle.ob0_tree.specs.View.{items_of, simple_expression_of, addend_of, term_of, multiplier_of, factor_of}
 use Rattle.ob0_tree.proofs.Viewed.{simple_parts, term_parts}
-use Rattle.ob0_parse_descent.specs.Follow.{rank, binding_rank, NextTokenEndsConstruct, NextTokenHasRank}
-use Rattle.ob0_parse_descent.specs.Reading.{terminal_or_end, rest, IsReadTree, IsSingleTokenFactor, BeginsWithoutSign, IsSignAt}
+use Rattle.ob0_parse_descent.specs.TokenRanks.{rank, binding_rank, NextTokenEndsConstruct, NextTokenHasRank}
+use Rattle.ob0_parse_descent.specs.ParserPromises.{terminal_or_end, rest, IsReadTree, IsSingleTokenFactor, BeginsWithoutSign, IsSignAt}
 use Rattle.ob0_parse_descent.proofs.NamedStatements.{true_not_false}
 use Rattle.ob0_parse_descent.proofs.Items.{taking_none, taking_done}
 use Rattle.ob0_parse_descent.proofs.Expressions.{taken_compares, taken_no_item, taken_sum, taken_product, taken_integer, taken_designator}

@@ -6,8 +6,8 @@ use Rattle.ob0_scan.specs.declared.lexeme.Symbol.TheVariants as symbol
 use Rattle.ob0_scan.specs.declared.lexeme.Token.{Token}
 use Rattle.ob0_tree.specs.Lexeme.{Terminal, Name, WordOrSymbol}
 use Rattle.ob0_tree.specs.Tree.{selector, arguments, expression, factor, statement, designator, empty, assigns, calls, branches, while_loop, repeat_loop, no_arguments, some_arguments, Sort, item, items, maybe, Tree, none, one, end, more, spell}
-use Rattle.ob0_parse_descent.specs.Follow.{rank, level, NextTokenEndsConstruct, NextTokenHasRank}
-use Rattle.ob0_parse_descent.specs.Reading.{rest, ProductionPart, token, name, nonterminal, BeginsWithParts, HaveSameFirstToken, CantBeginWithParts, DescentsHaveSameEnd, IsReadTree, DescentEndsWith, FailsToRead, ItemBeginsButCantBeRead, IsTokenOtherThan}
+use Rattle.ob0_parse_descent.specs.TokenRanks.{rank, level, NextTokenEndsConstruct, NextTokenHasRank}
+use Rattle.ob0_parse_descent.specs.ParserPromises.{rest, ProductionPart, token, name, nonterminal, BeginsWithParts, HaveSameFirstToken, CantBeginWithParts, DescentsHaveSameEnd, IsReadTree, DescentEndsWith, FailsToRead, ItemBeginsButCantBeRead, IsTokenOtherThan}
 use Rattle.ob0_parse_descent.specs.Descent.{parts, symbol_part, is_assignment_next, is_item_next, chosen_production, DescentEnd, Descends, done, taken, made}
 use Rattle.ob0_parse_descent.specs.declared.refusal.ExpectedSyntax.TheVariants as expected
 use Rattle.ob0_parse_descent.proofs.Descent.{both, by, read_token, read_made, read_back, unmade, past_name, next_item, no_next}

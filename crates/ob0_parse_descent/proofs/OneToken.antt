@@ -4,8 +4,8 @@ use Rattle.ob0_scan.specs.declared.lexeme.TokenKind.{TokenKind}
 use Rattle.ob0_scan.specs.declared.lexeme.TokenKind.TheVariants as kind
 use Rattle.ob0_tree.specs.Lexeme.{Terminal, Name, Number, WordOrSymbol}
 use Rattle.ob0_tree.specs.Places.{indexed_terminal}
-use Rattle.ob0_parse_descent.specs.Reading.{terminal_or_end, token, name, CantBeginWithParts}
-use Rattle.ob0_parse_descent.specs.Follow.{rank, kind_rank}
+use Rattle.ob0_parse_descent.specs.ParserPromises.{terminal_or_end, token, name, CantBeginWithParts}
+use Rattle.ob0_parse_descent.specs.TokenRanks.{rank, kind_rank}
 use Rattle.ob0_parse_descent.proofs.Refusals.{at_once}
 
 pub mark_is : (f : Option TokenKind) (i : ℕ) (k : TokenKind) → terminal_or_end i f ≡ WordOrSymbol k → f ≡ Some k

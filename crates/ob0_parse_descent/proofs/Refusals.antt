@@ -4,8 +4,8 @@ use Rattle.ob0_scan.specs.declared.lexeme.TokenKind.{TokenKind}
 use Rattle.ob0_scan.specs.declared.lexeme.Token.{Token}
 use Rattle.ob0_tree.specs.Lexeme.{Terminal, Name, WordOrSymbol}
 use Rattle.ob0_tree.specs.Tree.{GrammarItem, Sort, item, maybe, Tree, none, one, spell}
-use Rattle.ob0_parse_descent.specs.Follow.{item_start_rank, item_level, NextTokenEndsConstruct, NextTokenHasRank}
-use Rattle.ob0_parse_descent.specs.Reading.{rest, ProductionPart, token, name, nonterminal, BeginsWithParts, HaveSameFirstToken, CantBeginWithParts, IsReadTree, IsRightRefusalOfParts, DescentEndsWith, DescentEndsAsRefusalSays, DescentsHaveSameEnd, FailsToRead, ItemBeginsButCantBeRead}
+use Rattle.ob0_parse_descent.specs.TokenRanks.{item_start_rank, item_level, NextTokenEndsConstruct, NextTokenHasRank}
+use Rattle.ob0_parse_descent.specs.ParserPromises.{rest, ProductionPart, token, name, nonterminal, BeginsWithParts, HaveSameFirstToken, CantBeginWithParts, IsReadTree, IsRightRefusalOfParts, DescentEndsWith, DescentEndsAsRefusalSays, DescentsHaveSameEnd, FailsToRead, ItemBeginsButCantBeRead}
 use Rattle.ob0_parse_descent.specs.Descent.{DescentEnd, Expects, TooDeepAt}
 use Rattle.ob0_parse_descent.proofs.Descent.{read_token, read_name, read_one}
 use Rattle.ob0_parse_descent.specs.declared.refusal.ParseRefusal.{ParseRefusal}

@@ -3,7 +3,7 @@ use Rattle.std.proofs.Common.{◌≡◌, ℕ, zero, suc, ◌+◌, ◌<◌, List,
 use Rattle.ob0_scan.specs.declared.lexeme.Token.{Token}
 use Rattle.ob0_tree.specs.Lexeme.{EndOfText}
 use Rattle.ob0_tree.specs.Places.{indexed_terminal, indexed_terminals_from}
-use Rattle.ob0_parse_descent.specs.Reading.{rest}
+use Rattle.ob0_parse_descent.specs.ParserPromises.{rest}
 
 drop-lexemes : (ts : List Token) (i j : ℕ) (d : Token) → i < length ts → drop i (indexed_terminals_from j ts) ≡ indexed_terminal (j + i) (get_or ts i d).kind ∷ drop (suc i) (indexed_terminals_from j ts)
 drop-lexemes [] i j d l = absurd (omega arith)

@@ -5,9 +5,9 @@ use Rattle.ob0_scan.specs.declared.lexeme.TokenKind.TheVariants as kind
 use Rattle.ob0_scan.specs.declared.lexeme.ReservedWord.TheVariants as reserved
 use Rattle.ob0_scan.specs.declared.lexeme.Token.{Token}
 use Rattle.ob0_tree.specs.Lexeme.{Terminal, Name, WordOrSymbol}
-use Rattle.ob0_tree.specs.Tree.{further_statement, elsif_part, else_part, expression, statement, sequence, empty, assigns, calls, branches, while_loop, repeat_loop, runs, elsif_branch, item, items, maybe, Tree, spell, single_token_list}
-use Rattle.ob0_parse_descent.specs.Follow.{rank, NextTokenEndsConstruct, NextTokenHasRank}
-use Rattle.ob0_parse_descent.specs.Reading.{rest, ProductionPart, token, nonterminal, BeginsWithParts, HaveSameFirstToken, IsReadTree, FailsToRead, ItemBeginsButCantBeRead, IsTokenOtherThan, IsNotIdentifier}
+use Rattle.ob0_tree.specs.Tree.{statement_after_semicolon, elsif_part, else_part, expression, statement, sequence, empty, assigns, calls, branches, while_loop, repeat_loop, runs, elsif_branch, item, items, maybe, Tree, spell, single_token_list}
+use Rattle.ob0_parse_descent.specs.TokenRanks.{rank, NextTokenEndsConstruct, NextTokenHasRank}
+use Rattle.ob0_parse_descent.specs.ParserPromises.{rest, ProductionPart, token, nonterminal, BeginsWithParts, HaveSameFirstToken, IsReadTree, FailsToRead, ItemBeginsButCantBeRead, IsTokenOtherThan, IsNotIdentifier}
 use Rattle.ob0_parse_descent.specs.Descent as descent
 use Rattle.ob0_parse_descent.specs.Descent.{parts, chosen_production}
 use Rattle.ob0_parse_descent.proofs.Descent.{both, by, read_mark, read_made, read_led, read_opened}
@@ -24,20 +24,20 @@ alike h p q = head_of (sym p ∙ h.is) ∙ head_of (sym h.alike ∙ q)
 
 -- Lemmas on sequences: `statement {";" statement}`.
 
-runs_only : {room : ℕ} {ts : List Token} {at m n : ℕ} (a : Tree ℕ statement) (c : Tree ℕ (items further_statement)) → IsReadTree a room ts at m → IsReadTree c room ts m n → (u : Tree ℕ sequence) (z w : List (Terminal ℕ)) → HaveSameFirstToken (rest ts n) w → NextTokenEndsConstruct 9 z → spell u ++ z ≡ (spell a ++ spell c) ++ w → (u ≡ runs a c) × (z ≡ w)
+runs_only : {room : ℕ} {ts : List Token} {at m n : ℕ} (a : Tree ℕ statement) (c : Tree ℕ (items statement_after_semicolon)) → IsReadTree a room ts at m → IsReadTree c room ts m n → (u : Tree ℕ sequence) (z w : List (Terminal ℕ)) → HaveSameFirstToken (rest ts n) w → NextTokenEndsConstruct 9 z → spell u ++ z ≡ (spell a ++ spell c) ++ w → (u ≡ runs a c) × (z ≡ w)
 runs_only a c p q (runs b d) z w h s e =
     let r = p.only b (spell d ++ z) (spell c ++ w) (head_at c q w h) (stops_items d z 8 (omega arith) s) (regroup (spell b) (spell d) z (spell a) (spell c) w e) in
     let rs = q.only d z w h s r.1 in
     (cc (r.0, rs.0), rs.1)
 
-pub taken_runs : {room : ℕ} {ts : List Token} {at m n : ℕ} (a : Tree ℕ statement) (c : Tree ℕ (items further_statement)) → IsReadTree a room ts at m → IsReadTree c room ts m n → IsReadTree (runs a c) room ts at n
+pub taken_runs : {room : ℕ} {ts : List Token} {at m n : ℕ} (a : Tree ℕ statement) (c : Tree ℕ (items statement_after_semicolon)) → IsReadTree a room ts at m → IsReadTree c room ts m n → IsReadTree (runs a c) room ts at n
 taken_runs a c p q = record { spelled = joined _ (spell a) (spell c) p.spelled q.spelled; shallow = omega (arith, p.shallow, q.shallow); only = runs_only a c p q; reads = by (read_made refl) (both p.reads q.reads); within = q.within; forward = omega (arith, p.forward, q.forward) }
 
-runs_parts : (room : ℕ) (w : List (Terminal ℕ)) → BeginsWithParts (nonterminal sequence room ∷ []) w → BeginsWithParts (nonterminal statement room ∷ nonterminal (items further_statement) room ∷ []) w
+runs_parts : (room : ℕ) (w : List (Terminal ℕ)) → BeginsWithParts (nonterminal sequence room ∷ []) w → BeginsWithParts (nonterminal statement room ∷ nonterminal (items statement_after_semicolon) room ∷ []) w
 runs_parts room w (runs a c, z, e, n, p, b) = (a, spell c ++ z, e ∙ append_assoc (spell a) (spell c) z, omega arith, stops_items c z 8 (omega arith) p, (c, z, refl, omega arith, p, tt))
 
-pub sequence_fails : {room : ℕ} {ts : List Token} {at : ℕ} {e : ParseRefusal} → FailsToRead (nonterminal statement room ∷ nonterminal (items further_statement) room ∷ []) ts at e → FailsToRead (nonterminal sequence room ∷ []) ts at e
-sequence_fails {room = room} q = fails_weaken {qs = nonterminal statement room ∷ nonterminal (items further_statement) room ∷ []} (read_made refl) (λ w h b. runs_parts room w b) q
+pub sequence_fails : {room : ℕ} {ts : List Token} {at : ℕ} {e : ParseRefusal} → FailsToRead (nonterminal statement room ∷ nonterminal (items statement_after_semicolon) room ∷ []) ts at e → FailsToRead (nonterminal sequence room ∷ []) ts at e
+sequence_fails {room = room} q = fails_weaken {qs = nonterminal statement room ∷ nonterminal (items statement_after_semicolon) room ∷ []} (read_made refl) (λ w h b. runs_parts room w b) q
 
 -- Lemmas on the empty statement.
 

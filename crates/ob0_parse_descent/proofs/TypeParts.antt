@@ -5,9 +5,9 @@ use Rattle.ob0_scan.specs.declared.lexeme.ReservedWord.TheVariants as reserved
 use Rattle.ob0_scan.specs.declared.lexeme.Symbol.TheVariants as symbol
 use Rattle.ob0_scan.specs.declared.lexeme.Token.{Token}
 use Rattle.ob0_tree.specs.Lexeme.{Terminal, Name, WordOrSymbol}
-use Rattle.ob0_tree.specs.Tree.{further_fields, expression, names, written_type, fields, named_type, array_type, record_type, no_fields, some_fields, listed, items, Tree, spell, nesting, single_token_list}
-use Rattle.ob0_parse_descent.specs.Follow.{rank, NextTokenEndsConstruct}
-use Rattle.ob0_parse_descent.specs.Reading.{rest, ProductionPart, token, nonterminal, BeginsWithParts, HaveSameFirstToken, IsReadTree, FailsToRead, IsTokenOtherThan, IsNotIdentifier, IsReadList}
+use Rattle.ob0_tree.specs.Tree.{fields_after_semicolon, expression, names, written_type, fields, named_type, array_type, record_type, no_fields, some_fields, listed, items, Tree, spell, nesting, single_token_list}
+use Rattle.ob0_parse_descent.specs.TokenRanks.{rank, NextTokenEndsConstruct}
+use Rattle.ob0_parse_descent.specs.ParserPromises.{rest, ProductionPart, token, nonterminal, BeginsWithParts, HaveSameFirstToken, IsReadTree, FailsToRead, IsTokenOtherThan, IsNotIdentifier, IsReadList}
 use Rattle.ob0_parse_descent.specs.Descent.{parts, missing, chosen_production, absent, deep}
 use Rattle.ob0_parse_descent.specs.declared.refusal.ExpectedSyntax.TheVariants as expected
 use Rattle.ob0_parse_descent.proofs.Descent.{both, by, read_name, read_mark, read_made, read_opened}
@@ -18,7 +18,7 @@ use Rattle.ob0_parse_descent.proofs.Refusals.{fails_weaken, fails_following}
 use Rattle.ob0_parse_descent.proofs.Expressions.{joined, too_deep_at_once}
 use Rattle.ob0_parse_descent.proofs.Leads.{fails_here, only_zero}
 use Rattle.ob0_tree.specs.declared.tree.OptionalFieldGroup.{OptionalFieldGroup}
-use Rattle.ob0_tree.specs.View.{optional_field_group_of, further_field_group_of, record_type_of_list, items_of}
+use Rattle.ob0_tree.specs.View.{optional_field_group_of, field_group_after_semicolon_of, record_type_of_list, items_of}
 use Rattle.ob0_parse_descent.proofs.Apart.{name_not_mark, array_not_record}
 
 pub taken_named : {room : ℕ} {ts : List Token} {at : ℕ} → (rest ts at ≡ Name at ∷ rest ts (at + 1)) × (at < length ts) → IsReadTree (named_type at) room ts at (at + 1)
@@ -75,12 +75,12 @@ array_too_deep {ts = ts} {at = at} {e = e} l o here = subst (λ r. FailsToRead (
 -- Lemmas on record types: `RECORD fields {";" fields} END`.
 
 abbrev pub record_following : ℕ → List ProductionPart
-record_following inner = nonterminal fields inner ∷ nonterminal (items further_fields) inner ∷ token (kind.ReservedWord reserved.End) ∷ []
+record_following inner = nonterminal fields inner ∷ nonterminal (items fields_after_semicolon) inner ∷ token (kind.ReservedWord reserved.End) ∷ []
 
-pub taken_record : {room inner : ℕ} {ts : List Token} {at m n : ℕ} (xs : List OptionalFieldGroup) → room ≡ inner + 1 → rest ts at ≡ WordOrSymbol (kind.ReservedWord reserved.Record) ∷ rest ts (at + 1) → IsReadList optional_field_group_of further_field_group_of xs inner ts (at + 1) m → (rest ts m ≡ WordOrSymbol (kind.ReservedWord reserved.End) ∷ rest ts n) × (m < length ts) × (n ≡ m + 1) → IsReadTree (record_type_of_list xs) room ts at n
+pub taken_record : {room inner : ℕ} {ts : List Token} {at m n : ℕ} (xs : List OptionalFieldGroup) → room ≡ inner + 1 → rest ts at ≡ WordOrSymbol (kind.ReservedWord reserved.Record) ∷ rest ts (at + 1) → IsReadList optional_field_group_of field_group_after_semicolon_of xs inner ts (at + 1) m → (rest ts m ≡ WordOrSymbol (kind.ReservedWord reserved.End) ∷ rest ts n) × (m < length ts) × (n ≡ m + 1) → IsReadTree (record_type_of_list xs) room ts at n
 taken_record {room = room} {inner = inner} {ts = ts} {at = at} {n = n} xs level here p close =
     let f = optional_field_group_of p.first in
-    let fs = items_of further_field_group_of p.others in
+    let fs = items_of field_group_after_semicolon_of p.others in
     subst (λ l. IsReadTree (record_type_of_list l) room ts at n) (sym p.is) record {
       spelled = here ∙ ap (λ y. WordOrSymbol (kind.ReservedWord reserved.Record) ∷ y) (joined _ (spell f) _ p.head.spelled (joined _ (spell fs) (single_token_list (kind.ReservedWord reserved.End)) p.tail.spelled close.0));
       shallow = omega (arith, p.head.shallow, p.tail.shallow);

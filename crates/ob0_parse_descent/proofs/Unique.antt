@@ -14,8 +14,8 @@ use Rattle.ob0_tree.specs.declared.tree.AddOperator.{AddOperator}
 use Rattle.ob0_tree.specs.declared.tree.AddOperator.TheVariants as add_operator
 use Rattle.ob0_tree.specs.declared.tree.MultiplyOperator.{MultiplyOperator}
 use Rattle.ob0_tree.specs.declared.tree.MultiplyOperator.TheVariants as multiply_operator
-use Rattle.ob0_tree.specs.Tree.{GrammarItem, selector, multiplier, addend, comparison, arguments, further_argument, further_statement, elsif_part, else_part, further_name, further_fields, formals, further_section, constant, constants, type_definition, type_definitions, variable, variables, procedure, body, Sort, item, items, maybe, expression, simple, term, factor, statement, sequence, names, written_type, fields, section, declarations, block, module_text, Tree, none, one, end, more, compares, relates, sum, adds, product, multiplies, designator, integer, parenthesised, negation, field, index, empty, assigns, calls, branches, while_loop, repeat_loop, no_arguments, some_arguments, then_argument, runs, then_statement, elsif_branch, else_branch, listed, then_name, named_type, array_type, record_type, no_fields, some_fields, then_fields, no_formals, some_formals, value_section, variable_section, then_section, declares_constant, declares_constants, declares_type, declares_types, declares_variable, declares_variables, declares_procedure, declares, begins, forms_block, is_module, spell, single_token_list}
-use Rattle.ob0_parse_descent.specs.Follow.{rank, kind_rank, item_start_rank, item_level, level, NextTokenEndsConstruct, NextTokenHasRank}
+use Rattle.ob0_tree.specs.Tree.{GrammarItem, selector, multiplier, addend, comparison, arguments, argument_after_comma, statement_after_semicolon, elsif_part, else_part, name_after_comma, fields_after_semicolon, formals, section_after_semicolon, constant, constants, type_definition, type_definitions, variable, variables, procedure, body, Sort, item, items, maybe, expression, simple, term, factor, statement, sequence, names, written_type, fields, section, declarations, block, module_text, Tree, none, one, end, more, compares, relates, sum, adds, product, multiplies, designator, integer, parenthesised, negation, field, index, empty, assigns, calls, branches, while_loop, repeat_loop, no_arguments, some_arguments, comma_then_argument, runs, semicolon_then_statement, elsif_branch, else_branch, listed, comma_then_name, named_type, array_type, record_type, no_fields, some_fields, semicolon_then_fields, no_formals, some_formals, value_section, variable_section, semicolon_then_section, declares_constant, declares_const_section, declares_type, declares_type_section, declares_variable, declares_var_section, declares_procedure, declares, begins, forms_block, forms_module, spell, single_token_list}
+use Rattle.ob0_parse_descent.specs.TokenRanks.{rank, kind_rank, item_start_rank, item_level, level, NextTokenEndsConstruct, NextTokenHasRank}
 use Rattle.ob0_parse_descent.proofs.Apart.{name_not_mark, name_not_number, number_not_mark, paren_not_tilde, dot_not_bracket, dot_not_paren, bracket_not_paren, becomes_not_paren, array_not_record, number_of}
 
 pub relation_rank : (r : Relation) → kind_rank (relation_token_kind r) ≡ 4
@@ -52,21 +52,21 @@ headed (field n) x = record { head = WordOrSymbol (kind.Symbol symbol.Dot); tail
 headed (index e) x = record { head = WordOrSymbol (kind.Symbol symbol.LeftBracket); tail = (spell e ++ single_token_list (kind.Symbol symbol.RightBracket)) ++ x; is = refl; ranked = refl }
 headed no_arguments x = record { head = WordOrSymbol (kind.Symbol symbol.LeftParen); tail = WordOrSymbol (kind.Symbol symbol.RightParen) ∷ x; is = refl; ranked = refl }
 headed (some_arguments e es) x = record { head = WordOrSymbol (kind.Symbol symbol.LeftParen); tail = (spell e ++ (spell es ++ single_token_list (kind.Symbol symbol.RightParen))) ++ x; is = refl; ranked = refl }
-headed (then_argument e) x = record { head = WordOrSymbol (kind.Symbol symbol.Comma); tail = spell e ++ x; is = refl; ranked = refl }
-headed (then_statement s) x = record { head = WordOrSymbol (kind.Symbol symbol.Semicolon); tail = spell s ++ x; is = refl; ranked = refl }
+headed (comma_then_argument e) x = record { head = WordOrSymbol (kind.Symbol symbol.Comma); tail = spell e ++ x; is = refl; ranked = refl }
+headed (semicolon_then_statement s) x = record { head = WordOrSymbol (kind.Symbol symbol.Semicolon); tail = spell s ++ x; is = refl; ranked = refl }
 headed (elsif_branch c s) x = record { head = WordOrSymbol (kind.ReservedWord reserved.Elsif); tail = (spell c ++ (WordOrSymbol (kind.ReservedWord reserved.Then) ∷ spell s)) ++ x; is = refl; ranked = refl }
 headed (else_branch s) x = record { head = WordOrSymbol (kind.ReservedWord reserved.Else); tail = spell s ++ x; is = refl; ranked = refl }
-headed (then_name n) x = record { head = WordOrSymbol (kind.Symbol symbol.Comma); tail = Name n ∷ x; is = refl; ranked = refl }
-headed (then_fields f) x = record { head = WordOrSymbol (kind.Symbol symbol.Semicolon); tail = spell f ++ x; is = refl; ranked = refl }
+headed (comma_then_name n) x = record { head = WordOrSymbol (kind.Symbol symbol.Comma); tail = Name n ∷ x; is = refl; ranked = refl }
+headed (semicolon_then_fields f) x = record { head = WordOrSymbol (kind.Symbol symbol.Semicolon); tail = spell f ++ x; is = refl; ranked = refl }
 headed no_formals x = record { head = WordOrSymbol (kind.Symbol symbol.LeftParen); tail = WordOrSymbol (kind.Symbol symbol.RightParen) ∷ x; is = refl; ranked = refl }
 headed (some_formals f fs) x = record { head = WordOrSymbol (kind.Symbol symbol.LeftParen); tail = (spell f ++ (spell fs ++ single_token_list (kind.Symbol symbol.RightParen))) ++ x; is = refl; ranked = refl }
-headed (then_section f) x = record { head = WordOrSymbol (kind.Symbol symbol.Semicolon); tail = spell f ++ x; is = refl; ranked = refl }
+headed (semicolon_then_section f) x = record { head = WordOrSymbol (kind.Symbol symbol.Semicolon); tail = spell f ++ x; is = refl; ranked = refl }
 headed (declares_constant n e) x = record { head = Name n; tail = WordOrSymbol (kind.Symbol symbol.Equal) ∷ ((spell e ++ single_token_list (kind.Symbol symbol.Semicolon)) ++ x); is = refl; ranked = refl }
-headed (declares_constants cs) x = record { head = WordOrSymbol (kind.ReservedWord reserved.Const); tail = spell cs ++ x; is = refl; ranked = refl }
+headed (declares_const_section cs) x = record { head = WordOrSymbol (kind.ReservedWord reserved.Const); tail = spell cs ++ x; is = refl; ranked = refl }
 headed (declares_type n t) x = record { head = Name n; tail = WordOrSymbol (kind.Symbol symbol.Equal) ∷ ((spell t ++ single_token_list (kind.Symbol symbol.Semicolon)) ++ x); is = refl; ranked = refl }
-headed (declares_types ts) x = record { head = WordOrSymbol (kind.ReservedWord reserved.Type); tail = spell ts ++ x; is = refl; ranked = refl }
+headed (declares_type_section ts) x = record { head = WordOrSymbol (kind.ReservedWord reserved.Type); tail = spell ts ++ x; is = refl; ranked = refl }
 headed (declares_variable (listed n others) t) x = record { head = Name n; tail = (spell others ++ (WordOrSymbol (kind.Symbol symbol.Colon) ∷ (spell t ++ single_token_list (kind.Symbol symbol.Semicolon)))) ++ x; is = refl; ranked = refl }
-headed (declares_variables vs) x = record { head = WordOrSymbol (kind.ReservedWord reserved.Var); tail = spell vs ++ x; is = refl; ranked = refl }
+headed (declares_var_section vs) x = record { head = WordOrSymbol (kind.ReservedWord reserved.Var); tail = spell vs ++ x; is = refl; ranked = refl }
 headed (declares_procedure n fs b c) x = record { head = WordOrSymbol (kind.ReservedWord reserved.Procedure); tail = Name n ∷ ((spell fs ++ (WordOrSymbol (kind.Symbol symbol.Semicolon) ∷ (spell b ++ (WordOrSymbol (kind.ReservedWord reserved.End) ∷ Name c ∷ single_token_list (kind.Symbol symbol.Semicolon))))) ++ x); is = refl; ranked = refl }
 headed (begins s) x = record { head = WordOrSymbol (kind.ReservedWord reserved.Begin); tail = spell s ++ x; is = refl; ranked = refl }
 
@@ -418,24 +418,24 @@ no_arguments_only : {N : Type 0} (u : Tree N (item arguments)) (x y : List (Term
 no_arguments_only no_arguments x y p q e = (refl, tail_of (tail_of e))
 no_arguments_only (some_arguments a cs) x y p q e = absurd (no_expression a _ _ (sym (append_assoc (spell a) _ y) ∙ sym (tail_of e)))
 
-some_arguments_only : {N : Type 0} (a0 : Tree N expression) (a1 : Tree N (items further_argument)) → Unique a0 → Unique a1 → (u : Tree N (item arguments)) (x y : List (Terminal N)) → NextTokenEndsConstruct (level (item arguments)) x → NextTokenEndsConstruct (level (item arguments)) y → spell (some_arguments a0 a1) ++ x ≡ spell u ++ y → ((some_arguments a0 a1) ≡ u) × (x ≡ y)
+some_arguments_only : {N : Type 0} (a0 : Tree N expression) (a1 : Tree N (items argument_after_comma)) → Unique a0 → Unique a1 → (u : Tree N (item arguments)) (x y : List (Terminal N)) → NextTokenEndsConstruct (level (item arguments)) x → NextTokenEndsConstruct (level (item arguments)) y → spell (some_arguments a0 a1) ++ x ≡ spell u ++ y → ((some_arguments a0 a1) ≡ u) × (x ≡ y)
 some_arguments_only a cs h_a h_cs no_arguments x y p q e = absurd (no_expression a _ _ (sym (append_assoc (spell a) _ x) ∙ tail_of e))
 some_arguments_only a cs h_a h_cs (some_arguments b bs) x y p q e =
     let r = h_a.only b ((spell cs ++ single_token_list (kind.Symbol symbol.RightParen)) ++ x) ((spell bs ++ single_token_list (kind.Symbol symbol.RightParen)) ++ y) (stops_closed cs (kind.Symbol symbol.RightParen) x 4 (omega arith) (omega arith)) (stops_closed bs (kind.Symbol symbol.RightParen) y 4 (omega arith) (omega arith)) (regroup (spell a) _ x (spell b) _ y (tail_of e)) in
     let rs = h_cs.only bs (WordOrSymbol (kind.Symbol symbol.RightParen) ∷ x) (WordOrSymbol (kind.Symbol symbol.RightParen) ∷ y) (omega arith) (omega arith) (regroup (spell cs) (single_token_list (kind.Symbol symbol.RightParen)) x (spell bs) (single_token_list (kind.Symbol symbol.RightParen)) y r.1) in
     (cc (r.0, rs.0), tail_of rs.1)
 
-then_argument_only : {N : Type 0} (a0 : Tree N expression) → Unique a0 → (u : Tree N (item further_argument)) (x y : List (Terminal N)) → NextTokenEndsConstruct (level (item further_argument)) x → NextTokenEndsConstruct (level (item further_argument)) y → spell (then_argument a0) ++ x ≡ spell u ++ y → ((then_argument a0) ≡ u) × (x ≡ y)
-then_argument_only a h_a (then_argument b) x y p q e = let r = h_a.only b x y p q (tail_of e) in (ap then_argument r.0, r.1)
+then_argument_only : {N : Type 0} (a0 : Tree N expression) → Unique a0 → (u : Tree N (item argument_after_comma)) (x y : List (Terminal N)) → NextTokenEndsConstruct (level (item argument_after_comma)) x → NextTokenEndsConstruct (level (item argument_after_comma)) y → spell (comma_then_argument a0) ++ x ≡ spell u ++ y → ((comma_then_argument a0) ≡ u) × (x ≡ y)
+then_argument_only a h_a (comma_then_argument b) x y p q e = let r = h_a.only b x y p q (tail_of e) in (ap comma_then_argument r.0, r.1)
 
-runs_only : {N : Type 0} (a0 : Tree N statement) (a1 : Tree N (items further_statement)) → Unique a0 → Unique a1 → (u : Tree N sequence) (x y : List (Terminal N)) → NextTokenEndsConstruct (level sequence) x → NextTokenEndsConstruct (level sequence) y → spell (runs a0 a1) ++ x ≡ spell u ++ y → ((runs a0 a1) ≡ u) × (x ≡ y)
+runs_only : {N : Type 0} (a0 : Tree N statement) (a1 : Tree N (items statement_after_semicolon)) → Unique a0 → Unique a1 → (u : Tree N sequence) (x y : List (Terminal N)) → NextTokenEndsConstruct (level sequence) x → NextTokenEndsConstruct (level sequence) y → spell (runs a0 a1) ++ x ≡ spell u ++ y → ((runs a0 a1) ≡ u) × (x ≡ y)
 runs_only a c h_a h_c (runs b d) x y p q e =
     let r = h_a.only b (spell c ++ x) (spell d ++ y) (stops_items c x 8 (omega arith) p) (stops_items d y 8 (omega arith) q) (regroup (spell a) (spell c) x (spell b) (spell d) y e) in
     let rs = h_c.only d x y p q r.1 in
     (cc (r.0, rs.0), rs.1)
 
-then_statement_only : {N : Type 0} (a0 : Tree N statement) → Unique a0 → (u : Tree N (item further_statement)) (x y : List (Terminal N)) → NextTokenEndsConstruct (level (item further_statement)) x → NextTokenEndsConstruct (level (item further_statement)) y → spell (then_statement a0) ++ x ≡ spell u ++ y → ((then_statement a0) ≡ u) × (x ≡ y)
-then_statement_only a h_a (then_statement b) x y p q e = let r = h_a.only b x y p q (tail_of e) in (ap then_statement r.0, r.1)
+then_statement_only : {N : Type 0} (a0 : Tree N statement) → Unique a0 → (u : Tree N (item statement_after_semicolon)) (x y : List (Terminal N)) → NextTokenEndsConstruct (level (item statement_after_semicolon)) x → NextTokenEndsConstruct (level (item statement_after_semicolon)) y → spell (semicolon_then_statement a0) ++ x ≡ spell u ++ y → ((semicolon_then_statement a0) ≡ u) × (x ≡ y)
+then_statement_only a h_a (semicolon_then_statement b) x y p q e = let r = h_a.only b x y p q (tail_of e) in (ap semicolon_then_statement r.0, r.1)
 
 elsif_branch_only : {N : Type 0} (a0 : Tree N expression) (a1 : Tree N sequence) → Unique a0 → Unique a1 → (u : Tree N (item elsif_part)) (x y : List (Terminal N)) → NextTokenEndsConstruct (level (item elsif_part)) x → NextTokenEndsConstruct (level (item elsif_part)) y → spell (elsif_branch a0 a1) ++ x ≡ spell u ++ y → ((elsif_branch a0 a1) ≡ u) × (x ≡ y)
 elsif_branch_only c s h_c h_s (elsif_branch d t) x y p q e =
@@ -446,16 +446,16 @@ elsif_branch_only c s h_c h_s (elsif_branch d t) x y p q e =
 else_branch_only : {N : Type 0} (a0 : Tree N sequence) → Unique a0 → (u : Tree N (item else_part)) (x y : List (Terminal N)) → NextTokenEndsConstruct (level (item else_part)) x → NextTokenEndsConstruct (level (item else_part)) y → spell (else_branch a0) ++ x ≡ spell u ++ y → ((else_branch a0) ≡ u) × (x ≡ y)
 else_branch_only a h_a (else_branch b) x y p q e = let r = h_a.only b x y p q (tail_of e) in (ap else_branch r.0, r.1)
 
-listed_only : {N : Type 0} (a0 : N) (a1 : Tree N (items further_name)) → Unique a1 → (u : Tree N names) (x y : List (Terminal N)) → NextTokenEndsConstruct (level names) x → NextTokenEndsConstruct (level names) y → spell (listed a0 a1) ++ x ≡ spell u ++ y → ((listed a0 a1) ≡ u) × (x ≡ y)
+listed_only : {N : Type 0} (a0 : N) (a1 : Tree N (items name_after_comma)) → Unique a1 → (u : Tree N names) (x y : List (Terminal N)) → NextTokenEndsConstruct (level names) x → NextTokenEndsConstruct (level names) y → spell (listed a0 a1) ++ x ≡ spell u ++ y → ((listed a0 a1) ≡ u) × (x ≡ y)
 listed_only n a h_a (listed m b) x y p q e =
     let r = h_a.only b x y p q (tail_of e) in
     let names : n ≡ m = name_of e in
     (cc (names, r.0), r.1)
 
-then_name_only : {N : Type 0} (a0 : N) → (u : Tree N (item further_name)) (x y : List (Terminal N)) → NextTokenEndsConstruct (level (item further_name)) x → NextTokenEndsConstruct (level (item further_name)) y → spell (then_name a0) ++ x ≡ spell u ++ y → ((then_name a0) ≡ u) × (x ≡ y)
-then_name_only n (then_name m) x y p q e =
+then_name_only : {N : Type 0} (a0 : N) → (u : Tree N (item name_after_comma)) (x y : List (Terminal N)) → NextTokenEndsConstruct (level (item name_after_comma)) x → NextTokenEndsConstruct (level (item name_after_comma)) y → spell (comma_then_name a0) ++ x ≡ spell u ++ y → ((comma_then_name a0) ≡ u) × (x ≡ y)
+then_name_only n (comma_then_name m) x y p q e =
     let names : n ≡ m = name_of (tail_of e) in
-    (ap then_name names, tail_of (tail_of e))
+    (ap comma_then_name names, tail_of (tail_of e))
 
 named_type_only : {N : Type 0} (a0 : N) → (u : Tree N written_type) (x y : List (Terminal N)) → NextTokenEndsConstruct (level written_type) x → NextTokenEndsConstruct (level written_type) y → spell (named_type a0) ++ x ≡ spell u ++ y → ((named_type a0) ≡ u) × (x ≡ y)
 named_type_only n (named_type m) x y p q e =
@@ -472,7 +472,7 @@ array_type_only a t h_a h_t (array_type b u) x y p q e =
 array_type_only a t h_a h_t (named_type n) x y p q e = absurd (name_not_mark (sym e))
 array_type_only a t h_a h_t (record_type f fs) x y p q e = absurd (array_not_record e)
 
-record_type_only : {N : Type 0} (a0 : Tree N fields) (a1 : Tree N (items further_fields)) → Unique a0 → Unique a1 → (u : Tree N written_type) (x y : List (Terminal N)) → NextTokenEndsConstruct (level written_type) x → NextTokenEndsConstruct (level written_type) y → spell (record_type a0 a1) ++ x ≡ spell u ++ y → ((record_type a0 a1) ≡ u) × (x ≡ y)
+record_type_only : {N : Type 0} (a0 : Tree N fields) (a1 : Tree N (items fields_after_semicolon)) → Unique a0 → Unique a1 → (u : Tree N written_type) (x y : List (Terminal N)) → NextTokenEndsConstruct (level written_type) x → NextTokenEndsConstruct (level written_type) y → spell (record_type a0 a1) ++ x ≡ spell u ++ y → ((record_type a0 a1) ≡ u) × (x ≡ y)
 record_type_only a cs h_a h_cs (record_type b bs) x y p q e =
     let r = h_a.only b ((spell cs ++ single_token_list (kind.ReservedWord reserved.End)) ++ x) ((spell bs ++ single_token_list (kind.ReservedWord reserved.End)) ++ y) (stops_closed cs (kind.ReservedWord reserved.End) x 7 (omega arith) (omega arith)) (stops_closed bs (kind.ReservedWord reserved.End) y 7 (omega arith) (omega arith)) (regroup (spell a) _ x (spell b) _ y (tail_of e)) in
     let rs = h_cs.only bs (WordOrSymbol (kind.ReservedWord reserved.End) ∷ x) (WordOrSymbol (kind.ReservedWord reserved.End) ∷ y) (omega arith) (omega arith) (regroup (spell cs) (single_token_list (kind.ReservedWord reserved.End)) x (spell bs) (single_token_list (kind.ReservedWord reserved.End)) y r.1) in
@@ -491,14 +491,14 @@ some_fields_only a t h_a h_t (some_fields b u) x y p q e =
     let rs = h_t.only u x y (stops_less x 0 7 (omega arith) p) (stops_less y 0 7 (omega arith) q) (tail_of r.1) in
     (cc (r.0, rs.0), rs.1)
 
-then_fields_only : {N : Type 0} (a0 : Tree N fields) → Unique a0 → (u : Tree N (item further_fields)) (x y : List (Terminal N)) → NextTokenEndsConstruct (level (item further_fields)) x → NextTokenEndsConstruct (level (item further_fields)) y → spell (then_fields a0) ++ x ≡ spell u ++ y → ((then_fields a0) ≡ u) × (x ≡ y)
-then_fields_only a h_a (then_fields b) x y p q e = let r = h_a.only b x y p q (tail_of e) in (ap then_fields r.0, r.1)
+then_fields_only : {N : Type 0} (a0 : Tree N fields) → Unique a0 → (u : Tree N (item fields_after_semicolon)) (x y : List (Terminal N)) → NextTokenEndsConstruct (level (item fields_after_semicolon)) x → NextTokenEndsConstruct (level (item fields_after_semicolon)) y → spell (semicolon_then_fields a0) ++ x ≡ spell u ++ y → ((semicolon_then_fields a0) ≡ u) × (x ≡ y)
+then_fields_only a h_a (semicolon_then_fields b) x y p q e = let r = h_a.only b x y p q (tail_of e) in (ap semicolon_then_fields r.0, r.1)
 
 no_formals_only : {N : Type 0} (u : Tree N (item formals)) (x y : List (Terminal N)) → NextTokenEndsConstruct (level (item formals)) x → NextTokenEndsConstruct (level (item formals)) y → spell no_formals ++ x ≡ spell u ++ y → (no_formals ≡ u) × (x ≡ y)
 no_formals_only no_formals x y p q e = (refl, tail_of (tail_of e))
 no_formals_only (some_formals a cs) x y p q e = absurd (no_section a _ _ (sym (append_assoc (spell a) _ y) ∙ sym (tail_of e)))
 
-some_formals_only : {N : Type 0} (a0 : Tree N section) (a1 : Tree N (items further_section)) → Unique a0 → Unique a1 → (u : Tree N (item formals)) (x y : List (Terminal N)) → NextTokenEndsConstruct (level (item formals)) x → NextTokenEndsConstruct (level (item formals)) y → spell (some_formals a0 a1) ++ x ≡ spell u ++ y → ((some_formals a0 a1) ≡ u) × (x ≡ y)
+some_formals_only : {N : Type 0} (a0 : Tree N section) (a1 : Tree N (items section_after_semicolon)) → Unique a0 → Unique a1 → (u : Tree N (item formals)) (x y : List (Terminal N)) → NextTokenEndsConstruct (level (item formals)) x → NextTokenEndsConstruct (level (item formals)) y → spell (some_formals a0 a1) ++ x ≡ spell u ++ y → ((some_formals a0 a1) ≡ u) × (x ≡ y)
 some_formals_only a cs h_a h_cs no_formals x y p q e = absurd (no_section a _ _ (sym (append_assoc (spell a) _ x) ∙ tail_of e))
 some_formals_only a cs h_a h_cs (some_formals b bs) x y p q e =
     let r = h_a.only b ((spell cs ++ single_token_list (kind.Symbol symbol.RightParen)) ++ x) ((spell bs ++ single_token_list (kind.Symbol symbol.RightParen)) ++ y) (stops_closed cs (kind.Symbol symbol.RightParen) x 0 (omega arith) (omega arith)) (stops_closed bs (kind.Symbol symbol.RightParen) y 0 (omega arith) (omega arith)) (regroup (spell a) _ x (spell b) _ y (tail_of e)) in
@@ -519,8 +519,8 @@ variable_section_only a t h_a h_t (variable_section b u) x y p q e =
     (cc (r.0, rs.0), rs.1)
 variable_section_only b u h_b h_u (value_section (listed n ns) t) x y p q e = absurd (name_not_mark (sym e))
 
-then_section_only : {N : Type 0} (a0 : Tree N section) → Unique a0 → (u : Tree N (item further_section)) (x y : List (Terminal N)) → NextTokenEndsConstruct (level (item further_section)) x → NextTokenEndsConstruct (level (item further_section)) y → spell (then_section a0) ++ x ≡ spell u ++ y → ((then_section a0) ≡ u) × (x ≡ y)
-then_section_only a h_a (then_section b) x y p q e = let r = h_a.only b x y p q (tail_of e) in (ap then_section r.0, r.1)
+then_section_only : {N : Type 0} (a0 : Tree N section) → Unique a0 → (u : Tree N (item section_after_semicolon)) (x y : List (Terminal N)) → NextTokenEndsConstruct (level (item section_after_semicolon)) x → NextTokenEndsConstruct (level (item section_after_semicolon)) y → spell (semicolon_then_section a0) ++ x ≡ spell u ++ y → ((semicolon_then_section a0) ≡ u) × (x ≡ y)
+then_section_only a h_a (semicolon_then_section b) x y p q e = let r = h_a.only b x y p q (tail_of e) in (ap semicolon_then_section r.0, r.1)
 
 declares_constant_only : {N : Type 0} (a0 : N) (a1 : Tree N expression) → Unique a1 → (u : Tree N (item constant)) (x y : List (Terminal N)) → NextTokenEndsConstruct (level (item constant)) x → NextTokenEndsConstruct (level (item constant)) y → spell (declares_constant a0 a1) ++ x ≡ spell u ++ y → ((declares_constant a0 a1) ≡ u) × (x ≡ y)
 declares_constant_only n a h_a (declares_constant m b) x y p q e =
@@ -528,8 +528,8 @@ declares_constant_only n a h_a (declares_constant m b) x y p q e =
     let names : n ≡ m = name_of e in
     (cc (names, r.0), tail_of r.1)
 
-declares_constants_only : {N : Type 0} (a0 : Tree N (items constant)) → Unique a0 → (u : Tree N (item constants)) (x y : List (Terminal N)) → NextTokenEndsConstruct (level (item constants)) x → NextTokenEndsConstruct (level (item constants)) y → spell (declares_constants a0) ++ x ≡ spell u ++ y → ((declares_constants a0) ≡ u) × (x ≡ y)
-declares_constants_only a h_a (declares_constants b) x y p q e = let r = h_a.only b x y p q (tail_of e) in (ap declares_constants r.0, r.1)
+declares_constants_only : {N : Type 0} (a0 : Tree N (items constant)) → Unique a0 → (u : Tree N (item constants)) (x y : List (Terminal N)) → NextTokenEndsConstruct (level (item constants)) x → NextTokenEndsConstruct (level (item constants)) y → spell (declares_const_section a0) ++ x ≡ spell u ++ y → ((declares_const_section a0) ≡ u) × (x ≡ y)
+declares_constants_only a h_a (declares_const_section b) x y p q e = let r = h_a.only b x y p q (tail_of e) in (ap declares_const_section r.0, r.1)
 
 declares_type_only : {N : Type 0} (a0 : N) (a1 : Tree N written_type) → Unique a1 → (u : Tree N (item type_definition)) (x y : List (Terminal N)) → NextTokenEndsConstruct (level (item type_definition)) x → NextTokenEndsConstruct (level (item type_definition)) y → spell (declares_type a0 a1) ++ x ≡ spell u ++ y → ((declares_type a0 a1) ≡ u) × (x ≡ y)
 declares_type_only n a h_a (declares_type m b) x y p q e =
@@ -537,8 +537,8 @@ declares_type_only n a h_a (declares_type m b) x y p q e =
     let names : n ≡ m = name_of e in
     (cc (names, r.0), tail_of r.1)
 
-declares_types_only : {N : Type 0} (a0 : Tree N (items type_definition)) → Unique a0 → (u : Tree N (item type_definitions)) (x y : List (Terminal N)) → NextTokenEndsConstruct (level (item type_definitions)) x → NextTokenEndsConstruct (level (item type_definitions)) y → spell (declares_types a0) ++ x ≡ spell u ++ y → ((declares_types a0) ≡ u) × (x ≡ y)
-declares_types_only a h_a (declares_types b) x y p q e = let r = h_a.only b x y p q (tail_of e) in (ap declares_types r.0, r.1)
+declares_types_only : {N : Type 0} (a0 : Tree N (items type_definition)) → Unique a0 → (u : Tree N (item type_definitions)) (x y : List (Terminal N)) → NextTokenEndsConstruct (level (item type_definitions)) x → NextTokenEndsConstruct (level (item type_definitions)) y → spell (declares_type_section a0) ++ x ≡ spell u ++ y → ((declares_type_section a0) ≡ u) × (x ≡ y)
+declares_types_only a h_a (declares_type_section b) x y p q e = let r = h_a.only b x y p q (tail_of e) in (ap declares_type_section r.0, r.1)
 
 declares_variable_only : {N : Type 0} (a0 : Tree N names) (a1 : Tree N written_type) → Unique a0 → Unique a1 → (u : Tree N (item variable)) (x y : List (Terminal N)) → NextTokenEndsConstruct (level (item variable)) x → NextTokenEndsConstruct (level (item variable)) y → spell (declares_variable a0 a1) ++ x ≡ spell u ++ y → ((declares_variable a0 a1) ≡ u) × (x ≡ y)
 declares_variable_only a t h_a h_t (declares_variable b u) x y p q e =
@@ -546,8 +546,8 @@ declares_variable_only a t h_a h_t (declares_variable b u) x y p q e =
     let rs = h_t.only u (WordOrSymbol (kind.Symbol symbol.Semicolon) ∷ x) (WordOrSymbol (kind.Symbol symbol.Semicolon) ∷ y) (omega arith) (omega arith) (regroup (spell t) (single_token_list (kind.Symbol symbol.Semicolon)) x (spell u) (single_token_list (kind.Symbol symbol.Semicolon)) y (tail_of r.1)) in
     (cc (r.0, rs.0), tail_of rs.1)
 
-declares_variables_only : {N : Type 0} (a0 : Tree N (items variable)) → Unique a0 → (u : Tree N (item variables)) (x y : List (Terminal N)) → NextTokenEndsConstruct (level (item variables)) x → NextTokenEndsConstruct (level (item variables)) y → spell (declares_variables a0) ++ x ≡ spell u ++ y → ((declares_variables a0) ≡ u) × (x ≡ y)
-declares_variables_only a h_a (declares_variables b) x y p q e = let r = h_a.only b x y p q (tail_of e) in (ap declares_variables r.0, r.1)
+declares_variables_only : {N : Type 0} (a0 : Tree N (items variable)) → Unique a0 → (u : Tree N (item variables)) (x y : List (Terminal N)) → NextTokenEndsConstruct (level (item variables)) x → NextTokenEndsConstruct (level (item variables)) y → spell (declares_var_section a0) ++ x ≡ spell u ++ y → ((declares_var_section a0) ≡ u) × (x ≡ y)
+declares_variables_only a h_a (declares_var_section b) x y p q e = let r = h_a.only b x y p q (tail_of e) in (ap declares_var_section r.0, r.1)
 
 declares_procedure_only : {N : Type 0} (a0 : N) (a1 : Tree N (maybe formals)) (a2 : Tree N block) (a3 : N) → Unique a1 → Unique a2 → (u : Tree N (item procedure)) (x y : List (Terminal N)) → NextTokenEndsConstruct (level (item procedure)) x → NextTokenEndsConstruct (level (item procedure)) y → spell (declares_procedure a0 a1 a2 a3) ++ x ≡ spell u ++ y → ((declares_procedure a0 a1 a2 a3) ≡ u) × (x ≡ y)
 declares_procedure_only n fs b c h_fs h_b (declares_procedure m gs d k) x y p q e =
@@ -574,8 +574,8 @@ has_body_only a c h_a h_c (forms_block b d) x y p q e =
     let rs = h_c.only d x y p q r.1 in
     (cc (r.0, rs.0), rs.1)
 
-is_module_only : {N : Type 0} (a0 : N) (a1 : Tree N block) (a2 : N) → Unique a1 → (u : Tree N module_text) (x y : List (Terminal N)) → NextTokenEndsConstruct (level module_text) x → NextTokenEndsConstruct (level module_text) y → spell (is_module a0 a1 a2) ++ x ≡ spell u ++ y → ((is_module a0 a1 a2) ≡ u) × (x ≡ y)
-is_module_only n b c h_b (is_module m d k) x y p q e =
+is_module_only : {N : Type 0} (a0 : N) (a1 : Tree N block) (a2 : N) → Unique a1 → (u : Tree N module_text) (x y : List (Terminal N)) → NextTokenEndsConstruct (level module_text) x → NextTokenEndsConstruct (level module_text) y → spell (forms_module a0 a1 a2) ++ x ≡ spell u ++ y → ((forms_module a0 a1 a2) ≡ u) × (x ≡ y)
+is_module_only n b c h_b (forms_module m d k) x y p q e =
     let names : n ≡ m = name_of (tail_of e) in
     let r1 = h_b.only d (WordOrSymbol (kind.ReservedWord reserved.End) ∷ Name c ∷ WordOrSymbol (kind.Symbol symbol.Dot) ∷ x) (WordOrSymbol (kind.ReservedWord reserved.End) ∷ Name k ∷ WordOrSymbol (kind.Symbol symbol.Dot) ∷ y) (omega arith) (omega arith) (regroup (spell b) (WordOrSymbol (kind.ReservedWord reserved.End) ∷ Name c ∷ single_token_list (kind.Symbol symbol.Dot)) x (spell d) (WordOrSymbol (kind.ReservedWord reserved.End) ∷ Name k ∷ single_token_list (kind.Symbol symbol.Dot)) y (tail_of (tail_of (tail_of e)))) in
     let closing : c ≡ k = name_of (tail_of r1.1) in
@@ -606,35 +606,35 @@ unique (while_loop a0 a1) = record { only = λ u x y p q e. while_loop_only a0 a
 unique (repeat_loop a0 a1) = record { only = repeat_loop_only a0 a1 (unique a0) (unique a1) }
 unique no_arguments = record { only = no_arguments_only }
 unique (some_arguments a0 a1) = record { only = some_arguments_only a0 a1 (unique a0) (unique a1) }
-unique (then_argument a0) = record { only = then_argument_only a0 (unique a0) }
+unique (comma_then_argument a0) = record { only = then_argument_only a0 (unique a0) }
 unique (runs a0 a1) = record { only = runs_only a0 a1 (unique a0) (unique a1) }
-unique (then_statement a0) = record { only = then_statement_only a0 (unique a0) }
+unique (semicolon_then_statement a0) = record { only = then_statement_only a0 (unique a0) }
 unique (elsif_branch a0 a1) = record { only = elsif_branch_only a0 a1 (unique a0) (unique a1) }
 unique (else_branch a0) = record { only = else_branch_only a0 (unique a0) }
 unique (listed a0 a1) = record { only = listed_only a0 a1 (unique a1) }
-unique (then_name a0) = record { only = then_name_only a0 }
+unique (comma_then_name a0) = record { only = then_name_only a0 }
 unique (named_type a0) = record { only = named_type_only a0 }
 unique (array_type a0 a1) = record { only = array_type_only a0 a1 (unique a0) (unique a1) }
 unique (record_type a0 a1) = record { only = record_type_only a0 a1 (unique a0) (unique a1) }
 unique no_fields = record { only = no_fields_only }
 unique (some_fields a0 a1) = record { only = some_fields_only a0 a1 (unique a0) (unique a1) }
-unique (then_fields a0) = record { only = then_fields_only a0 (unique a0) }
+unique (semicolon_then_fields a0) = record { only = then_fields_only a0 (unique a0) }
 unique no_formals = record { only = no_formals_only }
 unique (some_formals a0 a1) = record { only = some_formals_only a0 a1 (unique a0) (unique a1) }
 unique (value_section a0 a1) = record { only = value_section_only a0 a1 (unique a0) (unique a1) }
 unique (variable_section a0 a1) = record { only = variable_section_only a0 a1 (unique a0) (unique a1) }
-unique (then_section a0) = record { only = then_section_only a0 (unique a0) }
+unique (semicolon_then_section a0) = record { only = then_section_only a0 (unique a0) }
 unique (declares_constant a0 a1) = record { only = declares_constant_only a0 a1 (unique a1) }
-unique (declares_constants a0) = record { only = declares_constants_only a0 (unique a0) }
+unique (declares_const_section a0) = record { only = declares_constants_only a0 (unique a0) }
 unique (declares_type a0 a1) = record { only = declares_type_only a0 a1 (unique a1) }
-unique (declares_types a0) = record { only = declares_types_only a0 (unique a0) }
+unique (declares_type_section a0) = record { only = declares_types_only a0 (unique a0) }
 unique (declares_variable a0 a1) = record { only = declares_variable_only a0 a1 (unique a0) (unique a1) }
-unique (declares_variables a0) = record { only = declares_variables_only a0 (unique a0) }
+unique (declares_var_section a0) = record { only = declares_variables_only a0 (unique a0) }
 unique (declares_procedure a0 a1 a2 a3) = record { only = declares_procedure_only a0 a1 a2 a3 (unique a1) (unique a2) }
 unique (declares a0 a1 a2 a3) = record { only = declares_only a0 a1 a2 a3 (unique a0) (unique a1) (unique a2) (unique a3) }
 unique (begins a0) = record { only = begins_only a0 (unique a0) }
 unique (forms_block a0 a1) = record { only = has_body_only a0 a1 (unique a0) (unique a1) }
-unique (is_module a0 a1 a2) = record { only = is_module_only a0 a1 a2 (unique a1) }
+unique (forms_module a0 a1 a2) = record { only = is_module_only a0 a1 a2 (unique a1) }
 
 pub same : {N : Type 0} {s : Sort} (a b : Tree N s) (x y : List (Terminal N)) → NextTokenEndsConstruct (level s) x → NextTokenEndsConstruct (level s) y → spell a ++ x ≡ spell b ++ y → (a ≡ b) × (x ≡ y)
 same a b x y p q e = (unique a).only b x y p q e

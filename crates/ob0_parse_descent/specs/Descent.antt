@@ -12,8 +12,8 @@ use Rattle.ob0_scan.specs.declared.lexeme.Symbol.{Symbol}
 use Rattle.ob0_scan.specs.declared.lexeme.Symbol.TheVariants as symbol
 use Rattle.ob0_tree.specs.Lexeme.{Terminal, Name, Number, WordOrSymbol, EndOfText}
 use Rattle.ob0_tree.specs.Module.{max_nesting}
-use Rattle.ob0_tree.specs.Tree.{GrammarItem, selector, multiplier, addend, comparison, arguments, further_argument, further_statement, elsif_part, else_part, further_name, further_fields, formals, further_section, constant, constants, type_definition, type_definitions, variable, variables, procedure, body, Sort, item, items, maybe, expression, simple, term, factor, statement, sequence, names, written_type, fields, section, declarations, block, module_text}
-use Rattle.ob0_parse_descent.specs.Follow.{rank, item_start_rank, may_begin_expression}
+use Rattle.ob0_tree.specs.Tree.{GrammarItem, selector, multiplier, addend, comparison, arguments, argument_after_comma, statement_after_semicolon, elsif_part, else_part, name_after_comma, fields_after_semicolon, formals, section_after_semicolon, constant, constants, type_definition, type_definitions, variable, variables, procedure, body, Sort, item, items, maybe, expression, simple, term, factor, statement, sequence, names, written_type, fields, section, declarations, block, module_text}
+use Rattle.ob0_parse_descent.specs.TokenRanks.{rank, item_start_rank, may_begin_expression}
 use Rattle.ob0_parse_descent.specs.declared.refusal.ExpectedSyntax.{ExpectedSyntax}
 use Rattle.ob0_parse_descent.specs.declared.refusal.ExpectedSyntax.TheVariants as expected
 
@@ -97,40 +97,40 @@ chosen_item_production multiplier room tokens = operator_with_operand_choice fac
 chosen_item_production addend room tokens = operator_with_operand_choice term room tokens
 -- comparison = ("=" | "#" | "<" | "<=" | ">" | ">=") simple
 chosen_item_production comparison room tokens = operator_with_operand_choice simple room tokens
--- arguments = "(" [expression {further_argument}] ")"
+-- arguments = "(" [expression {argument_after_comma}] ")"
 chosen_item_production arguments room tokens =
     if is_expression_next (drop 1 tokens)
     then parts (symbol_part symbol.LeftParen
     ∷ nonterminal expression room
-    ∷ nonterminal (items further_argument) room
+    ∷ nonterminal (items argument_after_comma) room
     ∷ symbol_part symbol.RightParen
     ∷ [])
     else parts (symbol_part symbol.LeftParen ∷ symbol_part symbol.RightParen ∷ [])
--- further_argument = "," expression
-chosen_item_production further_argument room tokens = parts (symbol_part symbol.Comma ∷ nonterminal expression room ∷ [])
--- further_statement = ";" statement
-chosen_item_production further_statement room tokens = parts (symbol_part symbol.Semicolon ∷ nonterminal statement room ∷ [])
+-- argument_after_comma = "," expression
+chosen_item_production argument_after_comma room tokens = parts (symbol_part symbol.Comma ∷ nonterminal expression room ∷ [])
+-- statement_after_semicolon = ";" statement
+chosen_item_production statement_after_semicolon room tokens = parts (symbol_part symbol.Semicolon ∷ nonterminal statement room ∷ [])
 -- elsif_part = ELSIF expression THEN sequence
 chosen_item_production elsif_part room tokens =
     parts
     (reserved_word_part reserved.Elsif ∷ nonterminal expression room ∷ reserved_word_part reserved.Then ∷ nonterminal sequence room ∷ [])
 -- else_part = ELSE sequence
 chosen_item_production else_part room tokens = parts (reserved_word_part reserved.Else ∷ nonterminal sequence room ∷ [])
--- further_name = "," ident
-chosen_item_production further_name room tokens = parts (symbol_part symbol.Comma ∷ name ∷ [])
--- further_fields = ";" fields
-chosen_item_production further_fields room tokens = parts (symbol_part symbol.Semicolon ∷ nonterminal fields room ∷ [])
--- formals = "(" [section {further_section}] ")"
+-- name_after_comma = "," ident
+chosen_item_production name_after_comma room tokens = parts (symbol_part symbol.Comma ∷ name ∷ [])
+-- fields_after_semicolon = ";" fields
+chosen_item_production fields_after_semicolon room tokens = parts (symbol_part symbol.Semicolon ∷ nonterminal fields room ∷ [])
+-- formals = "(" [section {section_after_semicolon}] ")"
 chosen_item_production formals room tokens =
     if is_parameter_section_next (drop 1 tokens)
     then parts (symbol_part symbol.LeftParen
     ∷ nonterminal section room
-    ∷ nonterminal (items further_section) room
+    ∷ nonterminal (items section_after_semicolon) room
     ∷ symbol_part symbol.RightParen
     ∷ [])
     else parts (symbol_part symbol.LeftParen ∷ symbol_part symbol.RightParen ∷ [])
--- further_section = ";" section
-chosen_item_production further_section room tokens = parts (symbol_part symbol.Semicolon ∷ nonterminal section room ∷ [])
+-- section_after_semicolon = ";" section
+chosen_item_production section_after_semicolon room tokens = parts (symbol_part symbol.Semicolon ∷ nonterminal section room ∷ [])
 -- constant = ident "=" expression ";"
 chosen_item_production constant room tokens =
     parts (name ∷ symbol_part symbol.Equal ∷ nonterminal expression room ∷ symbol_part symbol.Semicolon ∷ [])
@@ -221,11 +221,11 @@ chosen_production statement room (WordOrSymbol (kind.ReservedWord reserved.Repea
     ∷ nonterminal expression inner
     ∷ [])
 chosen_production statement room tokens = parts []
--- sequence = statement {further_statement}
-chosen_production sequence room tokens = parts (nonterminal statement room ∷ nonterminal (items further_statement) room ∷ [])
--- identList = ident {further_name}
-chosen_production names room tokens = parts (name ∷ nonterminal (items further_name) room ∷ [])
--- type = ident | ARRAY expression OF type | RECORD fields {further_fields} END
+-- sequence = statement {statement_after_semicolon}
+chosen_production sequence room tokens = parts (nonterminal statement room ∷ nonterminal (items statement_after_semicolon) room ∷ [])
+-- identList = ident {name_after_comma}
+chosen_production names room tokens = parts (name ∷ nonterminal (items name_after_comma) room ∷ [])
+-- type = ident | ARRAY expression OF type | RECORD fields {fields_after_semicolon} END
 chosen_production written_type room (Name n ∷ tokens) = parts (name ∷ [])
 chosen_production written_type room (WordOrSymbol (kind.ReservedWord reserved.Array) ∷ tokens) =
     nested_construct_choice room (λ inner. reserved_word_part reserved.Array
@@ -236,7 +236,7 @@ chosen_production written_type room (WordOrSymbol (kind.ReservedWord reserved.Ar
 chosen_production written_type room (WordOrSymbol (kind.ReservedWord reserved.Record) ∷ tokens) =
     nested_construct_choice room (λ inner. reserved_word_part reserved.Record
     ∷ nonterminal fields inner
-    ∷ nonterminal (items further_fields) inner
+    ∷ nonterminal (items fields_after_semicolon) inner
     ∷ reserved_word_part reserved.End
     ∷ [])
 chosen_production written_type room tokens = missing expected.Type

@@ -1,7 +1,7 @@
 -- Defines the text that follows `expected` in the message of a syntax error.
 -- Rule: docs/LANGUAGE.md, Syntax faults 2.
 use Rattle.std.specs.Prelude.{ℕ, List, codes}
-use Rattle.ob0_scan.specs.Classes.{reserved_word_text, symbol_text}
+use Rattle.ob0_scan.specs.LexemeClasses.{reserved_word_text, symbol_text}
 use Rattle.ob0_parse_descent.specs.declared.refusal.ExpectedSyntax.{ExpectedSyntax}
 use Rattle.ob0_parse_descent.specs.declared.refusal.ExpectedSyntax.TheVariants as expected
 

@@ -1,4 +1,4 @@
-pub mod Follow
+pub mod TokenRanks
 pub mod Descent
-pub mod Reading
+pub mod ParserPromises
 pub mod ExpectedText

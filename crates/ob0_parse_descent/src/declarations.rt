@@ -1,10 +1,10 @@
 //! Parses declarations and blocks. The parameters `at` and `room` are described in `parser.rt`.
 
 ghost use Rattle.std.specs.Prelude.{◌≤◌, length};
-ghost use Rattle.ob0_tree.specs.View.{parameter_section_of, further_parameter_section_of, formals_of, constant_of, constant_section_of, constant_declarations_of_vec, type_declaration_of, type_section_of, type_declarations_of_vec, variable_of, variable_section_of, variable_declarations_of_vec, body_of, block_of, procedure_of, procedures_of_vec};
-ghost use Rattle.ob0_parse_descent.specs.Reading.{Reads, ReadsList, ReadsItem, ReadsTypedNames, TellsIfParameterSectionMayBegin};
+ghost use Rattle.ob0_tree.specs.View.{parameter_section_of, parameter_section_after_semicolon_of, formals_of, constant_of, constant_section_of, constant_declarations_of_vec, type_declaration_of, type_section_of, type_declarations_of_vec, variable_of, variable_section_of, variable_declarations_of_vec, body_of, block_of, procedure_of, procedures_of_vec};
+ghost use Rattle.ob0_parse_descent.specs.ParserPromises.{Reads, ReadsList, ReadsItem, ReadsTypedNames, TellsIfParameterSectionMayBegin};
 
-use crate::growth::push_with_doubling;
+use crate::list_growth::push_with_doubling;
 use crate::parser::{ConstructResult, ItemResult, Parser, levels_left_inside};
 use ob0_scan::{ReservedWord, Symbol};
 use ob0_tree::{
@@ -66,9 +66,13 @@ impl<'t> Parser<'t> {
 
     /// Parses a further section of formal parameters, `";" section`. Returns None if the token at
     /// `at` isn't `;`.
-    fn parse_further_parameter_section(&self, at: usize, room: u32) -> ItemResult<ParameterSection>
+    fn parse_parameter_section_after_semicolon(
+        &self,
+        at: usize,
+        room: u32,
+    ) -> ItemResult<ParameterSection>
         requires { at ≤ length self.now.tokens.now }
-        ensures { ReadsItem further_parameter_section_of room self.now.tokens.now at result }
+        ensures { ReadsItem parameter_section_after_semicolon_of room self.now.tokens.now at result }
     {
         if !self.has_symbol_at(at, Symbol::Semicolon) {
             return Ok(None);
@@ -84,12 +88,12 @@ impl<'t> Parser<'t> {
         room: u32,
     ) -> ConstructResult<Vec<ParameterSection>>
         requires { at ≤ length self.now.tokens.now }
-        ensures { ReadsList parameter_section_of further_parameter_section_of room self.now.tokens.now at result }
+        ensures { ReadsList parameter_section_of parameter_section_after_semicolon_of room self.now.tokens.now at result }
     {
         let mut sections = Vec::new(self.alloc);
         let (first, mut next) = self.parse_parameter_section(at, room)?;
         push_with_doubling(&mut sections, first)?;
-        while let Some((section, end)) = self.parse_further_parameter_section(next, room)? {
+        while let Some((section, end)) = self.parse_parameter_section_after_semicolon(next, room)? {
             push_with_doubling(&mut sections, section)?;
             next = end;
         }

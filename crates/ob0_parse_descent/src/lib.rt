@@ -5,12 +5,12 @@
 #![tactic(auto)]
 
 mod declarations;
-mod growth;
+mod list_growth;
 mod parser;
 mod refusal;
 mod statements;
 mod types;
 
-pub use growth::push_with_doubling;
+pub use list_growth::push_with_doubling;
 pub use parser::{ConstructResult, ItemResult, Parser, syntax_error};
 pub use refusal::{ExpectedSyntax, ParseRefusal};

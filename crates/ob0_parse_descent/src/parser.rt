@@ -6,14 +6,14 @@ ghost use Rattle.std.specs.Prelude.{true, ◌≡◌, ◌+◌, ◌<◌, ◌≤◌
 ghost use Rattle.ob0_scan.specs.declared.lexeme.TokenKind.TheVariants as kind;
 ghost use Rattle.ob0_scan.specs.declared.lexeme.Symbol.TheVariants as symbol;
 ghost use Rattle.ob0_tree.specs.Lexeme.{add_operator_token_kind, multiply_operator_token_kind, relation_token_kind};
-ghost use Rattle.ob0_tree.specs.Tree.{then_name, compares, none};
+ghost use Rattle.ob0_tree.specs.Tree.{comma_then_name, compares, none};
 ghost use Rattle.ob0_tree.specs.View.{names_of, expression_of, comparison_of, simple_expression_of, addend_of, term_of, multiplier_of, factor_of, selector_of};
-ghost use Rattle.ob0_parse_descent.specs.Follow.{binding_rank};
-ghost use Rattle.ob0_parse_descent.specs.Reading.{terminal_or_end, rest, Reads, ReadsItem, ReadsToken, ReadsIdentifier, TellsIfTokenAt, TellsIfIdentifierAt, IsSignAt, ReadsDesignator, IsOperatorOfKind, IsSingleTokenFactor, OpensLevel};
+ghost use Rattle.ob0_parse_descent.specs.TokenRanks.{binding_rank};
+ghost use Rattle.ob0_parse_descent.specs.ParserPromises.{terminal_or_end, rest, Reads, ReadsItem, ReadsToken, ReadsIdentifier, TellsIfTokenAt, TellsIfIdentifierAt, IsSignAt, ReadsDesignator, IsOperatorOfKind, IsSingleTokenFactor, OpensLevel};
 ghost use Rattle.ob0_parse_descent.specs.declared.refusal.ExpectedSyntax.TheVariants as expected;
 ghost use Rattle.ob0_parse_descent.specs.declared.refusal.ParseRefusal.TheVariants.{Syntax};
 
-use crate::growth::push_with_doubling;
+use crate::list_growth::push_with_doubling;
 use crate::refusal::{ExpectedSyntax, ParseRefusal};
 use ob0_scan::{ReservedWord, Symbol, Token, TokenKind};
 use ob0_tree::{
@@ -137,9 +137,9 @@ impl<'t> Parser<'t> {
 
     /// Parses a further name of a list, `"," ident`. Returns None if the token at `at` isn't a
     /// comma.
-    fn parse_further_name(&self, at: usize) -> ItemResult<usize>
+    fn parse_name_after_comma(&self, at: usize) -> ItemResult<usize>
         requires { at ≤ length self.now.tokens.now }
-        ensures read { ReadsItem then_name 0 self.now.tokens.now at result }
+        ensures read { ReadsItem comma_then_name 0 self.now.tokens.now at result }
         ensures refusal { IfErr result (λ e. e ≡ Syntax (at + 1) expected.Identifier) }
     {
         if self.has_symbol_at(at, Symbol::Comma) {
@@ -157,7 +157,7 @@ impl<'t> Parser<'t> {
     {
         let (first, mut next) = self.expect_identifier(at)?;
         let mut more = Vec::new(self.alloc);
-        while let Some((name, end)) = self.parse_further_name(next)? {
+        while let Some((name, end)) = self.parse_name_after_comma(next)? {
             push_with_doubling(&mut more, name)?;
             next = end;
         }

@@ -5,11 +5,11 @@ ghost use Rattle.std.specs.Prelude.{true, ◌≡◌, ◌≤◌, length};
 ghost use Rattle.ob0_scan.specs.declared.lexeme.TokenKind.TheVariants as kind;
 ghost use Rattle.ob0_scan.specs.declared.lexeme.ReservedWord.TheVariants as reserved;
 ghost use Rattle.ob0_scan.specs.declared.lexeme.Symbol.TheVariants as symbol;
-ghost use Rattle.ob0_tree.specs.View.{arguments_of_vec, further_argument_of, expression_of, statement_of, sequence_of_vec, further_statement_of, elsif_of, elsifs_of_vec, else_part_of};
-ghost use Rattle.ob0_parse_descent.specs.Follow.{may_begin_expression};
-ghost use Rattle.ob0_parse_descent.specs.Reading.{Reads, ReadsList, ReadsItem, TellsIfTokenAt, TellsIfIdentifierAt};
+ghost use Rattle.ob0_tree.specs.View.{arguments_of_vec, argument_after_comma_of, expression_of, statement_of, sequence_of_vec, statement_after_semicolon_of, elsif_of, elsifs_of_vec, else_part_of};
+ghost use Rattle.ob0_parse_descent.specs.TokenRanks.{may_begin_expression};
+ghost use Rattle.ob0_parse_descent.specs.ParserPromises.{Reads, ReadsList, ReadsItem, TellsIfTokenAt, TellsIfIdentifierAt};
 
-use crate::growth::push_with_doubling;
+use crate::list_growth::push_with_doubling;
 use crate::parser::{ConstructResult, ItemResult, Parser, levels_left_inside, syntax_error};
 use crate::refusal::ExpectedSyntax;
 use ob0_scan::{ReservedWord, Symbol, TokenKind};
@@ -94,12 +94,12 @@ impl<'t> Parser<'t> {
     /// Parses a list of one or more arguments, `expression {"," expression}`.
     fn parse_argument_list(&self, at: usize, room: u32) -> ConstructResult<Vec<Expression>>
         requires { at ≤ length self.now.tokens.now }
-        ensures { ReadsList expression_of further_argument_of room self.now.tokens.now at result }
+        ensures { ReadsList expression_of argument_after_comma_of room self.now.tokens.now at result }
     {
         let mut arguments = Vec::new(self.alloc);
         let (first, mut next) = self.parse_expression(at, room)?;
         push_with_doubling(&mut arguments, first)?;
-        while let Some((argument, end)) = self.parse_further_argument(next, room)? {
+        while let Some((argument, end)) = self.parse_argument_after_comma(next, room)? {
             push_with_doubling(&mut arguments, argument)?;
             next = end;
         }
@@ -108,9 +108,9 @@ impl<'t> Parser<'t> {
 
     /// Parses a further argument, `"," expression`. Returns None if the token at `at` isn't a
     /// comma.
-    fn parse_further_argument(&self, at: usize, room: u32) -> ItemResult<Expression>
+    fn parse_argument_after_comma(&self, at: usize, room: u32) -> ItemResult<Expression>
         requires { at ≤ length self.now.tokens.now }
-        ensures { ReadsItem further_argument_of room self.now.tokens.now at result }
+        ensures { ReadsItem argument_after_comma_of room self.now.tokens.now at result }
     {
         if !self.has_symbol_at(at, Symbol::Comma) {
             return Ok(None);
@@ -128,7 +128,7 @@ impl<'t> Parser<'t> {
         let mut statements = Vec::new(self.alloc);
         let (first, mut next) = self.parse_statement(at, room)?;
         push_with_doubling(&mut statements, first)?;
-        while let Some((statement, end)) = self.parse_further_statement(next, room)? {
+        while let Some((statement, end)) = self.parse_statement_after_semicolon(next, room)? {
             push_with_doubling(&mut statements, statement)?;
             next = end;
         }
@@ -137,9 +137,9 @@ impl<'t> Parser<'t> {
 
     /// Parses a further statement, `";" statement`. Returns None if the token at `at` isn't `;`.
     #[cycle(statements)]
-    fn parse_further_statement(&self, at: usize, room: u32) -> ItemResult<Statement>
+    fn parse_statement_after_semicolon(&self, at: usize, room: u32) -> ItemResult<Statement>
         requires { at ≤ length self.now.tokens.now }
-        ensures { ReadsItem further_statement_of room self.now.tokens.now at result }
+        ensures { ReadsItem statement_after_semicolon_of room self.now.tokens.now at result }
     {
         if !self.has_symbol_at(at, Symbol::Semicolon) {
             return Ok(None);

@@ -4,10 +4,10 @@
 ghost use Rattle.std.specs.Prelude.{true, ◌≤◌, length};
 ghost use Rattle.ob0_scan.specs.declared.lexeme.TokenKind.TheVariants as kind;
 ghost use Rattle.ob0_scan.specs.declared.lexeme.ReservedWord.TheVariants as reserved;
-ghost use Rattle.ob0_tree.specs.View.{type_of, optional_field_group_of, further_field_group_of};
-ghost use Rattle.ob0_parse_descent.specs.Reading.{Reads, ReadsItem, TellsIfTokenAt};
+ghost use Rattle.ob0_tree.specs.View.{type_of, optional_field_group_of, field_group_after_semicolon_of};
+ghost use Rattle.ob0_parse_descent.specs.ParserPromises.{Reads, ReadsItem, TellsIfTokenAt};
 
-use crate::growth::push_with_doubling;
+use crate::list_growth::push_with_doubling;
 use crate::parser::{ConstructResult, ItemResult, Parser, levels_left_inside, syntax_error};
 use crate::refusal::ExpectedSyntax;
 use ob0_scan::{ReservedWord, Symbol};
@@ -56,7 +56,7 @@ impl<'t> Parser<'t> {
         let mut groups = Vec::new(self.alloc);
         let (first, mut next) = self.parse_optional_field_group(at + 1, inner)?;
         push_with_doubling(&mut groups, first)?;
-        while let Some((fields, end)) = self.parse_further_field_group(next, inner)? {
+        while let Some((fields, end)) = self.parse_field_group_after_semicolon(next, inner)? {
             push_with_doubling(&mut groups, fields)?;
             next = end;
         }
@@ -66,9 +66,13 @@ impl<'t> Parser<'t> {
 
     /// Parses a further group of fields, `";" fields`. Returns None if the token at `at` isn't `;`.
     #[cycle(types)]
-    fn parse_further_field_group(&self, at: usize, room: u32) -> ItemResult<OptionalFieldGroup>
+    fn parse_field_group_after_semicolon(
+        &self,
+        at: usize,
+        room: u32,
+    ) -> ItemResult<OptionalFieldGroup>
         requires { at ≤ length self.now.tokens.now }
-        ensures { ReadsItem further_field_group_of room self.now.tokens.now at result }
+        ensures { ReadsItem field_group_after_semicolon_of room self.now.tokens.now at result }
     {
         if !self.has_symbol_at(at, Symbol::Semicolon) {
             return Ok(None);

@@ -9,9 +9,9 @@ use Rattle.ob0_tree.specs.Places.{token_text_at}
 use Rattle.ob0_scope_table.specs.Resolution.{Resolution, span_at}
 use Rattle.ob0_scope_table.specs.Spans.{is_in_span_or_at_end}
 use Rattle.ob0_scope.specs.NamesAtPlaces.{name_at_offset}
-use Rattle.ob0_scope.specs.declared.naming.BoundName as named
+use Rattle.ob0_scope.specs.declared.bound_names.BoundName as named
 use Rattle.ob0_types.specs.IdentifierMeanings.{meaning_of_name_or_field}
-use Rattle.ob0_types.specs.declared.meant.ResolvedIdentifier.{ResolvedIdentifier}
+use Rattle.ob0_types.specs.declared.identifier_meanings.IdentifierWithMeaning.{IdentifierWithMeaning}
 use Rattle.ob0_language_types.proofs.Literals.{some_inverse}
 use Rattle.ob0_types_fields.specs.FieldTypes.{TypedField, typed_field}
 use Rattle.ob0_types_fields.specs.declared.field_name.FieldName.{FieldName}
@@ -48,7 +48,7 @@ record OnField (r : Resolution) (offset : ℕ) (span : Span) (k : ℕ) : Type 0 
 on_field : (r : Resolution) (offset k index : ℕ) (span : Span) → RefersToFieldAt r offset span k index → OnField r offset span k
 on_field r offset k index span h = go (name_at_offset r.module_read offset) refl (field_at r offset) refl h
   where
-    go : (n : Option named.BoundName) → name_at_offset r.module_read offset ≡ n → (f : Option FieldName) → field_at r offset ≡ f → option_map (λ (x : ResolvedIdentifier). answer_about_identifier r.module_read x.token x.means) (meaning_of_name_or_field n f) ≡ Some (record { span = span; of = answer_of.Field k index }) → OnField r offset span k
+    go : (n : Option named.BoundName) → name_at_offset r.module_read offset ≡ n → (f : Option FieldName) → field_at r offset ≡ f → option_map (λ (x : IdentifierWithMeaning). answer_about_identifier r.module_read x.token x.means) (meaning_of_name_or_field n f) ≡ Some (record { span = span; of = answer_of.Field k index }) → OnField r offset span k
     go (Some n) e f g same = absurd (true≢false (sym (ap (λ (a : answer.At). answers_field a.of) (some_inverse same)) ∙ no_field (nat_lt n.ordinal 7) n.ordinal))
     go None e None g same = absurd (cc)
     go None e (Some x) g same =
@@ -102,7 +102,7 @@ fields_have_definitions-holds r offset k index span well h =
     let m : ParsedModule = r.module_read in
     let at = on_field r offset k index span h in
     let name : List ℕ = token_text_at m.source at.token in
-    (λ i. is_some (option_and_then (λ (x : ResolvedIdentifier). definition_of_identifier m x.token x.means) (meaning_of_name_or_field (at.no_name i) (at.field i))))
+    (λ i. is_some (option_and_then (λ (x : IdentifierWithMeaning). definition_of_identifier m x.token x.means) (meaning_of_name_or_field (at.no_name i) (at.field i))))
     ∙ (some_mapped (span_at m.source) (field_declaring_token m k name)
     ∙ found_holds m.source offset (record { token = at.token; owner = k }) (λ x. is_some (field_declaring_token m x.owner (token_text_at m.source x.token)) ≡ true) (field_identifiers r) (fields_are_declared-holds r well.resolved well.well_typed) at.field)
 
@@ -130,5 +130,5 @@ fields_have_hovers-holds r offset k index span well h =
     let at = on_field r offset k index span h in
     let x : FieldName = record { token = at.token; owner = k } in
     let typed : is_some (typed_field r x) ≡ true = found_holds m.source offset x (λ y. is_some (typed_field r y) ≡ true) (field_identifiers r) (fields_have_types-holds r well.resolved well.well_typed) at.field in
-    (λ i. is_some (option_and_then (λ (y : ResolvedIdentifier). hover_of_identifier r y.token y.means) (meaning_of_name_or_field (at.no_name i) (at.field i))))
+    (λ i. is_some (option_and_then (λ (y : IdentifierWithMeaning). hover_of_identifier r y.token y.means) (meaning_of_name_or_field (at.no_name i) (at.field i))))
     ∙ (some_mapped (λ (f : TypedField). hover_of_field_with_type r at.token f.shape) (typed_field r x) ∙ typed)

@@ -1,4 +1,4 @@
 pub mod AtFields
 pub mod Counted
-pub mod Parameters
-pub mod ParametersFollowProcedure
+pub mod HoverParameters
+pub mod ParametersFollowProcedureName

@@ -7,7 +7,7 @@ use Rattle.ob0_tree.specs.Tree.{occurrences}
 use Rattle.ob0_language_names.specs.Names.{Name}
 use Rattle.ob0_language_names.specs.Occurrences.{NameConflict, at_declaration, at_occurrence, first_name_conflict}
 use Rattle.ob0_scope_table.specs.Resolution.{span_at}
-use Rattle.ob0_refs.specs.Places.{declaring_span}
+use Rattle.ob0_refs.specs.Places.{declaring_identifier_span}
 
 -- Returns the span of the looked-up name with this number, counted from 0 in text order. Returns
 -- None if there is no such name.
@@ -24,7 +24,7 @@ span_or_text_start (Some span) = span
 -- For `at_occurrence k`, it is the looked-up name with the number `k`, counted from 0 in text
 -- order. If that identifier isn't found, returns an empty span at the text's start.
 abbrev pub conflict_span : ParsedModule → ℕ → NameConflict → Span
-conflict_span m d at_declaration = span_or_text_start (declaring_span m d)
+conflict_span m d at_declaration = span_or_text_start (declaring_identifier_span m d)
 conflict_span m d (at_occurrence k) = span_or_text_start (occurrence_span m k)
 
 -- Returns the span of the first conflict of a renaming of the declaration with the ordinal `d` to

@@ -1,28 +1,28 @@
 -- States the law on which a procedure's hover text relies: the names declared after a procedure's
 -- name begin with the names of its parameters.
--- Rule: none; used in the contract of `parameters_follow_procedure`.
+-- Rule: none; used in the contract of `parameters_follow_procedure_name`.
 use Rattle.std.specs.Prelude.{◌≡◌, ℕ, List, [], ◌++◌, ◌∷◌, Some, length, map, take}
 use Rattle.std.specs.List.{All}
 use Rattle.ob0_tree.specs.declared.tree.Role.TheVariants as role
 use Rattle.ob0_tree.specs.ParsedModule.{ParsedModule, tree_of}
 use Rattle.ob0_tree.specs.Places.{token_text_at}
 use Rattle.ob0_tree.specs.Tree.{Tree, block, declares, declares_procedure, end, forms_block, identifiers, item, items, more, procedure}
-use Rattle.ob0_language_names.specs.Parts.{formal_names, formal_sections, module_block}
+use Rattle.ob0_language_names.specs.BlockParts.{formal_names, formal_sections, module_block}
 use Rattle.ob0_scope_table.specs.Resolution.{declaring_names, declaration_token}
-use Rattle.ob0_refs.specs.Declarations.{names_declared_after}
+use Rattle.ob0_refs.specs.DeclarationTexts.{names_declared_after}
 
 -- Returns the heading of each procedure, in text order. Here a heading is a pair: the token of the
 -- procedure's name, and the tokens of its parameters' names.
 abbrev mutual
   -- returns the heading of each procedure in a block, at any depth
   pub block_headings : Tree ℕ block → List (ℕ × List ℕ)
-  block_headings (forms_block (declares cs ts vs ps) statements) = headings ps
+  block_headings (forms_block (declares cs ts vs ps) statements) = procedure_list_headings ps
 
   -- returns the heading of each of these procedures, followed by the heading of each procedure in
   -- its block
-  pub headings : Tree ℕ (items procedure) → List (ℕ × List ℕ)
-  headings end = []
-  headings (more p rest) = procedure_headings p ++ headings rest
+  pub procedure_list_headings : Tree ℕ (items procedure) → List (ℕ × List ℕ)
+  procedure_list_headings end = []
+  procedure_list_headings (more p rest) = procedure_headings p ++ procedure_list_headings rest
 
   -- returns the heading of this procedure, followed by the heading of each procedure in its block
   pub procedure_headings : Tree ℕ (item procedure) → List (ℕ × List ℕ)
@@ -31,7 +31,7 @@ abbrev mutual
 
 -- States that the first names declared after a procedure's name are the names of its parameters, in
 -- order. `heading` has the token of the procedure's name and the tokens of the parameters' names.
-pub record HasParametersDeclaredNext (m : ParsedModule) (heading : ℕ × List ℕ) : Type 0 where
+pub record DeclaresParametersAfterName (m : ParsedModule) (heading : ℕ × List ℕ) : Type 0 where
   pub ordinal : ℕ
   pub declares : declaration_token (declaring_names (identifiers role.Declaring (tree_of m))) ordinal
       ≡ Some heading.0
@@ -39,6 +39,6 @@ pub record HasParametersDeclaredNext (m : ParsedModule) (heading : ℕ × List �
 
 -- States that the first names declared after each procedure's name are the names of the procedure's
 -- parameters, in order.
-abbrev pub ParametersFollowProcedure : Type 0
-ParametersFollowProcedure =
-    (m : ParsedModule) → All (HasParametersDeclaredNext m) (block_headings (module_block (tree_of m)))
+abbrev pub ParametersFollowProcedureName : Type 0
+ParametersFollowProcedureName =
+    (m : ParsedModule) → All (DeclaresParametersAfterName m) (block_headings (module_block (tree_of m)))

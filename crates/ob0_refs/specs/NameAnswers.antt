@@ -4,7 +4,7 @@ use Rattle.std.specs.Prelude.{ℕ, nat_lt, if◌then◌else◌}
 use Rattle.ob0_tree.specs.ParsedModule.{ParsedModule}
 use Rattle.ob0_language_names.specs.Scopes.{predeclared_count}
 use Rattle.ob0_scope_table.specs.Resolution.{span_at}
-use Rattle.ob0_scope.specs.declared.naming.BoundName as named
+use Rattle.ob0_scope.specs.declared.bound_names.BoundName as named
 use Rattle.ob0_refs.specs.declared.answers.At as answer
 use Rattle.ob0_refs.specs.declared.answers.Of as of
 use Rattle.ob0_refs.specs.declared.answers.Of.TheVariants as answer_of

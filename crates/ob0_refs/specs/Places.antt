@@ -10,8 +10,8 @@ use Rattle.ob0_scope.specs.NamesAtPlaces.{tokens_bound_to}
 
 -- Returns the span of the identifier that declares the name with this ordinal. Returns None for a
 -- predeclared name, and if no declaration has this ordinal.
-abbrev pub declaring_span : ParsedModule → ℕ → Option Span
-declaring_span m ordinal =
+abbrev pub declaring_identifier_span : ParsedModule → ℕ → Option Span
+declaring_identifier_span m ordinal =
     option_map (span_at m.source)
     (declaration_token (declaring_names (identifiers role.Declaring (tree_of m))) ordinal)
 

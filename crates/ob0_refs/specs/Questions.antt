@@ -13,13 +13,13 @@ use Rattle.ob0_types_fields.specs.FieldTypes.{typed_field}
 use Rattle.ob0_types_fields.specs.declared.field_name.FieldName.{FieldName}
 use Rattle.ob0_types_fields.specs.Identifiers.{field_declaring_token, field_index_in_record, field_tokens}
 use Rattle.ob0_types.specs.IdentifierMeanings.{identifier_meaning_at}
-use Rattle.ob0_types.specs.declared.meant.ResolvedIdentifier.{ResolvedIdentifier}
-use Rattle.ob0_types.specs.declared.meant.IdentifierMeaning.{IdentifierMeaning}
-use Rattle.ob0_types.specs.declared.meant.IdentifierMeaning.TheVariants.{Name, Field}
+use Rattle.ob0_types.specs.declared.identifier_meanings.IdentifierWithMeaning.{IdentifierWithMeaning}
+use Rattle.ob0_types.specs.declared.identifier_meanings.IdentifierMeaning.{IdentifierMeaning}
+use Rattle.ob0_types.specs.declared.identifier_meanings.IdentifierMeaning.TheVariants.{Name, Field}
 use Rattle.ob0_refs.specs.NameAnswers.{answer_about_name}
-use Rattle.ob0_refs.specs.Places.{declaring_span, reference_spans_of}
+use Rattle.ob0_refs.specs.Places.{declaring_identifier_span, reference_spans_of}
 use Rattle.ob0_refs.specs.Hovers.{field_text, type_text}
-use Rattle.ob0_refs.specs.NameHovers.{HoverText, hover_of_name}
+use Rattle.ob0_refs.specs.NameHovers.{HoverTextWithSpan, hover_of_name}
 use Rattle.ob0_refs.specs.declared.answers.At as answer
 use Rattle.ob0_refs.specs.declared.answers.Of.TheVariants as answer_of
 
@@ -46,7 +46,7 @@ answer_about_identifier m token (Field k) = answer_about_field m (record { token
 -- at the offset
 abbrev pub answer_at_offset : Resolution → ℕ → Option answer.At
 answer_at_offset r offset =
-    option_map (λ (x : ResolvedIdentifier). answer_about_identifier r.module_read x.token x.means) (identifier_meaning_at r offset)
+    option_map (λ (x : IdentifierWithMeaning). answer_about_identifier r.module_read x.token x.means) (identifier_meaning_at r offset)
 
 -- ---- prepareRename: the span of the name or field, if it can be renamed
 
@@ -61,7 +61,7 @@ renamable_span_of_identifier m token (Field k) = Some (span_at m.source token)
 -- identifier at the offset refers to a name or field, or if the name is predeclared.
 abbrev pub renamable_span_at : Resolution → ℕ → Option Span
 renamable_span_at r offset =
-    option_and_then (λ (x : ResolvedIdentifier). renamable_span_of_identifier r.module_read x.token x.means)
+    option_and_then (λ (x : IdentifierWithMeaning). renamable_span_of_identifier r.module_read x.token x.means)
     (identifier_meaning_at r offset)
 
 -- ---- definition: the span of the identifier that declares the name or field
@@ -74,29 +74,29 @@ definition_of_field m x =
 -- Returns the span of the identifier that declares the name or field that an identifier refers to.
 -- Returns None for a predeclared name, and for a field that isn't found.
 abbrev pub definition_of_identifier : ParsedModule → ℕ → IdentifierMeaning → Option Span
-definition_of_identifier m token (Name ordinal) = declaring_span m ordinal
+definition_of_identifier m token (Name ordinal) = declaring_identifier_span m ordinal
 definition_of_identifier m token (Field k) = definition_of_field m (record { token = token; owner = k })
 
 -- Returns the span of the identifier that declares the name or field at a byte offset. Returns None
 -- if there is no name or field at the offset, or if the name is predeclared.
 abbrev pub definition_at : Resolution → ℕ → Option Span
 definition_at r offset =
-    option_and_then (λ (x : ResolvedIdentifier). definition_of_identifier r.module_read x.token x.means)
+    option_and_then (λ (x : IdentifierWithMeaning). definition_of_identifier r.module_read x.token x.means)
     (identifier_meaning_at r offset)
 
 -- ---- references: the spans of all identifiers that refer to the name or field
 
 -- returns these token indexes without the given token index, or all of them for None
-abbrev pub tokens_without : Option ℕ → List ℕ → List ℕ
-tokens_without None tokens = tokens
-tokens_without (Some token) tokens = filter (λ other. not (other == token)) tokens
+abbrev pub list_without_optional_token : Option ℕ → List ℕ → List ℕ
+list_without_optional_token None tokens = tokens
+list_without_optional_token (Some token) tokens = filter (λ other. not (other == token)) tokens
 
 -- Returns the token indexes of all identifiers that refer to a field, in text order. The identifier
 -- that declares the field is included only if the third argument is true.
 abbrev pub field_reference_tokens : Resolution → FieldName → Bool → List ℕ
 field_reference_tokens r x true = field_tokens r x.owner (token_text_at r.module_read.source x.token)
 field_reference_tokens r x false =
-    tokens_without (field_declaring_token r.module_read x.owner (token_text_at r.module_read.source x.token))
+    list_without_optional_token (field_declaring_token r.module_read x.owner (token_text_at r.module_read.source x.token))
     (field_tokens r x.owner (token_text_at r.module_read.source x.token))
 
 -- Returns the spans of all identifiers that refer to a field, in text order. The identifier that
@@ -114,7 +114,7 @@ references_of_identifier r include token (Field k) = field_reference_spans r inc
 -- Returns the spans of the references to the name or field that an identifier refers to. If there
 -- is no identifier (None), the list is empty. The declaring identifier is among the references if
 -- `include` is true.
-abbrev pub references_of_optional_identifier : Resolution → Bool → Option ResolvedIdentifier → List Span
+abbrev pub references_of_optional_identifier : Resolution → Bool → Option IdentifierWithMeaning → List Span
 references_of_optional_identifier r include None = []
 references_of_optional_identifier r include (Some x) = references_of_identifier r include x.token x.means
 
@@ -134,7 +134,7 @@ AreReferencesAt r offset include spans = spans ≡ references_at r offset includ
 
 -- returns the hover text of a field's identifier, given the identifier's token index and the
 -- field's type
-abbrev pub hover_of_field_with_type : Resolution → ℕ → Shape → HoverText
+abbrev pub hover_of_field_with_type : Resolution → ℕ → Shape → HoverTextWithSpan
 hover_of_field_with_type r token s =
     record {
       span = span_at r.module_read.source token;
@@ -143,18 +143,18 @@ hover_of_field_with_type r token s =
 
 -- Returns the hover text of an identifier that declares or selects a field. The text shows the
 -- field's type. Returns None if the field isn't found.
-abbrev pub hover_of_field : Resolution → FieldName → Option HoverText
+abbrev pub hover_of_field : Resolution → FieldName → Option HoverTextWithSpan
 hover_of_field r x = option_map (λ f. hover_of_field_with_type r x.token f.shape) (typed_field r x)
 
 -- Returns the hover text of the identifier with this token index and this meaning. Returns None if
 -- the declaration or field that it refers to isn't found.
-abbrev pub hover_of_identifier : Resolution → ℕ → IdentifierMeaning → Option HoverText
+abbrev pub hover_of_identifier : Resolution → ℕ → IdentifierMeaning → Option HoverTextWithSpan
 hover_of_identifier r token (Name ordinal) =
     hover_of_name r.module_read (record { token = token; ordinal = ordinal })
 hover_of_identifier r token (Field k) = hover_of_field r (record { token = token; owner = k })
 
 -- Returns the hover text of the identifier at a byte offset. Returns None if there is no name or
 -- field at the offset, or if its declaration isn't found.
-abbrev pub hover_at_offset : Resolution → ℕ → Option HoverText
+abbrev pub hover_at_offset : Resolution → ℕ → Option HoverTextWithSpan
 hover_at_offset r offset =
-    option_and_then (λ (x : ResolvedIdentifier). hover_of_identifier r x.token x.means) (identifier_meaning_at r offset)
+    option_and_then (λ (x : IdentifierWithMeaning). hover_of_identifier r x.token x.means) (identifier_meaning_at r offset)

@@ -4,7 +4,7 @@ ghost use Rattle.std.specs.Prelude.{◌≡◌};
 ghost use Rattle.ob0_scope.specs.Renames.{conflict_of};
 ghost use Rattle.ob0_refs.specs.ConflictSpans.{conflict_span, occurrence_span, span_or_text_start};
 
-use crate::declaration_spans::declaration_span;
+use crate::declaration_spans::declaring_identifier_span;
 use ob0_scan::Span;
 use ob0_scope::FirstConflict;
 use ob0_scope_table::{Resolved, token_span};
@@ -18,7 +18,10 @@ pub(crate) fn conflict_span(names: &Resolved, declaration: usize, capture: First
     ensures { result ≡ conflict_span names.now.module_read declaration (conflict_of capture) }
 {
     match capture {
-        FirstConflict::Duplicate(_) => span_or_text_start(declaration_span(names, declaration)),
+        FirstConflict::Duplicate(_) => span_or_text_start(declaring_identifier_span(
+            names,
+            declaration,
+        )),
         FirstConflict::Occurrence(k) => span_or_text_start(occurrence_span(names, k)),
     }
 }

@@ -2,7 +2,7 @@
 
 ghost use Rattle.std.specs.Prelude.{◌≡◌, IfOk, map};
 ghost use Rattle.ob0_scope_table.specs.Resolution.{span_at};
-ghost use Rattle.ob0_refs.specs.Places.{declaring_span, reference_spans_of};
+ghost use Rattle.ob0_refs.specs.Places.{declaring_identifier_span, reference_spans_of};
 
 use ob0_scan::{Span, Tokens};
 use ob0_scope::tokens_bound_to;
@@ -11,8 +11,8 @@ use std::alloc::{AllocError, Global};
 
 /// Returns the span of the identifier that declares the name with this ordinal. Returns None for a
 /// predeclared name, and if no declaration has this ordinal.
-pub(crate) fn declaration_span(names: &Resolved, ordinal: usize) -> Option<Span>
-    ensures { result ≡ declaring_span names.now.module_read ordinal }
+pub(crate) fn declaring_identifier_span(names: &Resolved, ordinal: usize) -> Option<Span>
+    ensures { result ≡ declaring_identifier_span names.now.module_read ordinal }
 {
     let tokens = names.module().tokens();
     match names.declaring_token(ordinal) {

@@ -11,11 +11,11 @@ ghost use Rattle.ob0_tree.specs.Places.{token_text_at};
 ghost use Rattle.ob0_tree.specs.Tree.{identifiers};
 ghost use Rattle.ob0_tree.specs.declared.tree.Role.TheVariants as role;
 ghost use Rattle.ob0_scope_table.specs.Resolution.{declaring_names};
-ghost use Rattle.ob0_refs.specs.DeclarationParts.{declared_object_view, signature_view};
-ghost use Rattle.ob0_refs.specs.Declarations.{hover_text_of_declaration, hover_text_of_name, names_declared_after, hover_parameter, hover_parameters};
+ghost use Rattle.ob0_refs.specs.DeclarationViews.{declared_object_view, signature_view};
+ghost use Rattle.ob0_refs.specs.DeclarationTexts.{hover_text_of_declaration, hover_text_of_name, names_declared_after, hover_parameter_of_formal, hover_parameters_of_signature};
 ghost use Rattle.ob0_refs.specs.Hovers.{field_text, type_declaration_text, procedure_text, type_text, variable_text};
-ghost use Rattle.ob0_refs.specs.Parameters.{parameter_view};
-ghost use Rattle.ob0_types_table.specs.KnownTables.{declared_object_in, shapes_of};
+ghost use Rattle.ob0_refs.specs.HoverParameters.{parameter_view};
+ghost use Rattle.ob0_types_table.specs.DeclarationTables.{declared_object_in, shapes_of};
 ghost use Rattle.ob0_types_table.specs.DeclarationTableView.{formal_view, type_shape};
 ghost use Rattle.ob0_language_names.specs.Scopes.{predeclared_count};
 
@@ -133,11 +133,17 @@ fn procedure_hover_text(
 ) -> Result<String, AllocError>
     ensures { IfOk result (λ text. string_bytes text
         ≡ procedure_text (token_text_at names.now.module_read.source name.token)
-        (hover_parameters (names_declared_after names.now.module_read name.ordinal)
+        (hover_parameters_of_signature (names_declared_after names.now.module_read name.ordinal)
         (signature_view known.now formals.now))) }
 {
     let following = declaring_tokens_after(names, name.ordinal);
-    let parameters = hover_parameters_of(alloc, known, names.tokens(), following, formals)?;
+    let parameters = hover_parameters_of_signature(
+        alloc,
+        known,
+        names.tokens(),
+        following,
+        formals,
+    )?;
     procedure_text(
         alloc,
         token_text_at(names.tokens(), name.token),
@@ -166,7 +172,7 @@ fn declaring_tokens_after<'r>(names: &'r Resolved<'_>, ordinal: usize) -> &'r [u
 /// Returns the parameters of a procedure for its hover text, each with its name and the text of its
 /// type. `formals` is the procedure's signature. `following` has the token indexes of the declaring
 /// identifiers after the procedure's name, the first of which are the parameters' names.
-fn hover_parameters_of<'s>(
+fn hover_parameters_of_signature<'s>(
     alloc: Global,
     known: &DeclarationTable,
     tokens: &'s Tokens,
@@ -174,26 +180,31 @@ fn hover_parameters_of<'s>(
     formals: &[FormalParameter],
 ) -> Result<Vec<Parameter<'s>>, AllocError>
     ensures { IfOk result (λ ps. map parameter_view ps.items
-        ≡ hover_parameters (map (token_text_at tokens.now) following.now)
+        ≡ hover_parameters_of_signature (map (token_text_at tokens.now) following.now)
         (signature_view known.now formals.now)) }
 {
     let mut found = Vec::new(alloc);
     for (token, formal) in following.iter().zip(formals) {
-        found.push(hover_parameter_of(alloc, known, token_text_at(tokens, *token), *formal)?)?;
+        found.push(hover_parameter_of_formal(
+            alloc,
+            known,
+            token_text_at(tokens, *token),
+            *formal,
+        )?)?;
     }
     Ok(found)
 }
 
 /// Returns a parameter for a hover text: the name `name`, the text of its type, and whether it is a
 /// VAR parameter.
-fn hover_parameter_of<'s>(
+fn hover_parameter_of_formal<'s>(
     alloc: Global,
     known: &DeclarationTable,
     name: &'s str,
     formal: FormalParameter,
 ) -> Result<Parameter<'s>, AllocError>
     ensures { IfOk result
-        (λ p. parameter_view p ≡ hover_parameter name.now (formal_view (shapes_of known.now) formal)) }
+        (λ p. parameter_view p ≡ hover_parameter_of_formal name.now (formal_view (shapes_of known.now) formal)) }
 {
     Ok(Parameter {
         by_place: formal.by_place,

@@ -3,7 +3,7 @@
 ghost use Rattle.std.specs.Prelude.{◌≡◌, ◌++◌, ℕ, IfOk, OnOk, map, string_bytes};
 ghost use Rattle.ob0_language_values.specs.Values.{FieldShapes, Shape, array_shape, record_shape};
 ghost use Rattle.ob0_refs.specs.Hovers.{var_prefix_text, constant_text, field_count, type_declaration_text, parameter_text, parameters_text, predeclared_text, procedure_text, truth_text, type_text, variable_text};
-ghost use Rattle.ob0_refs.specs.Parameters.{parameter_view};
+ghost use Rattle.ob0_refs.specs.HoverParameters.{parameter_view};
 
 use ob0_language_values::Scalar;
 use std::alloc::{AllocError, Global};

@@ -3,7 +3,7 @@
 ghost use Rattle.std.specs.Prelude.{◌≡◌, ◌↔◌, None, IfOk, option_map};
 ghost use Rattle.ob0_tree.specs.ParsedModule.{named_tree_of};
 ghost use Rattle.ob0_language_names.specs.Occurrences.{IsFreeName};
-ghost use Rattle.ob0_refs.specs.Parts.{span_of_conflict};
+ghost use Rattle.ob0_refs.specs.AnswerViews.{span_of_conflict};
 ghost use Rattle.ob0_refs.specs.ConflictSpans.{first_conflict_span};
 
 use crate::answers::NameConflict;

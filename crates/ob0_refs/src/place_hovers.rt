@@ -2,10 +2,10 @@
 //! the identifier refers to.
 
 ghost use Rattle.std.specs.Prelude.{◌≡◌, IfOk, option_map};
-ghost use Rattle.ob0_refs.specs.Parts.{hover_view};
+ghost use Rattle.ob0_refs.specs.AnswerViews.{hover_view};
 ghost use Rattle.ob0_refs.specs.Questions.{hover_of_field, hover_at_offset, hover_of_identifier, hover_of_field_with_type};
 ghost use Rattle.ob0_refs.specs.NameHovers.{hover_of_name};
-ghost use Rattle.ob0_types_table.specs.KnownTables.{shapes_of};
+ghost use Rattle.ob0_types_table.specs.DeclarationTables.{shapes_of};
 ghost use Rattle.ob0_types_table.specs.DeclarationTableView.{type_shape};
 
 use crate::answers::Hover;
@@ -13,7 +13,7 @@ use crate::declaration_texts::{field_hover_text, name_hover_text};
 use ob0_scope::BoundName;
 use ob0_scope_table::{Resolved, token_span};
 use ob0_tree::token_text_at;
-use ob0_types::{IdentifierMeaning, ResolvedIdentifier, WellTyped, identifier_meaning_at};
+use ob0_types::{IdentifierMeaning, IdentifierWithMeaning, WellTyped, identifier_meaning_at};
 use ob0_types_fields::{FieldName, typed_field};
 use ob0_types_table::{DeclarationTable, TypeId};
 use std::alloc::{AllocError, Global};
@@ -40,7 +40,7 @@ pub fn hover(
 fn hover_of_identifier(
     alloc: Global,
     well_typed: &WellTyped<'_>,
-    found: ResolvedIdentifier,
+    found: IdentifierWithMeaning,
 ) -> Result<Option<Hover>, AllocError>
     ensures { IfOk result
         (λ h. option_map hover_view h ≡ hover_of_identifier well_typed.now found.token found.means) }

@@ -11,18 +11,18 @@
 //! take one pass over the module's fields.
 
 ghost use Rattle.std.specs.Prelude.{◌≡◌, IfOk, Some};
-ghost use Rattle.ob0_refs.specs.Questions.{AreReferencesAt, answer_about_field, answer_about_identifier, definition_of_identifier, definition_at, definition_of_field, field_reference_spans, field_reference_tokens, field_index_or_zero, answer_at_offset, references_of_identifier, tokens_without, renamable_span_at, renamable_span_of_identifier};
+ghost use Rattle.ob0_refs.specs.Questions.{AreReferencesAt, answer_about_field, answer_about_identifier, definition_of_identifier, definition_at, definition_of_field, field_reference_spans, field_reference_tokens, field_index_or_zero, answer_at_offset, references_of_identifier, list_without_optional_token, renamable_span_at, renamable_span_of_identifier};
 
 use crate::answers::{At, Of};
-use crate::declaration_spans::{declaration_span, reference_spans_of, token_spans};
+use crate::declaration_spans::{declaring_identifier_span, reference_spans_of, token_spans};
 use crate::names::answer_about_name;
 use ob0_scan::Span;
 use ob0_scope::BoundName;
 use ob0_scope_table::{PREDECLARED_COUNT, token_span};
 use ob0_tree::token_text_at;
 use ob0_types::{
-    IdentifierMeaning, ResolvedIdentifier, WellTyped, field_declaring_token, field_index_in_record,
-    field_tokens, identifier_meaning_at,
+    IdentifierMeaning, IdentifierWithMeaning, WellTyped, field_declaring_token,
+    field_index_in_record, field_tokens, identifier_meaning_at,
 };
 use ob0_types_fields::FieldName;
 use std::alloc::{AllocError, Global};
@@ -41,7 +41,7 @@ pub fn at(well_typed: &WellTyped<'_>, offset: usize) -> Option<At>
 }
 
 /// Returns the answer about an identifier: its span and what it refers to.
-fn answer_about_identifier(well_typed: &WellTyped<'_>, found: ResolvedIdentifier) -> At
+fn answer_about_identifier(well_typed: &WellTyped<'_>, found: IdentifierWithMeaning) -> At
     ensures { result ≡ answer_about_identifier well_typed.now.module_read found.token found.means }
 {
     let token = found.token;
@@ -97,7 +97,7 @@ pub fn renamable_span(well_typed: &WellTyped<'_>, offset: usize) -> Option<Span>
 /// Returns the span of an identifier. Returns None if the identifier is a predeclared name.
 fn renamable_span_of_identifier(
     well_typed: &WellTyped<'_>,
-    found: ResolvedIdentifier,
+    found: IdentifierWithMeaning,
 ) -> Option<Span>
     ensures { result ≡ renamable_span_of_identifier well_typed.now.module_read found.token found.means }
 {
@@ -128,12 +128,18 @@ pub fn definition(well_typed: &WellTyped<'_>, offset: usize) -> Option<Span>
 
 /// Returns the span of the identifier that declares the name or field that an identifier refers to.
 /// Returns None for a predeclared name, and for a field that isn't found.
-fn definition_of_identifier(well_typed: &WellTyped<'_>, found: ResolvedIdentifier) -> Option<Span>
+fn definition_of_identifier(
+    well_typed: &WellTyped<'_>,
+    found: IdentifierWithMeaning,
+) -> Option<Span>
     ensures { result ≡ definition_of_identifier well_typed.now.module_read found.token found.means }
 {
     let token = found.token;
     match found.means {
-        IdentifierMeaning::Name(ordinal) => declaration_span(well_typed.resolved(), ordinal),
+        IdentifierMeaning::Name(ordinal) => declaring_identifier_span(
+            well_typed.resolved(),
+            ordinal,
+        ),
         IdentifierMeaning::Field(owner) => {
             definition_of_field(well_typed, FieldName { token, owner })
         }
@@ -175,7 +181,7 @@ pub fn references(
 fn references_of_identifier(
     alloc: Global,
     well_typed: &WellTyped<'_>,
-    found: ResolvedIdentifier,
+    found: IdentifierWithMeaning,
     include: bool,
 ) -> Result<Vec<Span>, AllocError>
     ensures { IfOk result
@@ -241,7 +247,7 @@ fn list_without_optional_token(
     token: Option<usize>,
     tokens: Vec<usize>,
 ) -> Result<Vec<usize>, AllocError>
-    ensures { IfOk result (λ others. others.items ≡ tokens_without token tokens.items) }
+    ensures { IfOk result (λ others. others.items ≡ list_without_optional_token token tokens.items) }
 {
     match token {
         None => Ok(tokens),
@@ -258,7 +264,7 @@ fn list_without_token(
     token: usize,
     tokens: &[usize],
 ) -> Result<Vec<usize>, AllocError>
-    ensures { IfOk result (λ others. others.items ≡ tokens_without (Some token) tokens.now) }
+    ensures { IfOk result (λ others. others.items ≡ list_without_optional_token (Some token) tokens.now) }
 {
     let mut others = Vec::new(alloc);
     for other in tokens {

@@ -6,7 +6,7 @@ use Rattle.std.proofs.Common.{◌≡◌, ℕ, ◌<◌, Bool, true, false, not, i
 use Rattle.std.specs.List.{list_any}
 use Rattle.std.specs.declared.alloc.Global.{Global}
 use Rattle.std.proofs.lemmas.Slice.Eq.{bytes_eq-Decides}
-use Rattle.ob0_scan.specs.Classes.{IsIdentifier}
+use Rattle.ob0_scan.specs.LexemeClasses.{IsIdentifier}
 use Rattle.ob0_scan.specs.TextWithTokens.{IsScan, TextWithTokens, max_text_length}
 use Rattle.ob0_text.specs.declared.edits.Edit.{Edit}
 use Rattle.ob0_text.specs.declared.position_types.Position.{Position}
@@ -19,14 +19,14 @@ use Rattle.ob0_tree.specs.Tree.{mapped_tree}
 use Rattle.ob0_language_names.specs.Names.{Name, same_name}
 use Rattle.ob0_scope_table.specs.Resolution.{Resolution}
 use Rattle.ob0_types.specs.CheckedModules.{IsWellTyped}
-use Rattle.ob0_edits_tokens.specs.Changed.{is_in_list, words_of}
-use Rattle.ob0_edits_tokens.specs.OfTrees.{RenamingKeepsSpelling, number_at, renamed_word_text}
-use Rattle.ob0_edits_tokens.specs.Replaced.{AreIdentifierIndexes, MayReplaceIdentifier, text_after_replacement}
+use Rattle.ob0_edits_tokens.specs.WordReplacements.{is_in_list, words_of}
+use Rattle.ob0_edits_tokens.specs.WordsOfTrees.{RenamedTreeSpellsRenamedWords, integer_value_at, renamed_word_text}
+use Rattle.ob0_edits_tokens.specs.Replacements.{AreIdentifierIndexes, MayReplaceIdentifier, text_after_replacement}
 use Rattle.ob0_edits_tokens.specs.Written.{name_word}
 use Rattle.ob0_language_field_laws.specs.FieldLaws.{FreeFieldRenamingKeepsTypingAndRuns}
 use Rattle.ob0_types_fields.specs.declared.field_name.FieldName.{FieldName}
 use Rattle.ob0_types_fields.specs.Identifiers.{DuplicateFieldNameHasDeclaringToken, RenamingChangesFieldTokens, field_declaring_token, field_identifiers, field_tokens, tokens_of_field}
-use Rattle.ob0_language_fields.specs.Renaming.{IsFreeFieldName, with_renamed_field}
+use Rattle.ob0_language_fields.specs.Renaming.{IsFreeFieldName, module_with_renamed_field}
 use Rattle.ob0_rename.specs.Answers.{RenameAnswers, AnswersRenamingOfField, IsRenameRefusal, IsFirstRefusalForField, FailsOnlyForMemory}
 use Rattle.ob0_rename.specs.Renaming.{TargetsField, Renaming, field_tokens_to_rename, token_range}
 use Rattle.ob0_rename.proofs.Outcomes.{Edited, whole, written}
@@ -55,7 +55,7 @@ written-so source k f i (x ∷ xs) e = one (x.owner == k) (same_name (place.toke
     one false c same later e = later e
 
 pub field_there : (r : Resolution) (k : ℕ) (f new : Name) → IsWellTyped r → RenamingChangesFieldTokens
-    → mapped_tree (renamed_word_text (words_of r.module_read.source) (field_tokens_to_rename r k f new) new) (number_at (words_of r.module_read.source)) (tree_of r.module_read) ≡ with_renamed_field (named_tree_of r.module_read) k f new
+    → mapped_tree (renamed_word_text (words_of r.module_read.source) (field_tokens_to_rename r k f new) new) (integer_value_at (words_of r.module_read.source)) (tree_of r.module_read) ≡ module_with_renamed_field (named_tree_of r.module_read) k f new
 field_there r k f new well by_tokens = one (same_name new f) refl
   where
     s : TextWithTokens
@@ -66,7 +66,7 @@ field_there r k f new well by_tokens = one (same_name new f) refl
     kept i own false e = refl
 
     one : (b : Bool) → same_name new f ≡ b
-        → mapped_tree (renamed_word_text (words_of s) (if b then [] else field_tokens r k f) new) (number_at (words_of s)) (tree_of r.module_read) ≡ with_renamed_field (named_tree_of r.module_read) k f new
+        → mapped_tree (renamed_word_text (words_of s) (if b then [] else field_tokens r k f) new) (integer_value_at (words_of s)) (tree_of r.module_read) ≡ module_with_renamed_field (named_tree_of r.module_read) k f new
     one true own =
         (λ j. mapped_tree (λ i. (text_same s i ∙ kept i ((bytes_eq-Decides new f).0 own) (list_any (λ token. i == token) (field_tokens r k f)) refl) j) (λ i. number_same s i j) (tree_of r.module_read))
         ∙ sym (by_tokens r k f new well.resolved well.well_typed)
@@ -94,7 +94,7 @@ module _ (unit : counting.Unit) (text : List ℕ) (place : Position) (new : Name
       let found = other_some (same_name new f) (field_declaring_token r.module_read k new) token other in
       subst (IsFirstRefusalForField (requested_field r) k f) (sym is) (id, has_declaring r.module_read k f new ∙ found.0, ap (option_map (token_range (requested_field r))) found.1)
 
-  pub field_answered : (r : Resolution) → IsWellTyped r → IsIdentifier new → IsFreeFieldName (named_tree_of r.module_read) k f new → FreeFieldRenamingKeepsTypingAndRuns → RenamingChangesFieldTokens → RenamingKeepsSpelling
+  pub field_answered : (r : Resolution) → IsWellTyped r → IsIdentifier new → IsFreeFieldName (named_tree_of r.module_read) k f new → FreeFieldRenamingKeepsTypingAndRuns → RenamingChangesFieldTokens → RenamedTreeSpellsRenamedWords
       → ((name : List ℕ) → IsIdentifier name → MayReplaceIdentifier name (name_word name ∷ [])) → AreIdentifierIndexes r.module_read.source.tokens 0 (field_tokens_to_rename r k f new)
       → (result : Result (Vec Edit Global) EditRefusal) → Edited unit text new r.module_read.source (field_tokens_to_rename r k f new) result → AnswersRenamingOfField (requested_field r) k f result
   field_answered r well id free keeps by_tokens spells may_replace names (Ok edits) made =
@@ -103,8 +103,8 @@ module _ (unit : counting.Unit) (text : List ℕ) (place : Position) (new : Name
         identifier = id;
         free = free;
         writes =
-            written unit text place new k r (with_renamed_field (named_tree_of m) k f new) (field_tokens_to_rename r k f new) id may_replace
-            (of_rewritten m (with_renamed_field (named_tree_of m) k f new) (field_tokens_to_rename r k f new) new well.resolved.parsed spells names (field_there r k f new well by_tokens))
+            written unit text place new k r (module_with_renamed_field (named_tree_of m) k f new) (field_tokens_to_rename r k f new) id may_replace
+            (of_rewritten m (module_with_renamed_field (named_tree_of m) k f new) (field_tokens_to_rename r k f new) new well.resolved.parsed spells names (field_there r k f new well by_tokens))
             (keeps (named_tree_of m) k f new free well.well_typed) edits made;
       }
   field_answered r well id free keeps by_tokens spells may_replace names (Err why) made =

@@ -2,12 +2,12 @@
 use Rattle.std.proofs.Common.{◌≡◌, ℕ, suc, ◌+◌, ◌≤◌, ◌<◌, ◌==◌, ◌&&◌, Bool, true, false, if◌then◌else◌, Some, List, [], ◌∷◌, ◌++◌, slice_get, refl, sym, ◌∙◌, subst, arith, eqb-true}
 use Rattle.std.proofs.lemmas.Bool.{and_parts}
 use Rattle.std.proofs.lemmas.Slice.Eq.{bytes_eq-Decides}
-use Rattle.ob0_tree.specs.Tree.{Sort, Tree, block, constant, constants, declares, declares_constant, declares_constants, declares_procedure, declares_type, declares_types, declares_variable, declares_variables, end, formals, further_name, further_section, forms_block, is_module, item, items, listed, maybe, module_text, more, names, none, one, procedure, section, some_formals, then_name, then_section, type_definition, type_definitions, value_section, variable, variable_section, variables}
-use Rattle.ob0_language_names.specs.ConsistentNames.{are_distinct, block_names, block_has_consistent_names, has_consistent_names, formals_have_distinct_fields, procedure_has_consistent_names, procedures_have_consistent_names, types_have_distinct_fields, variables_have_distinct_fields}
-use Rattle.ob0_language_names.specs.Mapping.{map_names}
+use Rattle.ob0_tree.specs.Tree.{Sort, Tree, block, constant, constants, declares, declares_constant, declares_const_section, declares_procedure, declares_type, declares_type_section, declares_variable, declares_var_section, end, formals, name_after_comma, section_after_semicolon, forms_block, forms_module, item, items, listed, maybe, module_text, more, names, none, one, procedure, section, some_formals, comma_then_name, semicolon_then_section, type_definition, type_definitions, value_section, variable, variable_section, variables}
+use Rattle.ob0_language_names.specs.ConsistentNames.{are_distinct, names_declared_in_block, block_has_consistent_names, has_consistent_names, formals_have_distinct_fields, procedure_has_consistent_names, procedure_list_has_consistent_names, types_have_distinct_fields, variables_have_distinct_fields}
+use Rattle.ob0_language_names.specs.MappedNames.{map_names}
 use Rattle.ob0_language_names.specs.Names.{Name, naming_by_spelling, same_name}
-use Rattle.ob0_language_names.specs.Parts.{constant_names, formal_names, formal_sections, further_names, module_block, declared_type_names, names_in_list, procedure_name, section_constants, parameter_section_names, section_types, section_variables, variable_names}
-use Rattle.ob0_language_names.specs.Scopes.{Labelling, Scope, ordinal_after_names, ordinal_after_procedure, declare_names, declare_procedure_names, first_procedure_ordinal, first_type_ordinal, first_variable_ordinal, ordinal_in_scope, predeclared_scope, scope_before_procedures, relabel_block, relabel_constant_section, relabel_constants, relabel_formals, relabel_further_names, relabel_names, relabel_procedure, relabel_procedures, relabel_parameter_section, relabel_parameter_sections, relabel_type_section, relabel_types, relabel_uses, relabel_variable_section, relabel_variables, renamed, scope_before_types, scope_before_variables, body_scope}
+use Rattle.ob0_language_names.specs.BlockParts.{constant_names, formal_names, formal_sections, names_after_first, module_block, declared_type_names, names_in_list, procedure_name, section_constants, parameter_section_names, section_types, section_variables, variable_names}
+use Rattle.ob0_language_names.specs.Scopes.{Labelling, Scope, ordinal_after_names, ordinal_after_procedure, declare_names, declare_procedure_names, first_procedure_ordinal, first_type_ordinal, first_variable_ordinal, ordinal_in_scope, predeclared_scope, scope_before_procedures, relabel_block, relabel_constant_section, relabel_constants, relabel_formals, relabel_names_after_first, relabel_names, relabel_procedure, relabel_procedure_list, relabel_parameter_section, relabel_parameter_section_list, relabel_type_section, relabel_types, relabel_uses, relabel_variable_section, relabel_variables, renamed, scope_before_types, scope_before_variables, body_scope}
 use Rattle.ob0_language_names.proofs.DistinctNames.{new_name}
 use Rattle.ob0_language_names.proofs.SameNames.{map_names-id}
 use Rattle.ob0_scope_table.proofs.Declared.{after_names_in_procedure, names_in, names_in_procedure, names_in_procedures}
@@ -54,9 +54,9 @@ module _ (d : ℕ) (new : Name) where
   uses-kept : {s : Sort} (scope : Scope Name) (t : Tree Name s) → InScope scope → relabel_uses naming_by_spelling ren scope t ≡ t
   uses-kept scope t s = (λ i. map_names (λ x. looked_up-kept scope x s i) (λ x. x) t) ∙ map_names-id t
 
-  further-kept : (k : ℕ) (xs : Tree Name (items further_name)) → AreSo k (further_names xs) → relabel_further_names ren k xs ≡ xs
+  further-kept : (k : ℕ) (xs : Tree Name (items name_after_comma)) → AreSo k (names_after_first xs) → relabel_names_after_first ren k xs ≡ xs
   further-kept k end h = refl
-  further-kept k (more (then_name x) rest) h = λ i. more (then_name (declared-kept k x h.0 i)) (further-kept (suc k) rest h.1 i)
+  further-kept k (more (comma_then_name x) rest) h = λ i. more (comma_then_name (declared-kept k x h.0 i)) (further-kept (suc k) rest h.1 i)
 
   listed-kept : (k : ℕ) (ns : Tree Name names) → AreSo k (names_in_list ns) → relabel_names ren k ns ≡ ns
   listed-kept k (listed x rest) h = λ i. listed (declared-kept k x h.0 i) (further-kept (suc k) rest h.1 i)
@@ -68,7 +68,7 @@ module _ (d : ℕ) (new : Name) where
 
   constant_section-kept : (scope : Scope Name) (k : ℕ) (cs : Tree Name (maybe constants)) → InScope scope → AreSo k (constant_names (section_constants cs)) → relabel_constant_section naming_by_spelling ren scope k cs ≡ cs
   constant_section-kept scope k none s h = refl
-  constant_section-kept scope k (one (declares_constants cs)) s h = λ i. one (declares_constants (constants-kept scope k cs s h i))
+  constant_section-kept scope k (one (declares_const_section cs)) s h = λ i. one (declares_const_section (constants-kept scope k cs s h i))
 
   types-kept : (scope : Scope Name) (k : ℕ) (ts : Tree Name (items type_definition)) → InScope scope → AreSo k (declared_type_names ts) → relabel_types naming_by_spelling ren scope k ts ≡ ts
   types-kept scope k end s h = refl
@@ -77,7 +77,7 @@ module _ (d : ℕ) (new : Name) where
 
   type_section-kept : (scope : Scope Name) (k : ℕ) (ts : Tree Name (maybe type_definitions)) → InScope scope → AreSo k (declared_type_names (section_types ts)) → relabel_type_section naming_by_spelling ren scope k ts ≡ ts
   type_section-kept scope k none s h = refl
-  type_section-kept scope k (one (declares_types ts)) s h = λ i. one (declares_types (types-kept scope k ts s h i))
+  type_section-kept scope k (one (declares_type_section ts)) s h = λ i. one (declares_type_section (types-kept scope k ts s h i))
 
   variables-kept : (scope : Scope Name) (k : ℕ) (vs : Tree Name (items variable)) → InScope scope → AreSo k (variable_names vs) → relabel_variables naming_by_spelling ren scope k vs ≡ vs
   variables-kept scope k end s h = refl
@@ -88,17 +88,17 @@ module _ (d : ℕ) (new : Name) where
 
   variable_section-kept : (scope : Scope Name) (k : ℕ) (vs : Tree Name (maybe variables)) → InScope scope → AreSo k (variable_names (section_variables vs)) → relabel_variable_section naming_by_spelling ren scope k vs ≡ vs
   variable_section-kept scope k none s h = refl
-  variable_section-kept scope k (one (declares_variables vs)) s h = λ i. one (declares_variables (variables-kept scope k vs s h i))
+  variable_section-kept scope k (one (declares_var_section vs)) s h = λ i. one (declares_var_section (variables-kept scope k vs s h i))
 
   section-kept : (scope : Scope Name) (k : ℕ) (f : Tree Name section) → InScope scope → AreSo k (parameter_section_names f) → relabel_parameter_section naming_by_spelling ren scope k f ≡ f
   section-kept scope k (value_section ns t) s h = λ i. value_section (listed-kept k ns h i) (uses-kept scope t s i)
   section-kept scope k (variable_section ns t) s h = λ i. variable_section (listed-kept k ns h i) (uses-kept scope t s i)
 
-  sections-kept : (scope : Scope Name) (k : ℕ) (fs : Tree Name (items further_section)) → InScope scope → AreSo k (formal_names fs) → relabel_parameter_sections naming_by_spelling ren scope k fs ≡ fs
+  sections-kept : (scope : Scope Name) (k : ℕ) (fs : Tree Name (items section_after_semicolon)) → InScope scope → AreSo k (formal_names fs) → relabel_parameter_section_list naming_by_spelling ren scope k fs ≡ fs
   sections-kept scope k end s h = refl
-  sections-kept scope k (more (then_section f) fs) s h =
+  sections-kept scope k (more (semicolon_then_section f) fs) s h =
       let parts = so-append k (parameter_section_names f) (formal_names fs) h in
-      λ i. more (then_section (section-kept scope k f s parts.0 i))
+      λ i. more (semicolon_then_section (section-kept scope k f s parts.0 i))
       (sections-kept (declare_names k (parameter_section_names f) scope) (ordinal_after_names k (parameter_section_names f)) fs (in_scope-names k (parameter_section_names f) scope parts.0 s) parts.1 i)
 
   formals-kept : (scope : Scope Name) (k : ℕ) (fs : Tree Name (maybe formals)) → InScope scope → AreSo k (formal_names (formal_sections fs)) → relabel_formals naming_by_spelling ren scope k fs ≡ fs
@@ -121,21 +121,21 @@ module _ (d : ℕ) (new : Name) where
         let s₁ = in_scope-names k xs scope parts.0 s in
         let s₂ = in_scope-names (first_type_ordinal k b) ys (scope_before_types k b scope) parts₁.0 s₁ in
         let s₃ = in_scope-names (first_variable_ordinal k b) zs (scope_before_variables k b scope) parts₂.0 s₂ in
-        let onces = and_parts (are_distinct (own ++ block_names b)) (types_have_distinct_fields (section_types ts) && (variables_have_distinct_fields (section_variables vs) && procedures_have_consistent_names ps)) once in
-        let onces₁ = and_parts (types_have_distinct_fields (section_types ts)) (variables_have_distinct_fields (section_variables vs) && procedures_have_consistent_names ps) onces.1 in
-        let onces₂ = and_parts (variables_have_distinct_fields (section_variables vs)) (procedures_have_consistent_names ps) onces₁.1 in
+        let onces = and_parts (are_distinct (own ++ names_declared_in_block b)) (types_have_distinct_fields (section_types ts) && (variables_have_distinct_fields (section_variables vs) && procedure_list_has_consistent_names ps)) once in
+        let onces₁ = and_parts (types_have_distinct_fields (section_types ts)) (variables_have_distinct_fields (section_variables vs) && procedure_list_has_consistent_names ps) onces.1 in
+        let onces₂ = and_parts (variables_have_distinct_fields (section_variables vs)) (procedure_list_has_consistent_names ps) onces₁.1 in
         let later = procedures-kept (scope_before_procedures k b scope) (first_procedure_ordinal k b) ps s₃ parts₂.1 onces₂.1 in
         λ i. forms_block
         (declares (constant_section-kept scope k cs s parts.0 i) (type_section-kept (scope_before_types k b scope) (first_type_ordinal k b) ts s₁ parts₁.0 i)
         (variable_section-kept (scope_before_variables k b scope) (first_variable_ordinal k b) vs s₂ parts₂.0 i) (later.0 i))
         (uses-kept (body_scope k b scope) statements later.1 i)
 
-    procedures-kept : (scope : Scope Name) (k : ℕ) (ps : Tree Name (items procedure)) → InScope scope → AreSo k (names_in_procedures ps) → procedures_have_consistent_names ps ≡ true
-        → (relabel_procedures naming_by_spelling ren scope k ps ≡ ps) × InScope (declare_procedure_names k ps scope)
+    procedures-kept : (scope : Scope Name) (k : ℕ) (ps : Tree Name (items procedure)) → InScope scope → AreSo k (names_in_procedures ps) → procedure_list_has_consistent_names ps ≡ true
+        → (relabel_procedure_list naming_by_spelling ren scope k ps ≡ ps) × InScope (declare_procedure_names k ps scope)
     procedures-kept scope k end s h once = (refl, s)
     procedures-kept scope k (more p rest) s h once =
         let parts = so-append k (names_in_procedure p) (names_in_procedures rest) h in
-        let onces = and_parts (procedure_has_consistent_names p) (procedures_have_consistent_names rest) once in
+        let onces = and_parts (procedure_has_consistent_names p) (procedure_list_has_consistent_names rest) once in
         let here = procedure-kept scope k p s parts.0 onces.0 in
         let later = procedures-kept ((procedure_name p, k) ∷ scope) (ordinal_after_procedure (suc k) p) rest (here.1, s)
         (subst (λ n. AreSo n (names_in_procedures rest)) (sym (after_names_in_procedure k p)) parts.1) onces.1 in
@@ -160,10 +160,10 @@ module _ (d : ℕ) (new : Name) where
       none k x low e = absurd (omega (arith, low, eqb-true k d e))
 
   pub same_module : (t : Tree Name module_text) → 7 ≤ d → AreSo 7 (names_in (module_block t)) → has_consistent_names t ≡ true → renamed t d new ≡ t
-  same_module (is_module x b closing) high h once =
+  same_module (forms_module x b closing) high h once =
       let onces = and_parts (same_name x closing) (block_has_consistent_names [] b) once in
       let inside = block-kept (predeclared_scope naming_by_spelling) 7 [] b (predeclared-so high) h onces.1 in
-      λ i. is_module x (inside i) closing
+      λ i. forms_module x (inside i) closing
 
 -- The property holds of all names if it holds of the name with the ordinal d.
 pub so_where : (d : ℕ) (new : Name) (k : ℕ) (xs : List Name) → ((j : ℕ) (x : Name) → slice_get xs j ≡ Some x → k + j ≡ d → x ≡ new) → AreSo d new k xs

@@ -3,9 +3,9 @@ use Rattle.std.proofs.Common.{◌≡◌, ℕ, suc, ◌+◌, ◌==◌, ◌||◌, 
 use Rattle.std.specs.Prelude.{IfOk}
 use Rattle.std.specs.declared.alloc.Global.{Global}
 use Rattle.ob0_scan.specs.declared.lexeme.Token.{Token}
-use Rattle.ob0_tree.specs.Order.{AreIdentifierTokens, AreAscendingWithin}
-use Rattle.ob0_edits_tokens.specs.Changed as changed
-use Rattle.ob0_edits_tokens.specs.Replaced.{AreIdentifierIndexes}
+use Rattle.ob0_tree.specs.IdentifierIndexes.{AreIdentifierTokens, AreAscendingWithin}
+use Rattle.ob0_edits_tokens.specs.WordReplacements as changed
+use Rattle.ob0_edits_tokens.specs.Replacements.{AreIdentifierIndexes}
 use Rattle.ob0_scope.specs.NamesAtPlaces as names_at
 
 pub are_names : (tokens : List Token) (low : ℕ) (places : List ℕ) (high : ℕ) → AreAscendingWithin low places high → AreIdentifierTokens tokens places → AreIdentifierIndexes tokens low places

@@ -3,9 +3,9 @@ use Rattle.std.proofs.Common.{◌≡◌, ◌⊎◌, ℕ, ◌≤◌, ◌<◌, Boo
 use Rattle.std.proofs.lemmas.Bool.{ltb-false, ltb-true}
 use Rattle.std.specs.Prelude.{IfErr, IfOk, IsErrOf, nat_lt}
 use Rattle.std.specs.declared.alloc.Global.{Global}
-use Rattle.ob0_scan.specs.Classes.{IsIdentifier}
+use Rattle.ob0_scan.specs.LexemeClasses.{IsIdentifier}
 use Rattle.ob0_scan.specs.TextWithTokens.{IsScan, TextWithTokens, Word, max_text_length}
-use Rattle.ob0_text.specs.Patches.{text_with_cuts}
+use Rattle.ob0_text.specs.Patches.{text_from_place_with_cuts}
 use Rattle.ob0_text.specs.declared.edits.Edit.{Edit}
 use Rattle.ob0_text.specs.declared.position_types.Position.{Position}
 use Rattle.ob0_text.specs.declared.position_types.Unit as counting
@@ -24,23 +24,23 @@ use Rattle.ob0_scope.specs.declared.name_conflicts.FirstConflict.TheVariants as 
 use Rattle.ob0_tree.specs.Places.{token_text_at}
 use Rattle.ob0_types.specs.CheckedModules.{IsWellTyped}
 use Rattle.ob0_types.specs.IdentifierMeanings as resolved_identifier_at
-use Rattle.ob0_types.specs.declared.meant.ResolvedIdentifier.{ResolvedIdentifier}
-use Rattle.ob0_types.specs.declared.meant.IdentifierMeaning.{IdentifierMeaning}
-use Rattle.ob0_types.specs.declared.meant.IdentifierMeaning.TheVariants.{Name as name_of, Field}
+use Rattle.ob0_types.specs.declared.identifier_meanings.IdentifierWithMeaning.{IdentifierWithMeaning}
+use Rattle.ob0_types.specs.declared.identifier_meanings.IdentifierMeaning.{IdentifierMeaning}
+use Rattle.ob0_types.specs.declared.identifier_meanings.IdentifierMeaning.TheVariants.{Name as name_of, Field}
 use Rattle.ob0_language_types.specs.WellTyped.{WellTyped}
 use Rattle.ob0_language_runs.specs.EditLaws.{FreeRenamingKeepsTypingAndRuns, HaveSameRuns}
-use Rattle.ob0_edits_tokens.specs.Changed.{changes_at, changed_words, words_of}
-use Rattle.ob0_edits_tokens.specs.OfTrees.{RenamingKeepsSpelling}
-use Rattle.ob0_edits_tokens.specs.Replaced.{AreIdentifierIndexes, EditsGiveWords, MayReplaceIdentifier, replacement_at_token, range_and_text, text_after_replacement}
+use Rattle.ob0_edits_tokens.specs.WordReplacements.{changes_at_indexes, changed_words, words_of}
+use Rattle.ob0_edits_tokens.specs.WordsOfTrees.{RenamedTreeSpellsRenamedWords}
+use Rattle.ob0_edits_tokens.specs.Replacements.{AreIdentifierIndexes, EditsGiveWords, MayReplaceIdentifier, replacement_at_token, range_and_text, text_after_replacement}
 use Rattle.ob0_edits_tokens.specs.Written.{name_word}
 use Rattle.ob0_scope.specs.NamesAtPlaces.{name_at_offset, tokens_bound_to}
-use Rattle.ob0_scope.specs.declared.naming.BoundName as named
+use Rattle.ob0_scope.specs.declared.bound_names.BoundName as named
 use Rattle.ob0_types_fields.specs.declared.field_name.FieldName.{FieldName}
 use Rattle.ob0_types_fields.specs.Identifiers.{field_at}
 use Rattle.ob0_scope.proofs.Written.{renamed_there}
 use Rattle.ob0_tree.specs.Module.{IsModuleWithTree}
 use Rattle.ob0_rename.specs.Answers.{RenameAnswers, AnswersRenamingOfDeclaration, IsRenameRefusal, IsFirstRefusalForDeclaration, FailsOnlyForMemory, AcceptsPresentName, WritesNewName}
-use Rattle.ob0_rename.specs.Renaming.{TargetsField, TargetsDeclaration, Renaming, RenameTarget, target_of_ordinal, declaration, field_of, renaming_target, rename_target_at, target_of_name_or_field, module_of, nothing, declaring_token, is_declared_as, predeclared, token_range, tokens_to_rename}
+use Rattle.ob0_rename.specs.Renaming.{TargetsField, TargetsDeclaration, Renaming, RenameTarget, target_of_ordinal, declaration, record_field, renaming_target, rename_target_at, target_of_name_or_field, module_of, nothing, declaring_token, is_declared_as, predeclared, token_range, tokens_to_rename}
 use Rattle.ob0_rename.proofs.Owned.{other_is_declared}
 use Rattle.ob0_rename.proofs.Rewritten.{of_renamed}
 use Rattle.ob0_rename.proofs.Occurring.{occurrence_is_there}
@@ -49,7 +49,7 @@ use Rattle.ob0_rename.proofs.Occurring.{occurrence_is_there}
 pub record Edited (unit : counting.Unit) (text : List ℕ) (new : Name) (s : TextWithTokens) (places : List ℕ) (result : Result (Vec Edit Global) EditRefusal) : Type 0 where
   pub edits : IfOk result (λ edits. map range_and_text edits.items ≡ map (replacement_at_token unit text s.tokens new) places)
   pub short : IfOk result (λ edits. length (text_after_replacement s places new) ≤ max_text_length)
-  pub leaves : (ws : List Word) → MayReplaceIdentifier new ws → IfOk result (λ edits. EditsGiveWords unit text edits.items (changed_words (changes_at places ws) 0 (words_of s)))
+  pub leaves : (ws : List Word) → MayReplaceIdentifier new ws → IfOk result (λ edits. EditsGiveWords unit text edits.items (changed_words (changes_at_indexes places ws) 0 (words_of s)))
   pub too_long : IsErrOf result refusal.TooLong → max_text_length < length (text_after_replacement s places new)
   pub refusals : IfErr result (λ why. (why ≡ refusal.TooLong) ⊎ (why ≡ refusal.Memory))
 
@@ -85,7 +85,7 @@ module _ (unit : counting.Unit) (text : List ℕ) (place : Position) (new : Name
   -- Edits at some places leave a text of a tree that has the new name there. The tree must be
   -- well-typed and run like the module.
   pub written : (r : Resolution) (tree : Tree Name module_text) (places : List ℕ) → IsIdentifier new → ((name : List ℕ) → IsIdentifier name → MayReplaceIdentifier name (name_word name ∷ []))
-      → ((after : TextWithTokens) → IsScan after → words_of after ≡ changed_words (changes_at places (name_word new ∷ [])) 0 (words_of r.module_read.source) → IsModuleWithTree after tree)
+      → ((after : TextWithTokens) → IsScan after → words_of after ≡ changed_words (changes_at_indexes places (name_word new ∷ [])) 0 (words_of r.module_read.source) → IsModuleWithTree after tree)
       → WellTyped tree × HaveSameRuns tree (named_tree_of r.module_read)
       → (edits : Vec Edit Global) → Edited unit text new r.module_read.source places (Ok edits) → WritesNewName (requested r) places tree edits.items
   written r tree places id resolved_identifier_at leaves kept edits made =
@@ -101,7 +101,7 @@ module _ (unit : counting.Unit) (text : List ℕ) (place : Position) (new : Name
         same_runs = kept.1;
       }
 
-  pub answered : (r : Resolution) → IsWellTyped r → IsIdentifier new → IsFreeName (named_tree_of r.module_read) d new → FreeRenamingKeepsTypingAndRuns → RenamingKeepsSpelling
+  pub answered : (r : Resolution) → IsWellTyped r → IsIdentifier new → IsFreeName (named_tree_of r.module_read) d new → FreeRenamingKeepsTypingAndRuns → RenamedTreeSpellsRenamedWords
       → ((name : List ℕ) → IsIdentifier name → MayReplaceIdentifier name (name_word name ∷ [])) → AreIdentifierIndexes r.module_read.source.tokens 0 (tokens_to_rename r.module_read d new)
       → (result : Result (Vec Edit Global) EditRefusal) → Edited unit text new r.module_read.source (tokens_to_rename r.module_read d new) result → AnswersRenamingOfDeclaration (requested r) d result
   answered r well id free keeps spells resolved_identifier_at names (Ok edits) made =
@@ -120,8 +120,8 @@ module _ (unit : counting.Unit) (text : List ℕ) (place : Position) (new : Name
         | inr e ↦ inl e
       ]
 
-pub whole : (text : List ℕ) → length (text_with_cuts text 0 []) ≡ length text
-unfolding text_with_cuts
+pub whole : (text : List ℕ) → length (text_from_place_with_cuts text 0 []) ≡ length text
+unfolding text_from_place_with_cuts
 whole text = refl
 
 -- Renaming a declaration to its present name doesn't make the text too long.
@@ -161,13 +161,13 @@ answered_there a d means (Err why) h = elim h [ inl e ↦ inl e | inr e ↦ inr 
 -- returns the target that the meaning of an identifier gives
 abbrev pub target_of : TextWithTokens → ℕ → IdentifierMeaning → RenameTarget
 target_of source token (name_of ordinal) = target_of_ordinal ordinal
-target_of source token (Field k) = field_of k (token_text_at source token)
+target_of source token (Field k) = record_field k (token_text_at source token)
 
-abbrev pub target_in : TextWithTokens → Option ResolvedIdentifier → RenameTarget
+abbrev pub target_in : TextWithTokens → Option IdentifierWithMeaning → RenameTarget
 target_in source None = nothing
 target_in source (Some x) = target_of source x.token x.means
 
-pub target_there : (r : Resolution) (offset : ℕ) (found : Option ResolvedIdentifier) → found ≡ resolved_identifier_at.identifier_meaning_at r offset → rename_target_at r offset ≡ target_in r.module_read.source found
+pub target_there : (r : Resolution) (offset : ℕ) (found : Option IdentifierWithMeaning) → found ≡ resolved_identifier_at.identifier_meaning_at r offset → rename_target_at r offset ≡ target_in r.module_read.source found
 target_there r offset found is = one (name_at_offset r.module_read offset) (field_at r offset) ∙ ap (target_in r.module_read.source) (sym is)
   where
     one : (n : Option named.BoundName) (f : Option FieldName) → target_of_name_or_field r.module_read.source n f ≡ target_in r.module_read.source (resolved_identifier_at.meaning_of_name_or_field n f)
@@ -194,17 +194,17 @@ is_predeclared ordinal low = one (nat_lt ordinal 7) refl
 pub takes_declaration : (a : Renaming) (d : ℕ) (result : Result (Vec Edit Global) EditRefusal) → TargetsDeclaration a d → (is_declared_as (module_of a) d a.new ≡ true → FailsOnlyForMemory result) → AcceptsPresentName a result
 takes_declaration a d result means own = (
   (λ e other is. let both : declaration d ≡ declaration e = sym means ∙ other in let same : d ≡ e = cc in own (subst (λ (x : ℕ). is_declared_as (module_of a) x a.new ≡ true) (sym same) is)),
-  (λ k f other is. let both : declaration d ≡ field_of k f = sym means ∙ other in absurd (cc)),
+  (λ k f other is. let both : declaration d ≡ record_field k f = sym means ∙ other in absurd (cc)),
 )
 
 pub takes_field : (a : Renaming) (k : ℕ) (f : Name) (result : Result (Vec Edit Global) EditRefusal) → TargetsField a k f → (a.new ≡ f → FailsOnlyForMemory result) → AcceptsPresentName a result
 takes_field a k f result means own = (
-  (λ e other is. let both : field_of k f ≡ declaration e = sym means ∙ other in absurd (cc)),
-  (λ l g other is. let both : field_of k f ≡ field_of l g = sym means ∙ other in let same : f ≡ g = cc in own (is ∙ sym same)),
+  (λ e other is. let both : record_field k f ≡ declaration e = sym means ∙ other in absurd (cc)),
+  (λ l g other is. let both : record_field k f ≡ record_field l g = sym means ∙ other in let same : f ≡ g = cc in own (is ∙ sym same)),
 )
 
 pub takes_none : (a : Renaming) (result : Result (Vec Edit Global) EditRefusal) → (renaming_target a ≡ nothing) ⊎ (renaming_target a ≡ predeclared) → AcceptsPresentName a result
 takes_none a result (inl means) =
-    ((λ e other is. let both : nothing ≡ declaration e = sym means ∙ other in absurd (cc)), (λ l g other is. let both : nothing ≡ field_of l g = sym means ∙ other in absurd (cc)))
+    ((λ e other is. let both : nothing ≡ declaration e = sym means ∙ other in absurd (cc)), (λ l g other is. let both : nothing ≡ record_field l g = sym means ∙ other in absurd (cc)))
 takes_none a result (inr means) =
-    ((λ e other is. let both : predeclared ≡ declaration e = sym means ∙ other in absurd (cc)), (λ l g other is. let both : predeclared ≡ field_of l g = sym means ∙ other in absurd (cc)))
+    ((λ e other is. let both : predeclared ≡ declaration e = sym means ∙ other in absurd (cc)), (λ l g other is. let both : predeclared ≡ record_field l g = sym means ∙ other in absurd (cc)))

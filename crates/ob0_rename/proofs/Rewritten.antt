@@ -14,10 +14,10 @@ use Rattle.ob0_tree.specs.Tree.{Tree, mapped_tree, module_text, nesting, spell}
 use Rattle.ob0_language_names.specs.ConsistentNames.{has_consistent_names}
 use Rattle.ob0_language_names.specs.Names.{Name}
 use Rattle.ob0_language_names.specs.Scopes.{renamed}
-use Rattle.ob0_edits_tokens.specs.Changed.{changes_at, changed_words, words_of}
-use Rattle.ob0_edits_tokens.specs.OfTrees.{RenamingKeepsSpelling, number_at, indexed_terminals_of_words, renamed_word_text, word_text_at}
-use Rattle.ob0_edits_tokens.specs.Replaced.{AreIdentifierIndexes}
-use Rattle.ob0_edits_tokens.specs.Words.{terminal_of_word}
+use Rattle.ob0_edits_tokens.specs.WordReplacements.{changes_at_indexes, changed_words, words_of}
+use Rattle.ob0_edits_tokens.specs.WordsOfTrees.{RenamedTreeSpellsRenamedWords, integer_value_at, indexed_terminals_of_words, renamed_word_text, word_text_at}
+use Rattle.ob0_edits_tokens.specs.Replacements.{AreIdentifierIndexes}
+use Rattle.ob0_edits_tokens.specs.WordTerminals.{terminal_of_word}
 use Rattle.ob0_edits_tokens.specs.Written.{name_word}
 use Rattle.ob0_scope.specs.NamesAtPlaces as names_at
 use Rattle.ob0_scope.specs.NamesAtPlaces.{RenamingChangesExactlyTokens, tokens_bound_to}
@@ -35,10 +35,10 @@ text_same s k = of_list s.tokens k
     of_list (t ∷ ts) zero = refl
     of_list (t ∷ ts) (suc k) = of_list ts k
 
-pub number_same : (s : TextWithTokens) (k : ℕ) → number_at (words_of s) k ≡ place.token_value_at s k
+pub number_same : (s : TextWithTokens) (k : ℕ) → integer_value_at (words_of s) k ≡ place.token_value_at s k
 number_same s k = of_list s.tokens k
   where
-    of_list : (ts : List Token) (k : ℕ) → number_at (map (word_of_token s.text) ts) k ≡ place.token_value_or_zero (slice_get ts k)
+    of_list : (ts : List Token) (k : ℕ) → integer_value_at (map (word_of_token s.text) ts) k ≡ place.token_value_or_zero (slice_get ts k)
     of_list [] k = refl
     of_list (t ∷ ts) zero = refl
     of_list (t ∷ ts) (suc k) = of_list ts k
@@ -62,21 +62,21 @@ pub at_places : (m : ParsedModule) (new : Name) (places : List ℕ) (k : ℕ)
 at_places m new places k = λ i. if among_same k places i then new else text_same m.source k i
 
 renamed_there : (m : ParsedModule) (d : ℕ) (new : Name) (own : Bool) → is_declared_as m d new ≡ own → has_consistent_names (named_tree_of m) ≡ true → RenamingChangesExactlyTokens m d (tokens_bound_to m d true)
-    → mapped_tree (renamed_word_text (words_of m.source) (if own then [] else tokens_bound_to m d true) new) (number_at (words_of m.source)) (tree_of m) ≡ renamed (named_tree_of m) d new
+    → mapped_tree (renamed_word_text (words_of m.source) (if own then [] else tokens_bound_to m d true) new) (integer_value_at (words_of m.source)) (tree_of m) ≡ renamed (named_tree_of m) d new
 renamed_there m d new true e once there =
     (λ i. mapped_tree (λ k. text_same m.source k i) (λ k. number_same m.source k i) (tree_of m)) ∙ sym (own_module m d new e once)
 renamed_there m d new false e once there =
     (λ i. mapped_tree (λ k. at_places m new (tokens_bound_to m d true) k i) (λ k. number_same m.source k i) (tree_of m)) ∙ sym (there new)
 
 pub renamed_module : (m : ParsedModule) (d : ℕ) (new : Name) → has_consistent_names (named_tree_of m) ≡ true → RenamingChangesExactlyTokens m d (tokens_bound_to m d true)
-    → mapped_tree (renamed_word_text (words_of m.source) (tokens_to_rename m d new) new) (number_at (words_of m.source)) (tree_of m) ≡ renamed (named_tree_of m) d new
+    → mapped_tree (renamed_word_text (words_of m.source) (tokens_to_rename m d new) new) (integer_value_at (words_of m.source)) (tree_of m) ≡ renamed (named_tree_of m) d new
 renamed_module m d new once there = renamed_there m d new (is_declared_as m d new) refl once there
 
 -- A text with a module's words, but a new name at some places, is a text of the tree with that name
 -- there.
-pub of_rewritten : (m : ParsedModule) (t : Tree Name module_text) (places : List ℕ) (new : Name) → IsParsed m → RenamingKeepsSpelling → AreIdentifierIndexes m.source.tokens 0 places
-    → mapped_tree (renamed_word_text (words_of m.source) places new) (number_at (words_of m.source)) (tree_of m) ≡ t
-    → (after : TextWithTokens) → IsScan after → words_of after ≡ changed_words (changes_at places (name_word new ∷ [])) 0 (words_of m.source) → IsModuleWithTree after t
+pub of_rewritten : (m : ParsedModule) (t : Tree Name module_text) (places : List ℕ) (new : Name) → IsParsed m → RenamedTreeSpellsRenamedWords → AreIdentifierIndexes m.source.tokens 0 places
+    → mapped_tree (renamed_word_text (words_of m.source) places new) (integer_value_at (words_of m.source)) (tree_of m) ≡ t
+    → (after : TextWithTokens) → IsScan after → words_of after ≡ changed_words (changes_at_indexes places (name_word new ∷ [])) 0 (words_of m.source) → IsModuleWithTree after t
 of_rewritten m t places new is spells names there after scan words =
     record {
       spelled =
@@ -86,13 +86,13 @@ of_rewritten m t places new is spells names there after scan words =
       shallow =
           subst (λ n. n ≤ 100)
           (nesting_mapped (place.token_text_at m.source) (place.token_value_at m.source) (tree_of m)
-          ∙ (sym (nesting_mapped (renamed_word_text (words_of m.source) places new) (number_at (words_of m.source)) (tree_of m)) ∙ ap nesting there))
+          ∙ (sym (nesting_mapped (renamed_word_text (words_of m.source) places new) (integer_value_at (words_of m.source)) (tree_of m)) ∙ ap nesting there))
           is.module_of.shallow;
     }
 
-pub of_renamed : (m : ParsedModule) (d : ℕ) (new : Name) → IsParsed m → has_consistent_names (named_tree_of m) ≡ true → RenamingKeepsSpelling → RenamingChangesExactlyTokens m d (tokens_bound_to m d true)
+pub of_renamed : (m : ParsedModule) (d : ℕ) (new : Name) → IsParsed m → has_consistent_names (named_tree_of m) ≡ true → RenamedTreeSpellsRenamedWords → RenamingChangesExactlyTokens m d (tokens_bound_to m d true)
     → AreIdentifierIndexes m.source.tokens 0 (tokens_to_rename m d new)
-    → (after : TextWithTokens) → IsScan after → words_of after ≡ changed_words (changes_at (tokens_to_rename m d new) (name_word new ∷ [])) 0 (words_of m.source)
+    → (after : TextWithTokens) → IsScan after → words_of after ≡ changed_words (changes_at_indexes (tokens_to_rename m d new) (name_word new ∷ [])) 0 (words_of m.source)
     → IsModuleWithTree after (renamed (named_tree_of m) d new)
 of_renamed m d new is once spells there names =
     of_rewritten m (renamed (named_tree_of m) d new) (tokens_to_rename m d new) new is spells names (renamed_module m d new once there)

@@ -2,7 +2,7 @@
 use Rattle.std.proofs.Common.{◌≡◌, ℕ, zero, suc, ◌-◌, ◌<◌, List, [], ◌∷◌, ◌++◌, Option, None, Some, length, slice_get, sym, ◌∙◌, subst, arith, true}
 use Rattle.std.specs.Prelude.{IfSome}
 use Rattle.std.proofs.lemmas.List.{length-map}
-use Rattle.ob0_scan.specs.Classes.{IsLexemeOfKind, IsIdentifier}
+use Rattle.ob0_scan.specs.LexemeClasses.{IsLexemeOfKind, IsIdentifier}
 use Rattle.ob0_scan.specs.Lexed.{AreLeadingLexemes, Lexeme}
 use Rattle.ob0_scan.specs.TextWithTokens.{IsScan, Word, word_of_token, words_of_lexeme, words_of_lexemes}
 use Rattle.ob0_scan.specs.declared.lexeme.LexemeKind.{LexemeKind}
@@ -11,8 +11,8 @@ use Rattle.ob0_scan.specs.declared.lexeme.Token.{Token}
 use Rattle.ob0_scan.specs.declared.lexeme.TokenKind.TheVariants as token
 use Rattle.ob0_scan.proofs.Spans.{scan_words}
 use Rattle.ob0_tree.proofs.Leaves.{leaves_are_identifiers}
-use Rattle.ob0_tree.specs.Order as order
-use Rattle.ob0_tree.specs.Order.{AreIdentifierTokens, names_without_roles}
+use Rattle.ob0_tree.specs.IdentifierIndexes as order
+use Rattle.ob0_tree.specs.IdentifierIndexes.{AreIdentifierTokens, names_without_roles}
 use Rattle.ob0_tree.specs.ParsedModule.{IsParsed, ParsedModule, tree_of}
 use Rattle.ob0_tree.specs.Places as place
 use Rattle.ob0_tree.specs.Tree.{identifiers}
@@ -20,11 +20,11 @@ use Rattle.ob0_tree.specs.declared.tree.Role.{Role}
 use Rattle.ob0_tree.specs.declared.tree.Role.TheVariants as role
 use Rattle.ob0_language_names.specs.Names.{Name}
 use Rattle.ob0_scope_table.specs.Resolution.{declaring_names}
-use Rattle.ob0_edits_tokens.specs.Changed.{words_of}
-use Rattle.ob0_edits_tokens.specs.OfTrees.{word_text_at, word_at}
-use Rattle.ob0_edits_tokens.proofs.OfTrees.{word_kind}
+use Rattle.ob0_edits_tokens.specs.WordReplacements.{words_of}
+use Rattle.ob0_edits_tokens.specs.WordsOfTrees.{word_text_at, word_at}
+use Rattle.ob0_edits_tokens.proofs.WordsOfTrees.{word_kind}
 use Rattle.ob0_types.specs.IdentifierMeanings.{MeansField}
-use Rattle.ob0_types.specs.declared.meant.ResolvedIdentifier.{ResolvedIdentifier}
+use Rattle.ob0_types.specs.declared.identifier_meanings.IdentifierWithMeaning.{IdentifierWithMeaning}
 use Rattle.ob0_rename.specs.Renaming.{is_declared_as}
 use Rattle.ob0_rename.proofs.Owned.{IsDeclaredBy, declared_by, declaring_tokens}
 use Rattle.ob0_rename.proofs.Rewritten.{text_same}
@@ -76,6 +76,6 @@ own_identifier m d new is scan e =
     subst IsIdentifier by.written (spelled_at m found.0 scan is_there)
 
 -- The text of a field's identifier at a place is an identifier.
-pub field_spelled : (m : ParsedModule) (found : Option ResolvedIdentifier) → IsScan m.source → IfSome found (λ x. MeansField x.means → order.IsIdentifierToken m.source.tokens x.token) → IfSome found (λ x. MeansField x.means → IsIdentifier (place.token_text_at m.source x.token))
+pub field_spelled : (m : ParsedModule) (found : Option IdentifierWithMeaning) → IsScan m.source → IfSome found (λ x. MeansField x.means → order.IsIdentifierToken m.source.tokens x.token) → IfSome found (λ x. MeansField x.means → IsIdentifier (place.token_text_at m.source x.token))
 field_spelled m None scan is_identifier_token = tt
 field_spelled m (Some x) scan is_identifier_token = λ field. spelled_at m x.token scan (is_identifier_token field)

@@ -7,15 +7,15 @@ use Rattle.std.specs.Option.{option_or}
 use Rattle.std.proofs.lemmas.Bool.{and_parts, or_parts}
 use Rattle.std.proofs.lemmas.List.Folds.{list_any-append}
 use Rattle.std.proofs.lemmas.Slice.Eq.{bytes_eq-Decides}
-use Rattle.ob0_tree.specs.Tree.{Tree, block, declares, declares_procedure, end, forms_block, is_module, item, items, module_text, more, procedure}
-use Rattle.ob0_language_names.specs.ConsistentNames.{are_distinct, block_names, block_has_consistent_names, has_consistent_names, formals_have_distinct_fields, is_among, procedure_has_consistent_names, procedures_have_consistent_names, types_have_distinct_fields, variables_have_distinct_fields}
+use Rattle.ob0_tree.specs.Tree.{Tree, block, declares, declares_procedure, end, forms_block, forms_module, item, items, module_text, more, procedure}
+use Rattle.ob0_language_names.specs.ConsistentNames.{are_distinct, names_declared_in_block, block_has_consistent_names, has_consistent_names, formals_have_distinct_fields, is_among, procedure_has_consistent_names, procedure_list_has_consistent_names, types_have_distinct_fields, variables_have_distinct_fields}
 use Rattle.ob0_language_names.specs.Names.{Name, same_name}
-use Rattle.ob0_language_names.specs.Occurrences.{IsFreeName, bindings, scopes_in_block, scopes_in_procedure, scopes_in_procedures, declares_ordinal, another_declaration_has_name}
-use Rattle.ob0_language_names.specs.Parts.{constant_names, formal_names, formal_sections, module_block, declared_type_names, procedure_name, section_constants, section_types, section_variables, variable_names}
+use Rattle.ob0_language_names.specs.Occurrences.{IsFreeName, bindings, scopes_in_block, scopes_in_procedure, scopes_in_procedure_list, declares_ordinal, another_declaration_has_name}
+use Rattle.ob0_language_names.specs.BlockParts.{constant_names, formal_names, formal_sections, module_block, declared_type_names, procedure_name, section_constants, section_types, section_variables, variable_names}
 use Rattle.ob0_scope.specs.Renames.{namesake, namesake_in_scopes, other_declaration_with_name}
-use Rattle.ob0_language_names.specs.Scopes.{Scope, ordinal_after_block, ordinal_after_names, ordinal_after_procedure, ordinal_after_procedures, body_scope, declare_names, declare_procedure_names, first_procedure_ordinal, first_type_ordinal, first_variable_ordinal, scope_before_procedures, scope_before_types, scope_before_variables}
+use Rattle.ob0_language_names.specs.Scopes.{Scope, ordinal_after_block, ordinal_after_names, ordinal_after_procedure, ordinal_after_procedure_list, body_scope, declare_names, declare_procedure_names, first_procedure_ordinal, first_type_ordinal, first_variable_ordinal, scope_before_procedures, scope_before_types, scope_before_variables}
 use Rattle.ob0_language_names.proofs.DistinctNames.{distinct-onto, labels_in, onto, onto-append, own_name}
-use Rattle.ob0_language_names.proofs.Ordinals.{le-ordinal_after_block, le-ordinal_after_names, le-ordinal_after_procedure, le-ordinal_after_procedures}
+use Rattle.ob0_language_names.proofs.Ordinals.{le-ordinal_after_block, le-ordinal_after_names, le-ordinal_after_procedure, le-ordinal_after_procedure_list}
 use Rattle.ob0_language_names.proofs.RenamedDeclarations.{Clashes, labels_of_declared_names-own, labels_in-names, own_names-block}
 use Rattle.ob0_language_names.proofs.NameEquality.{same_name-comm}
 use Rattle.ob0_scope_table.proofs.Declared.{after_names_in_procedure, names_in, names_in_procedure, names_in_procedures}
@@ -94,21 +94,21 @@ module _ (d : ℕ) (new : Name) where
         let s₂ = in_scope-names d new (first_type_ordinal k b) ys (scope_before_types k b (declare_names j own [])) parts₁.0 s₁ in
         let s₃ = in_scope-names d new (first_variable_ordinal k b) zs (scope_before_variables k b (declare_names j own [])) parts₂.0 s₂ in
         let s₄ = in_scope-procedures (first_procedure_ordinal k b) ps (scope_before_procedures k b (declare_names j own [])) parts₂.1 s₃ in
-        let onces = and_parts (are_distinct (own ++ block_names b)) (types_have_distinct_fields (section_types ts) && (variables_have_distinct_fields (section_variables vs) && procedures_have_consistent_names ps)) once in
-        let onces₁ = and_parts (types_have_distinct_fields (section_types ts)) (variables_have_distinct_fields (section_variables vs) && procedures_have_consistent_names ps) onces.1 in
-        let onces₂ = and_parts (variables_have_distinct_fields (section_variables vs)) (procedures_have_consistent_names ps) onces₁.1 in
+        let onces = and_parts (are_distinct (own ++ names_declared_in_block b)) (types_have_distinct_fields (section_types ts) && (variables_have_distinct_fields (section_variables vs) && procedure_list_has_consistent_names ps)) once in
+        let onces₁ = and_parts (types_have_distinct_fields (section_types ts)) (variables_have_distinct_fields (section_variables vs) && procedure_list_has_consistent_names ps) onces.1 in
+        let onces₂ = and_parts (variables_have_distinct_fields (section_variables vs)) (procedure_list_has_consistent_names ps) onces₁.1 in
         let in_scope : are_distinct (labels_in own_name mine) ≡ true =
         ap are_distinct (own_names-block k b (declare_names j own [])
-        ∙ ap (onto (block_names b)) (labels_in-names own_name j own [] ∙ ap (λ xs. onto xs []) (labels_of_declared_names-own j own)))
-        ∙ (ap are_distinct (sym (onto-append own (block_names b) [])) ∙ (distinct-onto (own ++ block_names b) [] ∙ (ap are_distinct (append-nil (own ++ block_names b)) ∙ onces.0))) in
+        ∙ ap (onto (names_declared_in_block b)) (labels_in-names own_name j own [] ∙ ap (λ xs. onto xs []) (labels_of_declared_names-own j own)))
+        ∙ (ap are_distinct (sym (onto-append own (names_declared_in_block b) [])) ∙ (distinct-onto (own ++ names_declared_in_block b) [] ∙ (ap are_distinct (append-nil (own ++ names_declared_in_block b)) ∙ onces.0))) in
         λ i. no_clash mine s₄ in_scope i || procedures_clear (first_procedure_ordinal k b) ps parts₂.1 onces₂.1 i
 
-    procedures_clear : (k : ℕ) (ps : Tree Name (items procedure)) → AreSo d new k (names_in_procedures ps) → procedures_have_consistent_names ps ≡ true → list_any (Clashes d new) (scopes_in_procedures k ps) ≡ false
+    procedures_clear : (k : ℕ) (ps : Tree Name (items procedure)) → AreSo d new k (names_in_procedures ps) → procedure_list_has_consistent_names ps ≡ true → list_any (Clashes d new) (scopes_in_procedure_list k ps) ≡ false
     procedures_clear k end h once = refl
     procedures_clear k (more p rest) h once =
         let parts = so-append d new k (names_in_procedure p) (names_in_procedures rest) h in
-        let onces = and_parts (procedure_has_consistent_names p) (procedures_have_consistent_names rest) once in
-        list_any-append (Clashes d new) (scopes_in_procedure (suc k) p) (scopes_in_procedures (ordinal_after_procedure (suc k) p) rest)
+        let onces = and_parts (procedure_has_consistent_names p) (procedure_list_has_consistent_names rest) once in
+        list_any-append (Clashes d new) (scopes_in_procedure (suc k) p) (scopes_in_procedure_list (ordinal_after_procedure (suc k) p) rest)
         ∙ (λ i. procedure_clear k p parts.0 onces.0 i
         || procedures_clear (ordinal_after_procedure (suc k) p) rest (subst (λ n. AreSo d new n (names_in_procedures rest)) (sym (after_names_in_procedure k p)) parts.1) onces.1 i)
 
@@ -121,9 +121,9 @@ module _ (d : ℕ) (new : Name) where
         block_clear (suc k) own b (in_scope-names d new (suc k) own [] parts.0 tt) parts.1 onces₁.1
 
   pub own_name_free : (t : Tree Name module_text) → 7 ≤ d → AreSo d new 7 (names_in (module_block t)) → has_consistent_names t ≡ true → IsFreeName t d new
-  own_name_free (is_module x b closing) high h once =
+  own_name_free (forms_module x b closing) high h once =
       let onces = and_parts (same_name x closing) (block_has_consistent_names [] b) once in
-      (block_clear 7 [] b tt h onces.1, ap bindings (same_module d new (is_module x b closing) high h once))
+      (block_clear 7 [] b tt h onces.1, ap bindings (same_module d new (forms_module x b closing) high h once))
 
 -- ---- declarations in blocks have ordinals of the module
 
@@ -148,11 +148,11 @@ within-names low high k [] s l h w = w
 within-names low high k (x ∷ xs) s l h w =
     within-names low high (suc k) xs ((x, k) ∷ s) (omega (arith, l)) h (l, omega (arith, h, le-ordinal_after_names (suc k) xs), w)
 
-within-procedures : (low high k : ℕ) (ps : Tree Name (items procedure)) (s : Scope Name) → low ≤ k → ordinal_after_procedures k ps ≤ high → Within low high s → Within low high (declare_procedure_names k ps s)
+within-procedures : (low high k : ℕ) (ps : Tree Name (items procedure)) (s : Scope Name) → low ≤ k → ordinal_after_procedure_list k ps ≤ high → Within low high s → Within low high (declare_procedure_names k ps s)
 within-procedures low high k end s l h w = w
 within-procedures low high k (more p rest) s l h w =
     let n = le-ordinal_after_procedure (suc k) p in
-    let m = le-ordinal_after_procedures (ordinal_after_procedure (suc k) p) rest in
+    let m = le-ordinal_after_procedure_list (ordinal_after_procedure (suc k) p) rest in
     within-procedures low high (ordinal_after_procedure (suc k) p) rest ((procedure_name p, k) ∷ s) (omega (arith, l, n)) h (l, omega (arith, h, n, m), w)
 
 mutual
@@ -165,19 +165,19 @@ mutual
       let a = le-ordinal_after_names k xs in
       let a₁ = le-ordinal_after_names (first_type_ordinal k b) ys in
       let a₂ = le-ordinal_after_names (first_variable_ordinal k b) zs in
-      let a₃ = le-ordinal_after_procedures (first_procedure_ordinal k b) ps in
+      let a₃ = le-ordinal_after_procedure_list (first_procedure_ordinal k b) ps in
       let w₁ = within-names low high k xs own l (le_trans a₁ (le_trans a₂ (le_trans a₃ h))) w in
       let w₂ = within-names low high (first_type_ordinal k b) ys (scope_before_types k b own) (le_trans l a) (le_trans a₂ (le_trans a₃ h)) w₁ in
       let w₃ = within-names low high (first_variable_ordinal k b) zs (scope_before_variables k b own) (le_trans l (le_trans a a₁)) (le_trans a₃ h) w₂ in
       let l₃ = le_trans l (le_trans a (le_trans a₁ a₂)) in
       (within-procedures low high (first_procedure_ordinal k b) ps (scope_before_procedures k b own) l₃ h w₃, procedures_within low high (first_procedure_ordinal k b) ps l₃ h)
 
-  procedures_within : (low high k : ℕ) (ps : Tree Name (items procedure)) → low ≤ k → ordinal_after_procedures k ps ≤ high → AllWithin low high (scopes_in_procedures k ps)
+  procedures_within : (low high k : ℕ) (ps : Tree Name (items procedure)) → low ≤ k → ordinal_after_procedure_list k ps ≤ high → AllWithin low high (scopes_in_procedure_list k ps)
   procedures_within low high k end l h = tt
   procedures_within low high k (more p rest) l h =
       let n = le-ordinal_after_procedure (suc k) p in
-      let m = le-ordinal_after_procedures (ordinal_after_procedure (suc k) p) rest in
-      within_more low high (scopes_in_procedure (suc k) p) (scopes_in_procedures (ordinal_after_procedure (suc k) p) rest)
+      let m = le-ordinal_after_procedure_list (ordinal_after_procedure (suc k) p) rest in
+      within_more low high (scopes_in_procedure (suc k) p) (scopes_in_procedure_list (ordinal_after_procedure (suc k) p) rest)
       (procedure_within low high (suc k) p (omega (arith, l)) (le_trans m h))
       (procedures_within low high (ordinal_after_procedure (suc k) p) rest (omega (arith, l, n)) h)
 
@@ -205,5 +205,5 @@ named_within low high d new (s ∷ ss) w = one (declares_ordinal s d) (other_dec
     one false found here later = later
 
 pub namesake_within : (t : Tree Name module_text) (d : ℕ) (new : Name) → OneWithin 7 (ordinal_after_block 7 (module_block t)) (namesake t d new)
-namesake_within (is_module x b closing) d new =
+namesake_within (forms_module x b closing) d new =
     named_within 7 (ordinal_after_block 7 b) d new (scopes_in_block 7 [] b) (block_within 7 (ordinal_after_block 7 b) 7 [] b (le_refl 7) (le_refl (ordinal_after_block 7 b)) tt)

@@ -3,7 +3,7 @@
 use Rattle.std.specs.Prelude.{◌≡◌, ◌⊎◌, ℕ, ◌<◌, ◌≤◌, List, Some, Result, Ok, Err, IfErr, Vec, length, map, true}
 use Rattle.std.specs.Str.{chars}
 use Rattle.std.specs.declared.alloc.Global.{Global}
-use Rattle.ob0_scan.specs.Classes.{IsIdentifier}
+use Rattle.ob0_scan.specs.LexemeClasses.{IsIdentifier}
 use Rattle.ob0_scan.specs.TextWithTokens.{IsScan, TextWithTokens, max_text_length}
 use Rattle.ob0_text.specs.Patches.{patched_text}
 use Rattle.ob0_text.specs.Units.{width_of}
@@ -17,8 +17,8 @@ use Rattle.ob0_language_names.specs.Occurrences.{IsFreeName, at_declaration, at_
 use Rattle.ob0_language_names.specs.Scopes.{renamed}
 use Rattle.ob0_language_types.specs.WellTyped.{WellTyped}
 use Rattle.ob0_language_runs.specs.EditLaws.{HaveSameRuns}
-use Rattle.ob0_edits_tokens.specs.Replaced.{replacement_at_token, range_and_text}
-use Rattle.ob0_language_fields.specs.Renaming.{IsFreeFieldName, with_renamed_field, is_duplicate_field}
+use Rattle.ob0_edits_tokens.specs.Replacements.{replacement_at_token, range_and_text}
+use Rattle.ob0_language_fields.specs.Renaming.{IsFreeFieldName, module_with_renamed_field, is_duplicate_field_name}
 use Rattle.ob0_rename.specs.Renaming.{TargetsDeclaration, TargetsField, Renaming, field_tokens_to_rename, is_declared_as, renaming_target, module_of, nothing, occurrence_range, conflicting_field_range, conflicting_declaration_range, predeclared, text_after_renaming, tokens_to_rename, named_tree_of_renaming}
 
 -- States that the edits write the new name at the tokens with the indexes `tokens` and change
@@ -89,7 +89,7 @@ pub record RenamesField (r : Renaming) (k : ℕ) (f : Name) (edits : List Edit) 
   pub identifier : IsIdentifier r.new
   pub free : IsFreeFieldName (named_tree_of_renaming r) k f r.new
   pub writes : WritesNewName r (field_tokens_to_rename r.names k f r.new)
-      (with_renamed_field (named_tree_of_renaming r) k f r.new) edits
+      (module_with_renamed_field (named_tree_of_renaming r) k f r.new) edits
 
 -- States that the given refusal is the first one that applies to the new name of the field `f` of
 -- the record with the ordinal `k`, in the order of the cases below. Only another field of that
@@ -100,7 +100,7 @@ IsFirstRefusalForField r k f refusal.Predeclared = ⊥
 IsFirstRefusalForField r k f refusal.BadName = ¬ IsIdentifier r.new
 IsFirstRefusalForField r k f (refusal.Duplicate range) =
     IsIdentifier r.new
-    × (is_duplicate_field (named_tree_of_renaming r) k f r.new ≡ true)
+    × (is_duplicate_field_name (named_tree_of_renaming r) k f r.new ≡ true)
     × (conflicting_field_range r k ≡ Some range)
 IsFirstRefusalForField r k f (refusal.Captures range) = ⊥
 IsFirstRefusalForField r k f refusal.TooLong =

@@ -16,10 +16,10 @@ use Rattle.ob0_language_names.specs.Names.{Name, same_name}
 use Rattle.ob0_language_names.specs.Scopes.{predeclared_count}
 use Rattle.ob0_scope.specs.Renames.{namesake}
 use Rattle.ob0_scope_table.specs.Resolution.{Resolution, declaring_names, span_at, declaration_token}
-use Rattle.ob0_edits_tokens.specs.Replaced.{text_after_replacement}
+use Rattle.ob0_edits_tokens.specs.Replacements.{text_after_replacement}
 use Rattle.ob0_edits_tokens.specs.Ranges.{range_of}
 use Rattle.ob0_scope.specs.NamesAtPlaces.{name_at_offset, tokens_bound_to}
-use Rattle.ob0_scope.specs.declared.naming.BoundName as named
+use Rattle.ob0_scope.specs.declared.bound_names.BoundName as named
 use Rattle.ob0_types_fields.specs.declared.field_name.FieldName.{FieldName}
 use Rattle.ob0_types_fields.specs.Identifiers.{field_declaring_token, field_at, field_tokens}
 
@@ -57,7 +57,7 @@ pub data RenameTarget : Type 0 where
   -- A declaration, given by its ordinal.
   declaration : ℕ → RenameTarget
   -- A field, given by the ordinal of its record and by its name.
-  field_of : ℕ → Name → RenameTarget
+  record_field : ℕ → Name → RenameTarget
 
 -- Returns the target for a name that is bound to the declaration with the ordinal `ordinal`. The
 -- target is `predeclared` if the ordinal is below `predeclared_count`, otherwise it is that
@@ -69,7 +69,7 @@ target_of_ordinal ordinal = if nat_lt ordinal predeclared_count then predeclared
 -- such identifier (None), returns `nothing`.
 abbrev pub target_of_optional_field : TextWithTokens → Option FieldName → RenameTarget
 target_of_optional_field source None = nothing
-target_of_optional_field source (Some x) = field_of x.owner (token_text_at source x.token)
+target_of_optional_field source (Some x) = record_field x.owner (token_text_at source x.token)
 
 -- Returns the target for a name and a field that were found at the same place. If there is no name
 -- (None), returns the target for the field.
@@ -94,7 +94,7 @@ TargetsDeclaration r d = renaming_target r ≡ declaration d
 
 -- States that the renaming's target is the field `f` of the record with the ordinal `k`.
 abbrev pub TargetsField : Renaming → ℕ → Name → Type 0
-TargetsField r k f = renaming_target r ≡ field_of k f
+TargetsField r k f = renaming_target r ≡ record_field k f
 
 -- ---- the tokens at which the new name is written
 

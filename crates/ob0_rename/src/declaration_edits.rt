@@ -2,7 +2,7 @@
 
 ghost use Rattle.std.specs.Prelude.{◌≡◌, ℕ, Err, Some, slice_get, true};
 ghost use Rattle.std.specs.Str.{chars};
-ghost use Rattle.ob0_scan.specs.Classes.{IsIdentifier};
+ghost use Rattle.ob0_scan.specs.LexemeClasses.{IsIdentifier};
 ghost use Rattle.ob0_text.specs.Units.{width_of};
 ghost use Rattle.ob0_text.specs.declared.position_types.Position as positions;
 ghost use Rattle.ob0_tree.specs.ParsedModule.{tree_of};
@@ -14,9 +14,11 @@ ghost use Rattle.ob0_edits_tokens.specs.Ranges.{range_of};
 ghost use Rattle.ob0_rename.specs.Answers.{RenameAnswers, AnswersRenamingOfDeclaration, MayRunOutOfMemory, FailsOnlyForMemory, AcceptsPresentName};
 ghost use Rattle.ob0_rename.specs.Renaming.{declaring_token, is_declared_as, renaming_of};
 
-use crate::fields::rename_field;
-use crate::places::{resolved_identifier_at, token_range, tokens_to_rename};
-use ob0_edits_tokens::laws::{identifier_may_replace_identifier, renaming_keeps_spelling};
+use crate::field_edits::rename_field;
+use crate::identifier_tokens::{resolved_identifier_at, token_range, tokens_to_rename};
+use ob0_edits_tokens::laws::{
+    identifier_may_replace_identifier, renamed_tree_spells_renamed_words,
+};
 use ob0_edits_tokens::replacement_edits;
 use ob0_language_runs::laws::free_renaming_keeps_typing_and_runs;
 use ob0_scan::is_identifier;
@@ -87,7 +89,7 @@ fn rename_declaration<T: TextStore>(
         → FailsOnlyForMemory result }
 {
     identifier_may_replace_identifier();
-    renaming_keeps_spelling();
+    renamed_tree_spells_renamed_words();
     free_renaming_keeps_typing_and_runs();
     let names = well_typed.resolved();
     // The proof needs the contract of this call.

@@ -4,7 +4,7 @@
 #![tactic(auto)]
 
 mod declaration_edits;
-mod fields;
-mod places;
+mod field_edits;
+mod identifier_tokens;
 
 pub use declaration_edits::rename;

@@ -4,7 +4,7 @@ use Rattle.std.specs.Str.{chars}
 use Rattle.std.specs.declared.alloc.Global.{Global}
 use Rattle.std.proofs.lemmas.Str.{chars_from_encodes}
 use Rattle.ob0_scan.specs.declared.lexeme.Token.{Token}
-use Rattle.ob0_scan.specs.Classes.{IsIdentifier}
+use Rattle.ob0_scan.specs.LexemeClasses.{IsIdentifier}
 use Rattle.ob0_scan.specs.TextWithTokens.{TextWithTokens}
 use Rattle.ob0_text.specs.declared.edits.Edit.{Edit}
 use Rattle.ob0_text.specs.declared.position_types.Position.{Position}
@@ -28,24 +28,24 @@ use Rattle.ob0_scope.proofs.Written.{bound_are_identifiers, bound_ascend}
 use Rattle.ob0_scope_table.specs.Resolution.{Resolution}
 use Rattle.ob0_types_fields.specs.Identifiers.{DuplicateFieldNameHasDeclaringToken, RenamingChangesFieldTokens, field_declaring_token, field_identifiers, field_tokens}
 use Rattle.ob0_types_fields.proofs.FieldNameList.{fields_are_identifiers, fields_ascend, kept_are_identifiers, kept_ascend}
-use Rattle.ob0_edits_tokens.specs.OfTrees.{RenamingKeepsSpelling}
-use Rattle.ob0_edits_tokens.specs.Replaced.{AreIdentifierIndexes, MayReplaceIdentifier}
+use Rattle.ob0_edits_tokens.specs.WordsOfTrees.{RenamedTreeSpellsRenamedWords}
+use Rattle.ob0_edits_tokens.specs.Replacements.{AreIdentifierIndexes, MayReplaceIdentifier}
 use Rattle.ob0_edits_tokens.specs.Written.{name_word}
 use Rattle.ob0_rename.specs.Answers.{RenameAnswers}
-use Rattle.ob0_rename.specs.Renaming.{TargetsField, TargetsDeclaration, Renaming, RenameTarget, declaration, declaring_token, field_of, field_tokens_to_rename, is_declared_as, renaming_target, nothing, conflicting_declaration_range, predeclared, renaming_of, token_range, tokens_to_rename}
+use Rattle.ob0_rename.specs.Renaming.{TargetsField, TargetsDeclaration, Renaming, RenameTarget, declaration, declaring_token, record_field, field_tokens_to_rename, is_declared_as, renaming_target, nothing, conflicting_declaration_range, predeclared, renaming_of, token_range, tokens_to_rename}
 use Rattle.ob0_rename.proofs.FieldOutcomes.{duplicated, field_answered, field_answered_there, other_none}
 use Rattle.ob0_rename.proofs.Named.{are_names}
 use Rattle.ob0_rename.proofs.Occurring.{occurrence_is_there}
 use Rattle.ob0_rename.proofs.Outcomes.{answered, answered_there}
 use Rattle.ob0_rename.proofs.Owned.{other_is_declared}
-use Rattle.ob0_analysis.specs.Analysed.{IsResolvedWellTypedModule}
+use Rattle.ob0_analysis.specs.AnalysisAnswers.{IsResolvedWellTypedModule}
 use Rattle.ob0_analysis.specs.Texts.{utf8}
 use Rattle.ob0_edits.specs.Renamings.{IsOptionalRenameResult}
 use Rattle.ob0_edits.proofs.Renamings.{new_name_found, settled}
 use Rattle.ob0_world_rules.specs.Asks.{rename}
 use Rattle.ob0_world_rules.specs.Answers.{IsAnswerForText}
-use Rattle.ob0_world_rules.specs.Edited.{Replacement, replacements}
-use Rattle.ob0_world_rules.specs.Language.{WellTypedText}
+use Rattle.ob0_world_rules.specs.TextEdits.{Replacement, replacements}
+use Rattle.ob0_world_rules.specs.WellTypedTexts.{WellTypedText}
 use Rattle.ob0_world_rules.specs.Laws.{AlwaysHasAnswer}
 use Rattle.ob0_rename_answers.specs.RenameAnswers.{WellTypedTextsCanBeResolved}
 use Rattle.ob0_rename_answers.proofs.NewNameEdits.{NoMemory, Outcome, outcome}
@@ -76,7 +76,7 @@ names_or_none : (tokens : List Token) (places : List ℕ) (own : Bool) → AreId
 names_or_none tokens places true h = tt
 names_or_none tokens places false h = h
 
-module _ (keeps : FreeRenamingKeepsTypingAndRuns) (field_keeps : FreeFieldRenamingKeepsTypingAndRuns) (by_tokens : RenamingChangesFieldTokens) (by_token : DuplicateFieldNameHasDeclaringToken) (spells : RenamingKeepsSpelling) (identified : NamesReplaceNames) where
+module _ (keeps : FreeRenamingKeepsTypingAndRuns) (field_keeps : FreeFieldRenamingKeepsTypingAndRuns) (by_tokens : RenamingChangesFieldTokens) (by_token : DuplicateFieldNameHasDeclaringToken) (spells : RenamedTreeSpellsRenamedWords) (identified : NamesReplaceNames) where
   module _ (unit : Unit) (text : List ℕ) (place : Position) (new : List ℕ) (names : Resolution) (read : IsResolvedWellTypedModule (utf8 text) names) (none : (given : List Replacement) → IsAnswerForText unit text (rename place new) given → ⊥) where
     abbrev asked : Renaming
     asked = renaming_of unit text names place new
@@ -174,9 +174,9 @@ module _ (keeps : FreeRenamingKeepsTypingAndRuns) (field_keeps : FreeFieldRenami
     by_target nothing e = finish (Err refusal.NoName) no_name_other (inr e)
     by_target predeclared e = finish (Err refusal.Predeclared) predeclared_other (inr e)
     by_target (declaration d) e = declared d e
-    by_target (field_of k f) e = named_field k f e
+    by_target (record_field k f) e = named_field k f e
 
-pub renaming_always_has_answer : FreeRenamingKeepsTypingAndRuns → FreeFieldRenamingKeepsTypingAndRuns → RenamingChangesFieldTokens → DuplicateFieldNameHasDeclaringToken → RenamingKeepsSpelling → NamesReplaceNames → WellTypedTextsCanBeResolved → (position : Position) (name : List ℕ) → AlwaysHasAnswer (rename position name)
+pub renaming_always_has_answer : FreeRenamingKeepsTypingAndRuns → FreeFieldRenamingKeepsTypingAndRuns → RenamingChangesFieldTokens → DuplicateFieldNameHasDeclaringToken → RenamedTreeSpellsRenamedWords → NamesReplaceNames → WellTypedTextsCanBeResolved → (position : Position) (name : List ℕ) → AlwaysHasAnswer (rename position name)
 renaming_always_has_answer keeps field_keeps by_tokens by_token spells identified each position name unit text none = none [] (inr (inr unfit, refl))
   where
     unfit : WellTypedText text → ⊥

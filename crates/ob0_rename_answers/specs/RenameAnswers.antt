@@ -5,10 +5,10 @@
 use Rattle.std.specs.Prelude.{ℕ, List}
 use Rattle.ob0_text.specs.declared.position_types.Position.{Position}
 use Rattle.ob0_scope_table.specs.Resolution.{Resolution}
-use Rattle.ob0_analysis.specs.Analysed.{IsResolvedWellTypedModule}
+use Rattle.ob0_analysis.specs.AnalysisAnswers.{IsResolvedWellTypedModule}
 use Rattle.ob0_analysis.specs.Texts.{utf8}
 use Rattle.ob0_world_rules.specs.Asks.{rename}
-use Rattle.ob0_world_rules.specs.Language.{WellTypedText}
+use Rattle.ob0_world_rules.specs.WellTypedTexts.{WellTypedText}
 use Rattle.ob0_world_rules.specs.Laws.{AlwaysHasAnswer}
 
 -- States that each well-typed text has a module in which each name is bound to its declaration.

@@ -3,7 +3,9 @@
 
 ghost use Rattle.ob0_rename_answers.specs.RenameAnswers.{RenamingAlwaysHasAnswer};
 
-use ob0_edits_tokens::laws::{identifier_may_replace_identifier, renaming_keeps_spelling};
+use ob0_edits_tokens::laws::{
+    identifier_may_replace_identifier, renamed_tree_spells_renamed_words,
+};
 use ob0_language_field_laws::laws::free_field_renaming_keeps_typing_and_runs;
 use ob0_language_runs::laws::free_renaming_keeps_typing_and_runs;
 use ob0_types_fields::laws::{
@@ -20,6 +22,6 @@ pub fn renaming_always_has_answer()
     free_field_renaming_keeps_typing_and_runs();
     renaming_changes_field_tokens();
     duplicate_field_name_has_declaring_token();
-    renaming_keeps_spelling();
+    renamed_tree_spells_renamed_words();
     identifier_may_replace_identifier();
 }

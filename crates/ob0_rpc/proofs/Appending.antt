@@ -31,9 +31,9 @@ use Rattle.serde_json.specs.Written.{comma_if, compact_text, items_text, members
 use Rattle.serde_json.proofs.Numbers.{number_of-decimal, number_of-negative}
 use Rattle.serde_json.proofs.Texts.{print-outline}
 use Rattle.ob0_text.specs.declared.position_types.Position.{Position}
-use Rattle.ob0_rpc.specs.Appending.{AppendsValue, AppendsEachValue, AppendsListItem, AppendsMember, AppendsMembers, AllReadBack, ReadsBack, comma_separated_texts}
+use Rattle.ob0_rpc.specs.Appending.{AppendsValue, AppendsEachValue, AppendsListItem, AppendsMember, AppendsMembersAndBrace, AllReadBack, ReadsBack, comma_separated_texts}
 use Rattle.ob0_rpc.specs.Shapes.{position_value, range_value}
-use Rattle.ob0_rpc.specs.Writing.{Writes}
+use Rattle.ob0_rpc.specs.WrittenMessages.{Writes}
 
 -- ---- the outline of a value nests no deeper than the value
 
@@ -183,7 +183,7 @@ member_text before k d old mid rest n a =
     let put : mid ++ rest ≡ old ++ before ∷ named k (compact_text d ++ rest) = rw a.text (simp append_assoc refl) in
     put ∙ ap (λ t. old ++ before ∷ t) (name_text k (compact_text d ++ rest) n)
 
-members_written : (ms : Members) (old new : List ℕ) → are_names ms ≡ true → AppendsMembers 44 ms old new → (new ≡ old ++ members_text true ms) × AreMembers ms
+members_written : (ms : Members) (old new : List ℕ) → are_names ms ≡ true → AppendsMembersAndBrace 44 ms old new → (new ≡ old ++ members_text true ms) × AreMembers ms
 members_written no_members old new names is = (is, record { reads = λ found. refl; numbers = tt; utf8 = brace })
 members_written (member k d ms) old new names (mid, first, others) =
     let both = and_parts (are_plain k && are_ascii k) _ names in
@@ -194,7 +194,7 @@ members_written (member k d ms) old new names (mid, first, others) =
 -- If the members of an object were written one by one, and their names need no escape and are in
 -- order, the object was written.
 pub object_of : (k : List ℕ) (d : Data) (ms : Members) (old new : List ℕ) → are_names (member k d ms) ≡ true → rebuilt (member k d ms) no_members ≡ member k d ms
-    → AppendsMembers 123 (member k d ms) old new → AppendsValue (object (member k d ms)) old new
+    → AppendsMembersAndBrace 123 (member k d ms) old new → AppendsValue (object (member k d ms)) old new
 object_of k d ms old new names order (mid, first, others) =
     let both = and_parts (are_plain k && are_ascii k) _ names in
     let n = name k (and_parts (are_plain k) _ both.0).0 (and_parts (are_plain k) _ both.0).1 in

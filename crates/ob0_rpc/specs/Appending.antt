@@ -55,10 +55,10 @@ pub record AppendsMember (before : ℕ) (name : List ℕ) (value : Data)
 -- States that `new` is `old` followed by these members of an object and the closing brace. The byte
 -- `before` precedes the first of these members, and a comma precedes each of the others. Each
 -- value's text reads back as the value.
-abbrev pub AppendsMembers : ℕ → Members → List ℕ → List ℕ → Type 0
-AppendsMembers before no_members old new = new ≡ old ++ 125 ∷ []
-AppendsMembers before (member name value members) old new =
-    (mid : List ℕ) × AppendsMember before name value old mid × AppendsMembers 44 members mid new
+abbrev pub AppendsMembersAndBrace : ℕ → Members → List ℕ → List ℕ → Type 0
+AppendsMembersAndBrace before no_members old new = new ≡ old ++ 125 ∷ []
+AppendsMembersAndBrace before (member name value members) old new =
+    (mid : List ℕ) × AppendsMember before name value old mid × AppendsMembersAndBrace 44 members mid new
 
 -- Returns the JSON value of an optional value: `value a` for `Some a`, and the JSON value null for
 -- None.

@@ -5,7 +5,7 @@
 ghost use Rattle.std.specs.Prelude.{◌≡◌, ◌∷◌, [], codes, is_some, option_map, option_and_then};
 ghost use Rattle.serde_json.specs.Find.{as_object, as_str};
 ghost use Rattle.serde_json.specs.View.{view, items_view};
-ghost use Rattle.ob0_rpc.specs.Requesting.{client_features as client_in, contains_text, is_equal_text as is_that_text, is_true as truth_of, member_at_path};
+ghost use Rattle.ob0_rpc.specs.Requests.{client_features as client_in, contains_text, is_equal_text as is_that_text, is_true as truth_of, member_at_path};
 
 use serde_json::Value;
 
@@ -29,15 +29,15 @@ pub fn client_features(params: &Value) -> ClientFeatures
 {
     ClientFeatures {
         offers_utf8: offers_utf8(params),
-        prepares_renames: is_true(prepare_support(params)),
+        prepares_renames: is_true(prepare_rename_support(params)),
         accepts_literal_actions: is_object(action_literal_support(params)),
-        accepts_document_changes: is_true(document_changes(params)),
+        accepts_document_changes: is_true(document_changes_support(params)),
     }
 }
 
 /// Returns the value at the path `capabilities.textDocument.rename.prepareSupport` in params, or
 /// None if it is absent.
-fn prepare_support(params: &Value) -> Option<&Value>
+fn prepare_rename_support(params: &Value) -> Option<&Value>
     ensures { option_map (λ v. view v.now) result
         ≡ member_at_path
         (codes "capabilities" ∷ codes "textDocument" ∷ codes "rename" ∷ codes "prepareSupport" ∷ [])
@@ -63,7 +63,7 @@ fn action_literal_support(params: &Value) -> Option<&Value>
 
 /// Returns the value at the path `capabilities.workspace.workspaceEdit.documentChanges` in params,
 /// or None if it is absent.
-fn document_changes(params: &Value) -> Option<&Value>
+fn document_changes_support(params: &Value) -> Option<&Value>
     ensures { option_map (λ v. view v.now) result
         ≡ member_at_path (codes "capabilities"
         ∷ codes "workspace"

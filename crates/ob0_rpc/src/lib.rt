@@ -12,7 +12,7 @@ mod objects;
 mod outgoing;
 mod ranges;
 mod requests;
-mod values;
+mod value_messages;
 
 pub use clients::ClientFeatures;
 pub use incoming::{Id, Incoming, RpcFault, read};
@@ -30,4 +30,4 @@ pub use ranges::{write_range_ending_at, write_verbatim_ending_at};
 pub use requests::{ClientRequest, DocumentPosition, request};
 /// A short name for `ClientRequest`.
 pub use requests::ClientRequest as Call;
-pub use values::{notification, result};
+pub use value_messages::{notification, result};

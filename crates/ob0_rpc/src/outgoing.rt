@@ -3,7 +3,7 @@ ghost use Rattle.std.specs.Prelude.{◌≤◌, IfOk, option_map};
 ghost use Rattle.serde_json.specs.Data.{depth};
 ghost use Rattle.ob0_rpc.specs.Shapes.{result_message, error_response_message, notification_message, error_value};
 ghost use Rattle.ob0_rpc.specs.MessageViews.{json_of_id, id_or_null};
-ghost use Rattle.ob0_rpc.specs.Writing.{FitsInMessage, Writes};
+ghost use Rattle.ob0_rpc.specs.WrittenMessages.{FitsInMessage, Writes};
 
 use crate::incoming::Id;
 use crate::json_text::WriteJson;

@@ -3,8 +3,8 @@ ghost use Rattle.std.specs.Prelude.{◌≡◌, IfOk, option_map, option_and_then
 ghost use Rattle.serde_json.specs.Find.{get};
 ghost use Rattle.serde_json.specs.View.{view, items_view};
 ghost use Rattle.ob0_text.specs.Indents.{indent_spaces_for_tab_size};
-ghost use Rattle.ob0_rpc.specs.Requesting as asks;
-ghost use Rattle.ob0_rpc.specs.Requesting.{document_place_of, request_by_method, references_request_of, rename_request_of, code_action_request_of, formatting_request_of, document_request_by_method, texts_of_optional_list, requested_action_kinds, texts_of_items as texts_in, requested_indent as indent_in, or_bad_params, initialize_request_of};
+ghost use Rattle.ob0_rpc.specs.Requests as asks;
+ghost use Rattle.ob0_rpc.specs.Requests.{document_place_of, request_by_method, references_request_of, rename_request_of, code_action_request_of, formatting_request_of, document_request_by_method, texts_of_optional_list, requested_action_kinds, texts_of_items as texts_in, requested_indent as indent_in, or_bad_params, initialize_request_of};
 ghost use Rattle.ob0_rpc.specs.Members.{bool_member};
 ghost use Rattle.ob0_rpc.specs.MessageViews.{ReadsClientRequest, document_place_view, action_kinds_view};
 

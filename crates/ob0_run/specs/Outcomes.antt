@@ -6,9 +6,9 @@ use Rattle.ob0_language_values.specs.Values as values
 use Rattle.ob0_run_machine.specs.Machines as machine
 use Rattle.ob0_run_machine.specs.Outcomes as outcomes
 use Rattle.ob0_run_machine.specs.declared.machine.Item.{Item}
-use Rattle.ob0_run_machine.specs.declared.running.End.{End}
-use Rattle.ob0_run_machine.specs.declared.running.Outcome.{Outcome}
-use Rattle.ob0_run_cells.specs.ActivationLaws as cells
+use Rattle.ob0_run_machine.specs.declared.program_runs.End.{End}
+use Rattle.ob0_run_machine.specs.declared.program_runs.Outcome.{Outcome}
+use Rattle.ob0_run_cells.specs.LoweringLaws as cells
 use Rattle.ob0_run_cells.specs.LoweredStatements.{printed_item_of}
 use Rattle.ob0_run_cells.specs.Lowering.{end_of}
 

@@ -6,13 +6,13 @@ use Rattle.ob0_language_names.specs.Names.{Name}
 use Rattle.ob0_language_runs.specs.Runs.{run}
 use Rattle.ob0_run_machine.specs.Execution as machine
 use Rattle.ob0_run_machine.specs.View.{program_of}
-use Rattle.ob0_run_cells.specs.ActivationLaws.{run_of}
+use Rattle.ob0_run_cells.specs.LoweringLaws.{run_of}
 use Rattle.ob0_run_lowering.specs.declared.programs.Program.{Program}
 
 -- States that a program has the module's run, for each input and for all bounds: `c` on open calls,
 -- and `t` on the iterations of a loop. Claims nothing about a run in which the number of cells
 -- would have more than 64 bits.
-abbrev pub RunsAs : Tree Name module_text → Program → Type 0
-RunsAs m p =
+abbrev pub ProgramRunsAsModule : Tree Name module_text → Program → Type 0
+ProgramRunsAsModule m p =
     (input : List ℤ) (c t : ℕ)
     → IfSome (machine.run (program_of p.code) input c t) (λ r. run_of r ≡ run m input c t)

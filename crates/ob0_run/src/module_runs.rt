@@ -3,7 +3,7 @@
 //! The contract of `lower` follows from two facts. First, the lowered program is correct code for
 //! the module (`ProgramMeansModule`). Second, a correct program for a well-typed module has the
 //! module's run, if the machine has room for the run's cells (`lowering_keeps_runs`). So `lower`
-//! ensures `RunsAs`. If `RunsAs` holds for a module and a program, `execute` returns the module's
+//! ensures `ProgramRunsAsModule`. If `ProgramRunsAsModule` holds for a module and a program, `execute` returns the module's
 //! run.
 
 ghost use Rattle.std.specs.Prelude.{◌≡◌, IfOk};
@@ -15,9 +15,9 @@ ghost use Rattle.ob0_language_runs.specs.Runs.{run};
 ghost use Rattle.ob0_run_machine.specs.View.{program_of};
 ghost use Rattle.ob0_run_cells.specs.Activations.{ProgramMeansModule};
 ghost use Rattle.ob0_run.specs.Outcomes.{run_of};
-ghost use Rattle.ob0_run.specs.Programs.{RunsAs};
+ghost use Rattle.ob0_run.specs.Programs.{ProgramRunsAsModule};
 
-use ob0_run_cells::activation_laws::lowering_keeps_runs;
+use ob0_run_cells::lowering_laws::lowering_keeps_runs;
 use ob0_run_lowering::Program;
 use ob0_run_machine::Outcome;
 use ob0_types::WellTyped;
@@ -29,7 +29,7 @@ use std::alloc::{AllocError, Global};
 ///
 /// An allocation failed, or a count, for example of cells, has more than 64 bits.
 pub fn lower(alloc: Global, checked: &WellTyped<'_>) -> Result<Program, AllocError>
-    ensures runs { IfOk result (RunsAs (named_tree_of checked.now.module_read)) }
+    ensures runs { IfOk result (ProgramRunsAsModule (named_tree_of checked.now.module_read)) }
     ensures means { IfOk result (λ made. ProgramMeansModule naming_by_label
         (numbered (named_tree_of checked.now.module_read)) (program_of made.code)) }
 {
@@ -51,7 +51,7 @@ pub fn execute(
     turns: u32,
 ) -> Result<Outcome, AllocError>
     ensures { (m : Tree Name module_text)
-        → RunsAs m program.now
+        → ProgramRunsAsModule m program.now
         → IfOk result (λ o. run_of o ≡ run m input.now calls turns) }
 {
     ob0_run_machine::run(alloc, &program.code, input, calls, turns)

@@ -6,7 +6,7 @@ use Rattle.std.proofs.lemmas.Bool.{ltb-true}
 use Rattle.std.proofs.lemmas.List.{length-replicate}
 use Rattle.std.proofs.Common.{◌≡◌, ℕ, zero, suc, ◌+◌, ◌^◌, ◌<◌, true, false, if◌then◌else◌, nat_lt, length-append, List, [], ◌∷◌, ◌++◌, drop, length, map, take, pos, slice_get, Some, option_and_then, unwrap_or, sym, refl, ap, ◌∙◌, subst, arith, append_assoc}
 use Rattle.ob0_tree.specs.Tree.{Tree, begins, body, declares_procedure, item, maybe, none, one, procedure}
-use Rattle.ob0_language_names.specs.Parts.{block_statements, formal_sections, procedure_formals}
+use Rattle.ob0_language_names.specs.BlockParts.{block_statements, formal_sections, procedure_formals}
 use Rattle.ob0_language_types.specs.Declarations.{formals_constructor_count}
 use Rattle.ob0_language_types.specs.Environments.{environment_from_binding, meanings, newest_object}
 use Rattle.ob0_language_types.specs.Expressions.{Object, a_procedure}
@@ -14,13 +14,13 @@ use Rattle.ob0_language_types.specs.WellTyped.{Signature, TypeEnvironment, Typed
 use Rattle.ob0_language_types.proofs.Literals.{some_inverse}
 use Rattle.ob0_language_values.specs.Values.{Place, Shape, Store}
 use Rattle.ob0_language_runs.specs.TypeAgreement.{ArgumentsMatchSignature, RunBindingAgreesWithCheckedBinding, RunEnvironmentAgreesWithCheckedEnvironment, StoreHasTypes, StoreTyping}
-use Rattle.ob0_language_runs.specs.Freed.{call_freeing_variables, drop_variables}
+use Rattle.ob0_language_runs.specs.FreedVariables.{call_freeing_variables, drop_variables}
 use Rattle.ob0_language_runs.specs.Runs.{Activation, Argument, ProcedureText, Frame, Progress, State, activate, bind_parameters, declare_block, execute_body, continue_in_frame, running, meanings_for_statements, stopped}
 use Rattle.ob0_language_runs.proofs.SoundCalls.{from-fit, names-fit, parameters-of_typed}
 use Rattle.ob0_run_machine.specs.Evaluation.{Level, Levels}
 use Rattle.ob0_run_machine.specs.Execution as execution
-use Rattle.ob0_run_machine.specs.Lowered as lowered
-use Rattle.ob0_run_cells.specs.Activations.{RoutineTable, CodeMeansBody, BindingIsPlaced, PlacementState, Placement, PlacementMatchesActivation, RoutineMeansProcedure, BindingPlace, at_target, placement_inside_procedure, target_of_first_binding, placement_from_binding, placement_seen_one_level_deeper, local_procedure_target, target_of_binding_place, target_in_placement}
+use Rattle.ob0_run_machine.specs.LoweredSyntax as lowered
+use Rattle.ob0_run_cells.specs.Activations.{RoutineTable, CodeMeansBody, BindingIsPlaced, PlacementState, Placement, PlacementMatchesActivation, RoutineMeansProcedure, BindingPlace, at_target, placement_inside_procedure, target_of_first_binding, suffix_from_latest_binding, placement_seen_one_level_deeper, local_procedure_target, target_of_binding_place, target_in_placement}
 use Rattle.ob0_run_cells.specs.Cells.{cells_of_store, store_cell_count}
 use Rattle.ob0_run_cells.specs.LoweredStatements.{BodyContext, CallsRepresent, ProgressRepresents, StateRepresents, Target, place_argument_addresses, value_argument_cells}
 use Rattle.ob0_run_cells.specs.Lowering.{in_activation}
@@ -70,7 +70,7 @@ module _ {N : Type 0} (table : RoutineTable N) where
         is_moment = λ store fits. record {
           store_fits = fits;
           names_fit = (names-fit table.naming typing checked active env, λ x. refl);
-          variables_in_slots = λ x p e. slots-fit table typing ls (environment_from_binding table.naming checked x) (placement_from_binding table.naming placement x) (environment_from_binding table.naming active x) (from-placed table typing ls checked placement active x placed) p e;
+          variables_in_slots = λ x p e. slots-fit table typing ls (environment_from_binding table.naming checked x) (suffix_from_latest_binding table.naming placement x) (environment_from_binding table.naming active x) (from-placed table typing ls checked placement active x placed) p e;
           store_is_addressable = few;
         };
         calls_represent = known typing ls checked placement active env placed;
@@ -143,4 +143,4 @@ module _ {N : Type 0} (table : RoutineTable N) where
   unfolding call_freeing_variables execution.call
   calls-known zero t typing ls checked placement active env placed x signature e args low s p h fit cells there = (refl, h.same_output)
   calls-known (suc c) t typing ls checked placement active env placed x signature e args low s p h fit cells there =
-      activate-represents c t (calls-known c t) typing ls (environment_from_binding table.naming checked x) (placement_from_binding table.naming placement x) (environment_from_binding table.naming active x) signature args low s p (from-fit table.naming typing checked active x env) (from-placed table typing ls checked placement active x placed) e h fit cells there
+      activate-represents c t (calls-known c t) typing ls (environment_from_binding table.naming checked x) (suffix_from_latest_binding table.naming placement x) (environment_from_binding table.naming active x) signature args low s p (from-fit table.naming typing checked active x env) (from-placed table typing ls checked placement active x placed) e h fit cells there

@@ -3,14 +3,14 @@ use Rattle.std.proofs.Common.{◌≡◌, ℕ, ◌+◌, ◌≤◌, true, ◌&&◌
 use Rattle.std.proofs.lemmas.Bool.{le-leb}
 use Rattle.ob0_tree.specs.Tree.{Tree, arguments, assigns, calls, expression, items, maybe, selector}
 use Rattle.ob0_language_types.specs.Arguments.{call_arguments}
-use Rattle.ob0_language_types.specs.Expressions.{Object, StandardProcedure, a_standard, designated_place, evaluate, read_procedure, write_procedure, write_line_procedure}
-use Rattle.ob0_language_types.specs.WellTyped.{Mode, TypeMeanings, by_place, by_value}
+use Rattle.ob0_language_types.specs.Expressions.{Object, StandardProcedure, a_standard_procedure, designated_place, evaluate, read_procedure, write_procedure, write_line_procedure}
+use Rattle.ob0_language_types.specs.WellTyped.{ParameterMode, TypeMeanings, by_place, by_value}
 use Rattle.ob0_language_values.specs.Values.{Outcome, Place, Shape, Value, boolean_shape, ends_run_with, succeeds_with, integer_shape, number, or_stuck, read_place, truth, ◌>>=◌}
 use Rattle.ob0_language_runs.specs.TypeAgreement.{RunObjectAgreesWithCheckedObject, PlaceHasType, StoreTyping}
 use Rattle.ob0_language_runs.specs.Runs.{Argument, Progress, State, evaluate_arguments, execute, argument_modes_of, perform_call, place_argument, read_number, running, store_at, continue_with_result, value_argument}
 use Rattle.ob0_run_machine.specs.Evaluation as machine
 use Rattle.ob0_run_machine.specs.Execution as execution
-use Rattle.ob0_run_machine.specs.Lowered as lowered
+use Rattle.ob0_run_machine.specs.LoweredSyntax as lowered
 use Rattle.ob0_run_cells.specs.Cells.{address, cells_of_store, cells_of, cells_after_overwrite, size, store_cell_count}
 use Rattle.ob0_run_cells.specs.LoweredStatements.{IsLoneDesignatorAt, ProgressRepresents, StateRepresents, CodeMeansStatement, Target, moment}
 use Rattle.ob0_run_cells.specs.Lowering.{NumberMeans, PlaceMeans, Slot, TruthMeans, PlaceHoldsValue, place_of_designator, value_of_expression}
@@ -18,8 +18,8 @@ use Rattle.ob0_run_cells.proofs.Parts.{cells-size}
 use Rattle.ob0_run_cells.proofs.Places.{HoldsSlice, WritesPlace, places_are_slices, store-size, writing_places_writes_slices}
 use Rattle.ob0_run_cells.proofs.Represented.{number-in, number-read, number-stored, place-in, put-represents, truth-in, truth-stored, use-place, use-represents}
 
-pub standard-is : (typing : StoreTyping) (q : StandardProcedure) (a : Option (Object Place (List Mode))) → RunObjectAgreesWithCheckedObject typing (Some (a_standard q)) a → a ≡ Some (a_standard q)
-standard-is typing q (Some (a_standard p)) h = ap (λ q. Some (a_standard q)) (sym h)
+pub standard-is : (typing : StoreTyping) (q : StandardProcedure) (a : Option (Object Place (List ParameterMode))) → RunObjectAgreesWithCheckedObject typing (Some (a_standard_procedure q)) a → a ≡ Some (a_standard_procedure q)
+standard-is typing q (Some (a_standard_procedure p)) h = ap (λ q. Some (a_standard_procedure q)) (sym h)
 standard-is typing q _ h = absurd h
 
 -- cells copied
@@ -99,33 +99,33 @@ module _ {N : Type 0} (checked : TypeMeanings N) (slots : N → Slot) (targets :
       (place-in checked slots targets b shown r shape w hw low s h)
       (λ p' fit'. cells-cells_after_copy b.typing low s p p' shape h fit fit')))
 
-  pub reads-mean : (x : N) (es : Tree N (maybe arguments)) (e : Tree N expression) (q : lowered.Place) → checked.object_for x ≡ Some (a_standard read_procedure) → call_arguments es ≡ e ∷ [] → IsLoneDesignatorAt checked slots q integer_shape e → CodeMeansStatement checked slots targets (lowered.reads q) (calls x es)
+  pub reads-mean : (x : N) (es : Tree N (maybe arguments)) (e : Tree N expression) (q : lowered.Place) → checked.object_for x ≡ Some (a_standard_procedure read_procedure) → call_arguments es ≡ e ∷ [] → IsLoneDesignatorAt checked slots q integer_shape e → CodeMeansStatement checked slots targets (lowered.reads q) (calls x es)
   unfolding execution.execute execute evaluate_arguments
   reads-mean x es e q st one hq b shown t low s h =
       let y : N = hq.name in
       let others : Tree N (items selector) = hq.path in
-      let is_bound : b.active.object_for x ≡ Some (a_standard read_procedure) = standard-is b.typing read_procedure (b.active.object_for x) (subst (λ o. RunObjectAgreesWithCheckedObject b.typing o (b.active.object_for x)) st ((shown.is_moment s.store h.store_fits).names_fit.0 x)) in
+      let is_bound : b.active.object_for x ≡ Some (a_standard_procedure read_procedure) = standard-is b.typing read_procedure (b.active.object_for x) (subst (λ o. RunObjectAgreesWithCheckedObject b.typing o (b.active.object_for x)) st ((shown.is_moment s.store h.store_fits).names_fit.0 x)) in
       subst (λ o. ProgressRepresents b.typing (execution.continue_with_result low (machine.address b.levels low.cells q) (λ a. execution.read_number low a low.input)) (continue_with_result s (argument_modes_of o >>= (λ modes. evaluate_arguments b.active s.store modes (call_arguments es))) (λ args. perform_call o (b.enters x) args s))) (sym is_bound)
-      (subst (λ l. ProgressRepresents b.typing (execution.continue_with_result low (machine.address b.levels low.cells q) (λ a. execution.read_number low a low.input)) (continue_with_result s (evaluate_arguments b.active s.store (by_place ∷ []) l) (λ args. perform_call (Some (a_standard read_procedure)) (b.enters x) args s))) (sym one)
-      (subst (λ o. ProgressRepresents b.typing (execution.continue_with_result low (machine.address b.levels low.cells q) (λ a. execution.read_number low a low.input)) (continue_with_result s ((or_stuck o >>= (λ d. designated_place b.active s.store d.0 d.1 >>= (λ p. succeeds_with (place_argument p)))) >>= (λ a. succeeds_with (a ∷ []))) (λ args. perform_call (Some (a_standard read_procedure)) (b.enters x) args s))) (sym hq.is_designator)
-      (subst (λ w. ProgressRepresents b.typing (execution.continue_with_result low (machine.address b.levels low.cells q) (λ a. execution.read_number low a low.input)) w) (sym (use-place-argument s (designated_place b.active s.store y others) (λ args. perform_call (Some (a_standard read_procedure)) (b.enters x) args s)))
+      (subst (λ l. ProgressRepresents b.typing (execution.continue_with_result low (machine.address b.levels low.cells q) (λ a. execution.read_number low a low.input)) (continue_with_result s (evaluate_arguments b.active s.store (by_place ∷ []) l) (λ args. perform_call (Some (a_standard_procedure read_procedure)) (b.enters x) args s))) (sym one)
+      (subst (λ o. ProgressRepresents b.typing (execution.continue_with_result low (machine.address b.levels low.cells q) (λ a. execution.read_number low a low.input)) (continue_with_result s ((or_stuck o >>= (λ d. designated_place b.active s.store d.0 d.1 >>= (λ p. succeeds_with (place_argument p)))) >>= (λ a. succeeds_with (a ∷ []))) (λ args. perform_call (Some (a_standard_procedure read_procedure)) (b.enters x) args s))) (sym hq.is_designator)
+      (subst (λ w. ProgressRepresents b.typing (execution.continue_with_result low (machine.address b.levels low.cells q) (λ a. execution.read_number low a low.input)) w) (sym (use-place-argument s (designated_place b.active s.store y others) (λ args. perform_call (Some (a_standard_procedure read_procedure)) (b.enters x) args s)))
       (use-place b.typing integer_shape low s (machine.address b.levels low.cells q) (designated_place b.active s.store y others) (λ a. execution.read_number low a low.input) (λ p. read_number s p s.input) h (place-in checked slots targets b shown q integer_shape (place_of_designator y others) hq.place_means low s h)
       (λ p fit. subst (λ input. ProgressRepresents b.typing (execution.read_number low (address b.typing p) low.input) (read_number s p input)) h.same_input (number-read b.typing low s p low.input h fit))))))
 
-  pub writes-mean : (x : N) (es : Tree N (maybe arguments)) (e : Tree N expression) (n : lowered.Number) → checked.object_for x ≡ Some (a_standard write_procedure) → call_arguments es ≡ e ∷ [] → NumberMeans checked slots n (value_of_expression e) → CodeMeansStatement checked slots targets (lowered.writes n) (calls x es)
+  pub writes-mean : (x : N) (es : Tree N (maybe arguments)) (e : Tree N expression) (n : lowered.Number) → checked.object_for x ≡ Some (a_standard_procedure write_procedure) → call_arguments es ≡ e ∷ [] → NumberMeans checked slots n (value_of_expression e) → CodeMeansStatement checked slots targets (lowered.writes n) (calls x es)
   unfolding execution.execute execute evaluate_arguments
   writes-mean x es e n st one hn b shown t low s h =
-      let is_bound : b.active.object_for x ≡ Some (a_standard write_procedure) = standard-is b.typing write_procedure (b.active.object_for x) (subst (λ o. RunObjectAgreesWithCheckedObject b.typing o (b.active.object_for x)) st ((shown.is_moment s.store h.store_fits).names_fit.0 x)) in
+      let is_bound : b.active.object_for x ≡ Some (a_standard_procedure write_procedure) = standard-is b.typing write_procedure (b.active.object_for x) (subst (λ o. RunObjectAgreesWithCheckedObject b.typing o (b.active.object_for x)) st ((shown.is_moment s.store h.store_fits).names_fit.0 x)) in
       subst (λ o. ProgressRepresents b.typing (execution.continue_with_result low (machine.number b.levels low.cells n) (λ v. execution.running (execution.append_output low (execution.number_out v)))) (continue_with_result s (argument_modes_of o >>= (λ modes. evaluate_arguments b.active s.store modes (call_arguments es))) (λ args. perform_call o (b.enters x) args s))) (sym is_bound)
-      (subst (λ l. ProgressRepresents b.typing (execution.continue_with_result low (machine.number b.levels low.cells n) (λ v. execution.running (execution.append_output low (execution.number_out v)))) (continue_with_result s (evaluate_arguments b.active s.store (by_value ∷ []) l) (λ args. perform_call (Some (a_standard write_procedure)) (b.enters x) args s))) (sym one)
-      (subst (λ w. ProgressRepresents b.typing (execution.continue_with_result low (machine.number b.levels low.cells n) (λ v. execution.running (execution.append_output low (execution.number_out v)))) w) (sym (use-value-argument s (evaluate b.active s.store e) (λ args. perform_call (Some (a_standard write_procedure)) (b.enters x) args s)))
-      (use-represents b.typing number low s (machine.number b.levels low.cells n) (evaluate b.active s.store e) (λ v. execution.running (execution.append_output low (execution.number_out v))) (λ v. perform_call (Some (a_standard write_procedure)) (b.enters x) (value_argument v ∷ []) s) h
+      (subst (λ l. ProgressRepresents b.typing (execution.continue_with_result low (machine.number b.levels low.cells n) (λ v. execution.running (execution.append_output low (execution.number_out v)))) (continue_with_result s (evaluate_arguments b.active s.store (by_value ∷ []) l) (λ args. perform_call (Some (a_standard_procedure write_procedure)) (b.enters x) args s))) (sym one)
+      (subst (λ w. ProgressRepresents b.typing (execution.continue_with_result low (machine.number b.levels low.cells n) (λ v. execution.running (execution.append_output low (execution.number_out v)))) w) (sym (use-value-argument s (evaluate b.active s.store e) (λ args. perform_call (Some (a_standard_procedure write_procedure)) (b.enters x) args s)))
+      (use-represents b.typing number low s (machine.number b.levels low.cells n) (evaluate b.active s.store e) (λ v. execution.running (execution.append_output low (execution.number_out v))) (λ v. perform_call (Some (a_standard_procedure write_procedure)) (b.enters x) (value_argument v ∷ []) s) h
       (number-in checked slots targets b shown n (value_of_expression e) hn low s h) (λ v is. put-represents b.typing low s (execution.number_out v) h))))
 
-  pub line-means : (x : N) (es : Tree N (maybe arguments)) → checked.object_for x ≡ Some (a_standard write_line_procedure) → call_arguments es ≡ [] → CodeMeansStatement checked slots targets lowered.writes_line (calls x es)
+  pub line-means : (x : N) (es : Tree N (maybe arguments)) → checked.object_for x ≡ Some (a_standard_procedure write_line_procedure) → call_arguments es ≡ [] → CodeMeansStatement checked slots targets lowered.writes_line (calls x es)
   unfolding execution.execute execute evaluate_arguments
   line-means x es st empty_list b shown t low s h =
-      let is_bound : b.active.object_for x ≡ Some (a_standard write_line_procedure) = standard-is b.typing write_line_procedure (b.active.object_for x) (subst (λ o. RunObjectAgreesWithCheckedObject b.typing o (b.active.object_for x)) st ((shown.is_moment s.store h.store_fits).names_fit.0 x)) in
+      let is_bound : b.active.object_for x ≡ Some (a_standard_procedure write_line_procedure) = standard-is b.typing write_line_procedure (b.active.object_for x) (subst (λ o. RunObjectAgreesWithCheckedObject b.typing o (b.active.object_for x)) st ((shown.is_moment s.store h.store_fits).names_fit.0 x)) in
       subst (λ o. ProgressRepresents b.typing (execution.running (execution.append_output low execution.line_out)) (continue_with_result s (argument_modes_of o >>= (λ modes. evaluate_arguments b.active s.store modes (call_arguments es))) (λ args. perform_call o (b.enters x) args s))) (sym is_bound)
-      (subst (λ l. ProgressRepresents b.typing (execution.running (execution.append_output low execution.line_out)) (continue_with_result s (evaluate_arguments b.active s.store [] l) (λ args. perform_call (Some (a_standard write_line_procedure)) (b.enters x) args s))) (sym empty_list)
+      (subst (λ l. ProgressRepresents b.typing (execution.running (execution.append_output low execution.line_out)) (continue_with_result s (evaluate_arguments b.active s.store [] l) (λ args. perform_call (Some (a_standard_procedure write_line_procedure)) (b.enters x) args s))) (sym empty_list)
       (put-represents b.typing low s execution.line_out h))

@@ -1,19 +1,19 @@
 -- Branches, loops and sequences of lowered code.
 use Rattle.std.proofs.Common.{◌-◌}
-use Rattle.ob0_tree.specs.Tree.{Tree, branches, else_branch, else_part, elsif_branch, elsif_part, empty, end, expression, further_statement, items, maybe, more, none, one, repeat_loop, runs, sequence, statement, then_statement, while_loop}
+use Rattle.ob0_tree.specs.Tree.{Tree, branches, else_branch, else_part, elsif_branch, elsif_part, empty, end, expression, statement_after_semicolon, items, maybe, more, none, one, repeat_loop, runs, sequence, statement, semicolon_then_statement, while_loop}
 use Rattle.ob0_language_types.specs.Expressions.{evaluate}
 use Rattle.ob0_language_types.specs.WellTyped.{TypeMeanings}
 use Rattle.ob0_language_runs.specs.Runs.{execute, execute_sequence, execute_else, execute_elsifs, execute_further_statements}
 use Rattle.ob0_run_machine.specs.Evaluation as machine
 use Rattle.ob0_run_machine.specs.Execution as execution
-use Rattle.ob0_run_machine.specs.Lowered as lowered
-use Rattle.ob0_run_cells.specs.LoweredStatements.{CodeMeansElse, CodeMeansElsifs, CodeMeansFurtherStatements, CodeMeansSequence, CodeMeansStatement, Target}
+use Rattle.ob0_run_machine.specs.LoweredSyntax as lowered
+use Rattle.ob0_run_cells.specs.LoweredStatements.{CodeMeansElse, CodeMeansElsifs, CodeMeansStatementsAfterFirst, CodeMeansSequence, CodeMeansStatement, Target}
 use Rattle.ob0_run_cells.specs.Lowering.{Slot, TruthMeans, value_of_expression}
 use Rattle.ob0_run_cells.proofs.Represented.{choice-represents, going-on, truth-in, execute_while-represent, execute_repeat-represent}
 
 module _ {N : Type 0} (checked : TypeMeanings N) (slots : N → Slot) (targets : N → Target) where
   pub branches-mean : (e : Tree N expression) (a : Tree N sequence) (rest : Tree N (items elsif_part)) (last : Tree N (maybe else_part)) (t : lowered.Truth) (body : lowered.Instructions) (bs : lowered.Branches) (otherwise : lowered.Instructions)
-      → TruthMeans checked slots t (value_of_expression e) → CodeMeansSequence checked slots targets body a → CodeMeansElsifs checked slots targets bs otherwise rest last → CodeMeansStatement checked slots targets (lowered.chooses (lowered.branch t body bs) otherwise) (branches e a rest last)
+      → TruthMeans checked slots t (value_of_expression e) → CodeMeansSequence checked slots targets body a → CodeMeansElsifs checked slots targets bs otherwise rest last → CodeMeansStatement checked slots targets (lowered.chooses_branch (lowered.branch t body bs) otherwise) (branches e a rest last)
   unfolding execution.execute execute
   branches-mean e a rest last t body bs otherwise ht ha hr b shown n low s h =
       choice-represents b.typing low s (machine.truth b.levels low.cells t) (evaluate b.active s.store e) (execution.execute_sequence b.lowered_call_effect n b.levels body) (execution.execute_branches b.lowered_call_effect n b.levels bs (execution.execute_sequence b.lowered_call_effect n b.levels otherwise))
@@ -50,19 +50,19 @@ module _ {N : Type 0} (checked : TypeMeanings N) (slots : N → Slot) (targets :
       execute_repeat-represent (n - 1) b.typing (λ s'. machine.truth b.levels s'.cells t) (λ s'. evaluate b.active s'.store e) (execution.execute_sequence b.lowered_call_effect n b.levels body) (execute_sequence b.active b.enters n a)
       (λ low s h. truth-in checked slots targets b shown t (value_of_expression e) ht low s h) (λ low s h. ha b shown n low s h) low s h
 
-  pub further-means : (a : Tree N statement) (c : lowered.Instruction) (rest : Tree N (items further_statement)) (cs : lowered.Instructions) → CodeMeansStatement checked slots targets c a → CodeMeansFurtherStatements checked slots targets cs rest → CodeMeansFurtherStatements checked slots targets (lowered.next_statement c cs) (more (then_statement a) rest)
+  pub further-means : (a : Tree N statement) (c : lowered.Instruction) (rest : Tree N (items statement_after_semicolon)) (cs : lowered.Instructions) → CodeMeansStatement checked slots targets c a → CodeMeansStatementsAfterFirst checked slots targets cs rest → CodeMeansStatementsAfterFirst checked slots targets (lowered.next_statement c cs) (more (semicolon_then_statement a) rest)
   unfolding execution.execute execute
   further-means a c rest cs hc hr b shown n low s h =
       going-on b.typing (execution.execute b.lowered_call_effect n b.levels c low) (execute b.active b.enters n a s) (execution.execute_sequence b.lowered_call_effect n b.levels cs) (execute_further_statements b.active b.enters n rest) (hc b shown n low s h) (λ low s h. hr b shown n low s h)
 
-  pub first-empty : (rest : Tree N (items further_statement)) (cs : lowered.Instructions) → CodeMeansFurtherStatements checked slots targets cs rest → CodeMeansSequence checked slots targets cs (runs empty rest)
+  pub first-empty : (rest : Tree N (items statement_after_semicolon)) (cs : lowered.Instructions) → CodeMeansStatementsAfterFirst checked slots targets cs rest → CodeMeansSequence checked slots targets cs (runs empty rest)
   unfolding execute
   first-empty rest cs hr b shown n low s h = hr b shown n low s h
 
-  pub further-empty : (rest : Tree N (items further_statement)) (cs : lowered.Instructions) → CodeMeansFurtherStatements checked slots targets cs rest → CodeMeansFurtherStatements checked slots targets cs (more (then_statement empty) rest)
+  pub further-empty : (rest : Tree N (items statement_after_semicolon)) (cs : lowered.Instructions) → CodeMeansStatementsAfterFirst checked slots targets cs rest → CodeMeansStatementsAfterFirst checked slots targets cs (more (semicolon_then_statement empty) rest)
   unfolding execute
   further-empty rest cs hr b shown n low s h = hr b shown n low s h
 
-  pub sequence-ends : CodeMeansFurtherStatements checked slots targets lowered.no_statement end
+  pub sequence-ends : CodeMeansStatementsAfterFirst checked slots targets lowered.no_statement end
   unfolding execution.execute execute
   sequence-ends b shown n low s h = h

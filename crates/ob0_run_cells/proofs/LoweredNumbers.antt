@@ -6,11 +6,11 @@ use Rattle.ob0_tree.specs.declared.tree.MultiplyOperator.{MultiplyOperator}
 use Rattle.ob0_tree.specs.Tree.{Tree, addend, adds, factor, integer, items, more, multiplier, multiplies, product, sum, term}
 use Rattle.ob0_language_types.specs.Expressions.{evaluate}
 use Rattle.ob0_language_types.specs.WellTyped.{TypeMeanings}
-use Rattle.ob0_language_values.specs.Values.{Outcome, Value, add, add_short_circuits, ends_run_with, succeeds_with, multiply, multiply_short_circuits, number, apply_sign, ◌>>=◌}
+use Rattle.ob0_language_values.specs.Values.{Outcome, Value, add, add_operator_short_circuits, ends_run_with, succeeds_with, multiply, multiply_operator_short_circuits, number, apply_sign, ◌>>=◌}
 use Rattle.ob0_run_machine.specs.Evaluation as machine
-use Rattle.ob0_run_machine.specs.Lowered as lowered
+use Rattle.ob0_run_machine.specs.LoweredSyntax as lowered
 use Rattle.ob0_run_cells.specs.Cells.{cells_of_store}
-use Rattle.ob0_run_cells.specs.Lowering.{OutcomeByMoment, Moment, NumberStartsChain, NumberMeans, RestOfChain, Slot, outcome_of_remaining_addends, outcome_of_remaining_multipliers, value_of_factor, value_of_simple, value_of_term}
+use Rattle.ob0_run_cells.specs.Lowering.{OutcomeByMoment, Moment, NumberStartsChain, NumberMeans, RestOfChain, Slot, outcome_of_remaining_addends, outcome_of_remaining_multipliers, value_of_factor, value_of_simple_expression, value_of_term}
 use Rattle.ob0_run_cells.proofs.LoweredOutcomes.{Operates, gives-then, grouped-then, checked_number-same, outcome-then, plus-same, followed_by}
 
 pub each-then : {A B : Type 0} (o : Outcome A) (f g : A → Outcome B) → ((a : A) → f a ≡ g a) → (o >>= f) ≡ (o >>= g)
@@ -43,36 +43,36 @@ module _ {N : Type 0} (checked : TypeMeanings N) (slots : N → Slot) where
       let same : v z ≡ whole z = sym (gives-then (v z)) ∙ (each-then (v z) succeeds_with (rest z) (λ x. sym (ends_here z x)) ∙ ev z shown) in
       hv z shown ∙ same
 
-  pub addend-leads : (o : AddOperator) (op : lowered.Operator) → Operates op (add o) → ((x : Value) → add_short_circuits o x ≡ false) → (m n : lowered.Number) (e : Tree N term) (rest : Tree N (items addend)) (whole : OutcomeByMoment N Value)
+  pub addend-leads : (o : AddOperator) (op : lowered.Operator) → Operates op (add o) → ((x : Value) → add_operator_short_circuits o x ≡ false) → (m n : lowered.Number) (e : Tree N term) (rest : Tree N (items addend)) (whole : OutcomeByMoment N Value)
       → NumberMeans checked slots n (value_of_term e) → NumberStartsChain checked slots m (outcome_of_remaining_addends (more (adds o e) rest)) whole → NumberStartsChain checked slots (lowered.operation op m n) (outcome_of_remaining_addends rest) whole
   unfolding evaluate
   addend-leads o op operates never m n e rest whole hn h =
       let (v, hv, ev) = h in (
         (λ z. v z >>= (λ x. value_of_term e z >>= add o x)),
         operation-means op (add o) operates m n v (value_of_term e) hv hn,
-        λ z shown. unsettled (v z) (add_short_circuits o) (λ x. value_of_term e z >>= add o x) (outcome_of_remaining_addends rest z) never ∙ ev z shown,
+        λ z shown. unsettled (v z) (add_operator_short_circuits o) (λ x. value_of_term e z >>= add o x) (outcome_of_remaining_addends rest z) never ∙ ev z shown,
       )
 
-  pub multiplier-leads : (o : MultiplyOperator) (op : lowered.Operator) → Operates op (multiply o) → ((x : Value) → multiply_short_circuits o x ≡ false) → (m n : lowered.Number) (f : Tree N factor) (rest : Tree N (items multiplier)) (whole : OutcomeByMoment N Value)
+  pub multiplier-leads : (o : MultiplyOperator) (op : lowered.Operator) → Operates op (multiply o) → ((x : Value) → multiply_operator_short_circuits o x ≡ false) → (m n : lowered.Number) (f : Tree N factor) (rest : Tree N (items multiplier)) (whole : OutcomeByMoment N Value)
       → NumberMeans checked slots n (value_of_factor f) → NumberStartsChain checked slots m (outcome_of_remaining_multipliers (more (multiplies o f) rest)) whole → NumberStartsChain checked slots (lowered.operation op m n) (outcome_of_remaining_multipliers rest) whole
   unfolding evaluate
   multiplier-leads o op operates never m n f rest whole hn h =
       let (v, hv, ev) = h in (
         (λ z. v z >>= (λ x. value_of_factor f z >>= multiply o x)),
         operation-means op (multiply o) operates m n v (value_of_factor f) hv hn,
-        λ z shown. unsettled (v z) (multiply_short_circuits o) (λ x. value_of_factor f z >>= multiply o x) (outcome_of_remaining_multipliers rest z) never ∙ ev z shown,
+        λ z shown. unsettled (v z) (multiply_operator_short_circuits o) (λ x. value_of_factor f z >>= multiply o x) (outcome_of_remaining_multipliers rest z) never ∙ ev z shown,
       )
 
   pub product-begins : (f : Tree N factor) (rest : Tree N (items multiplier)) (n : lowered.Number) → NumberMeans checked slots n (value_of_factor f) → NumberStartsChain checked slots n (outcome_of_remaining_multipliers rest) (value_of_term (product f rest))
   unfolding evaluate
   product-begins f rest n hn = (value_of_factor f, hn, λ z shown. refl)
 
-  pub sum-begins : (e : Tree N term) (rest : Tree N (items addend)) (n : lowered.Number) → NumberMeans checked slots n (value_of_term e) → NumberStartsChain checked slots n (outcome_of_remaining_addends rest) (value_of_simple (sum None e rest))
+  pub sum-begins : (e : Tree N term) (rest : Tree N (items addend)) (n : lowered.Number) → NumberMeans checked slots n (value_of_term e) → NumberStartsChain checked slots n (outcome_of_remaining_addends rest) (value_of_simple_expression (sum None e rest))
   unfolding evaluate
   sum-begins e rest n hn = (value_of_term e, hn, λ z shown. refl)
 
   pub plus-begins : (e : Tree N term) (rest : Tree N (items addend)) (n : lowered.Number) → NumberMeans checked slots n (value_of_term e)
-      → NumberStartsChain checked slots (lowered.operation lowered.sum n (lowered.literal (pos 0))) (outcome_of_remaining_addends rest) (value_of_simple (sum (Some sign.Plus) e rest))
+      → NumberStartsChain checked slots (lowered.operation lowered.sum n (lowered.literal (pos 0))) (outcome_of_remaining_addends rest) (value_of_simple_expression (sum (Some sign.Plus) e rest))
   unfolding evaluate
   plus-begins e rest n hn = (
     (λ z. value_of_term e z >>= apply_sign (Some sign.Plus)),
@@ -80,7 +80,7 @@ module _ {N : Type 0} (checked : TypeMeanings N) (slots : N → Slot) where
     λ z shown. grouped-then (value_of_term e z) (apply_sign (Some sign.Plus)) (outcome_of_remaining_addends rest z),
   )
 
-  pub minus-begins : (e : Tree N term) (rest : Tree N (items addend)) (n : lowered.Number) → NumberMeans checked slots n (value_of_term e) → NumberStartsChain checked slots (lowered.negative n) (outcome_of_remaining_addends rest) (value_of_simple (sum (Some sign.Minus) e rest))
+  pub minus-begins : (e : Tree N term) (rest : Tree N (items addend)) (n : lowered.Number) → NumberMeans checked slots n (value_of_term e) → NumberStartsChain checked slots (lowered.negative n) (outcome_of_remaining_addends rest) (value_of_simple_expression (sum (Some sign.Minus) e rest))
   unfolding evaluate
   minus-begins e rest n hn = (
     (λ z. value_of_term e z >>= apply_sign (Some sign.Minus)),

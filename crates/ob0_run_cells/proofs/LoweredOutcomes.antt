@@ -10,7 +10,7 @@ use Rattle.ob0_tree.specs.declared.tree.MultiplyOperator.TheVariants as multiply
 use Rattle.ob0_language_values.specs.Values.{End, Outcome, Overflow, Place, Shape, Value, add, checked_division, division_outcome, ends_run_with, fits_in_32_bits, succeeds_with, checked_number, multiply, number, or_stuck, quotient, apply_relation, remainder, apply_sign, truth, ◌>>=◌}
 use Rattle.ob0_language_runs.specs.TypeAgreement.{PlaceHasType, StoreTyping}
 use Rattle.ob0_run_machine.specs.Evaluation as machine
-use Rattle.ob0_run_machine.specs.Lowered as lowered
+use Rattle.ob0_run_machine.specs.LoweredSyntax as lowered
 use Rattle.ob0_run_cells.specs.Cells.{address}
 use Rattle.ob0_run_cells.specs.Lowering.{PlaceOutcomeHasType, outcome_of, relation_of}
 

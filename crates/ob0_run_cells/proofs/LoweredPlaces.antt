@@ -5,26 +5,26 @@ use Rattle.std.proofs.lemmas.Option.{get_or_from_slice_get}
 use Rattle.ob0_tree.specs.Tree.{Tree, designator, end, expression, field, index, items, more, selector}
 use Rattle.ob0_language_types.specs.Expressions.{Meanings, Object, a_constant, a_variable, designated_place, element_step, evaluate, evaluate_selectors, object_place, object_value}
 use Rattle.ob0_language_types.specs.Typing.{shape_of_field}
-use Rattle.ob0_language_types.specs.WellTyped.{Mode, TypeMeanings}
+use Rattle.ob0_language_types.specs.WellTyped.{ParameterMode, TypeMeanings}
 use Rattle.ob0_language_values.specs.Values.{FieldShapes, Index, Outcome, Place, Shape, Step, Store, Value, Values, array_shape, at_field, at_index, value_at_path, boolean_shape, count_values, elements, ends_run_with, succeeds_with, integer_shape, number, or_stuck, value_at_step, read_place, record_shape, truth, ◌>>=◌}
 use Rattle.ob0_language_runs.specs.TypeAgreement.{HasShape, RunObjectAgreesWithCheckedObject, PlaceHasType, StoreHasTypes, StoreTyping, shape_at_step, shape_at_path}
 use Rattle.ob0_language_runs.proofs.Sound.{is_elements}
 use Rattle.ob0_run_machine.specs.Evaluation as machine
 use Rattle.ob0_run_machine.specs.Evaluation.{Levels}
-use Rattle.ob0_run_machine.specs.Lowered as lowered
+use Rattle.ob0_run_machine.specs.LoweredSyntax as lowered
 use Rattle.ob0_run_cells.specs.Cells.{address, cells_of_store, field_offset, offset, size, store_cell_count, step_offset, truth_cell}
-use Rattle.ob0_run_cells.specs.Lowering.{OutcomeByMoment, PlaceOutcomeHasType, Moment, NumberMeans, PlaceStartsChain, PlaceMeans, IsMomentOfModule, Slot, TruthMeans, PlaceHoldsValue, extended_place, in_activation, by_reference, of_module, outcome_of, place_at_offset, place_of_designator, outcome_of_remaining_selectors, slot_address, slot_place, value_of_expression, value_of_factor}
+use Rattle.ob0_run_cells.specs.Lowering.{OutcomeByMoment, PlaceOutcomeHasType, Moment, NumberMeans, PlaceStartsChain, PlaceMeans, IsMomentOfModule, Slot, TruthMeans, PlaceHoldsValue, extended_place, in_activation, by_reference, in_module_activation, outcome_of, place_at_offset, place_of_designator, outcome_of_remaining_selectors, slot_address, slot_place, value_of_expression, value_of_factor}
 use Rattle.ob0_run_cells.proofs.LoweredNumbers.{each-then}
 use Rattle.ob0_run_cells.proofs.LoweredOutcomes.{Led, addresses, add_offset-same, given-same, gives-then, grouped-then, led-then, same, stuck-then, followed_by}
 use Rattle.ob0_run_cells.proofs.Places.{numbers_are_cells, parts_have_addresses, place-lies, places_are_slices, truths_are_cells}
 
 -- what names mean in the run, by what they mean in the checked module
 
-pub constant-is : (typing : StoreTyping) (v : Value) (a : Option (Object Place (List Mode))) → RunObjectAgreesWithCheckedObject typing (Some (a_constant v)) a → a ≡ Some (a_constant v)
+pub constant-is : (typing : StoreTyping) (v : Value) (a : Option (Object Place (List ParameterMode))) → RunObjectAgreesWithCheckedObject typing (Some (a_constant v)) a → a ≡ Some (a_constant v)
 constant-is typing v (Some (a_constant w)) h = ap (λ v. Some (a_constant v)) (sym h)
 constant-is typing v _ h = absurd h
 
-pub variable-is : (typing : StoreTyping) (s : Shape) (a : Option (Object Place (List Mode))) → RunObjectAgreesWithCheckedObject typing (Some (a_variable s)) a → (p : Place) × (a ≡ Some (a_variable p)) × PlaceHasType typing p s
+pub variable-is : (typing : StoreTyping) (s : Shape) (a : Option (Object Place (List ParameterMode))) → RunObjectAgreesWithCheckedObject typing (Some (a_variable s)) a → (p : Place) × (a ≡ Some (a_variable p)) × PlaceHasType typing p s
 variable-is typing s (Some (a_variable p)) h = (p, refl, h)
 variable-is typing s _ h = absurd h
 
@@ -69,7 +69,7 @@ each-place typing s (ends_run_with e) f g h each = refl
 -- addresses of slots
 
 pub slot-found : (ls : Levels) (cells : List ℤ) (slot : Slot) → slot_address ls slot < 2 ^ 64 → machine.address ls cells (slot_place slot) ≡ machine.gives (slot_address ls slot)
-slot-found ls cells (of_module at) h = refl
+slot-found ls cells (in_module_activation at) h = refl
 slot-found ls cells (in_activation zero at) h = ap machine.gives (add_offset-same (machine.innermost_level ls).base at h)
 slot-found ls cells (in_activation (suc up) at) h = ap machine.gives (add_offset-same (machine.level_at ls (suc up)).base at h)
 slot-found ls cells (by_reference up i) h = ap machine.gives (add_offset-same (slot_address ls (by_reference up i)) 0 (subst (λ n. n < 2 ^ 64) (sym (add-zero (slot_address ls (by_reference up i)))) h) ∙ add-zero (slot_address ls (by_reference up i)))
@@ -155,11 +155,11 @@ index-led typing store fits few p k n t fit o w e =
 
 -- a designator in an expression evaluates to what its place holds
 
-pub value-there : {N : Type 0} (active : Meanings N Place (List Mode)) (store : Store) (x : N) (path : Tree N (items selector)) (p : Place) → active.object_for x ≡ Some (a_variable p)
+pub value-there : {N : Type 0} (active : Meanings N Place (List ParameterMode)) (store : Store) (x : N) (path : Tree N (items selector)) (p : Place) → active.object_for x ≡ Some (a_variable p)
     → (object_value store (active.object_for x) >>= (λ v. evaluate_selectors active store v path >>= (λ steps. or_stuck (value_at_path steps v))))
     ≡ ((object_place (active.object_for x) >>= (λ p. or_stuck (read_place store p) >>= (λ v. evaluate_selectors active store v path >>= (λ steps. succeeds_with (extended_place p steps))))) >>= (λ p. or_stuck (read_place store p)))
 value-there {N} active store x path p e =
-    subst (λ o. (object_value {P = List Mode} store o >>= (λ v. evaluate_selectors active store v path >>= (λ steps. or_stuck (value_at_path steps v))))
+    subst (λ o. (object_value {P = List ParameterMode} store o >>= (λ v. evaluate_selectors active store v path >>= (λ steps. or_stuck (value_at_path steps v))))
     ≡ ((object_place o >>= (λ p. or_stuck (read_place store p) >>= (λ v. evaluate_selectors active store v path >>= (λ steps. succeeds_with (extended_place p steps))))) >>= (λ p. or_stuck (read_place store p)))) (sym e)
     (go (read_place store p) refl)
   where
@@ -180,17 +180,17 @@ number-there typing store fits (machine.gives a) (succeeds_with p) h =
 number-there typing store fits (machine.ends x) (ends_run_with y) h = ap (λ w. w >>= (λ a. ends_run_with y)) (h.is_same)
 number-there typing store fits _ _ h = let e = h.is_same in absurd (cc)
 
-is_true-cell : (b : Bool) → machine.is_true (truth_cell b) ≡ b
-is_true-cell true = refl
-is_true-cell false = refl
+is_cell_true-cell : (b : Bool) → machine.is_cell_true (truth_cell b) ≡ b
+is_cell_true-cell true = refl
+is_cell_true-cell false = refl
 
 pub truth-there : (typing : StoreTyping) (store : Store) → StoreHasTypes typing store → (o : machine.StepResult ℕ) (w : Outcome Place) → Led typing boolean_shape o w
-    → outcome_of truth (followed_by o (λ a. machine.gives (machine.is_true (machine.cell_at (cells_of_store store) a)))) ≡ (w >>= (λ p. or_stuck (read_place store p)))
+    → outcome_of truth (followed_by o (λ a. machine.gives (machine.is_cell_true (machine.cell_at (cells_of_store store) a)))) ≡ (w >>= (λ p. or_stuck (read_place store p)))
 truth-there typing store fits (machine.gives a) (succeeds_with p) h =
     let (found, writes) = truths_are_cells typing store p fits h.is_place in
     let (b, read, cell) = found in
     let e : a ≡ address typing p = given-same a (address typing p) h.is_same in
-    ap (λ n. succeeds_with (truth (machine.is_true n))) (get_or_from_slice_get (cells_of_store store) a (truth_cell b) (pos 0) (ap (slice_get (cells_of_store store)) e ∙ cell)) ∙ (ap (λ b. succeeds_with (truth b)) (is_true-cell b) ∙ sym (ap or_stuck read))
+    ap (λ n. succeeds_with (truth (machine.is_cell_true n))) (get_or_from_slice_get (cells_of_store store) a (truth_cell b) (pos 0) (ap (slice_get (cells_of_store store)) e ∙ cell)) ∙ (ap (λ b. succeeds_with (truth b)) (is_cell_true-cell b) ∙ sym (ap or_stuck read))
 truth-there typing store fits (machine.ends x) (ends_run_with y) h = ap (λ w. w >>= (λ a. ends_run_with y)) (h.is_same)
 truth-there typing store fits _ _ h = let e = h.is_same in absurd (cc)
 
@@ -222,8 +222,8 @@ module _ {N : Type 0} (checked : TypeMeanings N) (slots : N → Slot) where
         let within = (places_are_slices z.typing z.store p s shown.store_fits fit).within in
         let few : store_cell_count z.typing < 2 ^ 64 = shown.store_is_addressable in
         let bound : slot_address z.levels (slots x) < 2 ^ 64 = omega (arith, within, there, few) in (
-          ap (outcome_of same) (slot-found z.levels (cells_of_store z.store) (slots x) bound) ∙ (ap succeeds_with there ∙ sym (ap (λ o. addresses z.typing (object_place {P = List Mode} o)) ep)),
-          subst (λ o. PlaceOutcomeHasType z.typing s (object_place {P = List Mode} o)) (sym ep) fit,
+          ap (outcome_of same) (slot-found z.levels (cells_of_store z.store) (slots x) bound) ∙ (ap succeeds_with there ∙ sym (ap (λ o. addresses z.typing (object_place {P = List ParameterMode} o)) ep)),
+          subst (λ o. PlaceOutcomeHasType z.typing s (object_place {P = List ParameterMode} o)) (sym ep) fit,
         )),
     λ z shown. refl,
   )
@@ -286,13 +286,13 @@ module _ {N : Type 0} (checked : TypeMeanings N) (slots : N → Slot) where
   unfolding evaluate
   number-constant x n e z shown =
       let is_bound : z.active.object_for x ≡ Some (a_constant (number n)) = constant-is z.typing (number n) (z.active.object_for x) (subst (λ o. RunObjectAgreesWithCheckedObject z.typing o (z.active.object_for x)) e (shown.names_fit.0 x)) in
-      sym (ap (λ o. object_value {P = List Mode} z.store o >>= (λ v. succeeds_with [] >>= (λ steps. or_stuck (value_at_path steps v)))) is_bound)
+      sym (ap (λ o. object_value {P = List ParameterMode} z.store o >>= (λ v. succeeds_with [] >>= (λ steps. or_stuck (value_at_path steps v)))) is_bound)
 
   pub truth-constant : (x : N) (b : Bool) → checked.object_for x ≡ Some (a_constant (truth b)) → TruthMeans checked slots (lowered.constant b) (value_of_factor (designator x end))
   unfolding evaluate
   truth-constant x b e z shown =
       let is_bound : z.active.object_for x ≡ Some (a_constant (truth b)) = constant-is z.typing (truth b) (z.active.object_for x) (subst (λ o. RunObjectAgreesWithCheckedObject z.typing o (z.active.object_for x)) e (shown.names_fit.0 x)) in
-      sym (ap (λ o. object_value {P = List Mode} z.store o >>= (λ v. succeeds_with [] >>= (λ steps. or_stuck (value_at_path steps v)))) is_bound)
+      sym (ap (λ o. object_value {P = List ParameterMode} z.store o >>= (λ v. succeeds_with [] >>= (λ steps. or_stuck (value_at_path steps v)))) is_bound)
 
   pub block-designator : (q : lowered.Place) (s : Shape) (x : N) (v : Shape) (path : Tree N (items selector)) → checked.object_for x ≡ Some (a_variable v) → PlaceMeans checked slots q s (place_of_designator x path) → PlaceHoldsValue checked slots q s (value_of_factor (designator x path))
   unfolding evaluate designated_place

@@ -1,25 +1,25 @@
 -- The run of a lowered program is the run of its module.
 use Rattle.std.specs.Option.{IfSome}
 use Rattle.std.proofs.Common.{◌≡◌, ℕ, ◌+◌, true, List, [], ℤ, sym, refl, ap, ◌∙◌, subst, arith}
-use Rattle.ob0_tree.specs.Tree.{Tree, is_module, module_text}
+use Rattle.ob0_tree.specs.Tree.{Tree, forms_module, module_text}
 use Rattle.ob0_language_names.specs.Names.{Naming, naming_by_label}
-use Rattle.ob0_language_names.specs.Parts.{block_statements}
+use Rattle.ob0_language_names.specs.BlockParts.{block_statements}
 use Rattle.ob0_language_names.specs.Scopes.{numbered}
 use Rattle.ob0_language_types.specs.Environments.{outermost_environment}
 use Rattle.ob0_language_types.specs.WellTyped.{WellTyped, passes_type_check}
 use Rattle.ob0_language_types.proofs.Proved.{numbering_keeps_type_check-holds}
 use Rattle.ob0_language_runs.specs.TypeAgreement.{StoreTyping}
-use Rattle.ob0_language_runs.specs.Freed.{call_freeing_variables, run_freeing_variables}
+use Rattle.ob0_language_runs.specs.FreedVariables.{call_freeing_variables, run_freeing_variables}
 use Rattle.ob0_language_runs.specs.Runs.{Frame, Progress, Run, State, execute_body, run_result, continue_in_frame, run_numbered, run_with_naming, running, stopped}
 use Rattle.ob0_language_runs.proofs.FreeingKeepsRuns.{freeing-keeps}
 use Rattle.ob0_language_runs.proofs.Proved.{numbering_keeps_runs-holds}
 use Rattle.ob0_run_machine.specs.Execution as execution
-use Rattle.ob0_run_machine.specs.Lowered as lowered
-use Rattle.ob0_run_cells.specs.ActivationLaws.{LoweringKeepsRuns, run_of}
+use Rattle.ob0_run_machine.specs.LoweredSyntax as lowered
+use Rattle.ob0_run_cells.specs.LoweringLaws.{LoweringKeepsRuns, run_of}
 use Rattle.ob0_run_cells.specs.Activations.{FirstBindingsAgree, PlacementState, ProgramMeansModule, RoutineTable, outermost_placement}
 use Rattle.ob0_run_cells.specs.Cells.{store_cell_count}
 use Rattle.ob0_run_cells.specs.LoweredStatements.{ProgressRepresents, StateRepresents}
-use Rattle.ob0_run_cells.specs.Lowering.{of_module}
+use Rattle.ob0_run_cells.specs.Lowering.{in_module_activation}
 use Rattle.ob0_run_cells.proofs.CallsLowered.{body-represents, calls-known, with-cells}
 use Rattle.ob0_run_cells.proofs.PlacedDeclarations.{FramePlaced, block-placed}
 
@@ -39,7 +39,7 @@ run_result-same typing _ _ h = absurd h
 
 run-freed : {N : Type 0} (naming : Naming N) (m : Tree N module_text) (program : lowered.LoweredCode) (c t : ℕ) (input : List ℤ) → passes_type_check naming m ≡ true → ProgramMeansModule naming m program → IfSome (execution.run program input c t) (λ r. run_of r ≡ run_freeing_variables naming m input c t)
 unfolding execution.run run_freeing_variables passes_type_check
-run-freed {N} naming (is_module x b closing) program c t input fits means =
+run-freed {N} naming (forms_module x b closing) program c t input fits means =
     let start : State = record { store = []; input = input; output = [] } in
     let low : execution.MachineState = record { cells = execution.zeros program.cells; input = input; output = [] } in
     let p : PlacementState N = record { placement = outermost_placement naming; cells = 0; var_parameters_so_far = 0 } in
@@ -51,7 +51,7 @@ run-freed {N} naming (is_module x b closing) program c t input fits means =
       placing_fits = predeclared (predeclared (predeclared (predeclared (predeclared (predeclared (predeclared tt))))));
       cells_counted = refl;
     } in
-    let (g, after, q, eg, total, body_means, part) = block-placed table [] execution.module_levels 0 of_module (λ c. omega arith) 0 program.cells program.body b (outermost_environment naming) p f frame fits means in
+    let (g, after, q, eg, total, body_means, part) = block-placed table [] execution.module_levels 0 in_module_activation (λ c. omega arith) 0 program.cells program.body b (outermost_environment naming) p f frame fits means in
     let counted : 0 + q.cells ≡ store_cell_count part.typing_now = part.frame.cells_counted in
     let runs_body = execution.execute_sequence (execution.call program.procedures c t) t execution.module_levels program.body in
     let statements = execute_body naming g.env (call_freeing_variables naming c t g.env) t (block_statements b) record start { store = g.store } in

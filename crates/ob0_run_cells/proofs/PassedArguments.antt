@@ -5,14 +5,14 @@ use Rattle.std.proofs.lemmas.Bool.{le-leb}
 use Rattle.ob0_tree.specs.Tree.{Tree, arguments, calls, expression, items, maybe, selector}
 use Rattle.ob0_language_types.specs.Arguments.{call_arguments}
 use Rattle.ob0_language_types.specs.Expressions.{Object, a_procedure, designated_place, evaluate}
-use Rattle.ob0_language_types.specs.WellTyped.{FormalParameter, Mode, Signature, TypeMeanings}
+use Rattle.ob0_language_types.specs.WellTyped.{FormalParameter, ParameterMode, Signature, TypeMeanings}
 use Rattle.ob0_language_values.specs.Values.{Outcome, Place, Shape, Value, ends_run_with, succeeds_with, number, or_stuck, read_place, truth, ◌>>=◌}
 use Rattle.ob0_language_runs.specs.TypeAgreement.{ArgumentsMatchSignature, HasShape, RunObjectAgreesWithCheckedObject, PlaceHasType, StoreTyping, signature_modes}
 use Rattle.ob0_language_runs.specs.Runs.{Argument, Progress, State, evaluate_argument, evaluate_arguments, execute, argument_modes_of, perform_call, place_argument, continue_with_result, value_argument}
 use Rattle.ob0_language_runs.proofs.SoundStatements.{first-argument}
 use Rattle.ob0_run_machine.specs.Evaluation as machine
 use Rattle.ob0_run_machine.specs.Execution as execution
-use Rattle.ob0_run_machine.specs.Lowered as lowered
+use Rattle.ob0_run_machine.specs.LoweredSyntax as lowered
 use Rattle.ob0_run_cells.specs.Cells.{address, cells_of_store, cells_of, size, store_cell_count}
 use Rattle.ob0_run_cells.specs.LoweredStatements.{CodeMeansArgument, CodeMeansArguments, BodyContext, ProgressRepresents, StateRepresents, IsBodyOfModule, CodeMeansStatement, Target, place_argument_addresses, value_argument_cells, moment}
 use Rattle.ob0_run_cells.specs.Lowering.{Slot, end_of, outcome_of, place_of_designator, value_of_expression}
@@ -143,7 +143,7 @@ module _ {N : Type 0} (checked : TypeMeanings N) (slots : N → Slot) (targets :
       (λ q args more_passed. passes-on b.typing f fs done p q a args one more_passed))
   arguments-passed _ _ _ h done = absurd h
 
-pub procedure-is : (typing : StoreTyping) (signature : Signature) (a : Option (Object Place (List Mode))) → RunObjectAgreesWithCheckedObject typing (Some (a_procedure signature)) a → a ≡ Some (a_procedure (signature_modes signature))
+pub procedure-is : (typing : StoreTyping) (signature : Signature) (a : Option (Object Place (List ParameterMode))) → RunObjectAgreesWithCheckedObject typing (Some (a_procedure signature)) a → a ≡ Some (a_procedure (signature_modes signature))
 procedure-is typing signature (Some (a_procedure modes)) h = ap (λ m. Some (a_procedure m)) h
 procedure-is typing signature _ h = absurd h
 

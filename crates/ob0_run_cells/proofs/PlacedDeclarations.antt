@@ -4,7 +4,7 @@
 use Rattle.std.proofs.Common.{◌≡◌, ℕ, zero, suc, ◌+◌, true, ◌&&◌, List, [], ◌∷◌, ◌++◌, drop, length, map, replicate, ℤ, pos, slice_index_or, Some, option_and_then, option_map, sym, refl, ap, ◌∙◌, subst, arith, append-nil, append_assoc}
 use Rattle.std.proofs.lemmas.List.{replicate-append-replicate}
 use Rattle.ob0_tree.specs.Tree.{Tree, block, body, constant, declares, declares_constant, declares_type, declares_variable, end, forms_block, items, maybe, more, procedure, type_definition, variable}
-use Rattle.ob0_language_names.specs.Parts.{block_statements, constant_names, declared_type_names, names_in_list, procedure_name, section_constants, section_types, section_variables}
+use Rattle.ob0_language_names.specs.BlockParts.{block_statements, constant_names, declared_type_names, names_in_list, procedure_name, section_constants, section_types, section_variables}
 use Rattle.ob0_language_types.specs.Declarations.{constructors_before_variables, constructors_before_procedures, declare_constants, declare_types, procedure_constructor_count}
 use Rattle.ob0_language_types.specs.Environments.{meanings}
 use Rattle.ob0_language_types.specs.Expressions.{a_constant, a_procedure, a_type, a_variable}
@@ -18,8 +18,8 @@ use Rattle.ob0_language_runs.proofs.SoundCalls.{ArgumentsMatchSignature-grows, a
 use Rattle.ob0_language_types.proofs.Conditions.{both_true}
 use Rattle.ob0_language_types.proofs.TypedElsewhere.{then_some}
 use Rattle.ob0_run_machine.specs.Evaluation.{Level, Levels}
-use Rattle.ob0_run_machine.specs.Lowered as lowered
-use Rattle.ob0_run_cells.specs.Activations.{AreSized, RoutineTable, CodeMeansBlock, CodeMeansBody, PlacementState, Placement, PlacementMatchesActivation, RoutinesMeanProcedures, bind_without_place, in_slot, nowhere, local_procedure_target, add_declared_names_to_placement, add_name_to_placement, place_parameters, place_variable_declarations}
+use Rattle.ob0_run_machine.specs.LoweredSyntax as lowered
+use Rattle.ob0_run_cells.specs.Activations.{GivesSizesOfVariables, RoutineTable, CodeMeansBlock, CodeMeansBody, PlacementState, Placement, PlacementMatchesActivation, RoutinesMeanProcedures, add_names_without_place, in_slot, nowhere, local_procedure_target, add_declared_names_to_placement, add_name_to_placement, place_parameters, place_variable_declarations}
 use Rattle.ob0_run_cells.specs.Cells.{address, cells_of_store, cells_of, size, store_cell_count}
 use Rattle.ob0_run_cells.specs.LoweredStatements.{place_argument_addresses, value_argument_cells}
 use Rattle.ob0_run_cells.specs.Lowering.{Slot, in_activation, by_reference, slot_address}
@@ -47,7 +47,7 @@ pub record Extends {N : Type 0} (table : RoutineTable N) (typing : StoreTyping) 
   pub cells_added : cells_of_store g.store ≡ cells_of_store before ++ added
 
 -- names that are bound before others are sized if those are
-names-sized : {N : Type 0} (size_of : N → ℕ) (xs : List N) (s : Shape) (env : TypeEnvironment N) → AreSized size_of (bind_names xs (a_variable s) env) → AreSized size_of env
+names-sized : {N : Type 0} (size_of : N → ℕ) (xs : List N) (s : Shape) (env : TypeEnvironment N) → GivesSizesOfVariables size_of (bind_names xs (a_variable s) env) → GivesSizesOfVariables size_of env
 names-sized size_of [] s env sized = sized
 names-sized size_of (x ∷ xs) s env sized = (names-sized size_of xs s ((x, a_variable s) ∷ env) sized).1
 
@@ -71,7 +71,7 @@ module _ {N : Type 0} (table : RoutineTable N) where
   -- constants and types
 
   pub constants-placed : (typing : StoreTyping) (ls : Levels) (cs : Tree N (items constant)) (checked after : TypeEnvironment N) (placement : Placement N) (active d : Activation N) → declare_constants table.naming checked cs ≡ Some after → declare_constants table.naming active cs ≡ Some d
-      → PlacementMatchesActivation table typing ls checked placement active → PlacementMatchesActivation table typing ls after (bind_without_place (constant_names cs) placement) d
+      → PlacementMatchesActivation table typing ls checked placement active → PlacementMatchesActivation table typing ls after (add_names_without_place (constant_names cs) placement) d
   unfolding declare_constants
   constants-placed typing ls end checked after placement active d e e' h =
       subst (λ a. PlacementMatchesActivation table typing ls a placement d) (some_inverse {a = checked} {b = after} e) (subst (λ d. PlacementMatchesActivation table typing ls checked placement d) (some_inverse {a = active} {b = d} e') h)
@@ -81,7 +81,7 @@ module _ {N : Type 0} (table : RoutineTable N) where
       constants-placed typing ls cs ((x, a_constant v) ∷ checked) after ((x, nowhere) ∷ placement) ((x, a_constant w) ∷ active) d e₁ e₂ record { activation_name_agrees = refl; placement_name_agrees = refl; here = tt; further = h }
 
   pub types-placed : (typing : StoreTyping) (ls : Levels) (k : ℕ) (ds : Tree N (items type_definition)) (checked after : TypeEnvironment N) (placement : Placement N) (active d : Activation N) → declare_types table.naming checked k ds ≡ Some after → declare_types table.naming active k ds ≡ Some d
-      → PlacementMatchesActivation table typing ls checked placement active → PlacementMatchesActivation table typing ls after (bind_without_place (declared_type_names ds) placement) d
+      → PlacementMatchesActivation table typing ls checked placement active → PlacementMatchesActivation table typing ls after (add_names_without_place (declared_type_names ds) placement) d
   unfolding declare_types
   types-placed typing ls k end checked after placement active d e e' h =
       subst (λ a. PlacementMatchesActivation table typing ls a placement d) (some_inverse {a = checked} {b = after} e) (subst (λ d. PlacementMatchesActivation table typing ls checked placement d) (some_inverse {a = active} {b = d} e') h)
@@ -107,14 +107,14 @@ module _ {N : Type 0} (table : RoutineTable N) where
         added.cells_added,
       )
 
-  variables-sized : (size_of : N → ℕ) (k : ℕ) (gs : Tree N (items variable)) (env inner : TypeEnvironment N) → declare_typed_variables table.naming k gs env ≡ Some inner → AreSized size_of inner → AreSized size_of env
+  variables-sized : (size_of : N → ℕ) (k : ℕ) (gs : Tree N (items variable)) (env inner : TypeEnvironment N) → declare_typed_variables table.naming k gs env ≡ Some inner → GivesSizesOfVariables size_of inner → GivesSizesOfVariables size_of env
   unfolding declare_typed_variables
-  variables-sized size_of k end env inner e sized = subst (AreSized size_of) (sym (some_inverse {a = env} {b = inner} e)) sized
+  variables-sized size_of k end env inner e sized = subst (GivesSizesOfVariables size_of) (sym (some_inverse {a = env} {b = inner} e)) sized
   variables-sized size_of k (more (declares_variable ns u) gs) env inner e sized =
       let (s, es, e₁) = then_some (denoted_type (meanings table.naming env) k u) (λ s. declare_typed_variables table.naming (k + constructor_count u) gs (bind_names (names_in_list ns) (a_variable s) env)) inner e in
       names-sized size_of (names_in_list ns) s env (variables-sized size_of (k + constructor_count u) gs (bind_names (names_in_list ns) (a_variable s) env) inner e₁ sized)
 
-  pub names-placed : (typing : StoreTyping) (ls : Levels) (base : ℕ) (at : ℕ → Slot) → ((c : ℕ) → slot_address ls (at c) ≡ base + c) → (size_of : N → ℕ) (xs : List N) (s : Shape) (checked : TypeEnvironment N) (p : PlacementState N) (f : Frame N) → AreSized size_of (bind_names xs (a_variable s) checked) → FramePlaced table typing ls base checked p f
+  pub names-placed : (typing : StoreTyping) (ls : Levels) (base : ℕ) (at : ℕ → Slot) → ((c : ℕ) → slot_address ls (at c) ≡ base + c) → (size_of : N → ℕ) (xs : List N) (s : Shape) (checked : TypeEnvironment N) (p : PlacementState N) (f : Frame N) → GivesSizesOfVariables size_of (bind_names xs (a_variable s) checked) → FramePlaced table typing ls base checked p f
       → (n : ℕ) × ((add_declared_names_to_placement at size_of by_value xs p).cells ≡ p.cells + n) × Extends table typing ls base (bind_names xs (a_variable s) checked) (add_declared_names_to_placement at size_of by_value xs p) f.store (replicate n (pos 0)) (add_variables_to_frame xs (initial_value s) f)
   names-placed typing ls base at is size_of [] s checked p f sized h = (0, omega arith, extends-here typing ls base checked p f h)
   names-placed typing ls base at is size_of (x ∷ xs) s checked p f sized h =
@@ -130,7 +130,7 @@ module _ {N : Type 0} (table : RoutineTable N) where
       )
 
   pub variables-placed : (typing : StoreTyping) (ls : Levels) (base : ℕ) (at : ℕ → Slot) → ((c : ℕ) → slot_address ls (at c) ≡ base + c) → (size_of : N → ℕ) (k : ℕ) (gs : Tree N (items variable)) (checked inner : TypeEnvironment N) (p : PlacementState N) (f : Frame N) → FramePlaced table typing ls base checked p f
-      → declare_typed_variables table.naming k gs checked ≡ Some inner → AreSized size_of inner
+      → declare_typed_variables table.naming k gs checked ≡ Some inner → GivesSizesOfVariables size_of inner
       → (g : Frame N) × (n : ℕ) × (declare_variables table.naming k gs f ≡ Some g) × ((place_variable_declarations at size_of gs p).cells ≡ p.cells + n) × Extends table typing ls base inner (place_variable_declarations at size_of gs p) f.store (replicate n (pos 0)) g
   unfolding declare_typed_variables declare_variables
   variables-placed typing ls base at is size_of k end checked inner p f h e sized =
@@ -180,8 +180,8 @@ module _ {N : Type 0} (table : RoutineTable N) where
       let (d₁, ed₁, fit₁) = constants-run table.naming typing checked f.env (section_constants cs) consts h.environment_fits ec in
       let placed₁ = constants-placed typing ls (section_constants cs) checked consts p.placement f.env d₁ ec ed₁ h.placing_fits in
       let (d₂, ed₂, fit₂) = types-run table.naming typing consts d₁ k (section_types ts) first fit₁ e₄ in
-      let placed₂ = types-placed typing ls k (section_types ts) consts first (bind_without_place (constant_names (section_constants cs)) p.placement) d₁ d₂ e₄ ed₂ placed₁ in
-      let p₂ : PlacementState N = record p { placement = bind_without_place (declared_type_names (section_types ts)) (bind_without_place (constant_names (section_constants cs)) p.placement) } in
+      let placed₂ = types-placed typing ls k (section_types ts) consts first (add_names_without_place (constant_names (section_constants cs)) p.placement) d₁ d₂ e₄ ed₂ placed₁ in
+      let p₂ : PlacementState N = record p { placement = add_names_without_place (declared_type_names (section_types ts)) (add_names_without_place (constant_names (section_constants cs)) p.placement) } in
       let q : PlacementState N = place_variable_declarations at means.size_of (section_variables vs) p₂ in
       let total : p.cells + cells ≡ q.cells = means.cells_counted in
       let f₂ : Frame N = record { env = d₂; store = f.store } in

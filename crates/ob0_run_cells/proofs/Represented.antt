@@ -7,7 +7,7 @@ use Rattle.ob0_language_runs.specs.TypeAgreement.{PlaceHasType, StoreHasTypes, S
 use Rattle.ob0_language_runs.specs.Runs.{Progress, State, choose_by_truth, continue_with, append_output, read_number, running, stopped, store_at, execute_while, execute_repeat, continue_with_result}
 use Rattle.ob0_run_machine.specs.Evaluation as machine
 use Rattle.ob0_run_machine.specs.Execution as execution
-use Rattle.ob0_run_machine.specs.Lowered as lowered
+use Rattle.ob0_run_machine.specs.LoweredSyntax as lowered
 use Rattle.ob0_run_cells.specs.Cells.{address, cells_of_store, truth_cell}
 use Rattle.ob0_run_cells.specs.LoweredStatements.{BodyContext, ProgressRepresents, StateRepresents, IsBodyOfModule, Target, moment, printed_item_of}
 use Rattle.ob0_run_cells.specs.Lowering.{OutcomeByMoment, Moment, NumberMeans, PlaceMeans, IsMomentOfModule, Slot, TruthMeans, end_of, outcome_of}

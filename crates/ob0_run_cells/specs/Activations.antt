@@ -1,7 +1,7 @@
 -- States where lowered code finds the variables and procedures of a module, and when a program is
 -- correct code for a module (`ProgramMeansModule`). A placement (`Placement`) has the place of each
 -- name of an environment: a slot for a variable, a target for a procedure. Variables of the module
--- are `of_module`, at offsets that begin with 0. Variables of a procedure are `in_activation 0`,
+-- are `in_module_activation`, at offsets that begin with 0. Variables of a procedure are `in_activation 0`,
 -- after its value parameters. VAR parameters are `by_reference 0`, by their index among the VAR
 -- parameters. A procedure may have any index, if the entry of the routine table at this index is
 -- correct code for the procedure's block. `PlacementMatchesActivation` states that each binding of
@@ -11,19 +11,19 @@
 use Rattle.std.specs.Prelude.{◌≡◌, ℕ, suc, ◌+◌, true, false, List, [], ◌∷◌, drop, slice_get, Some}
 use Rattle.ob0_tree.specs.Tree.{Tree, begins, block, body, declares, declares_procedure, declares_variable, end, forms_block, item, items, maybe, module_text, more, none, one, procedure, variable}
 use Rattle.ob0_language_names.specs.Names.{Label, Naming, naming_by_label}
-use Rattle.ob0_language_names.specs.Parts.{block_constants, block_types, block_variables, constant_names, formal_sections, module_block, declared_type_names, names_in_list, procedure_formals, procedure_name}
+use Rattle.ob0_language_names.specs.BlockParts.{block_constants, block_types, block_variables, constant_names, formal_sections, module_block, declared_type_names, names_in_list, procedure_formals, procedure_name}
 use Rattle.ob0_language_types.specs.Declarations.{constructors_before_variables, constructors_before_procedures, declare_constants_and_types, formals_constructor_count, procedure_constructor_count}
 use Rattle.ob0_language_types.specs.Environments.{meanings, outermost_environment}
-use Rattle.ob0_language_types.specs.Expressions.{Object, a_constant, a_procedure, a_standard, a_type, a_variable}
-use Rattle.ob0_language_types.specs.WellTyped.{Mode, Signature, TypeEnvironment, TypedParameter, bind_typed_parameters, by_place, by_value, declare_typed_variables, bind_procedure, typed_parameters}
+use Rattle.ob0_language_types.specs.Expressions.{Object, a_constant, a_procedure, a_standard_procedure, a_type, a_variable}
+use Rattle.ob0_language_types.specs.WellTyped.{ParameterMode, Signature, TypeEnvironment, TypedParameter, bind_typed_parameters, by_place, by_value, declare_typed_variables, bind_procedure, typed_parameters}
 use Rattle.ob0_language_values.specs.Values.{Place, Shape}
 use Rattle.ob0_language_runs.specs.TypeAgreement.{PlaceHasType, StoreTyping}
 use Rattle.ob0_language_runs.specs.Runs.{Activation, ProcedureText}
 use Rattle.ob0_run_machine.specs.Evaluation.{Levels}
-use Rattle.ob0_run_machine.specs.Lowered as lowered
+use Rattle.ob0_run_machine.specs.LoweredSyntax as lowered
 use Rattle.ob0_run_cells.specs.Cells.{address, size}
 use Rattle.ob0_run_cells.specs.LoweredStatements.{CodeMeansSequence, Target}
-use Rattle.ob0_run_cells.specs.Lowering.{Slot, in_activation, by_reference, of_module, slot_address}
+use Rattle.ob0_run_cells.specs.Lowering.{Slot, in_activation, by_reference, in_module_activation, slot_address}
 
 -- The place of a declaration in lowered code: a slot for a variable, a target for a procedure, or
 -- `nowhere` for any other declaration.
@@ -39,16 +39,16 @@ Placement N = List (N × BindingPlace)
 
 -- Returns the suffix of a placement that begins with the latest binding of a name. The suffix is
 -- empty if the name isn't bound.
-abbrev pub placement_from_binding : {N : Type 0} → Naming N → Placement N → N → Placement N
-placement_from_binding naming [] x = []
-placement_from_binding naming (b ∷ placement) x =
-    elim (naming.same x b.0) [ true ↦ b ∷ placement | false ↦ placement_from_binding naming placement x ]
+abbrev pub suffix_from_latest_binding : {N : Type 0} → Naming N → Placement N → N → Placement N
+suffix_from_latest_binding naming [] x = []
+suffix_from_latest_binding naming (b ∷ placement) x =
+    elim (naming.same x b.0) [ true ↦ b ∷ placement | false ↦ suffix_from_latest_binding naming placement x ]
 
 -- returns the slot of a variable, or the module's first cell if the place isn't a slot
 abbrev pub slot_of_binding_place : BindingPlace → Slot
-slot_of_binding_place nowhere = of_module 0
+slot_of_binding_place nowhere = in_module_activation 0
 slot_of_binding_place (in_slot s) = s
-slot_of_binding_place (at_target t) = of_module 0
+slot_of_binding_place (at_target t) = in_module_activation 0
 
 -- returns the target of a procedure, or index 0 and 0 levels out if the place isn't a target
 abbrev pub target_of_binding_place : BindingPlace → Target
@@ -59,7 +59,7 @@ target_of_binding_place (at_target t) = t
 -- Returns the slot of the first binding of a placement. Returns the module's first cell if this
 -- binding has no slot or the placement is empty.
 abbrev pub slot_of_first_binding : {N : Type 0} → Placement N → Slot
-slot_of_first_binding [] = of_module 0
+slot_of_first_binding [] = in_module_activation 0
 slot_of_first_binding (b ∷ placement) = slot_of_binding_place b.1
 
 -- Returns the target of the first binding of a placement. Returns index 0 and 0 levels out if this
@@ -70,16 +70,16 @@ target_of_first_binding (b ∷ placement) = target_of_binding_place b.1
 
 -- returns the slot of a name in a placement, or the module's first cell if the name has no slot
 abbrev pub slot_in_placement : {N : Type 0} → Naming N → Placement N → N → Slot
-slot_in_placement naming placement x = slot_of_first_binding (placement_from_binding naming placement x)
+slot_in_placement naming placement x = slot_of_first_binding (suffix_from_latest_binding naming placement x)
 
 -- returns the target of a name in a placement, or index 0 and 0 levels out if the name has no
 -- target
 abbrev pub target_in_placement : {N : Type 0} → Naming N → Placement N → N → Target
-target_in_placement naming placement x = target_of_first_binding (placement_from_binding naming placement x)
+target_in_placement naming placement x = target_of_first_binding (suffix_from_latest_binding naming placement x)
 
 -- returns the same slot, as seen from an activation that is nested one level deeper
 abbrev pub slot_seen_one_level_deeper : Slot → Slot
-slot_seen_one_level_deeper (of_module at) = of_module at
+slot_seen_one_level_deeper (in_module_activation at) = in_module_activation at
 slot_seen_one_level_deeper (in_activation up at) = in_activation (suc up) at
 slot_seen_one_level_deeper (by_reference up at) = by_reference (suc up) at
 
@@ -104,7 +104,7 @@ pub record PlacementState (N : Type 0) : Type 0 where
 
 -- Adds the name `x` to a placement. A variable or a value parameter gets the next `n` cells, and
 -- `at` converts the offset of these cells to a slot. A VAR parameter gets the next index.
-abbrev pub add_name_to_placement : {N : Type 0} → (ℕ → Slot) → Mode → N → ℕ → PlacementState N → PlacementState N
+abbrev pub add_name_to_placement : {N : Type 0} → (ℕ → Slot) → ParameterMode → N → ℕ → PlacementState N → PlacementState N
 add_name_to_placement at by_value x n p =
     record p { placement = (x, in_slot (at p.cells)) ∷ p.placement; cells = p.cells + n }
 add_name_to_placement at by_place x n p =
@@ -115,7 +115,7 @@ add_name_to_placement at by_place x n p =
 
 -- Adds the names of one declaration to a placement, one by one. `size_of` returns the number of
 -- cells of a name, and `at` converts the offset of a variable to its slot.
-abbrev pub add_declared_names_to_placement : {N : Type 0} → (ℕ → Slot) → (N → ℕ) → Mode → List N → PlacementState N
+abbrev pub add_declared_names_to_placement : {N : Type 0} → (ℕ → Slot) → (N → ℕ) → ParameterMode → List N → PlacementState N
     → PlacementState N
 add_declared_names_to_placement at size_of mode [] p = p
 add_declared_names_to_placement at size_of mode (x ∷ xs) p =
@@ -140,9 +140,9 @@ place_parameters (q ∷ ps) p =
 
 -- Adds names to a placement that have no place in lowered code, such as the names of constants and
 -- types.
-abbrev pub bind_without_place : {N : Type 0} → List N → Placement N → Placement N
-bind_without_place [] placement = placement
-bind_without_place (x ∷ xs) placement = bind_without_place xs ((x, nowhere) ∷ placement)
+abbrev pub add_names_without_place : {N : Type 0} → List N → Placement N → Placement N
+add_names_without_place [] placement = placement
+add_names_without_place (x ∷ xs) placement = add_names_without_place xs ((x, nowhere) ∷ placement)
 
 -- Adds the names that a block declares to a placement, except the names of its procedures.
 abbrev pub place_declarations : {N : Type 0} → (ℕ → Slot) → (N → ℕ) → Tree N block → PlacementState N
@@ -150,19 +150,19 @@ abbrev pub place_declarations : {N : Type 0} → (ℕ → Slot) → (N → ℕ) 
 place_declarations at size_of b p =
     place_variable_declarations at size_of (block_variables b) record p {
       placement
-          = bind_without_place (declared_type_names (block_types b))
-          (bind_without_place (constant_names (block_constants b)) p.placement);
+          = add_names_without_place (declared_type_names (block_types b))
+          (add_names_without_place (constant_names (block_constants b)) p.placement);
     }
 
 -- States that an object is a variable of `n` cells, or no variable.
-abbrev pub HasSize : ℕ → Object Shape Signature → Type 0
-HasSize n (a_variable s) = n ≡ size s
-HasSize n other = Unit {0}
+abbrev pub HasSizeIfVariable : ℕ → Object Shape Signature → Type 0
+HasSizeIfVariable n (a_variable s) = n ≡ size s
+HasSizeIfVariable n other = Unit {0}
 
 -- States that `size_of` returns the number of cells of each variable in an environment.
-abbrev pub AreSized : {N : Type 0} → (N → ℕ) → TypeEnvironment N → Type 0
-AreSized size_of [] = Unit {0}
-AreSized size_of (b ∷ env) = HasSize (size_of b.0) b.1 × AreSized size_of env
+abbrev pub GivesSizesOfVariables : {N : Type 0} → (N → ℕ) → TypeEnvironment N → Type 0
+GivesSizesOfVariables size_of [] = Unit {0}
+GivesSizesOfVariables size_of (b ∷ env) = HasSizeIfVariable (size_of b.0) b.1 × GivesSizesOfVariables size_of env
 
 -- returns the target of the procedure with this index, as seen from the activation in which the
 -- procedure is declared
@@ -226,7 +226,7 @@ pub record BlockIsPlaced {N : Type 0} (table : RoutineTable N) (at : ℕ → Slo
   pub first_declared : declare_constants_and_types table.naming checked k b ≡ Some first
   pub variables_declared : declare_typed_variables table.naming (constructors_before_variables k b) (block_variables b) first
       ≡ Some inner
-  pub are_sized : AreSized size_of inner
+  pub are_sized : GivesSizesOfVariables size_of inner
   pub cells_counted : p.cells + cells ≡ (place_declarations at size_of b p).cells
   pub inside : Inside inner (place_declarations at size_of b p).placement
 
@@ -312,7 +312,7 @@ BindingIsPlaced {N} table typing ls checked Fits x (a_procedure signature) (at_t
     code.text)
 BindingIsPlaced table typing ls checked Fits x (a_type s) nowhere (a_type u) = Unit {0}
 BindingIsPlaced table typing ls checked Fits x (a_constant v) nowhere (a_constant w) = Unit {0}
-BindingIsPlaced table typing ls checked Fits x (a_standard p) nowhere (a_standard q) = Unit {0}
+BindingIsPlaced table typing ls checked Fits x (a_standard_procedure p) nowhere (a_standard_procedure q) = Unit {0}
 BindingIsPlaced table typing ls checked Fits x _ _ _ = ⊥
 
 -- States that the first bindings of an environment, a placement and an activation have the same
@@ -364,7 +364,7 @@ abbrev pub ProgramMeansModule : {N : Type 0}
     → lowered.LoweredCode
     → Type 0
 ProgramMeansModule naming m program =
-    CodeMeansBlock record { routines = program.procedures; naming = naming } of_module
+    CodeMeansBlock record { routines = program.procedures; naming = naming } in_module_activation
     (outermost_environment naming) record
     { placement = outermost_placement naming; cells = 0; var_parameters_so_far = 0 } 0 program.cells
     program.body (module_block m)

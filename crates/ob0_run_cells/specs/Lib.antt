@@ -2,4 +2,4 @@ pub mod Cells
 pub mod Lowering
 pub mod LoweredStatements
 pub mod Activations
-pub mod ActivationLaws
+pub mod LoweringLaws

@@ -2,16 +2,16 @@
 -- a module's statements change the module's store, input and output.
 -- Rule: docs/LANGUAGE.md, Runs 5 to 9.
 use Rattle.std.specs.Prelude.{◌≡◌, ℕ, List, [], ◌∷◌, ◌++◌, length, map, ℤ, Some}
-use Rattle.ob0_tree.specs.Tree.{Tree, else_part, elsif_part, expression, further_statement, items, maybe, selector, sequence, statement}
+use Rattle.ob0_tree.specs.Tree.{Tree, else_part, elsif_part, expression, statement_after_semicolon, items, maybe, selector, sequence, statement}
 use Rattle.ob0_language_types.specs.Expressions.{Meanings, a_procedure, a_variable}
 use Rattle.ob0_language_types.specs.Typing.{lone_designator}
-use Rattle.ob0_language_types.specs.WellTyped.{FormalParameter, Mode, Signature, TypeMeanings, by_place, by_value}
+use Rattle.ob0_language_types.specs.WellTyped.{FormalParameter, ParameterMode, Signature, TypeMeanings, by_place, by_value}
 use Rattle.ob0_language_values.specs.Values.{Place, Shape, Store, boolean_shape, integer_shape}
 use Rattle.ob0_language_runs.specs.TypeAgreement.{ArgumentsMatchSignature, StoreHasTypes, StoreTyping}
 use Rattle.ob0_language_runs.specs.Runs.{Argument, CallFunction, Progress, State, PrintedItem, execute, execute_sequence, execute_else, execute_elsifs, execute_further_statements, line_out, number_out, place_argument, running, stopped, value_argument}
 use Rattle.ob0_run_machine.specs.Evaluation.{Levels}
 use Rattle.ob0_run_machine.specs.Execution as execution
-use Rattle.ob0_run_machine.specs.Lowered as lowered
+use Rattle.ob0_run_machine.specs.LoweredSyntax as lowered
 use Rattle.ob0_run_cells.specs.Cells.{address, cells_of_store, cells_of, size}
 use Rattle.ob0_run_cells.specs.Lowering.{IsMomentOfModule, Moment, NumberMeans, PlaceMeans, Slot, TruthMeans, PlaceHoldsValue, end_of, place_of_designator, value_of_expression}
 
@@ -64,7 +64,7 @@ pub record Target : Type 0 where
 -- module's calls, and `lowered_call_effect` is the effect of lowered calls.
 pub record BodyContext (N : Type 0) : Type 0 where
   pub typing : StoreTyping
-  pub active : Meanings N Place (List Mode)
+  pub active : Meanings N Place (List ParameterMode)
   pub levels : Levels
   pub enters : CallFunction N
   pub lowered_call_effect : execution.CallEffect
@@ -139,14 +139,14 @@ CodeMeansSequence checked slots targets cs a =
     (λ b t. execute_sequence b.active b.enters t a)
 
 -- States that instructions are correct code for the statements after the first one of a sequence.
-abbrev pub CodeMeansFurtherStatements : {N : Type 0}
+abbrev pub CodeMeansStatementsAfterFirst : {N : Type 0}
     → TypeMeanings N
     → (N → Slot)
     → (N → Target)
     → lowered.Instructions
-    → Tree N (items further_statement)
+    → Tree N (items statement_after_semicolon)
     → Type 0
-CodeMeansFurtherStatements checked slots targets cs rest =
+CodeMeansStatementsAfterFirst checked slots targets cs rest =
     StepRepresents checked slots targets (λ b t. execution.execute_sequence b.lowered_call_effect t b.levels cs)
     (λ b t. execute_further_statements b.active b.enters t rest)
 

@@ -10,31 +10,31 @@ use Rattle.ob0_tree.specs.declared.tree.Relation.{Relation}
 use Rattle.ob0_tree.specs.declared.tree.Relation.TheVariants as relation
 use Rattle.ob0_tree.specs.Tree.{Tree, addend, expression, factor, items, multiplier, selector, simple, term}
 use Rattle.ob0_language_types.specs.Expressions.{Meanings, a_variable, designated_place, evaluate, evaluate_addends, evaluate_factor, evaluate_multipliers, evaluate_simple, evaluate_term, evaluate_selectors}
-use Rattle.ob0_language_types.specs.WellTyped.{Mode, TypeMeanings}
+use Rattle.ob0_language_types.specs.WellTyped.{ParameterMode, TypeMeanings}
 use Rattle.ob0_language_values.specs.Values.{CallBound, Divisor, Done, End, Index, InputEnd, Outcome, Overflow, Place, Shape, Step, Store, TurnBound, Value, ends_run_with, succeeds_with, number, or_stuck, read_place, truth, ◌>>=◌}
 use Rattle.ob0_language_runs.specs.TypeAgreement.{RunMeaningsAgreeWithCheckedMeanings, PlaceHasType, StoreHasTypes, StoreTyping}
 use Rattle.ob0_run_machine.specs.Evaluation as machine
 use Rattle.ob0_run_machine.specs.Evaluation.{Levels, level_at}
-use Rattle.ob0_run_machine.specs.Lowered as lowered
+use Rattle.ob0_run_machine.specs.LoweredSyntax as lowered
 use Rattle.ob0_run_cells.specs.Cells.{address, cells_of_store, store_cell_count}
 
 -- The slot of a variable: where running code finds the variable. A variable is at an offset in the
 -- cells of the module or of the activation `up` levels out. A VAR parameter is found by the number
 -- of levels out and its index among the VAR parameters.
 pub data Slot : Type 0 where
-  of_module : (offset : ℕ) → Slot
+  in_module_activation : (offset : ℕ) → Slot
   in_activation : (up offset : ℕ) → Slot
   by_reference : (up index : ℕ) → Slot
 
 -- returns the address of the variable in a slot, as seen from the running activation
 abbrev pub slot_address : Levels → Slot → ℕ
-slot_address ls (of_module offset) = offset
+slot_address ls (in_module_activation offset) = offset
 slot_address ls (in_activation up offset) = (level_at ls up).base + offset
 slot_address ls (by_reference up index) = slice_index_or (level_at ls up).addresses index 0
 
 -- returns the lowered place of the variable in a slot
 abbrev pub slot_place : Slot → lowered.Place
-slot_place (of_module offset) = lowered.in_module offset
+slot_place (in_module_activation offset) = lowered.in_module offset
 slot_place (in_activation zero offset) = lowered.in_own_activation offset
 slot_place (in_activation (suc up) offset) = lowered.outside (suc up) offset
 slot_place (by_reference up index) = lowered.passed up index 0
@@ -53,7 +53,7 @@ place_at_offset (lowered.element q i n s at) k = lowered.element q i n s (machin
 pub record Moment (N : Type 0) : Type 0 where
   pub typing : StoreTyping
   pub store : Store
-  pub active : Meanings N Place (List Mode)
+  pub active : Meanings N Place (List ParameterMode)
   pub levels : Levels
 
 -- States that a moment belongs to a run of the checked module. The values in its store have the
@@ -155,8 +155,8 @@ abbrev pub value_of_expression : {N : Type 0} → Tree N expression → OutcomeB
 value_of_expression e m = evaluate m.active m.store e
 
 -- returns the value of a simple expression at a moment
-abbrev pub value_of_simple : {N : Type 0} → Tree N simple → OutcomeByMoment N Value
-value_of_simple e m = evaluate_simple m.active m.store e
+abbrev pub value_of_simple_expression : {N : Type 0} → Tree N simple → OutcomeByMoment N Value
+value_of_simple_expression e m = evaluate_simple m.active m.store e
 
 -- returns the value of a term at a moment
 abbrev pub value_of_term : {N : Type 0} → Tree N term → OutcomeByMoment N Value

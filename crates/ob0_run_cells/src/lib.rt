@@ -3,4 +3,4 @@
 //! each production of the grammar to its lowered code.
 #![tactic(auto)]
 
-pub mod activation_laws;
+pub mod lowering_laws;

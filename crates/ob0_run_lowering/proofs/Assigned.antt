@@ -12,24 +12,24 @@ use Rattle.ob0_language_types.proofs.Conditions.{same_known_shape-true}
 use Rattle.ob0_run_machine.specs.declared.code.Number.{Number}
 use Rattle.ob0_run_machine.specs.declared.code.Place.{Place}
 use Rattle.ob0_run_machine.specs.declared.code.Truth.{Truth}
-use Rattle.ob0_run_machine.specs.Lowered as lowered
+use Rattle.ob0_run_machine.specs.LoweredSyntax as lowered
 use Rattle.ob0_run_machine.specs.View.{number_of, place_of, truth_of}
 use Rattle.ob0_run_cells.specs.Cells.{size}
 use Rattle.ob0_run_cells.specs.LoweredStatements.{CodeMeansStatement, Target}
 use Rattle.ob0_run_cells.specs.Lowering.{PlaceMeans, Slot, PlaceHoldsValue, place_of_designator, value_of_expression}
 use Rattle.ob0_run_cells.proofs.LoweredAssignments.{block-assigned, number-assigned, truth-assigned}
-use Rattle.ob0_run_lowering.specs.LoweredMeans.{LocatesDesignator, LowersExpression, LoweredMeans}
-use Rattle.ob0_run_lowering.specs.declared.lowered.TypedPlace.{TypedPlace}
-use Rattle.ob0_run_lowering.specs.declared.lowered.LoweredExpression.TheVariants as code
+use Rattle.ob0_run_lowering.specs.LoweredExpressionMeans.{LocatesDesignator, LowersExpression, LoweredExpressionMeans}
+use Rattle.ob0_run_lowering.specs.declared.lowered_expression.TypedPlace.{TypedPlace}
+use Rattle.ob0_run_lowering.specs.declared.lowered_expression.LoweredExpression.TheVariants as code
 use Rattle.ob0_run_lowering.specs.declared.scene.Scene.{Scene}
 use Rattle.ob0_run_lowering.specs.LoweredBodies.{LowersStatement}
 
 module _ (checked : TypeMeanings Label) (slots : Label → Slot) (targets : Label → Target) (x : Label) (path : Tree Label (items selector)) (e : Tree Label expression) (q : lowered.Place) where
-  stores_number : (n : Number) (s : Shape) → PlaceMeans checked slots q s (place_of_designator x path) → LoweredMeans checked slots (code.Number n) s (value_of_expression e) → CodeMeansStatement checked slots targets (lowered.stores_number q (number_of n)) (assigns x path e)
+  stores_number : (n : Number) (s : Shape) → PlaceMeans checked slots q s (place_of_designator x path) → LoweredExpressionMeans checked slots (code.Number n) s (value_of_expression e) → CodeMeansStatement checked slots targets (lowered.stores_number q (number_of n)) (assigns x path e)
   stores_number n integer_shape hq hn = number-assigned checked slots targets x path e q (number_of n) hq hn
   stores_number n _ hq hn = absurd hn
 
-  stores_truth : (t : Truth) (s : Shape) → PlaceMeans checked slots q s (place_of_designator x path) → LoweredMeans checked slots (code.Truth t) s (value_of_expression e) → CodeMeansStatement checked slots targets (lowered.stores_truth q (truth_of t)) (assigns x path e)
+  stores_truth : (t : Truth) (s : Shape) → PlaceMeans checked slots q s (place_of_designator x path) → LoweredExpressionMeans checked slots (code.Truth t) s (value_of_expression e) → CodeMeansStatement checked slots targets (lowered.stores_truth q (truth_of t)) (assigns x path e)
   stores_truth t boolean_shape hq ht = truth-assigned checked slots targets x path e q (truth_of t) hq ht
   stores_truth t _ hq ht = absurd ht
 
@@ -38,12 +38,12 @@ module _ (checked : TypeMeanings Label) (slots : Label → Slot) (targets : Labe
       let P : ℕ → Type 0 = λ n. CodeMeansStatement checked slots targets (lowered.copies q r n) (assigns x path e) in
       subst P (sym hr.0) (block-assigned checked slots targets x path e q r s hq hr.1)
 
-  copies : (r : Place) (n : ℕ) (s : Shape) → PlaceMeans checked slots q s (place_of_designator x path) → LoweredMeans checked slots (code.Block r n) s (value_of_expression e) → CodeMeansStatement checked slots targets (lowered.copies q (place_of r) n) (assigns x path e)
+  copies : (r : Place) (n : ℕ) (s : Shape) → PlaceMeans checked slots q s (place_of_designator x path) → LoweredExpressionMeans checked slots (code.Block r n) s (value_of_expression e) → CodeMeansStatement checked slots targets (lowered.copies q (place_of r) n) (assigns x path e)
   copies r n (array_shape k m s) hq hr = copied (place_of r) n (array_shape k m s) hq hr
   copies r n (record_shape k fs) hq hr = copied (place_of r) n (record_shape k fs) hq hr
   copies r n _ hq hr = absurd hr
 
-  nothing : (c : lowered.Instruction) (s : Shape) → LoweredMeans checked slots code.Nothing s (value_of_expression e) → CodeMeansStatement checked slots targets c (assigns x path e)
+  nothing : (c : lowered.Instruction) (s : Shape) → LoweredExpressionMeans checked slots code.Nothing s (value_of_expression e) → CodeMeansStatement checked slots targets c (assigns x path e)
   nothing c integer_shape h = absurd h
   nothing c _ h = absurd h
 

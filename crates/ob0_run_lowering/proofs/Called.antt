@@ -8,29 +8,29 @@ use Rattle.ob0_tree.specs.View.{arguments_of, expression_of}
 use Rattle.ob0_tree.specs.declared.tree.Expression.{Expression}
 use Rattle.ob0_language_names.specs.Names.{Label}
 use Rattle.ob0_scope_table.specs.Resolution.{Resolution}
-use Rattle.ob0_types_table.specs.KnownTables.{shapes_of}
+use Rattle.ob0_types_table.specs.DeclarationTables.{shapes_of}
 use Rattle.ob0_types_table.specs.DeclarationTableView.{formal_view}
 use Rattle.ob0_types_table.specs.declared.known.FormalParameter as formal
 use Rattle.ob0_types_table.specs.Designators.{labelled_expressions}
 use Rattle.ob0_scope_table.specs.LabelledTrees.{tree_with_labels}
 use Rattle.ob0_types_table.proofs.LabelledParts.{all_listed}
 use Rattle.ob0_language_types.specs.Arguments.{call_arguments}
-use Rattle.ob0_language_types.specs.Expressions.{Object, a_procedure, a_standard, read_procedure, write_procedure, write_line_procedure}
+use Rattle.ob0_language_types.specs.Expressions.{Object, a_procedure, a_standard_procedure, read_procedure, write_procedure, write_line_procedure}
 use Rattle.ob0_language_types.specs.Typing.{lone_designator, type_of}
 use Rattle.ob0_language_types.specs.WellTyped.{FormalParameter, Signature, TypeMeanings, argument_matches, arguments_match, by_place, by_value, call_is_well_typed, signature_of, statement_is_well_typed, variable_type}
 use Rattle.ob0_language_values.specs.Values.{Shape, integer_shape}
 use Rattle.ob0_language_types.proofs.Conditions.{same_known_shape-true, both_true}
 use Rattle.ob0_run_machine.specs.declared.code.Argument as argument
 use Rattle.ob0_run_machine.specs.declared.code.Number.{Number}
-use Rattle.ob0_run_machine.specs.Lowered as lowered
+use Rattle.ob0_run_machine.specs.LoweredSyntax as lowered
 use Rattle.ob0_run_machine.specs.View.{argument_of, number_of, place_of}
 use Rattle.ob0_run_cells.specs.LoweredStatements.{CodeMeansStatement, Target}
 use Rattle.ob0_run_cells.specs.Lowering.{Slot}
 use Rattle.ob0_run_cells.proofs.LoweredAssignments.{line-means, reads-mean, writes-mean}
 use Rattle.ob0_run_cells.proofs.PassedArguments.{call-means}
-use Rattle.ob0_run_lowering.specs.LoweredMeans.{LocatesLoneDesignator, LowersArgument, LowersNumber}
+use Rattle.ob0_run_lowering.specs.LoweredExpressionMeans.{LocatesLoneDesignator, LowersArgument, LowersNumber}
 use Rattle.ob0_run_lowering.specs.Scenes.{SceneAgreesWithChecker, object_of_label, target_of_label}
-use Rattle.ob0_run_lowering.specs.declared.lowered.TypedPlace.{TypedPlace}
+use Rattle.ob0_run_lowering.specs.declared.lowered_expression.TypedPlace.{TypedPlace}
 use Rattle.ob0_run_lowering.specs.declared.scene.Scene.{Scene}
 use Rattle.ob0_run_lowering.specs.LoweredBodies.{LowersArguments, LowersStatement, arguments_or_empty_list}
 
@@ -120,34 +120,34 @@ module _ (scene : Scene) (x : Label) (given : Option (Vec Expression Global)) wh
       sym (ap (arguments_match checked signature) (given_listed scene.resolved.now given))
       ∙ signed checked signature (call_arguments written_arguments) (sym (ap (λ s. call_is_well_typed checked s (call_arguments written_arguments)) is) ∙ called_with scene x written_arguments (Some s) declared checked slots targets sees fits)
 
-  pub lower_read : (e : Expression) (l : TypedPlace) → slice_get (arguments_or_empty_list given) 0 ≡ Some e → LocatesLoneDesignator scene (expression_of e) l → object_of_label scene.types.now x ≡ Some (a_standard read_procedure) → LowersStatement scene (lowered.reads (place_of l.place)) (calls x written_arguments)
+  pub lower_read : (e : Expression) (l : TypedPlace) → slice_get (arguments_or_empty_list given) 0 ≡ Some e → LocatesLoneDesignator scene (expression_of e) l → object_of_label scene.types.now x ≡ Some (a_standard_procedure read_procedure) → LowersStatement scene (lowered.reads (place_of l.place)) (calls x written_arguments)
   lower_read e l here hl declared checked slots targets sees fits =
       let f : FormalParameter = record { mode = by_place; shape = integer_shape } in
-      let one = one_fits checked scene.resolved.now f (arguments_or_empty_list given) e here (all_fit (a_standard read_procedure) (f ∷ []) refl declared checked slots targets sees fits) in
+      let one = one_fits checked scene.resolved.now f (arguments_or_empty_list given) e here (all_fit (a_standard_procedure read_procedure) (f ∷ []) refl declared checked slots targets sees fits) in
       let at = (hl checked slots targets sees integer_shape (placed checked (tree_with_labels scene.resolved.now (expression_of e)) one.1)).1 in
-      reads-mean checked slots targets x written_arguments (tree_with_labels scene.resolved.now (expression_of e)) (place_of l.place) (called_as scene x written_arguments (Some (a_standard read_procedure)) declared checked slots targets sees fits) (given_listed scene.resolved.now given ∙ one.0) at
+      reads-mean checked slots targets x written_arguments (tree_with_labels scene.resolved.now (expression_of e)) (place_of l.place) (called_as scene x written_arguments (Some (a_standard_procedure read_procedure)) declared checked slots targets sees fits) (given_listed scene.resolved.now given ∙ one.0) at
 
-  pub written : (e : Expression) (n : Number) → slice_get (arguments_or_empty_list given) 0 ≡ Some e → LowersNumber scene (expression_of e) n → object_of_label scene.types.now x ≡ Some (a_standard write_procedure) → LowersStatement scene (lowered.writes (number_of n)) (calls x written_arguments)
+  pub written : (e : Expression) (n : Number) → slice_get (arguments_or_empty_list given) 0 ≡ Some e → LowersNumber scene (expression_of e) n → object_of_label scene.types.now x ≡ Some (a_standard_procedure write_procedure) → LowersStatement scene (lowered.writes (number_of n)) (calls x written_arguments)
   written e n here hn declared checked slots targets sees fits =
       let f : FormalParameter = record { mode = by_value; shape = integer_shape } in
-      let one = one_fits checked scene.resolved.now f (arguments_or_empty_list given) e here (all_fit (a_standard write_procedure) (f ∷ []) refl declared checked slots targets sees fits) in
+      let one = one_fits checked scene.resolved.now f (arguments_or_empty_list given) e here (all_fit (a_standard_procedure write_procedure) (f ∷ []) refl declared checked slots targets sees fits) in
       let has_value_one = hn checked slots targets sees (valued checked (tree_with_labels scene.resolved.now (expression_of e)) one.1) in
-      writes-mean checked slots targets x written_arguments (tree_with_labels scene.resolved.now (expression_of e)) (number_of n) (called_as scene x written_arguments (Some (a_standard write_procedure)) declared checked slots targets sees fits) (given_listed scene.resolved.now given ∙ one.0) has_value_one
+      writes-mean checked slots targets x written_arguments (tree_with_labels scene.resolved.now (expression_of e)) (number_of n) (called_as scene x written_arguments (Some (a_standard_procedure write_procedure)) declared checked slots targets sees fits) (given_listed scene.resolved.now given ∙ one.0) has_value_one
 
-  pub line_written : object_of_label scene.types.now x ≡ Some (a_standard write_line_procedure) → LowersStatement scene lowered.writes_line (calls x written_arguments)
+  pub line_written : object_of_label scene.types.now x ≡ Some (a_standard_procedure write_line_procedure) → LowersStatement scene lowered.writes_line (calls x written_arguments)
   line_written declared checked slots targets sees fits =
-      let listed = no_argument_fits checked (labelled_expressions scene.resolved.now (arguments_or_empty_list given)) (all_fit (a_standard write_line_procedure) [] refl declared checked slots targets sees fits) in
-      line-means checked slots targets x written_arguments (called_as scene x written_arguments (Some (a_standard write_line_procedure)) declared checked slots targets sees fits) (given_listed scene.resolved.now given ∙ listed)
+      let listed = no_argument_fits checked (labelled_expressions scene.resolved.now (arguments_or_empty_list given)) (all_fit (a_standard_procedure write_line_procedure) [] refl declared checked slots targets sees fits) in
+      line-means checked slots targets x written_arguments (called_as scene x written_arguments (Some (a_standard_procedure write_line_procedure)) declared checked slots targets sees fits) (given_listed scene.resolved.now given ∙ listed)
 
-  pub nothing_read : (c : lowered.Instruction) → slice_get (arguments_or_empty_list given) 0 ≡ None → object_of_label scene.types.now x ≡ Some (a_standard read_procedure) → LowersStatement scene c (calls x written_arguments)
+  pub nothing_read : (c : lowered.Instruction) → slice_get (arguments_or_empty_list given) 0 ≡ None → object_of_label scene.types.now x ≡ Some (a_standard_procedure read_procedure) → LowersStatement scene c (calls x written_arguments)
   nothing_read c here declared checked slots targets sees fits =
       let f : FormalParameter = record { mode = by_place; shape = integer_shape } in
-      absurd (none_fits checked scene.resolved.now f (arguments_or_empty_list given) here (all_fit (a_standard read_procedure) (f ∷ []) refl declared checked slots targets sees fits))
+      absurd (none_fits checked scene.resolved.now f (arguments_or_empty_list given) here (all_fit (a_standard_procedure read_procedure) (f ∷ []) refl declared checked slots targets sees fits))
 
-  pub nothing_written : (c : lowered.Instruction) → slice_get (arguments_or_empty_list given) 0 ≡ None → object_of_label scene.types.now x ≡ Some (a_standard write_procedure) → LowersStatement scene c (calls x written_arguments)
+  pub nothing_written : (c : lowered.Instruction) → slice_get (arguments_or_empty_list given) 0 ≡ None → object_of_label scene.types.now x ≡ Some (a_standard_procedure write_procedure) → LowersStatement scene c (calls x written_arguments)
   nothing_written c here declared checked slots targets sees fits =
       let f : FormalParameter = record { mode = by_value; shape = integer_shape } in
-      absurd (none_fits checked scene.resolved.now f (arguments_or_empty_list given) here (all_fit (a_standard write_procedure) (f ∷ []) refl declared checked slots targets sees fits))
+      absurd (none_fits checked scene.resolved.now f (arguments_or_empty_list given) here (all_fit (a_standard_procedure write_procedure) (f ∷ []) refl declared checked slots targets sees fits))
 
 -- arguments that are lowered one after the other
 abbrev pub signature_in : Scene → List formal.FormalParameter → Signature

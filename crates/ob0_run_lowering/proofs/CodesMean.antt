@@ -15,13 +15,13 @@ use Rattle.ob0_language_types.specs.Typing.{addition_type, negation_type, multip
 use Rattle.ob0_language_types.specs.WellTyped.{TypeMeanings}
 use Rattle.ob0_language_types.proofs.Literals.{some_inverse}
 use Rattle.ob0_language_values.specs.Values.{Outcome, Shape, Value, array_shape, boolean_shape, ends_run_with, succeeds_with, integer_shape, record_shape, ◌>>=◌}
-use Rattle.ob0_run_machine.specs.Lowered as lowered
+use Rattle.ob0_run_machine.specs.LoweredSyntax as lowered
 use Rattle.ob0_run_cells.specs.Cells.{size}
-use Rattle.ob0_run_cells.specs.Lowering.{OutcomeByMoment, RestCompletesChain, NumberStartsChain, NumberMeans, RestOfChain, Slot, TruthStartsChain, TruthMeans, PlaceHoldsValue, outcome_of_remaining_addends, outcome_of_remaining_multipliers, value_of_expression, value_of_factor, value_of_simple, value_of_term}
+use Rattle.ob0_run_cells.specs.Lowering.{OutcomeByMoment, RestCompletesChain, NumberStartsChain, NumberMeans, RestOfChain, Slot, TruthStartsChain, TruthMeans, PlaceHoldsValue, outcome_of_remaining_addends, outcome_of_remaining_multipliers, value_of_expression, value_of_factor, value_of_simple_expression, value_of_term}
 use Rattle.ob0_run_cells.proofs.LoweredNumbers as numbers
 use Rattle.ob0_run_cells.proofs.LoweredOutcomes.{difference-operates, product-operates, quotient-operates, remainder-operates, sum-operates}
 use Rattle.ob0_run_cells.proofs.LoweredTruths as truths
-use Rattle.ob0_run_lowering.specs.Codes.{ExpressionCode, CodeMeans, a_block, a_number, a_truth, addition_code, multiplication_code, negation_code, relation_code, signed_code}
+use Rattle.ob0_run_lowering.specs.Codes.{ExpressionCode, CodeMeans, a_block, a_number, a_truth, addition_code, multiplication_code, negation_code, relation_code, signed_term_code}
 
 -- a code so far, and what is left of a chain
 abbrev pub CodeLeads : TypeMeanings Label → (Label → Slot) → ExpressionCode → Shape → RestOfChain Label Value → OutcomeByMoment Label Value → Type 0
@@ -107,20 +107,20 @@ module _ (checked : TypeMeanings Label) (slots : Label → Slot) where
   term-begins (a_block q n) (record_shape k fs) f rest h = (h.0, value-begins q (record_shape k fs) f rest h.1)
   term-begins _ _ f rest h = absurd h
 
-  value-signed_code : (q : lowered.Place) (s : Shape) (e : Tree Label term) (rest : Tree Label (items addend)) → PlaceHoldsValue checked slots q s (value_of_term e) → RestCompletesChain checked slots (PlaceHoldsValue checked slots q s) (outcome_of_remaining_addends rest) (value_of_simple (sum None e rest))
+  value-signed_term_code : (q : lowered.Place) (s : Shape) (e : Tree Label term) (rest : Tree Label (items addend)) → PlaceHoldsValue checked slots q s (value_of_term e) → RestCompletesChain checked slots (PlaceHoldsValue checked slots q s) (outcome_of_remaining_addends rest) (value_of_simple_expression (sum None e rest))
   unfolding evaluate
-  value-signed_code q s e rest h = (value_of_term e, h, λ z shown. refl)
+  value-signed_term_code q s e rest h = (value_of_term e, h, λ z shown. refl)
 
-  unsigned-begins : (c : ExpressionCode) (x : Shape) (e : Tree Label term) (rest : Tree Label (items addend)) → CodeMeans checked slots c x (value_of_term e) → CodeLeads checked slots c x (outcome_of_remaining_addends rest) (value_of_simple (sum None e rest))
+  unsigned-begins : (c : ExpressionCode) (x : Shape) (e : Tree Label term) (rest : Tree Label (items addend)) → CodeMeans checked slots c x (value_of_term e) → CodeLeads checked slots c x (outcome_of_remaining_addends rest) (value_of_simple_expression (sum None e rest))
   unsigned-begins (a_number n) integer_shape e rest h = numbers.sum-begins checked slots e rest n h
   unsigned-begins (a_truth t) boolean_shape e rest h = truths.sum-begins checked slots e rest t h
-  unsigned-begins (a_block q n) (array_shape k m s) e rest h = (h.0, value-signed_code q (array_shape k m s) e rest h.1)
-  unsigned-begins (a_block q n) (record_shape k fs) e rest h = (h.0, value-signed_code q (record_shape k fs) e rest h.1)
+  unsigned-begins (a_block q n) (array_shape k m s) e rest h = (h.0, value-signed_term_code q (array_shape k m s) e rest h.1)
+  unsigned-begins (a_block q n) (record_shape k fs) e rest h = (h.0, value-signed_term_code q (record_shape k fs) e rest h.1)
   unsigned-begins _ _ e rest h = absurd h
 
   module _ (e : Tree Label term) (rest : Tree Label (items addend)) where
     abbrev SignedLeads : Option Sign → ExpressionCode → Shape → Type 0
-    SignedLeads g c y = CodeLeads checked slots (signed_code g c) y (outcome_of_remaining_addends rest) (value_of_simple (sum g e rest))
+    SignedLeads g c y = CodeLeads checked slots (signed_term_code g c) y (outcome_of_remaining_addends rest) (value_of_simple_expression (sum g e rest))
 
     one-code : (g : Option Sign) (c c' : ExpressionCode) (y y' : Shape) → c ≡ c' → Some y' ≡ Some y → SignedLeads g c' y' → SignedLeads g c y
     one-code g c c' y y' ec ey h = subst (λ y. SignedLeads g c y) (some_inverse ey) (subst (λ c. SignedLeads g c y') (sym ec) h)
@@ -159,7 +159,7 @@ module _ (checked : TypeMeanings Label) (slots : Label → Slot) where
 
   -- an expression without a relation is its sum, and what is in parentheses evaluates to the same
 
-  pub alone-means : (c : ExpressionCode) (s : Shape) (a : Tree Label simple) → CodeMeans checked slots c s (value_of_simple a) → CodeMeans checked slots c s (value_of_expression (compares a none))
+  pub alone-means : (c : ExpressionCode) (s : Shape) (a : Tree Label simple) → CodeMeans checked slots c s (value_of_simple_expression a) → CodeMeans checked slots c s (value_of_expression (compares a none))
   unfolding evaluate
   alone-means c s a h = h
 
@@ -177,17 +177,17 @@ module _ (checked : TypeMeanings Label) (slots : Label → Slot) where
     abbrev RelatedMeans : Relation → ExpressionCode → ExpressionCode → Shape → Type 0
     RelatedMeans r c d z = CodeMeans checked slots (relation_code r c d) z (value_of_expression (compares a (one (relates r b))))
 
-    truths-related : (r : Relation) (c d : ExpressionCode) (z : Shape) → ((t u : lowered.Truth) → TruthMeans checked slots t (value_of_simple a) → TruthMeans checked slots u (value_of_simple b) → RelatedMeans r (a_truth t) (a_truth u) boolean_shape)
-        → Some boolean_shape ≡ Some z → CodeMeans checked slots c boolean_shape (value_of_simple a) → CodeMeans checked slots d boolean_shape (value_of_simple b) → RelatedMeans r c d z
+    truths-related : (r : Relation) (c d : ExpressionCode) (z : Shape) → ((t u : lowered.Truth) → TruthMeans checked slots t (value_of_simple_expression a) → TruthMeans checked slots u (value_of_simple_expression b) → RelatedMeans r (a_truth t) (a_truth u) boolean_shape)
+        → Some boolean_shape ≡ Some z → CodeMeans checked slots c boolean_shape (value_of_simple_expression a) → CodeMeans checked slots d boolean_shape (value_of_simple_expression b) → RelatedMeans r c d z
     truths-related r c d z step h hc hd =
-        let (t, et, ht) = truth-code c (value_of_simple a) hc in
-        let (u, eu, hu) = truth-code d (value_of_simple b) hd in
+        let (t, et, ht) = truth-code c (value_of_simple_expression a) hc in
+        let (u, eu, hu) = truth-code d (value_of_simple_expression b) hd in
         two-codes (RelatedMeans r) et eu h (step t u ht hu)
 
-    pub related-means : (r : Relation) (c d : ExpressionCode) (x y z : Shape) → relation_type r x y ≡ Some z → CodeMeans checked slots c x (value_of_simple a) → CodeMeans checked slots d y (value_of_simple b) → RelatedMeans r c d z
+    pub related-means : (r : Relation) (c d : ExpressionCode) (x y z : Shape) → relation_type r x y ≡ Some z → CodeMeans checked slots c x (value_of_simple_expression a) → CodeMeans checked slots d y (value_of_simple_expression b) → RelatedMeans r c d z
     related-means r c d integer_shape integer_shape z h hc hd =
-        let (m, em, hm) = number-code c (value_of_simple a) hc in
-        let (n, en, hn) = number-code d (value_of_simple b) hd in
+        let (m, em, hm) = number-code c (value_of_simple_expression a) hc in
+        let (n, en, hn) = number-code d (value_of_simple_expression b) hd in
         two-codes (RelatedMeans r) em en h (truths.related-means checked slots a b r m n hm hn)
     related-means relation.Equal c d boolean_shape boolean_shape z h hc hd = truths-related relation.Equal c d z (truths.same-means checked slots a b) h hc hd
     related-means relation.NotEqual c d boolean_shape boolean_shape z h hc hd = truths-related relation.NotEqual c d z (truths.different-means checked slots a b) h hc hd

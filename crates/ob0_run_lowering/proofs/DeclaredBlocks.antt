@@ -2,7 +2,7 @@
 use Rattle.std.proofs.Common.{◌≡◌, ℕ, ◌==◌, Bool, true, false, cond, [], ◌∷◌, Some, refl, sym, ap, ◌∙◌, arith, eq-eqb, eqb-true}
 use Rattle.ob0_tree.specs.Tree.{Tree, module_text}
 use Rattle.ob0_language_names.specs.Names.{Label, Name, naming_by_label, declared}
-use Rattle.ob0_language_names.specs.Parts.{module_block}
+use Rattle.ob0_language_names.specs.BlockParts.{module_block}
 use Rattle.ob0_language_names.specs.Scopes.{numbered}
 use Rattle.ob0_language_types.specs.Bindings.{module_bindings, object_of_ordinal}
 use Rattle.ob0_language_types.specs.Environments.{environment_from_binding, outermost_environment}
@@ -12,7 +12,7 @@ use Rattle.ob0_language_values.specs.Values.{Shape}
 use Rattle.ob0_language_types.proofs.Bound.{newest_object-if}
 use Rattle.ob0_language_types.proofs.DeclaredPlaces.{Includes, bound-none, module-has, noted-binds, nothing}
 use Rattle.ob0_language_types.proofs.TypesByOrdinal.{TypeNoted, TypedBelow, typed_by_ordinal}
-use Rattle.ob0_run_lowering.specs.KnownBlocks.{BindingsAreDeclared, BlockBindingsAreDeclared}
+use Rattle.ob0_run_lowering.specs.DeclaredBindings.{BindingsAreDeclared, BlockBindingsAreDeclared}
 
 -- where ordinals descend, each binding is the one that is found
 tail-included : (all : TypeEnvironment Label) (i : ℕ) (o : Object Shape Signature) (noted : TypeNoted Name) → TypedBelow i noted → Includes all ((declared i, o) ∷ typed_by_ordinal noted) → Includes all (typed_by_ordinal noted)

@@ -8,12 +8,12 @@ use Rattle.ob0_run_cells.specs.Lowering.{Slot, by_reference}
 use Rattle.ob0_run_lowering.specs.Scenes.{place_seen_from, site_in_table}
 use Rattle.ob0_run_lowering.specs.declared.scene.LoweredSite.{LoweredSite}
 use Rattle.ob0_run_lowering.specs.declared.scene.LoweredSite.TheVariants as site
-use Rattle.ob0_tree.specs.Tree.{Tree, further_section, items, more, then_section}
+use Rattle.ob0_tree.specs.Tree.{Tree, section_after_semicolon, items, more, semicolon_then_section}
 use Rattle.ob0_tree.specs.View.{names_of, parameter_section_of}
 use Rattle.ob0_tree.specs.declared.tree.ParameterSection.{ParameterSection}
 use Rattle.ob0_scope_table.specs.LabelledTrees.{tree_with_labels}
 use Rattle.ob0_types_table.proofs.LabelledParts.{section-mode, section-names}
-use Rattle.ob0_language_names.specs.Parts.{names_in_list}
+use Rattle.ob0_language_names.specs.BlockParts.{names_in_list}
 use Rattle.ob0_scope_table.specs.Resolution.{Resolution}
 use Rattle.ob0_types_table.specs.DeclarationTableView.{mode_from_flag}
 use Rattle.ob0_language_names.specs.Names.{Label, Name, naming_by_spelling}
@@ -50,7 +50,7 @@ sites_before_hiding-same : (xs : List HiddenSite) (f g : ℕ → LoweredSite) �
 sites_before_hiding-same xs f g same k = ap (λ (h : ℕ → LoweredSite). sites_before_hiding xs h k) (λ i j. same j i)
 
 pub follows_itself : (w : VisibleSites) → HidesMoreSites w w
-follows_itself w = record { more = []; added = sym (append-nil w.hidden.items); within = tt; longer = le_refl (length w.sites.items); restores_locations = λ k. refl }
+follows_itself w = record { more = []; added = sym (append-nil w.hidden.items); within = tt; longer = le_refl (length w.sites.items); restores_sites = λ k. refl }
 
 pub follows_then : (w v u : VisibleSites) → HidesMoreSites w v → HidesMoreSites v u → HidesMoreSites w u
 follows_then w v u a b = record {
@@ -58,10 +58,10 @@ follows_then w v u a b = record {
   added = b.added ∙ ap (λ hs. hs ++ b.more) a.added ∙ append_assoc w.hidden.items a.more b.more;
   within = within-append (length u.sites.items) a.more b.more (within-weaken (length v.sites.items) (length u.sites.items) a.more b.longer a.within) b.within;
   longer = omega (arith, a.longer, b.longer);
-  restores_locations = λ k.
+  restores_sites = λ k.
       ap (λ f. f k) (sites_before_hiding-append a.more b.more (site_in_table u.sites.items))
-      ∙ sites_before_hiding-same a.more (sites_before_hiding b.more (site_in_table u.sites.items)) (site_in_table v.sites.items) b.restores_locations k
-      ∙ a.restores_locations k;
+      ∙ sites_before_hiding-same a.more (sites_before_hiding b.more (site_in_table u.sites.items)) (site_in_table v.sites.items) b.restores_sites k
+      ∙ a.restores_sites k;
 }
 
 -- what was bound in between is gone
@@ -71,7 +71,7 @@ follows_back w v u after a b g = record {
   added = g.0 ∙ a.added;
   within = within-weaken (length v.sites.items) (length after.sites.items) a.more (omega (arith, b.longer, g.2)) a.within;
   longer = omega (arith, a.longer, b.longer, g.2);
-  restores_locations = λ k. sites_before_hiding-same a.more (site_in_table after.sites.items) (site_in_table v.sites.items) g.1 k ∙ a.restores_locations k;
+  restores_sites = λ k. sites_before_hiding-same a.more (site_in_table after.sites.items) (site_in_table v.sites.items) g.1 k ∙ a.restores_sites k;
 }
 
 -- a site put into the table
@@ -100,11 +100,11 @@ back_on start now v mark last back less popped put = λ w f is.
         added = left.2;
         within = within-weaken (length now.sites.items) (length v.sites.items) left.0 (omega (arith, long)) (within-front (length now.sites.items) left.0 (last ∷ []) parts);
         longer = omega (arith, long, a.longer);
-        restores_locations = λ k.
+        restores_sites = λ k.
             sites_before_hiding-same left.0 (site_in_table v.sites.items) (sites_before_hiding (last ∷ []) (site_in_table now.sites.items)) (λ j. ap (λ xs. site_in_table xs j) put ∙ site-set now.sites.items last.ordinal last.earlier_site j room) k
             ∙ ap (λ f. f k) (sym (sites_before_hiding-append left.0 (last ∷ []) (site_in_table now.sites.items)))
             ∙ ap (λ hs. sites_before_hiding hs (site_in_table now.sites.items) k) (sym left.1)
-            ∙ a.restores_locations k;
+            ∙ a.restores_sites k;
       },
       long ∙ so_far.1,
     )
@@ -119,7 +119,7 @@ back_ends start now mark back all w f is =
     let a : HidesMoreSites w now = so_far.0 in
     let none : a.more ≡ [] = nil_of w.hidden.items a.more (omega (arith, ap length a.added, all, is)) in (
       a.added ∙ ap (λ hs. w.hidden.items ++ hs) none ∙ append-nil w.hidden.items,
-      λ k. ap (λ hs. sites_before_hiding hs (site_in_table now.sites.items) k) (sym none) ∙ a.restores_locations k,
+      λ k. ap (λ hs. sites_before_hiding hs (site_in_table now.sites.items) k) (sym none) ∙ a.restores_sites k,
       so_far.1,
     )
 
@@ -202,6 +202,6 @@ pub as_deep : (w v : VisibleSites) (f g : Frame) (m n : ℕ) (step : ℕ → Pla
 as_deep w v f g m n step same a = subst (λ k. PlacesNames w v f (step k) g) same a
 
 -- the names of a section, by how it is written
-pub section_step : (r : Resolution) (at : ℕ → Slot) (size_of : Label → ℕ) (s : ParameterSection) (fs : Tree Label (items further_section)) (p : PlacementState Label)
-    → place_parameter_sections at size_of (more (then_section (tree_with_labels r (parameter_section_of s))) fs) p ≡ place_parameter_sections at size_of fs (add_declared_names_to_placement at size_of (mode_from_flag s.by_reference) (names_in_list (tree_with_labels r (names_of s.names))) p)
+pub section_step : (r : Resolution) (at : ℕ → Slot) (size_of : Label → ℕ) (s : ParameterSection) (fs : Tree Label (items section_after_semicolon)) (p : PlacementState Label)
+    → place_parameter_sections at size_of (more (semicolon_then_section (tree_with_labels r (parameter_section_of s))) fs) p ≡ place_parameter_sections at size_of fs (add_declared_names_to_placement at size_of (mode_from_flag s.by_reference) (names_in_list (tree_with_labels r (names_of s.names))) p)
 section_step r at size_of s fs p = λ i. place_parameter_sections at size_of fs (add_declared_names_to_placement at size_of (section-mode mode_from_flag refl refl r s i) (section-names r s i) p)

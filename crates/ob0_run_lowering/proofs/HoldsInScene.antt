@@ -1,6 +1,6 @@
 -- What statements mean in a scene, production by production.
 use Rattle.std.proofs.Common.{◌≡◌, ◌&&◌, true, Some, sym, ap, ◌∙◌}
-use Rattle.ob0_tree.specs.Tree.{Tree, begins, branches, else_branch, else_part, elsif_branch, elsif_part, empty, end, expression, further_statement, items, maybe, more, none, one, repeat_loop, runs, sequence, statement, then_statement, while_loop}
+use Rattle.ob0_tree.specs.Tree.{Tree, begins, branches, else_branch, else_part, elsif_branch, elsif_part, empty, end, expression, statement_after_semicolon, items, maybe, more, none, one, repeat_loop, runs, sequence, statement, semicolon_then_statement, while_loop}
 use Rattle.ob0_tree.specs.View.{expression_of}
 use Rattle.ob0_tree.specs.declared.tree.Expression.{Expression}
 use Rattle.ob0_language_names.specs.Names.{Label, naming_by_label}
@@ -12,34 +12,34 @@ use Rattle.ob0_language_values.specs.Values.{boolean_shape}
 use Rattle.ob0_language_runs.specs.Runs.{execute}
 use Rattle.ob0_language_types.proofs.Conditions.{same_known_shape-true, both_true}
 use Rattle.ob0_run_machine.specs.declared.code.Truth.{Truth}
-use Rattle.ob0_run_machine.specs.Lowered as lowered
+use Rattle.ob0_run_machine.specs.LoweredSyntax as lowered
 use Rattle.ob0_run_machine.specs.View.{truth_of}
 use Rattle.ob0_run_cells.specs.Activations.{slot_in_placement, target_in_placement}
 use Rattle.ob0_run_cells.proofs.LoweredControl as control
-use Rattle.ob0_run_lowering.specs.LoweredMeans.{LowersTruth}
+use Rattle.ob0_run_lowering.specs.LoweredExpressionMeans.{LowersTruth}
 use Rattle.ob0_run_lowering.specs.declared.scene.Scene.{Scene}
-use Rattle.ob0_run_lowering.specs.LoweredBodies.{LowersBody, LowersCondition, LowersElse, LowersElsifs, LowersFurtherStatements, LowersSequence, LowersStatement}
+use Rattle.ob0_run_lowering.specs.LoweredBodies.{LowersBody, LowersCondition, LowersElse, LowersElsifs, LowersStatementsAfterFirst, LowersSequence, LowersStatement}
 
 module _ (scene : Scene) where
   -- sequences, from the beginning
-  pub none-left : LowersFurtherStatements scene lowered.no_statement end
+  pub none-left : LowersStatementsAfterFirst scene lowered.no_statement end
   none-left checked slots targets sees fits = control.sequence-ends checked slots targets
 
-  pub one-more : (a : Tree Label statement) (c : lowered.Instruction) (rest : Tree Label (items further_statement)) (cs : lowered.Instructions) → LowersStatement scene c a → LowersFurtherStatements scene cs rest → LowersFurtherStatements scene (lowered.next_statement c cs) (more (then_statement a) rest)
+  pub one-more : (a : Tree Label statement) (c : lowered.Instruction) (rest : Tree Label (items statement_after_semicolon)) (cs : lowered.Instructions) → LowersStatement scene c a → LowersStatementsAfterFirst scene cs rest → LowersStatementsAfterFirst scene (lowered.next_statement c cs) (more (semicolon_then_statement a) rest)
   unfolding statement_is_well_typed
   one-more a c rest cs hc hr checked slots targets sees fits =
       let both = both_true (statement_is_well_typed checked a) (further_statements_are_well_typed checked rest) fits in
       control.further-means checked slots targets a c rest cs (hc checked slots targets sees both.0) (hr checked slots targets sees both.1)
 
-  pub empty-more : (rest : Tree Label (items further_statement)) (cs : lowered.Instructions) → LowersFurtherStatements scene cs rest → LowersFurtherStatements scene cs (more (then_statement empty) rest)
+  pub empty-more : (rest : Tree Label (items statement_after_semicolon)) (cs : lowered.Instructions) → LowersStatementsAfterFirst scene cs rest → LowersStatementsAfterFirst scene cs (more (semicolon_then_statement empty) rest)
   unfolding statement_is_well_typed
   empty-more rest cs hr checked slots targets sees fits = control.further-empty checked slots targets rest cs (hr checked slots targets sees fits)
 
-  pub empty-alone : (cs : lowered.Instructions) → LowersFurtherStatements scene cs end → LowersSequence scene cs (runs empty end)
+  pub empty-alone : (cs : lowered.Instructions) → LowersStatementsAfterFirst scene cs end → LowersSequence scene cs (runs empty end)
   unfolding statement_is_well_typed
   empty-alone cs hr checked slots targets sees fits = control.first-empty checked slots targets end cs (hr checked slots targets sees fits)
 
-  pub from-first : (a : Tree Label statement) (rest : Tree Label (items further_statement)) (cs : lowered.Instructions) → LowersFurtherStatements scene cs (more (then_statement a) rest) → LowersSequence scene cs (runs a rest)
+  pub from-first : (a : Tree Label statement) (rest : Tree Label (items statement_after_semicolon)) (cs : lowered.Instructions) → LowersStatementsAfterFirst scene cs (more (semicolon_then_statement a) rest) → LowersSequence scene cs (runs a rest)
   unfolding statement_is_well_typed execute
   from-first a rest cs h checked slots targets sees fits = h checked slots targets sees fits
 
@@ -64,7 +64,7 @@ module _ (scene : Scene) where
 
   -- branches
   pub branches-lower : (e : Tree Label expression) (a : Tree Label sequence) (rest : Tree Label (items elsif_part)) (last : Tree Label (maybe else_part)) (t : lowered.Truth) (body : lowered.Instructions) (bs : lowered.Branches) (otherwise : lowered.Instructions)
-      → LowersCondition scene t e → LowersSequence scene body a → LowersElsifs scene bs otherwise rest last → LowersStatement scene (lowered.chooses (lowered.branch t body bs) otherwise) (branches e a rest last)
+      → LowersCondition scene t e → LowersSequence scene body a → LowersElsifs scene bs otherwise rest last → LowersStatement scene (lowered.chooses_branch (lowered.branch t body bs) otherwise) (branches e a rest last)
   unfolding statement_is_well_typed
   branches-lower e a rest last t body bs otherwise ht ha hr checked slots targets sees fits =
       let first = both_true (condition_is_boolean checked e) (sequence_is_well_typed checked a && (elsifs_are_well_typed checked rest && else_is_well_typed checked last)) fits in

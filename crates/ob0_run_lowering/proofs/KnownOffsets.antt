@@ -2,12 +2,12 @@
 use Rattle.std.proofs.Common.{◌≡◌, ◌≢◌, ℕ, List, [], ◌∷◌, length, None, refl}
 use Rattle.ob0_run_machine.specs.declared.code.Link.{Link}
 use Rattle.ob0_run_machine.specs.declared.code.Link as link
-use Rattle.ob0_run_machine.specs.Lowered as machine
+use Rattle.ob0_run_machine.specs.LoweredSyntax as machine
 use Rattle.ob0_run_machine.specs.View.{operation_with_link, operation_with_links}
 use Rattle.ob0_run_lowering.specs.Codes.{known_element_offset}
 
 pub operation_with_link-unknown : (l : Link) (left : machine.Number) (k s : ℕ) → known_element_offset (operation_with_link l left) k s ≡ None
-operation_with_link-unknown (link.SumLiteral n) left k s = refl
+operation_with_link-unknown (link.SumWithLiteral n) left k s = refl
 operation_with_link-unknown _ left k s = refl
 
 from-unknown : (left : machine.Number) (l : Link) (ls : List Link) (k s : ℕ) → known_element_offset (operation_with_links left (l ∷ ls)) k s ≡ None

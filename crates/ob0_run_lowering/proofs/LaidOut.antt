@@ -7,10 +7,10 @@ use Rattle.std.proofs.Math.Seq.{take-suc}
 use Rattle.ob0_language_names.specs.Names.{Name, same_name}
 use Rattle.ob0_run_machine.specs.Evaluation as machine
 use Rattle.ob0_language_types.specs.Expressions.{a_constant}
-use Rattle.ob0_types_table.specs.KnownTables.{DeclarationTableView, declared_object_in, shapes_of}
+use Rattle.ob0_types_table.specs.DeclarationTables.{DeclarationTableView, declared_object_in, shapes_of}
 use Rattle.ob0_types_table.specs.FieldPlaces.{selected_field, position_of_field}
-use Rattle.ob0_types_table.specs.DeclarationTableView.{field_shapes, entry_shape, faulty_shape, object_view, array_or_faulty, record_or_faulty, extended_shapes, type_shape}
-use Rattle.ob0_types_table.proofs.DeclarationTableView.{extended_shapes-push}
+use Rattle.ob0_types_table.specs.DeclarationTableView.{field_shapes, entry_shape, faulty_shape, object_view, array_or_faulty, record_or_faulty, shapes_after_entries, type_shape}
+use Rattle.ob0_types_table.proofs.DeclarationTableView.{shapes_after_entries-push}
 use Rattle.ob0_types_table.specs.declared.known.FieldId.{FieldId}
 use Rattle.ob0_types_table.specs.declared.known.TypeEntry as code
 use Rattle.ob0_types_table.specs.declared.known.Field.{Field}
@@ -114,16 +114,16 @@ laid_ends {shapes} {fields} {done} {cells} {offsets} h all =
     )
 
 -- the types so far
-pub table_goes_on : (entries : List code.TypeEntry) (done : ℕ) (layouts : List CellLayout) (x : code.TypeEntry) (next : CellLayout) (read layouts' : List CellLayout) → HaveLayouts (extended_shapes [] (take done entries)) layouts → done < length entries → x ≡ get_or entries done x
-    → read ≡ layouts → ((shapes : List Shape) → HaveLayouts shapes read → HasLayout (entry_shape shapes x) next) → layouts' ≡ layouts ++ next ∷ [] → HaveLayouts (extended_shapes [] (take (done + 1) entries)) layouts'
+pub table_goes_on : (entries : List code.TypeEntry) (done : ℕ) (layouts : List CellLayout) (x : code.TypeEntry) (next : CellLayout) (read layouts' : List CellLayout) → HaveLayouts (shapes_after_entries [] (take done entries)) layouts → done < length entries → x ≡ get_or entries done x
+    → read ≡ layouts → ((shapes : List Shape) → HaveLayouts shapes read → HasLayout (entry_shape shapes x) next) → layouts' ≡ layouts ++ next ∷ [] → HaveLayouts (shapes_after_entries [] (take (done + 1) entries)) layouts'
 table_goes_on entries done layouts x next read layouts' h less here same made pushed =
-    let so_far = extended_shapes [] (take done entries) in
+    let so_far = shapes_after_entries [] (take done entries) in
     let split : take (done + 1) entries ≡ take done entries ++ x ∷ [] = ap (λ n. take n entries) (add-one done) ∙ take-suc entries done x less ∙ ap (λ y. take done entries ++ y ∷ []) (sym here) in
-    let shapes : extended_shapes [] (take (done + 1) entries) ≡ so_far ++ entry_shape so_far x ∷ [] = ap (extended_shapes []) split ∙ extended_shapes-push [] (take done entries) x in
+    let shapes : shapes_after_entries [] (take (done + 1) entries) ≡ so_far ++ entry_shape so_far x ∷ [] = ap (shapes_after_entries []) split ∙ shapes_after_entries-push [] (take done entries) x in
     subst (λ ss. HaveLayouts ss layouts') (sym shapes) (subst (λ ls. HaveLayouts (so_far ++ entry_shape so_far x ∷ []) ls) (sym pushed) (one_more so_far layouts (entry_shape so_far x) next h (made so_far (subst (λ ls. HaveLayouts so_far ls) (sym same) h))))
 
-pub table_ends : (entries : List code.TypeEntry) (done : ℕ) (layouts : List CellLayout) (all : List code.TypeEntry) → HaveLayouts (extended_shapes [] (take done entries)) layouts → length entries ≤ done → entries ≡ all → HaveLayouts (extended_shapes [] all) layouts
-table_ends entries done layouts all h past same = subst (λ es. HaveLayouts (extended_shapes [] es) layouts) (take_all done entries past ∙ same) h
+pub table_ends : (entries : List code.TypeEntry) (done : ℕ) (layouts : List CellLayout) (all : List code.TypeEntry) → HaveLayouts (shapes_after_entries [] (take done entries)) layouts → length entries ≤ done → entries ≡ all → HaveLayouts (shapes_after_entries [] all) layouts
+table_ends entries done layouts all h past same = subst (λ es. HaveLayouts (shapes_after_entries [] es) layouts) (take_all done entries past ∙ same) h
 
 -- where a field of a record begins
 abbrev field_in : ℕ → ℕ → FieldId

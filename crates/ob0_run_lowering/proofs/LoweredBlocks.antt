@@ -14,9 +14,9 @@ use Rattle.ob0_scope_table.specs.LabelledTrees.{tree_with_labels, label_at_token
 use Rattle.ob0_types_table.proofs.LabelledParts.{split}
 use Rattle.ob0_scope_table.specs.Resolution.{Resolution, ordinal_in}
 use Rattle.ob0_language_names.specs.Names.{Label, Name, naming_by_label, naming_by_spelling}
-use Rattle.ob0_language_names.specs.Parts.{constant_names, formal_sections, module_block, declared_type_names, section_constants, section_types, section_variables}
+use Rattle.ob0_language_names.specs.BlockParts.{constant_names, formal_sections, module_block, declared_type_names, section_constants, section_types, section_variables}
 use Rattle.ob0_language_names.specs.Scopes.{label_from_ordinal, numbered}
-use Rattle.ob0_types_table.specs.KnownTables.{DeclarationTableView, declared_object_in}
+use Rattle.ob0_types_table.specs.DeclarationTables.{DeclarationTableView, declared_object_in}
 use Rattle.ob0_language_types.specs.Bindings.{declared_object}
 use Rattle.ob0_language_types.proofs.ConstantsDeclared.{FitParts, block-parts, procedure-parts}
 use Rattle.ob0_language_types.specs.Declarations.{constructors_before_variables, constructors_before_procedures, declare_constants_and_types, formals_constructor_count, procedure_constructor_count}
@@ -25,17 +25,17 @@ use Rattle.ob0_language_types.specs.WellTyped.{TypeEnvironment, TypedParameter, 
 use Rattle.ob0_language_types.proofs.Proved.{numbering_keeps_type_check-holds}
 use Rattle.ob0_language_types.proofs.Literals.{some_inverse}
 use Rattle.ob0_language_types.proofs.TypedElsewhere.{then_some}
-use Rattle.ob0_run_machine.specs.Lowered as lowered
+use Rattle.ob0_run_machine.specs.LoweredSyntax as lowered
 use Rattle.ob0_run_machine.specs.View.{procedure_of, program_of, sequence_of}
 use Rattle.ob0_run_machine.specs.declared.code.Routine.{Routine}
 use Rattle.ob0_run_machine.specs.declared.code.LoweredCode.{LoweredCode}
-use Rattle.ob0_run_cells.specs.Activations.{CodeMeansBlock, PlacementState, Placement, RoutinesMeanProcedures, ProgramMeansModule, at_target, placement_inside_procedure, bind_without_place, placement_seen_one_level_deeper, routine_table_by_label, outermost_placement, local_procedure_target, place_parameters}
-use Rattle.ob0_run_cells.specs.Lowering.{in_activation, of_module}
+use Rattle.ob0_run_cells.specs.Activations.{CodeMeansBlock, PlacementState, Placement, RoutinesMeanProcedures, ProgramMeansModule, at_target, placement_inside_procedure, add_names_without_place, placement_seen_one_level_deeper, routine_table_by_label, outermost_placement, local_procedure_target, place_parameters}
+use Rattle.ob0_run_cells.specs.Lowering.{in_activation, in_module_activation}
 use Rattle.ob0_run_lowering.specs.LoweredBodies.{LowersBody}
 use Rattle.ob0_run_lowering.specs.Scenes.{place_seen_from, site_in_table}
 use Rattle.ob0_run_lowering.specs.declared.scene.Scene.{Scene}
 use Rattle.ob0_run_lowering.specs.declared.scene.LoweredSite.TheVariants as site
-use Rattle.ob0_run_lowering.specs.KnownBlocks.{BindingsAreDeclared, BlockBindingsAreDeclared, ObjectByOrdinal}
+use Rattle.ob0_run_lowering.specs.DeclaredBindings.{BindingsAreDeclared, BlockBindingsAreDeclared, ObjectByOrdinal}
 use Rattle.ob0_run_lowering.specs.Blocks.{LowersProcedures, KeepsRoutines, HasRoutinesFromIndex, LowersBlock, RoutineMeansBlock, IsReadyToLower, BlockLoweringState}
 use Rattle.ob0_run_lowering.specs.PlacedNames.{HidesMoreSites, HiddenSitesAreRestored, SitesMatchPlacement, FrameMatchesPlacement, PlacementMatchesEnvironment, PlacesNames, declared_size, place_variable_declarations, place_parameter_sections, sites_after_binding, variable_slot_at_depth}
 use Rattle.ob0_run_lowering.specs.declared.programs.Lowering.{Lowering}
@@ -204,10 +204,10 @@ block_lowers t w v inside cs ts vs ps statements f own scene entry places goes t
       let first : TypeEnvironment Label = declared_parts.0 in
       let known_parts = known inner parts.1 in
       let at = variable_slot_at_depth f.depth in
-      let hidden : Placement Label = bind_without_place (declared_type_names (section_types ts)) (bind_without_place (constant_names (section_constants cs)) p.placement) in
+      let hidden : Placement Label = add_names_without_place (declared_type_names (section_types ts)) (add_names_without_place (constant_names (section_constants cs)) p.placement) in
       let start : PlacementState Label = record p { placement = hidden } in
       let q : PlacementState Label = place_variable_declarations at (declared_size t) (section_variables vs) start in
-      let begun : FrameMatchesPlacement w.visible.sites.items f start = record { holds = holds_hidden w.visible.sites.items f.depth (declared_type_names (section_types ts)) (bind_without_place (constant_names (section_constants cs)) p.placement) (holds_hidden w.visible.sites.items f.depth (constant_names (section_constants cs)) p.placement frame.holds); cells = frame.cells; var_parameters_so_far = frame.var_parameters_so_far } in
+      let begun : FrameMatchesPlacement w.visible.sites.items f start = record { holds = holds_hidden w.visible.sites.items f.depth (declared_type_names (section_types ts)) (add_names_without_place (constant_names (section_constants cs)) p.placement) (holds_hidden w.visible.sites.items f.depth (constant_names (section_constants cs)) p.placement frame.holds); cells = frame.cells; var_parameters_so_far = frame.var_parameters_so_far } in
       let laid : FrameMatchesPlacement inside.sites.items own q = places.placed start begun in
       let ready : IsReadyToLower t inside.sites.items own.depth (record { env = inner; placement = q.placement; next = constructors_before_procedures k b }) statements ps = record {
         environment_is_declared = known_parts.0;
@@ -300,4 +300,4 @@ program_means t m w v b entry program well known is sites lowers made =
     let means : RoutineMeansBlock w v (record { depth = 0; cells = 0; var_parameter_count = 0 }) b entry (outermost_environment naming_by_label) outermost_placed 0 = module_means t m w v b entry well known is sites lowers in
     let table : List lowered.Routine = map procedure_of v.procedures.items in
     subst (ProgramMeansModule naming_by_label (numbered m)) (sym made)
-    (subst (λ z. CodeMeansBlock (routine_table_by_label table) of_module (outermost_environment naming_by_label) outermost_placed 0 entry.cells (sequence_of entry.body.items) z) (sym is) (means.means table (λ i e le get. all-later v.procedures.items i e (omega arith) get)))
+    (subst (λ z. CodeMeansBlock (routine_table_by_label table) in_module_activation (outermost_environment naming_by_label) outermost_placed 0 entry.cells (sequence_of entry.body.items) z) (sym is) (means.means table (λ i e le get. all-later v.procedures.items i e (omega arith) get)))

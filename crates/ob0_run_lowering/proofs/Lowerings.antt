@@ -6,7 +6,7 @@ use Rattle.ob0_scan.specs.declared.lexeme.Token.{Token}
 use Rattle.ob0_tree.specs.Places.{token_value_at, token_value_or_zero, integer_value_or_zero}
 use Rattle.ob0_tree.specs.Tree.{Tree, expression, items, selector}
 use Rattle.ob0_language_names.specs.Names.{Label, as_written, declared}
-use Rattle.ob0_types_table.specs.KnownTables.{declared_object_in, shapes_of}
+use Rattle.ob0_types_table.specs.DeclarationTables.{declared_object_in, shapes_of}
 use Rattle.ob0_types_table.specs.DeclarationTableView.{formal_view, mode_from_flag, type_shape}
 use Rattle.ob0_types_table.specs.declared.known.FormalParameter.{FormalParameter}
 use Rattle.ob0_scope_table.specs.LabelledTrees.{tree_with_labels, label_at_token}
@@ -14,12 +14,12 @@ use Rattle.ob0_types_table.proofs.TokenNumbers.{small_number}
 use Rattle.ob0_language_types.specs.Expressions.{Object, a_constant, a_variable}
 use Rattle.ob0_language_types.specs.Typing.{lone_designator, type_after_selectors, type_of}
 use Rattle.ob0_language_types.specs.WellTyped as typing
-use Rattle.ob0_language_types.specs.WellTyped.{Mode, Signature, TypeMeanings, same_known_shape, argument_matches, by_place, by_value, variable_type}
+use Rattle.ob0_language_types.specs.WellTyped.{ParameterMode, Signature, TypeMeanings, same_known_shape, argument_matches, by_place, by_value, variable_type}
 use Rattle.ob0_language_types.proofs.Conditions.{same_shape-true}
 use Rattle.ob0_language_types.proofs.Literals.{some_inverse}
 use Rattle.ob0_language_values.specs.Values.{Shape, array_shape, boolean_shape, integer_shape, number, record_shape}
 use Rattle.ob0_run_machine.specs.Evaluation as machine
-use Rattle.ob0_run_machine.specs.Lowered as lowered
+use Rattle.ob0_run_machine.specs.LoweredSyntax as lowered
 use Rattle.ob0_run_machine.specs.View.{argument_of, number_of, place_of, truth_of}
 use Rattle.ob0_run_machine.specs.declared.code.Argument.{Argument}
 use Rattle.ob0_run_machine.specs.declared.code.Argument.TheVariants as argument
@@ -29,13 +29,13 @@ use Rattle.ob0_run_cells.specs.Cells.{size}
 use Rattle.ob0_run_cells.specs.LoweredStatements.{CodeMeansArgument}
 use Rattle.ob0_run_cells.specs.Lowering.{NumberMeans, PlaceMeans, Slot, TruthMeans, PlaceHoldsValue, place_of_designator, value_of_expression}
 use Rattle.ob0_run_lowering.specs.Codes.{CodeMeans, PlaceWithShape}
-use Rattle.ob0_run_lowering.specs.LoweredMeans.{LocatesDesignator, LocatesLoneDesignator, LowersExpression, LowersArgument, LowersNumber, LowersTruth}
+use Rattle.ob0_run_lowering.specs.LoweredExpressionMeans.{LocatesDesignator, LocatesLoneDesignator, LowersExpression, LowersArgument, LowersNumber, LowersTruth}
 use Rattle.ob0_run_lowering.specs.Parts.{IsNumberInCode, IsFoundPlace, IsTruthInCode, ArgumentPassesCode}
 use Rattle.ob0_run_lowering.specs.Scenes.{object_of_label}
-use Rattle.ob0_run_lowering.specs.Trees.{variable_place_of_label, code_of, expression_code, place_with_shape_of, selected_place}
-use Rattle.ob0_run_lowering.specs.declared.lowered.TypedPlace.{TypedPlace}
-use Rattle.ob0_run_lowering.specs.declared.lowered.LoweredExpression.{LoweredExpression}
-use Rattle.ob0_run_lowering.specs.declared.lowered.LoweredExpression.TheVariants as code
+use Rattle.ob0_run_lowering.specs.TreeCodes.{variable_place_of_label, code_of, expression_code, place_with_shape_of, selected_place}
+use Rattle.ob0_run_lowering.specs.declared.lowered_expression.TypedPlace.{TypedPlace}
+use Rattle.ob0_run_lowering.specs.declared.lowered_expression.LoweredExpression.{LoweredExpression}
+use Rattle.ob0_run_lowering.specs.declared.lowered_expression.LoweredExpression.TheVariants as code
 use Rattle.ob0_run_lowering.specs.declared.scene.Scene.{Scene}
 use Rattle.ob0_run_lowering.proofs.TreesMean.{expression-means, located-means}
 
@@ -99,11 +99,11 @@ agreed s (Some t) h = ap Some (sym (same_shape-true s t h))
 
 fits-value : (checked : TypeMeanings Label) (f : typing.FormalParameter) (e : Tree Label expression) → f.mode ≡ by_value → argument_matches checked f e ≡ true → type_of checked e ≡ Some f.shape
 unfolding argument_matches
-fits-value checked f e mode h = agreed f.shape (type_of checked e) (sym (ap (λ (m : Mode). same_known_shape (Some f.shape) (elim m [ by_value ↦ type_of checked e | by_place ↦ variable_type checked (lone_designator e) ])) mode) ∙ h)
+fits-value checked f e mode h = agreed f.shape (type_of checked e) (sym (ap (λ (m : ParameterMode). same_known_shape (Some f.shape) (elim m [ by_value ↦ type_of checked e | by_place ↦ variable_type checked (lone_designator e) ])) mode) ∙ h)
 
 fits-place : (checked : TypeMeanings Label) (f : typing.FormalParameter) (e : Tree Label expression) → f.mode ≡ by_place → argument_matches checked f e ≡ true → variable_type checked (lone_designator e) ≡ Some f.shape
 unfolding argument_matches
-fits-place checked f e mode h = agreed f.shape (variable_type checked (lone_designator e)) (sym (ap (λ (m : Mode). same_known_shape (Some f.shape) (elim m [ by_value ↦ type_of checked e | by_place ↦ variable_type checked (lone_designator e) ])) mode) ∙ h)
+fits-place checked f e mode h = agreed f.shape (variable_type checked (lone_designator e)) (sym (ap (λ (m : ParameterMode). same_known_shape (Some f.shape) (elim m [ by_value ↦ type_of checked e | by_place ↦ variable_type checked (lone_designator e) ])) mode) ∙ h)
 
 pub place-argument : (scene : Scene) (f : FormalParameter) (e : Tree ℕ expression) (l : TypedPlace) → f.by_place ≡ true → LocatesLoneDesignator scene e l → LowersArgument scene f e (argument.Place l.place)
 place-argument scene f e l by h checked slots targets sees fits =

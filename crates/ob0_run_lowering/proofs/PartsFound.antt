@@ -7,7 +7,7 @@ use Rattle.ob0_language_types.specs.WellTyped.{TypeMeanings}
 use Rattle.ob0_language_values.specs.Values.{Place, Shape}
 use Rattle.ob0_run_machine.specs.Evaluation as machine
 use Rattle.ob0_run_machine.specs.Evaluation.{Levels}
-use Rattle.ob0_run_machine.specs.Lowered as lowered
+use Rattle.ob0_run_machine.specs.LoweredSyntax as lowered
 use Rattle.ob0_run_cells.specs.Cells.{cells_of_store}
 use Rattle.ob0_run_cells.specs.Lowering.{OutcomeByMoment, PlaceStartsChain, Slot, outcome_of}
 use Rattle.ob0_run_cells.proofs.LoweredOutcomes.{followed_by, same}

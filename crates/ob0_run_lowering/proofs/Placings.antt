@@ -1,19 +1,19 @@
 -- Where what is in scope is placed, and what the code's table has of it.
 use Rattle.std.proofs.Common.{◌≡◌, ℕ, suc, ◌+◌, ◌-◌, ◌≤◌, ◌==◌, Bool, true, false, List, [], ◌∷◌, ◌++◌, map, Some, None, Option, option_and_then, if◌then◌else◌, refl, sym, ap, ◌∙◌, subst, arith, eqb-true, true≢false}
-use Rattle.ob0_tree.specs.Tree.{Tree, block, constant, declares_constant, declares_type, declares_variable, end, further_section, items, more, section, then_section, type_definition, variable}
+use Rattle.ob0_tree.specs.Tree.{Tree, block, constant, declares_constant, declares_type, declares_variable, end, section_after_semicolon, items, more, section, semicolon_then_section, type_definition, variable}
 use Rattle.ob0_language_names.specs.Names.{Label, Name, naming_by_label, naming_by_spelling, as_written, declared, same_label}
-use Rattle.ob0_language_names.specs.Parts.{block_constants, block_types, constant_names, declared_type_names, names_in_list, parameter_section_names, parameter_section_type}
+use Rattle.ob0_language_names.specs.BlockParts.{block_constants, block_types, constant_names, declared_type_names, names_in_list, parameter_section_names, parameter_section_type}
 use Rattle.ob0_language_names.specs.Scopes.{label_from_ordinal}
-use Rattle.ob0_types_table.specs.KnownTables.{DeclarationTableView, declared_object_in}
+use Rattle.ob0_types_table.specs.DeclarationTables.{DeclarationTableView, declared_object_in}
 use Rattle.ob0_language_types.specs.Declarations.{declare_constants, declare_constants_and_types, declare_types}
 use Rattle.ob0_language_types.specs.Environments.{environment_from_binding, meanings, newest_object}
 use Rattle.ob0_language_types.specs.Expressions.{Object, a_constant, a_procedure, a_type, a_variable}
 use Rattle.ob0_language_types.specs.Typing.{constant_value, constructor_count, denoted_type, type_of_object}
-use Rattle.ob0_language_types.specs.WellTyped.{Mode, Signature, TypeEnvironment, TypedParameter, bind_names, bind_typed_parameters, by_place, by_value, declare_typed_variables, parameter_section_mode, typed_parameters}
+use Rattle.ob0_language_types.specs.WellTyped.{ParameterMode, Signature, TypeEnvironment, TypedParameter, bind_names, bind_typed_parameters, by_place, by_value, declare_typed_variables, parameter_section_mode, typed_parameters}
 use Rattle.ob0_language_types.proofs.Literals.{some_inverse}
 use Rattle.ob0_language_types.proofs.TypedElsewhere.{then_some}
 use Rattle.ob0_language_values.specs.Values.{Shape}
-use Rattle.ob0_run_cells.specs.Activations.{AreSized, HasSize, PlacementState, Placement, BindingPlace, at_target, slot_of_first_binding, target_of_first_binding, placement_from_binding, bind_without_place, in_slot, placement_seen_one_level_deeper, slot_seen_one_level_deeper, binding_place_seen_one_level_deeper, nowhere, place_parameters, slot_of_binding_place, slot_in_placement, target_of_binding_place, target_in_placement, add_name_to_placement}
+use Rattle.ob0_run_cells.specs.Activations.{GivesSizesOfVariables, HasSizeIfVariable, PlacementState, Placement, BindingPlace, at_target, slot_of_first_binding, target_of_first_binding, suffix_from_latest_binding, add_names_without_place, in_slot, placement_seen_one_level_deeper, slot_seen_one_level_deeper, binding_place_seen_one_level_deeper, nowhere, place_parameters, slot_of_binding_place, slot_in_placement, target_of_binding_place, target_in_placement, add_name_to_placement}
 use Rattle.ob0_run_cells.specs.Cells.{size}
 use Rattle.ob0_run_cells.specs.LoweredStatements.{Target}
 use Rattle.ob0_run_cells.specs.Lowering.{Slot, in_activation, by_reference}
@@ -21,7 +21,7 @@ use Rattle.ob0_run_lowering.specs.Scenes.{SceneAgreesWithChecker, object_of_labe
 use Rattle.ob0_run_lowering.specs.declared.scene.Scene.{Scene}
 use Rattle.ob0_run_lowering.specs.declared.scene.LoweredSite.{LoweredSite}
 use Rattle.ob0_run_lowering.specs.declared.scene.LoweredSite.TheVariants as site
-use Rattle.ob0_run_lowering.specs.KnownBlocks.{BindingsAreDeclared, ObjectByOrdinal}
+use Rattle.ob0_run_lowering.specs.DeclaredBindings.{BindingsAreDeclared, ObjectByOrdinal}
 use Rattle.ob0_run_lowering.specs.PlacedNames.{SitesMatchPlacement, PlacementMatchesEnvironment, PlaceMatchesObject, SiteMatchesPlace, declared_size, place_of_first_binding, place_in_placement, add_declared_names_to_placement, place_variable_declarations, place_parameter_sections, sites_after_binding, optional_shape_size, depth_of_site}
 
 -- bindings
@@ -32,7 +32,7 @@ holds_bound sites later d placement (Some j) name s w new put h = λ k.
     subst (λ z. SiteMatchesPlace d z (place_in_placement ((declared j, w) ∷ placement) (declared k))) (sym (put k))
     (by k (k == j))
   where
-    by : (k : ℕ) (t : Bool) → SiteMatchesPlace d (if t then s else site_in_table sites k) (place_of_first_binding (elim t [ true ↦ (declared j, w) ∷ placement | false ↦ placement_from_binding naming_by_label placement (declared k) ]))
+    by : (k : ℕ) (t : Bool) → SiteMatchesPlace d (if t then s else site_in_table sites k) (place_of_first_binding (elim t [ true ↦ (declared j, w) ∷ placement | false ↦ suffix_from_latest_binding naming_by_label placement (declared k) ]))
     by k true = new
     by k false = h k
 
@@ -43,11 +43,11 @@ holds_same sites later d placement same h = λ k. subst (λ z. SiteMatchesPlace 
 holds_nowhere : (sites : List LoweredSite) (d : ℕ) (x : Label) (placement : Placement Label) → SitesMatchPlacement sites d placement → SitesMatchPlacement sites d ((x, nowhere) ∷ placement)
 holds_nowhere sites d x placement h = λ k. by k (same_label (declared k) x)
   where
-    by : (k : ℕ) (t : Bool) → SiteMatchesPlace d (site_in_table sites k) (place_of_first_binding (elim t [ true ↦ (x, nowhere) ∷ placement | false ↦ placement_from_binding naming_by_label placement (declared k) ]))
+    by : (k : ℕ) (t : Bool) → SiteMatchesPlace d (site_in_table sites k) (place_of_first_binding (elim t [ true ↦ (x, nowhere) ∷ placement | false ↦ suffix_from_latest_binding naming_by_label placement (declared k) ]))
     by k true = tt
     by k false = h k
 
-pub holds_hidden : (sites : List LoweredSite) (d : ℕ) (xs : List Label) (placement : Placement Label) → SitesMatchPlacement sites d placement → SitesMatchPlacement sites d (bind_without_place xs placement)
+pub holds_hidden : (sites : List LoweredSite) (d : ℕ) (xs : List Label) (placement : Placement Label) → SitesMatchPlacement sites d placement → SitesMatchPlacement sites d (add_names_without_place xs placement)
 holds_hidden sites d [] placement h = h
 holds_hidden sites d (x ∷ xs) placement h = holds_hidden sites d xs ((x, nowhere) ∷ placement) (holds_nowhere sites d x placement h)
 
@@ -66,7 +66,7 @@ reports_inward d s _ h = (omega (arith, h.0), seen_inward d s h.0 ∙ ap binding
 found_inward : (placement : Placement Label) (x : Label) → place_in_placement (placement_seen_one_level_deeper placement) x ≡ binding_place_seen_one_level_deeper (place_in_placement placement x)
 found_inward [] x = refl
 found_inward (b ∷ placement) x =
-    elim (same_label x b.0) as (λ t. place_of_first_binding (elim t [ true ↦ (b.0, binding_place_seen_one_level_deeper b.1) ∷ placement_seen_one_level_deeper placement | false ↦ placement_from_binding naming_by_label (placement_seen_one_level_deeper placement) x ]) ≡ binding_place_seen_one_level_deeper (place_of_first_binding (elim t [ true ↦ b ∷ placement | false ↦ placement_from_binding naming_by_label placement x ])))
+    elim (same_label x b.0) as (λ t. place_of_first_binding (elim t [ true ↦ (b.0, binding_place_seen_one_level_deeper b.1) ∷ placement_seen_one_level_deeper placement | false ↦ suffix_from_latest_binding naming_by_label (placement_seen_one_level_deeper placement) x ]) ≡ binding_place_seen_one_level_deeper (place_of_first_binding (elim t [ true ↦ b ∷ placement | false ↦ suffix_from_latest_binding naming_by_label placement x ])))
     [ true ↦ refl | false ↦ found_inward placement x ]
 
 pub holds_inward : (sites : List LoweredSite) (d : ℕ) (placement : Placement Label) → SitesMatchPlacement sites d placement → SitesMatchPlacement sites (suc d) (placement_seen_one_level_deeper placement)
@@ -87,9 +87,9 @@ matches_inward _ _ m = absurd m
 matches_found : (env : TypeEnvironment Label) (placement : Placement Label) → PlacementMatchesEnvironment env placement → (x : Label) (o : Object Shape Signature) → newest_object (environment_from_binding naming_by_label env x) ≡ Some o → PlaceMatchesObject o (place_in_placement placement x)
 matches_found [] [] m x o h = absurd (cc)
 matches_found (b ∷ env) (w ∷ placement) m x o h =
-    subst (λ (y : Label). PlaceMatchesObject o (place_of_first_binding (elim (same_label x y) [ true ↦ w ∷ placement | false ↦ placement_from_binding naming_by_label placement x ]))) m.0 (by (matches_found env placement m.2 x o) (same_label x b.0) h)
+    subst (λ (y : Label). PlaceMatchesObject o (place_of_first_binding (elim (same_label x y) [ true ↦ w ∷ placement | false ↦ suffix_from_latest_binding naming_by_label placement x ]))) m.0 (by (matches_found env placement m.2 x o) (same_label x b.0) h)
   where
-    by : (newest_object (environment_from_binding naming_by_label env x) ≡ Some o → PlaceMatchesObject o (place_in_placement placement x)) → (t : Bool) → newest_object (elim t [ true ↦ b ∷ env | false ↦ environment_from_binding naming_by_label env x ]) ≡ Some o → PlaceMatchesObject o (place_of_first_binding (elim t [ true ↦ w ∷ placement | false ↦ placement_from_binding naming_by_label placement x ]))
+    by : (newest_object (environment_from_binding naming_by_label env x) ≡ Some o → PlaceMatchesObject o (place_in_placement placement x)) → (t : Bool) → newest_object (elim t [ true ↦ b ∷ env | false ↦ environment_from_binding naming_by_label env x ]) ≡ Some o → PlaceMatchesObject o (place_of_first_binding (elim t [ true ↦ w ∷ placement | false ↦ suffix_from_latest_binding naming_by_label placement x ]))
     by following true e = subst (λ (z : Object Shape Signature). PlaceMatchesObject z w.1) (some_inverse e) m.1
     by following false e = following e
 matches_found _ _ m x o h = absurd m
@@ -129,54 +129,54 @@ sees scene env placement known m h = record {
       let f = declared_found (declared_object_in scene.types.now) env known x (a_variable s) e in
       let suits = matches_found env placement m x (a_variable s) e in
       subst (λ y. slot_in_placement naming_by_label placement y ≡ slot_of_label scene y) (sym f.1)
-      (slot_found (placement_from_binding naming_by_label placement (declared f.0)) ∙ ap slot_of_binding_place (sym (reports_slot scene.depth (site_in_table scene.sites.now f.0) (place_in_placement placement (declared f.0)) suits.0 (ap (place_in_placement placement) (sym f.1) ∙ suits.1) (h f.0))));
+      (slot_found (suffix_from_latest_binding naming_by_label placement (declared f.0)) ∙ ap slot_of_binding_place (sym (reports_slot scene.depth (site_in_table scene.sites.now f.0) (place_in_placement placement (declared f.0)) suits.0 (ap (place_in_placement placement) (sym f.1) ∙ suits.1) (h f.0))));
   procedures = λ x p e.
       let f = declared_found (declared_object_in scene.types.now) env known x (a_procedure p) e in
       let suits = matches_found env placement m x (a_procedure p) e in
       subst (λ y. target_in_placement naming_by_label placement y ≡ target_of_label scene y) (sym f.1)
-      (target_found (placement_from_binding naming_by_label placement (declared f.0)) ∙ ap target_of_binding_place (sym (reports_target scene.depth (site_in_table scene.sites.now f.0) (place_in_placement placement (declared f.0)) suits.0 (ap (place_in_placement placement) (sym f.1) ∙ suits.1) (h f.0))));
+      (target_found (suffix_from_latest_binding naming_by_label placement (declared f.0)) ∙ ap target_of_binding_place (sym (reports_target scene.depth (site_in_table scene.sites.now f.0) (place_in_placement placement (declared f.0)) suits.0 (ap (place_in_placement placement) (sym f.1) ∙ suits.1) (h f.0))));
 }
 
 -- constants and types
 
-constants_match : (cs : Tree Label (items constant)) (env inner : TypeEnvironment Label) (placement : Placement Label) → declare_constants naming_by_label env cs ≡ Some inner → PlacementMatchesEnvironment env placement → PlacementMatchesEnvironment inner (bind_without_place (constant_names cs) placement)
+constants_match : (cs : Tree Label (items constant)) (env inner : TypeEnvironment Label) (placement : Placement Label) → declare_constants naming_by_label env cs ≡ Some inner → PlacementMatchesEnvironment env placement → PlacementMatchesEnvironment inner (add_names_without_place (constant_names cs) placement)
 unfolding declare_constants
 constants_match end env inner placement h m = subst (λ e. PlacementMatchesEnvironment e placement) (some_inverse h) m
 constants_match (more (declares_constant x e) cs) env inner placement h m =
     let f = then_some (constant_value (meanings naming_by_label env) e) (λ v. declare_constants naming_by_label ((x, a_constant v) ∷ env) cs) inner h in
     constants_match cs ((x, a_constant f.0) ∷ env) inner ((x, nowhere) ∷ placement) f.2 (refl, tt, m)
 
-types_match : (ds : Tree Label (items type_definition)) (k : ℕ) (env inner : TypeEnvironment Label) (placement : Placement Label) → declare_types naming_by_label env k ds ≡ Some inner → PlacementMatchesEnvironment env placement → PlacementMatchesEnvironment inner (bind_without_place (declared_type_names ds) placement)
+types_match : (ds : Tree Label (items type_definition)) (k : ℕ) (env inner : TypeEnvironment Label) (placement : Placement Label) → declare_types naming_by_label env k ds ≡ Some inner → PlacementMatchesEnvironment env placement → PlacementMatchesEnvironment inner (add_names_without_place (declared_type_names ds) placement)
 unfolding declare_types
 types_match end k env inner placement h m = subst (λ e. PlacementMatchesEnvironment e placement) (some_inverse h) m
 types_match (more (declares_type x u) ds) k env inner placement h m =
     let f = then_some (denoted_type (meanings naming_by_label env) k u) (λ s. declare_types naming_by_label ((x, a_type s) ∷ env) (k + constructor_count u) ds) inner h in
     types_match ds (k + constructor_count u) ((x, a_type f.0) ∷ env) inner ((x, nowhere) ∷ placement) f.2 (refl, tt, m)
 
-pub first_match : (b : Tree Label block) (k : ℕ) (env first : TypeEnvironment Label) (placement : Placement Label) → declare_constants_and_types naming_by_label env k b ≡ Some first → PlacementMatchesEnvironment env placement → PlacementMatchesEnvironment first (bind_without_place (declared_type_names (block_types b)) (bind_without_place (constant_names (block_constants b)) placement))
+pub first_match : (b : Tree Label block) (k : ℕ) (env first : TypeEnvironment Label) (placement : Placement Label) → declare_constants_and_types naming_by_label env k b ≡ Some first → PlacementMatchesEnvironment env placement → PlacementMatchesEnvironment first (add_names_without_place (declared_type_names (block_types b)) (add_names_without_place (constant_names (block_constants b)) placement))
 unfolding declare_constants_and_types
 first_match b k env first placement h m =
     let f = then_some (declare_constants naming_by_label env (block_constants b)) (λ e. declare_types naming_by_label e k (block_types b)) first h in
-    types_match (block_types b) k f.0 first (bind_without_place (constant_names (block_constants b)) placement) f.2 (constants_match (block_constants b) env f.0 placement f.1 m)
+    types_match (block_types b) k f.0 first (add_names_without_place (constant_names (block_constants b)) placement) f.2 (constants_match (block_constants b) env f.0 placement f.1 m)
 
 -- names of one type
 
 one_size : (t : DeclarationTableView) (x : Label) (s : Shape) → ((k : ℕ) × (x ≡ declared k) × (declared_object_in t k ≡ Some (a_variable s))) → declared_size t x ≡ size s
 one_size t x s f = ap (declared_size t) f.1 ∙ ap (λ o. optional_shape_size (type_of_object o)) f.2
 
-has_size : (t : DeclarationTableView) (x : Label) (o : Object Shape Signature) → ((k : ℕ) × (x ≡ declared k) × (declared_object_in t k ≡ Some o)) → HasSize (declared_size t x) o
+has_size : (t : DeclarationTableView) (x : Label) (o : Object Shape Signature) → ((k : ℕ) × (x ≡ declared k) × (declared_object_in t k ≡ Some o)) → HasSizeIfVariable (declared_size t x) o
 has_size t x (a_variable s) f = one_size t x s f
 has_size t x _ f = tt
 
-pub sizes_declared : (t : DeclarationTableView) (env : TypeEnvironment Label) → BindingsAreDeclared (declared_object_in t) env → AreSized (declared_size t) env
+pub sizes_declared : (t : DeclarationTableView) (env : TypeEnvironment Label) → BindingsAreDeclared (declared_object_in t) env → GivesSizesOfVariables (declared_size t) env
 sizes_declared t [] a = tt
 sizes_declared t (b ∷ env) a = (has_size t b.0 b.1 a.0, sizes_declared t env a.1)
 
-one_matches : (at : ℕ → Slot) (mode : Mode) (x : Label) (n : ℕ) (s : Shape) (env : TypeEnvironment Label) (p : PlacementState Label) → PlacementMatchesEnvironment env p.placement → PlacementMatchesEnvironment ((x, a_variable s) ∷ env) (add_name_to_placement at mode x n p).placement
+one_matches : (at : ℕ → Slot) (mode : ParameterMode) (x : Label) (n : ℕ) (s : Shape) (env : TypeEnvironment Label) (p : PlacementState Label) → PlacementMatchesEnvironment env p.placement → PlacementMatchesEnvironment ((x, a_variable s) ∷ env) (add_name_to_placement at mode x n p).placement
 one_matches at by_value x n s env p m = (refl, (at p.cells, refl), m)
 one_matches at by_place x n s env p m = (refl, (by_reference 0 p.var_parameters_so_far, refl), m)
 
-names_match : (at : ℕ → Slot) (size_of : Label → ℕ) (mode : Mode) (xs : List Label) (s : Shape) (env : TypeEnvironment Label) (p : PlacementState Label) → PlacementMatchesEnvironment env p.placement → PlacementMatchesEnvironment (bind_names xs (a_variable s) env) (add_declared_names_to_placement at size_of mode xs p).placement
+names_match : (at : ℕ → Slot) (size_of : Label → ℕ) (mode : ParameterMode) (xs : List Label) (s : Shape) (env : TypeEnvironment Label) (p : PlacementState Label) → PlacementMatchesEnvironment env p.placement → PlacementMatchesEnvironment (bind_names xs (a_variable s) env) (add_declared_names_to_placement at size_of mode xs p).placement
 names_match at size_of mode [] s env p m = m
 names_match at size_of mode (x ∷ xs) s env p m = names_match at size_of mode xs s ((x, a_variable s) ∷ env) (add_name_to_placement at mode x (size_of x) p) (one_matches at mode x (size_of x) s env p m)
 
@@ -206,11 +206,11 @@ section_placed t f s (x ∷ xs) rest env p a =
     let following = section_placed t f s xs rest ((x, a_variable s) ∷ env) (add_name_to_placement (in_activation 0) (parameter_section_mode f) x (declared_size t x) p) a in
     (ap (λ n. place_parameters (of_section f s xs ++ rest) (add_name_to_placement (in_activation 0) (parameter_section_mode f) x n p)) (sym (one_size t x s head.0)) ∙ following.0, following.1)
 
-pub sections_placed : (t : DeclarationTableView) (fs : Tree Label (items further_section)) (k : ℕ) (env outer : TypeEnvironment Label) (ps : List (TypedParameter Label)) (p : PlacementState Label) → typed_parameters naming_by_label env k fs ≡ Some ps → BindingsAreDeclared (declared_object_in t) (bind_typed_parameters ps outer)
+pub sections_placed : (t : DeclarationTableView) (fs : Tree Label (items section_after_semicolon)) (k : ℕ) (env outer : TypeEnvironment Label) (ps : List (TypedParameter Label)) (p : PlacementState Label) → typed_parameters naming_by_label env k fs ≡ Some ps → BindingsAreDeclared (declared_object_in t) (bind_typed_parameters ps outer)
     → place_parameters ps p ≡ place_parameter_sections (in_activation 0) (declared_size t) fs p
 unfolding typed_parameters
 sections_placed t end k env outer ps p h a = ap (λ qs. place_parameters qs p) (sym (some_inverse h))
-sections_placed t (more (then_section f) fs) k env outer ps p h a =
+sections_placed t (more (semicolon_then_section f) fs) k env outer ps p h a =
     let xs : List Label = parameter_section_names f in
     let one = then_some (denoted_type (meanings naming_by_label env) k (parameter_section_type f))
     (λ s. option_and_then (λ rest. Some (of_section f s xs ++ rest)) (typed_parameters naming_by_label (bind_names xs (a_variable s) env) (k + constructor_count (parameter_section_type f)) fs)) ps h in

@@ -11,16 +11,16 @@ use Rattle.ob0_language_types.proofs.TypedElsewhere.{then_some}
 use Rattle.ob0_language_types.proofs.Literals.{some_inverse}
 use Rattle.ob0_language_values.specs.Values.{Place, Shape, Value, array_shape, boolean_shape, integer_shape, number, record_shape, truth}
 use Rattle.ob0_run_machine.specs.Evaluation as machine
-use Rattle.ob0_run_machine.specs.Lowered as lowered
+use Rattle.ob0_run_machine.specs.LoweredSyntax as lowered
 use Rattle.ob0_run_cells.specs.Cells.{field_offset, size}
 use Rattle.ob0_run_cells.specs.LoweredStatements.{Target}
-use Rattle.ob0_run_cells.specs.Lowering.{OutcomeByMoment, PlaceStartsChain, PlaceMeans, Slot, place_at_offset, place_of_designator, slot_place, value_of_expression, value_of_factor, value_of_simple, value_of_term}
+use Rattle.ob0_run_cells.specs.Lowering.{OutcomeByMoment, PlaceStartsChain, PlaceMeans, Slot, place_at_offset, place_of_designator, slot_place, value_of_expression, value_of_factor, value_of_simple_expression, value_of_term}
 use Rattle.ob0_run_cells.specs.Lowering as lowering
 use Rattle.ob0_run_cells.proofs.LoweredNumbers.{integer-means}
 use Rattle.ob0_run_cells.proofs.LoweredPlaces as places
-use Rattle.ob0_run_lowering.specs.Codes.{ExpressionCode, CodeMeans, PlaceWithShape, a_number, a_truth, addition_code, constant_code, place_of_element, element_place, indexed_place, record_field_place, multiplication_code, designator_code, signed_code, code_of_value_at_place}
+use Rattle.ob0_run_lowering.specs.Codes.{ExpressionCode, CodeMeans, PlaceWithShape, a_number, a_truth, addition_code, constant_code, place_of_element, element_place_with_shape, element_of_optional_place, record_field_place, multiplication_code, designator_code, signed_term_code, code_of_value_at_place}
 use Rattle.ob0_run_lowering.specs.Scenes.{SceneAgreesWithChecker, object_of_label, slot_of_label}
-use Rattle.ob0_run_lowering.specs.Trees.{addends_code, variable_place_of_label, expression_code, factor_code, multipliers_code, selected_place, simple_code, term_code, place_if_variable}
+use Rattle.ob0_run_lowering.specs.TreeCodes.{addends_code, variable_place_of_label, expression_code, factor_code, multipliers_code, selected_place, simple_expression_code, term_code, place_if_variable}
 use Rattle.ob0_run_lowering.specs.declared.scene.Scene.{Scene}
 use Rattle.ob0_run_lowering.proofs.PartsFound.{element-same, leads-from}
 use Rattle.ob0_run_lowering.proofs.CodesMean.{CodeLeads, addition_code-leads, addends-end, alone-means, multiplication_code-leads, multipliers-end, negation_code-means, number-code, parenthesised-means, related-means, sum-begins, term-begins}
@@ -87,11 +87,11 @@ module _ (checked : TypeMeanings Label) (slots : Label → Slot) where
 
   element-step : (c : ExpressionCode) (q : lowered.Place) (z i t : Shape) (e : Tree Label expression) (rest : Tree Label (items selector)) (whole : OutcomeByMoment Label Place)
       → PlaceStartsChain checked slots q z (more (index e) rest) whole → element_type z i ≡ Some t → CodeMeans checked slots c i (value_of_expression e)
-      → (p : lowered.Place) × (indexed_place c (Some (found_at q z)) ≡ Some (found_at p t)) × PlaceStartsChain checked slots p t rest whole
+      → (p : lowered.Place) × (element_of_optional_place c (Some (found_at q z)) ≡ Some (found_at p t)) × PlaceStartsChain checked slots p t rest whole
   element-step c q (array_shape k n u) integer_shape t e rest whole leads h hc =
       let (m, em, hm) = number-code checked slots c (value_of_expression e) hc in (
         place_of_element q m n (size u),
-        ap (λ c. element_place c q (array_shape k n u)) em ∙ ap (λ t. Some (found_at (place_of_element q m n (size u)) t)) (some_inverse h),
+        ap (λ c. element_place_with_shape c q (array_shape k n u)) em ∙ ap (λ t. Some (found_at (place_of_element q m n (size u)) t)) (some_inverse h),
         leads-from checked slots (place_of_element q m n (size u)) (lowered.element q m n (size u) 0) t rest whole (element-same q m n (size u))
             (subst (λ t. PlaceStartsChain checked slots (lowered.element q m n (size u) 0) t rest whole) (some_inverse h) (places.index-leads checked slots q k n u e m rest whole leads hm)),
       )
@@ -132,17 +132,17 @@ module _ (scene : Scene) (checked : TypeMeanings Label) (slots : Label → Slot)
     unfolding type_of
 
     pub expression-means : (e : Tree ℕ expression) (s : Shape) → type_of checked (tree_with_labels scene.resolved.now e) ≡ Some s → CodeMeans checked slots (expression_code scene (tree_with_labels scene.resolved.now e)) s (value_of_expression (tree_with_labels scene.resolved.now e))
-    expression-means (compares a none) s h = alone-means checked slots (simple_code scene (tree_with_labels scene.resolved.now a)) s (tree_with_labels scene.resolved.now a) (simple-means a s h)
+    expression-means (compares a none) s h = alone-means checked slots (simple_expression_code scene (tree_with_labels scene.resolved.now a)) s (tree_with_labels scene.resolved.now a) (simple-means a s h)
     expression-means (compares a (one (relates r b))) s h =
         let (x, ex, h₁) = then_some (type_of_simple checked (tree_with_labels scene.resolved.now a)) (λ x. option_and_then (λ y. relation_type r x y) (type_of_simple checked (tree_with_labels scene.resolved.now b))) s h in
         let (y, ey, h₂) = then_some (type_of_simple checked (tree_with_labels scene.resolved.now b)) (λ y. relation_type r x y) s h₁ in
-        related-means checked slots (tree_with_labels scene.resolved.now a) (tree_with_labels scene.resolved.now b) r (simple_code scene (tree_with_labels scene.resolved.now a)) (simple_code scene (tree_with_labels scene.resolved.now b)) x y s h₂ (simple-means a x ex) (simple-means b y ey)
+        related-means checked slots (tree_with_labels scene.resolved.now a) (tree_with_labels scene.resolved.now b) r (simple_expression_code scene (tree_with_labels scene.resolved.now a)) (simple_expression_code scene (tree_with_labels scene.resolved.now b)) x y s h₂ (simple-means a x ex) (simple-means b y ey)
 
-    pub simple-means : (a : Tree ℕ simple) (s : Shape) → type_of_simple checked (tree_with_labels scene.resolved.now a) ≡ Some s → CodeMeans checked slots (simple_code scene (tree_with_labels scene.resolved.now a)) s (value_of_simple (tree_with_labels scene.resolved.now a))
+    pub simple-means : (a : Tree ℕ simple) (s : Shape) → type_of_simple checked (tree_with_labels scene.resolved.now a) ≡ Some s → CodeMeans checked slots (simple_expression_code scene (tree_with_labels scene.resolved.now a)) s (value_of_simple_expression (tree_with_labels scene.resolved.now a))
     simple-means (sum g t rest) s h =
         let (x, ex, h₁) = then_some (type_of_term checked (tree_with_labels scene.resolved.now t)) (λ x. option_and_then (λ y. type_of_addends checked y (tree_with_labels scene.resolved.now rest)) (sign_type g x)) s h in
         let (y, ey, h₂) = then_some (sign_type g x) (λ y. type_of_addends checked y (tree_with_labels scene.resolved.now rest)) s h₁ in
-        addends-mean (signed_code g (term_code scene (tree_with_labels scene.resolved.now t))) y rest (value_of_simple (sum g (tree_with_labels scene.resolved.now t) (tree_with_labels scene.resolved.now rest))) s
+        addends-mean (signed_term_code g (term_code scene (tree_with_labels scene.resolved.now t))) y rest (value_of_simple_expression (sum g (tree_with_labels scene.resolved.now t) (tree_with_labels scene.resolved.now rest))) s
         (sum-begins checked slots (tree_with_labels scene.resolved.now t) (tree_with_labels scene.resolved.now rest) g (term_code scene (tree_with_labels scene.resolved.now t)) x y ey (term-means t x ex)) h₂
 
     addends-mean : (c : ExpressionCode) (x : Shape) (rest : Tree ℕ (items addend)) (whole : OutcomeByMoment Label Value) (s : Shape) → CodeLeads checked slots c x (lowering.outcome_of_remaining_addends (tree_with_labels scene.resolved.now rest)) whole → type_of_addends checked x (tree_with_labels scene.resolved.now rest) ≡ Some s

@@ -10,15 +10,15 @@
 use Rattle.std.specs.Prelude.{◌≡◌, ℕ, ◌≤◌, true, List, length, Some, slice_get}
 use Rattle.ob0_tree.specs.Tree.{Tree, block, body, items, maybe, procedure}
 use Rattle.ob0_language_names.specs.Names.{Label, naming_by_label}
-use Rattle.ob0_types_table.specs.KnownTables.{DeclarationTableView, declared_object_in}
+use Rattle.ob0_types_table.specs.DeclarationTables.{DeclarationTableView, declared_object_in}
 use Rattle.ob0_language_types.specs.WellTyped.{TypeEnvironment, block_is_well_typed, procedures_are_well_typed}
-use Rattle.ob0_run_machine.specs.Lowered as lowered
+use Rattle.ob0_run_machine.specs.LoweredSyntax as lowered
 use Rattle.ob0_run_machine.specs.View.{procedure_of, sequence_of}
 use Rattle.ob0_run_machine.specs.declared.code.Routine.{Routine}
 use Rattle.ob0_run_cells.specs.Activations.{CodeMeansBlock, PlacementState, Placement, RoutinesMeanProcedures, routine_table_by_label}
 use Rattle.ob0_run_cells.specs.Lowering.{Slot}
 use Rattle.ob0_run_lowering.specs.declared.scene.LoweredSite.{LoweredSite}
-use Rattle.ob0_run_lowering.specs.KnownBlocks.{BindingsAreDeclared, BlockBindingsAreDeclared, ProcedureBindingsAreDeclared}
+use Rattle.ob0_run_lowering.specs.DeclaredBindings.{BindingsAreDeclared, BlockBindingsAreDeclared, ProcedureBindingsAreDeclared}
 use Rattle.ob0_run_lowering.specs.PlacedNames.{HidesMoreSites, SitesMatchPlacement, FrameMatchesPlacement, PlacementMatchesEnvironment, variable_slot_at_depth}
 use Rattle.ob0_run_lowering.specs.declared.programs.Lowering.{Lowering}
 use Rattle.ob0_run_lowering.specs.declared.visible_sites.Frame.{Frame}

@@ -14,7 +14,7 @@ use Rattle.ob0_language_names.specs.Names.{Label, Name}
 use Rattle.ob0_language_types.specs.Typing.{field_type}
 use Rattle.ob0_language_types.specs.WellTyped.{TypeMeanings}
 use Rattle.ob0_language_values.specs.Values.{Shape, Value, array_shape, at_field, boolean_shape, elements, integer_shape, members, number, record_shape, truth}
-use Rattle.ob0_run_machine.specs.Lowered as lowered
+use Rattle.ob0_run_machine.specs.LoweredSyntax as lowered
 use Rattle.ob0_run_cells.specs.Cells.{size, step_offset}
 use Rattle.ob0_run_cells.specs.Lowering.{OutcomeByMoment, NumberMeans, Slot, TruthMeans, PlaceHoldsValue, place_at_offset, relation_of}
 
@@ -101,12 +101,12 @@ multiplication_code multiply_operator.And = truth_operation lowered.both
 -- Returns the code of a term with its sign, or the code of the term if there is no sign. Returns
 -- `no_code` if a term with a sign isn't a number. `+x` is lowered to `x + 0`, which is in range
 -- exactly if `x` is.
-abbrev pub signed_code : Option Sign → ExpressionCode → ExpressionCode
-signed_code None c = c
-signed_code (Some sign.Plus) (a_number n) =
+abbrev pub signed_term_code : Option Sign → ExpressionCode → ExpressionCode
+signed_term_code None c = c
+signed_term_code (Some sign.Plus) (a_number n) =
     a_number (lowered.operation lowered.sum n (lowered.literal (pos 0)))
-signed_code (Some sign.Minus) (a_number n) = a_number (lowered.negative n)
-signed_code _ _ = no_code
+signed_term_code (Some sign.Minus) (a_number n) = a_number (lowered.negative n)
+signed_term_code _ _ = no_code
 
 -- returns the code of a negation `~`, or `no_code` if the operand isn't a truth
 abbrev pub negation_code : ExpressionCode → ExpressionCode
@@ -151,13 +151,13 @@ record_field_place x f =
 
 -- Returns the place and the type of an element of the array at a place. Returns None if the index
 -- isn't a number, or the value at the place isn't an array.
-abbrev pub element_place : ExpressionCode → lowered.Place → Shape → Option PlaceWithShape
-element_place (a_number i) q (array_shape k n s) =
+abbrev pub element_place_with_shape : ExpressionCode → lowered.Place → Shape → Option PlaceWithShape
+element_place_with_shape (a_number i) q (array_shape k n s) =
     Some (record { place = place_of_element q i n (size s); shape = s })
-element_place _ _ _ = None
+element_place_with_shape _ _ _ = None
 
 -- Returns the place and the type of an element of the array at a place that was found. Returns None
 -- if no place was found, the index isn't a number, or the value at the place isn't an array.
-abbrev pub indexed_place : ExpressionCode → Option PlaceWithShape → Option PlaceWithShape
-indexed_place c None = None
-indexed_place c (Some f) = element_place c f.place f.shape
+abbrev pub element_of_optional_place : ExpressionCode → Option PlaceWithShape → Option PlaceWithShape
+element_of_optional_place c None = None
+element_of_optional_place c (Some f) = element_place_with_shape c f.place f.shape

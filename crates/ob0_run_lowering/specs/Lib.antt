@@ -2,10 +2,10 @@ pub mod Layouts
 pub mod Scenes
 pub mod Codes
 pub mod TruthDepths
-pub mod Trees
-pub mod LoweredMeans
+pub mod TreeCodes
+pub mod LoweredExpressionMeans
 pub mod Parts
 pub mod LoweredBodies
-pub mod KnownBlocks
+pub mod DeclaredBindings
 pub mod PlacedNames
 pub mod Blocks

@@ -10,14 +10,14 @@
 use Rattle.std.specs.Prelude.{◌≡◌, ◌&&◌, Bool, List, [], IsTrue, Option, Some, None}
 use Rattle.std.specs.declared.alloc.Global.{Global}
 use Rattle.std.specs.declared.vec.Vec.{Vec}
-use Rattle.ob0_tree.specs.Tree.{Tree, body, else_part, elsif_part, empty, expression, further_statement, items, maybe, sequence, statement}
+use Rattle.ob0_tree.specs.Tree.{Tree, body, else_part, elsif_part, empty, expression, statement_after_semicolon, items, maybe, sequence, statement}
 use Rattle.ob0_tree.specs.declared.tree.Expression.{Expression}
 use Rattle.ob0_language_names.specs.Names.{Label, naming_by_label}
 use Rattle.ob0_language_types.specs.Environments.{meanings}
 use Rattle.ob0_language_types.specs.WellTyped.{Signature, TypeEnvironment, TypeMeanings, arguments_match, body_is_well_typed, condition_is_boolean, else_is_well_typed, elsifs_are_well_typed, sequence_is_well_typed, statement_is_well_typed, further_statements_are_well_typed}
-use Rattle.ob0_run_machine.specs.Lowered as lowered
+use Rattle.ob0_run_machine.specs.LoweredSyntax as lowered
 use Rattle.ob0_run_cells.specs.Activations.{CodeMeansBody, Placement, slot_in_placement, target_in_placement}
-use Rattle.ob0_run_cells.specs.LoweredStatements.{CodeMeansArguments, CodeMeansElse, CodeMeansElsifs, CodeMeansFurtherStatements, CodeMeansSequence, CodeMeansStatement, Target}
+use Rattle.ob0_run_cells.specs.LoweredStatements.{CodeMeansArguments, CodeMeansElse, CodeMeansElsifs, CodeMeansStatementsAfterFirst, CodeMeansSequence, CodeMeansStatement, Target}
 use Rattle.ob0_run_cells.specs.Lowering.{Slot, TruthMeans, value_of_expression}
 use Rattle.ob0_run_lowering.specs.declared.scene.Scene.{Scene}
 use Rattle.ob0_run_lowering.specs.Scenes.{SceneAgreesWithChecker}
@@ -80,11 +80,11 @@ LowersSequence scene cs a =
 
 -- States that the instructions are correct code for the statements after the first one of a
 -- sequence, lowered with the data in `scene`. Claims nothing if these statements aren't well-typed.
-abbrev pub LowersFurtherStatements : Scene → lowered.Instructions → Tree Label (items further_statement)
+abbrev pub LowersStatementsAfterFirst : Scene → lowered.Instructions → Tree Label (items statement_after_semicolon)
     → Type 0
-LowersFurtherStatements scene cs rest =
+LowersStatementsAfterFirst scene cs rest =
     HoldsInScene scene (λ checked. further_statements_are_well_typed checked rest)
-    (λ checked slots targets. CodeMeansFurtherStatements checked slots targets cs rest)
+    (λ checked slots targets. CodeMeansStatementsAfterFirst checked slots targets cs rest)
 
 -- States that the instructions are correct code for an ELSE part, lowered with the data in `scene`.
 -- If there is no ELSE part, states that the instructions have no effect. Claims nothing if the ELSE

@@ -6,9 +6,9 @@ use Rattle.ob0_run_machine.specs.declared.code.Argument.{Argument}
 use Rattle.ob0_run_machine.specs.declared.code.Argument.TheVariants as argument
 use Rattle.ob0_run_machine.specs.declared.code.Number.{Number}
 use Rattle.ob0_run_machine.specs.declared.code.Truth.{Truth}
-use Rattle.ob0_run_lowering.specs.declared.lowered.TypedPlace.{TypedPlace}
-use Rattle.ob0_run_lowering.specs.declared.lowered.LoweredExpression.{LoweredExpression}
-use Rattle.ob0_run_lowering.specs.declared.lowered.LoweredExpression.TheVariants as code
+use Rattle.ob0_run_lowering.specs.declared.lowered_expression.TypedPlace.{TypedPlace}
+use Rattle.ob0_run_lowering.specs.declared.lowered_expression.LoweredExpression.{LoweredExpression}
+use Rattle.ob0_run_lowering.specs.declared.lowered_expression.LoweredExpression.TheVariants as code
 
 -- States that `n` is the number in an expression's code, if this code is a number. Claims nothing
 -- about other code.

@@ -10,19 +10,19 @@
 -- (`FrameMatchesPlacement`).
 -- Rule: none; used in contracts of lowering.
 use Rattle.std.specs.Prelude.{◌≡◌, ℕ, zero, suc, ◌≤◌, List, [], ◌∷◌, ◌++◌, length, if◌then◌else◌, ◌==◌, Some, None, Option}
-use Rattle.ob0_tree.specs.Tree.{Tree, end, further_section, items, more, then_section}
+use Rattle.ob0_tree.specs.Tree.{Tree, end, section_after_semicolon, items, more, semicolon_then_section}
 use Rattle.ob0_language_names.specs.Names.{Label, naming_by_label, declared}
-use Rattle.ob0_language_names.specs.Parts.{parameter_section_names}
-use Rattle.ob0_types_table.specs.KnownTables.{DeclarationTableView}
+use Rattle.ob0_language_names.specs.BlockParts.{parameter_section_names}
+use Rattle.ob0_types_table.specs.DeclarationTables.{DeclarationTableView}
 use Rattle.ob0_language_types.specs.Expressions.{Object, a_procedure, a_variable}
 use Rattle.ob0_language_types.specs.Typing.{type_of_object}
 use Rattle.ob0_language_types.specs.WellTyped.{Signature, TypeEnvironment, parameter_section_mode}
 use Rattle.ob0_language_values.specs.Values.{Shape}
-use Rattle.ob0_run_cells.specs.Activations.{PlacementState, Placement, BindingPlace, at_target, placement_from_binding, in_slot, nowhere}
+use Rattle.ob0_run_cells.specs.Activations.{PlacementState, Placement, BindingPlace, at_target, suffix_from_latest_binding, in_slot, nowhere}
 pub use Rattle.ob0_run_cells.specs.Activations.{add_declared_names_to_placement, place_variable_declarations}
 use Rattle.ob0_run_cells.specs.Cells.{size}
 use Rattle.ob0_run_cells.specs.LoweredStatements.{Target}
-use Rattle.ob0_run_cells.specs.Lowering.{Slot, in_activation, of_module}
+use Rattle.ob0_run_cells.specs.Lowering.{Slot, in_activation, in_module_activation}
 use Rattle.ob0_run_lowering.specs.Scenes.{object_of_label, place_seen_from, site_in_table}
 use Rattle.ob0_run_lowering.specs.declared.scene.LoweredSite.{LoweredSite}
 use Rattle.ob0_run_lowering.specs.declared.scene.LoweredSite.TheVariants as site
@@ -37,12 +37,12 @@ place_of_first_binding (b ∷ placement) = b.1
 
 -- returns the place of a name in a placement, or `nowhere` if the placement doesn't have the name
 abbrev pub place_in_placement : Placement Label → Label → BindingPlace
-place_in_placement placement x = place_of_first_binding (placement_from_binding naming_by_label placement x)
+place_in_placement placement x = place_of_first_binding (suffix_from_latest_binding naming_by_label placement x)
 
 -- returns the depth of the activation to which a site belongs, or 0 for `Nowhere`
 abbrev pub depth_of_site : LoweredSite → ℕ
 depth_of_site site.Nowhere = 0
-depth_of_site (site.Module offset) = 0
+depth_of_site (site.InModule offset) = 0
 depth_of_site (site.InActivation at offset) = at
 depth_of_site (site.ByReference at index) = at
 depth_of_site (site.Procedure at index) = at
@@ -86,7 +86,7 @@ declared_size t x = optional_shape_size (type_of_object (object_of_label t x))
 -- Returns the slot of a variable at an offset. The slot is in the cells of the module if the depth
 -- is 0, otherwise in the cells of the running activation.
 abbrev pub variable_slot_at_depth : ℕ → ℕ → Slot
-variable_slot_at_depth zero = of_module
+variable_slot_at_depth zero = in_module_activation
 variable_slot_at_depth (suc depth) = in_activation 0
 
 -- states that a site is the slot of the next variable of a frame, which comes after the cells so
@@ -98,11 +98,11 @@ IsSiteOfNextVariable f s =
 -- adds the parameters of a heading to a placement, one by one
 abbrev pub place_parameter_sections : (ℕ → Slot)
     → (Label → ℕ)
-    → Tree Label (items further_section)
+    → Tree Label (items section_after_semicolon)
     → PlacementState Label
     → PlacementState Label
 place_parameter_sections at size_of end p = p
-place_parameter_sections at size_of (more (then_section f) fs) p =
+place_parameter_sections at size_of (more (semicolon_then_section f) fs) p =
     place_parameter_sections at size_of fs (add_declared_names_to_placement at size_of (parameter_section_mode f) (parameter_section_names f) p)
 
 -- Returns the site of the ordinal `k` after the site of `ordinal` was set to `s`. `sites` returns
@@ -134,7 +134,7 @@ pub record HidesMoreSites (w v : VisibleSites) : Type 0 where
   pub added : v.hidden.items ≡ w.hidden.items ++ more
   pub within : OrdinalsAreBelow (length v.sites.items) more
   pub longer : length w.sites.items ≤ length v.sites.items
-  pub restores_locations : (k : ℕ) → sites_before_hiding more (site_in_table v.sites.items) k ≡ site_in_table w.sites.items k
+  pub restores_sites : (k : ℕ) → sites_before_hiding more (site_in_table v.sites.items) k ≡ site_in_table w.sites.items k
 
 -- States that in the table `v` the sites that were hidden since the table `w` are restored: `v` has
 -- the sites and the hidden sites of `w`. `v` also has as many entries as `u`, which is the table

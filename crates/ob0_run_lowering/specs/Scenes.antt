@@ -5,13 +5,13 @@
 -- Rule: none; used in contracts of lowering.
 use Rattle.std.specs.Prelude.{◌≡◌, ℕ, ◌-◌, List, slice_index_or, Some, None, Option}
 use Rattle.ob0_language_names.specs.Names.{Label, as_written, declared, label_text}
-use Rattle.ob0_types_table.specs.KnownTables.{DeclarationTableView, declared_object_in}
+use Rattle.ob0_types_table.specs.DeclarationTables.{DeclarationTableView, declared_object_in}
 use Rattle.ob0_language_types.specs.Expressions.{Object, a_procedure, a_variable}
 use Rattle.ob0_language_types.specs.WellTyped.{Signature, TypeMeanings}
 use Rattle.ob0_language_values.specs.Values.{Shape}
 use Rattle.ob0_run_cells.specs.Activations.{BindingPlace, at_target, in_slot, nowhere, slot_of_binding_place, target_of_binding_place}
 use Rattle.ob0_run_cells.specs.LoweredStatements.{Target}
-use Rattle.ob0_run_cells.specs.Lowering.{Slot, in_activation, by_reference, of_module}
+use Rattle.ob0_run_cells.specs.Lowering.{Slot, in_activation, by_reference, in_module_activation}
 use Rattle.ob0_run_lowering.specs.declared.scene.Scene.{Scene}
 use Rattle.ob0_run_lowering.specs.declared.scene.LoweredSite.{LoweredSite}
 use Rattle.ob0_run_lowering.specs.declared.scene.LoweredSite.TheVariants as site
@@ -19,7 +19,7 @@ use Rattle.ob0_run_lowering.specs.declared.scene.LoweredSite.TheVariants as site
 -- returns the place of a declaration with this site, as seen from an activation of this depth
 abbrev pub place_seen_from : ℕ → LoweredSite → BindingPlace
 place_seen_from depth site.Nowhere = nowhere
-place_seen_from depth (site.Module offset) = in_slot (of_module offset)
+place_seen_from depth (site.InModule offset) = in_slot (in_module_activation offset)
 place_seen_from depth (site.InActivation at offset) = in_slot (in_activation (depth - at) offset)
 place_seen_from depth (site.ByReference at index) = in_slot (by_reference (depth - at) index)
 place_seen_from depth (site.Procedure at index) =

@@ -4,8 +4,8 @@
 use Rattle.std.specs.Prelude.{◌≤◌, ℕ, suc, max}
 use Rattle.ob0_run_machine.specs.declared.code.Truth as truth
 use Rattle.ob0_run_machine.specs.declared.code.Truth.{Truth}
-use Rattle.ob0_run_lowering.specs.declared.lowered.LoweredExpression.{LoweredExpression}
-use Rattle.ob0_run_lowering.specs.declared.lowered.LoweredExpression.TheVariants as code
+use Rattle.ob0_run_lowering.specs.declared.lowered_expression.LoweredExpression.{LoweredExpression}
+use Rattle.ob0_run_lowering.specs.declared.lowered_expression.LoweredExpression.TheVariants as code
 
 -- Returns the number of conjunctions that are nested on the left: a truth, its first operand, the
 -- first operand of this operand, and so on. Returns 0 if the truth isn't a conjunction.
@@ -41,6 +41,6 @@ pub record IsNotNestedOnLeft (l : LoweredExpression) : Type 0 where
 
 -- States that the code `whole` of an operation is nested no deeper than the code `left` of its left
 -- operand. This holds for conjunctions and for disjunctions. A depth of 1 is always allowed.
-pub record LeftIsNoDeeperThanWhole (left whole : LoweredExpression) : Type 0 where
+pub record WholeIsNoDeeperThanLeft (left whole : LoweredExpression) : Type 0 where
   pub bounds_and_depth : and_depth_of_code whole ≤ max 1 (and_depth_of_code left)
   pub bounds_or_depth : or_depth_of_code whole ≤ max 1 (or_depth_of_code left)

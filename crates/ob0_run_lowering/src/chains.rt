@@ -8,14 +8,14 @@
 //!
 //! Clauses about meaning don't tell chains from nested pairs. So separate clauses bound how deep
 //! conjunctions and disjunctions are nested in left operands (`specs/TruthDepths`). Adding an
-//! operand makes a conjunction no deeper (`LeftIsNoDeeperThanWhole`). If the left operand isn't a
+//! operand makes a conjunction no deeper (`WholeIsNoDeeperThanLeft`). If the left operand isn't a
 //! conjunction, the result has depth 1. So the first operand of a conjunction is never a
 //! conjunction (`IsNotNestedOnLeft`). The same holds for disjunctions. `conjunction_of_two` and
 //! `disjunction_of_two` list each case of the left operand, since a proof knows nothing about an
 //! operand in a wildcard arm.
 
 ghost use Rattle.std.specs.Prelude.{◌≡◌, ◌≤◌, IfOk, IfSome, max, suc};
-ghost use Rattle.ob0_run_machine.specs.Lowered as machine;
+ghost use Rattle.ob0_run_machine.specs.LoweredSyntax as machine;
 ghost use Rattle.ob0_run_machine.specs.View.{conjunction_of, disjunction_of, operation_with_link, chain_of, first_operand_of, number_of, operation_of, operator_of, truth_of, variable_of};
 ghost use Rattle.ob0_run_lowering.specs.TruthDepths.{and_depth, or_depth};
 ghost use Rattle.ob0_run_machine.specs.declared.code.TruthList.{out-TruthList};
@@ -33,28 +33,28 @@ fn link(operator: Operator, right: Number) -> Link
 {
     match operator {
         Operator::Sum => match right {
-            Number::Literal(n) => Link::SumLiteral(n),
-            Number::Variable(v) => Link::SumVariable(v),
+            Number::Literal(n) => Link::SumWithLiteral(n),
+            Number::Variable(v) => Link::SumWithVariable(v),
             other => Link::Other(Operator::Sum, other),
         },
         Operator::Difference => match right {
-            Number::Literal(n) => Link::DifferenceLiteral(n),
-            Number::Variable(v) => Link::DifferenceVariable(v),
+            Number::Literal(n) => Link::DifferenceWithLiteral(n),
+            Number::Variable(v) => Link::DifferenceWithVariable(v),
             other => Link::Other(Operator::Difference, other),
         },
         Operator::Product => match right {
-            Number::Literal(n) => Link::ProductLiteral(n),
-            Number::Variable(v) => Link::ProductVariable(v),
+            Number::Literal(n) => Link::ProductWithLiteral(n),
+            Number::Variable(v) => Link::ProductWithVariable(v),
             other => Link::Other(Operator::Product, other),
         },
         Operator::Quotient => match right {
-            Number::Literal(n) => Link::QuotientLiteral(n),
-            Number::Variable(v) => Link::QuotientVariable(v),
+            Number::Literal(n) => Link::QuotientWithLiteral(n),
+            Number::Variable(v) => Link::QuotientWithVariable(v),
             other => Link::Other(Operator::Quotient, other),
         },
         Operator::Remainder => match right {
-            Number::Literal(n) => Link::RemainderLiteral(n),
-            Number::Variable(v) => Link::RemainderVariable(v),
+            Number::Literal(n) => Link::RemainderWithLiteral(n),
+            Number::Variable(v) => Link::RemainderWithVariable(v),
             other => Link::Other(Operator::Remainder, other),
         },
     }
@@ -67,9 +67,9 @@ fn reversed_link(operator: Operator, variable: Variable) -> Option<Link>
         ≡ machine.operation (operator_of operator) (machine.cell (variable_of variable)) right) }
 {
     match operator {
-        Operator::Sum => Some(Link::VariableSum(variable)),
-        Operator::Difference => Some(Link::VariableDifference(variable)),
-        Operator::Product => Some(Link::VariableProduct(variable)),
+        Operator::Sum => Some(Link::SumWithLeftVariable(variable)),
+        Operator::Difference => Some(Link::DifferenceWithLeftVariable(variable)),
+        Operator::Product => Some(Link::ProductWithLeftVariable(variable)),
         Operator::Quotient => None,
         Operator::Remainder => None,
     }
@@ -257,13 +257,13 @@ fn disjunction_of_three(
 }
 
 /// Returns the negation of a truth. If the truth is a flag, the negation is a single node
-/// (`Unset`).
+/// (`NegatedFlag`).
 pub(crate) fn negation(alloc: Global, truth: Truth) -> Result<Truth, AllocError>
     ensures meaning { IfOk result (λ t. truth_of t ≡ machine.negation (truth_of truth)) }
     ensures flat { IfOk result (λ t. (and_depth t ≡ 0) × (or_depth t ≡ 0)) }
 {
     match truth {
-        Truth::Flag(place) => Ok(Truth::Unset(place)),
+        Truth::Flag(place) => Ok(Truth::NegatedFlag(place)),
         other => Ok(Truth::Negation(Box::new(alloc, other)?)),
     }
 }
@@ -309,33 +309,33 @@ pub(crate) fn conjunction_of_two(
         }
         Truth::Constant(b) => conjunction_pair(alloc, Truth::Constant(b), right),
         Truth::Flag(place) => conjunction_pair(alloc, Truth::Flag(place), right),
-        Truth::Unset(place) => conjunction_pair(alloc, Truth::Unset(place), right),
+        Truth::NegatedFlag(place) => conjunction_pair(alloc, Truth::NegatedFlag(place), right),
         Truth::Negation(truth) => conjunction_pair(alloc, Truth::Negation(truth), right),
         Truth::Either(truths) => conjunction_pair(alloc, Truth::Either(truths), right),
         Truth::Any(several) => conjunction_pair(alloc, Truth::Any(several), right),
-        Truth::Related(relation, operands) => conjunction_pair(
+        Truth::NumberComparison(relation, operands) => conjunction_pair(
             alloc,
-            Truth::Related(relation, operands),
+            Truth::NumberComparison(relation, operands),
             right,
         ),
-        Truth::LessThanLiteral(variable, n) => conjunction_pair(
+        Truth::VariableLessThanLiteral(variable, n) => conjunction_pair(
             alloc,
-            Truth::LessThanLiteral(variable, n),
+            Truth::VariableLessThanLiteral(variable, n),
             right,
         ),
-        Truth::ComparedToLiteral(relation, variable, n) => conjunction_pair(
+        Truth::VariableComparedToLiteral(relation, variable, n) => conjunction_pair(
             alloc,
-            Truth::ComparedToLiteral(relation, variable, n),
+            Truth::VariableComparedToLiteral(relation, variable, n),
             right,
         ),
-        Truth::ComparedToVariable(relation, variable, other) => conjunction_pair(
+        Truth::VariableComparedToVariable(relation, variable, other) => conjunction_pair(
             alloc,
-            Truth::ComparedToVariable(relation, variable, other),
+            Truth::VariableComparedToVariable(relation, variable, other),
             right,
         ),
-        Truth::ElementToVariable(relation, row, variable) => conjunction_pair(
+        Truth::ElementComparedToVariable(relation, row, variable) => conjunction_pair(
             alloc,
-            Truth::ElementToVariable(relation, row, variable),
+            Truth::ElementComparedToVariable(relation, row, variable),
             right,
         ),
         Truth::Same(truths) => conjunction_pair(alloc, Truth::Same(truths), right),
@@ -366,33 +366,33 @@ pub(crate) fn disjunction_of_two(
         }
         Truth::Constant(b) => disjunction_pair(alloc, Truth::Constant(b), right),
         Truth::Flag(place) => disjunction_pair(alloc, Truth::Flag(place), right),
-        Truth::Unset(place) => disjunction_pair(alloc, Truth::Unset(place), right),
+        Truth::NegatedFlag(place) => disjunction_pair(alloc, Truth::NegatedFlag(place), right),
         Truth::Negation(truth) => disjunction_pair(alloc, Truth::Negation(truth), right),
         Truth::Both(truths) => disjunction_pair(alloc, Truth::Both(truths), right),
         Truth::All(several) => disjunction_pair(alloc, Truth::All(several), right),
-        Truth::Related(relation, operands) => disjunction_pair(
+        Truth::NumberComparison(relation, operands) => disjunction_pair(
             alloc,
-            Truth::Related(relation, operands),
+            Truth::NumberComparison(relation, operands),
             right,
         ),
-        Truth::LessThanLiteral(variable, n) => disjunction_pair(
+        Truth::VariableLessThanLiteral(variable, n) => disjunction_pair(
             alloc,
-            Truth::LessThanLiteral(variable, n),
+            Truth::VariableLessThanLiteral(variable, n),
             right,
         ),
-        Truth::ComparedToLiteral(relation, variable, n) => disjunction_pair(
+        Truth::VariableComparedToLiteral(relation, variable, n) => disjunction_pair(
             alloc,
-            Truth::ComparedToLiteral(relation, variable, n),
+            Truth::VariableComparedToLiteral(relation, variable, n),
             right,
         ),
-        Truth::ComparedToVariable(relation, variable, other) => disjunction_pair(
+        Truth::VariableComparedToVariable(relation, variable, other) => disjunction_pair(
             alloc,
-            Truth::ComparedToVariable(relation, variable, other),
+            Truth::VariableComparedToVariable(relation, variable, other),
             right,
         ),
-        Truth::ElementToVariable(relation, row, variable) => disjunction_pair(
+        Truth::ElementComparedToVariable(relation, row, variable) => disjunction_pair(
             alloc,
-            Truth::ElementToVariable(relation, row, variable),
+            Truth::ElementComparedToVariable(relation, row, variable),
             right,
         ),
         Truth::Same(truths) => disjunction_pair(alloc, Truth::Same(truths), right),

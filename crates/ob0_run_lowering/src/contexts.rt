@@ -19,7 +19,7 @@ pub(crate) struct LoweringContext<'g, 'k, 't> {
 impl<'g, 'k, 't> LoweringContext<'g, 'k, 't> {
     ghost use Rattle.std.specs.Prelude.{option_map};
     ghost use Rattle.ob0_scope_table.specs.LabelledTrees.{label_at_token};
-    ghost use Rattle.ob0_types_table.specs.KnownTables.{shapes_of};
+    ghost use Rattle.ob0_types_table.specs.DeclarationTables.{shapes_of};
     ghost use Rattle.ob0_types_table.specs.DeclarationTableView.{type_shape};
     ghost use Rattle.ob0_language_types.specs.Typing.{type_of_object};
     ghost use Rattle.ob0_run_lowering.specs.Scenes.{object_of_label};
@@ -28,7 +28,7 @@ impl<'g, 'k, 't> LoweringContext<'g, 'k, 't> {
     /// Returns the type of the variable, parameter or constant that the name at a token declares.
     /// If the name declares a type, returns this type. Returns None for any other declaration, or
     /// if the name declares nothing.
-    fn type_of(&self, name: usize) -> Option<TypeId>
+    fn declared_type_at_token(&self, name: usize) -> Option<TypeId>
         ensures { option_map (type_shape (shapes_of self.now.types.now)) result
             ≡ type_of_object (object_of_label self.now.types.now (label_at_token self.now.resolved.now name)) }
     {
@@ -41,7 +41,7 @@ impl<'g, 'k, 't> LoweringContext<'g, 'k, 't> {
     pub(crate) fn declared_size_at_token(&self, name: usize) -> usize
         ensures { result ≡ declared_size self.now.types.now (label_at_token self.now.resolved.now name) }
     {
-        match self.type_of(name) {
+        match self.declared_type_at_token(name) {
             None => 0,
             Some(of) => self.types.size(of),
         }

@@ -4,17 +4,17 @@
 ghost use Rattle.std.specs.Prelude.{IfOk};
 ghost use Rattle.ob0_tree.specs.View.{expression_of};
 ghost use Rattle.ob0_tree.specs.declared.tree.Designator.{out-Designator};
-ghost use Rattle.ob0_language_types.specs.Selected.{selectors_of_designator};
-ghost use Rattle.ob0_run_lowering.specs.LoweredMeans.{LocatesDesignator, LocatesLoneDesignator, LowersExpression, LowersArgument, LowersNumber, LowersTruth};
+ghost use Rattle.ob0_language_types.specs.DesignatorSelectors.{selectors_of_designator};
+ghost use Rattle.ob0_run_lowering.specs.LoweredExpressionMeans.{LocatesDesignator, LocatesLoneDesignator, LowersExpression, LowersArgument, LowersNumber, LowersTruth};
 ghost use Rattle.ob0_run_lowering.specs.Parts.{IsNumberInCode, IsFoundPlace, IsTruthInCode, ArgumentPassesCode};
 ghost use Rattle.ob0_run_lowering.specs.TruthDepths.{IsNotNestedOnLeft};
-ghost use Rattle.ob0_run_lowering.specs.declared.lowered.LoweredExpression.TheVariants as code;
+ghost use Rattle.ob0_run_lowering.specs.declared.lowered_expression.LoweredExpression.TheVariants as code;
 
-use crate::lowered::{LoweredExpression, TypedPlace};
+use crate::lowered_expression::{LoweredExpression, TypedPlace};
 use crate::scene::Scene;
 use ob0_run_machine::code::{Argument, Number, Place, Truth, Variable};
 use ob0_tree::{Designator, Expression};
-use ob0_types_table::designated::lone_designator;
+use ob0_types_table::lone_designators::lone_designator;
 use ob0_types_table::{FormalParameter, TypeId};
 use std::alloc::{AllocError, Global};
 
@@ -58,7 +58,7 @@ fn by_value_argument(lowered: LoweredExpression) -> Argument
 
 fn fallback_place() -> TypedPlace {
     TypedPlace {
-        place: Place::Variable(Variable::Module(0)),
+        place: Place::Variable(Variable::InModule(0)),
         type_id: TypeId::Unknown,
     }
 }
@@ -115,7 +115,7 @@ impl<'s, 'k, 't> Scene<'s, 'k, 't> {
     pub fn lower_to_place(&self, alloc: Global, d: &Designator) -> Result<TypedPlace, AllocError>
         ensures { IfOk result (LocatesDesignator self.now (out-Designator d.now).name (selectors_of_designator d.now)) }
     {
-        let found = self.locate(alloc, d)?;
+        let found = self.locate_designator(alloc, d)?;
         Ok(found_or_fallback_place(found))
     }
 

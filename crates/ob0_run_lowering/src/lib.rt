@@ -14,11 +14,11 @@
 
 mod chains;
 mod contexts;
+mod designators_and_expressions;
 mod expressions;
-mod lowered;
 mod lowered_assignments;
 mod lowered_calls;
-mod lowering;
+mod lowered_expression;
 mod operators;
 mod places;
 mod programs;
@@ -27,7 +27,7 @@ mod statements;
 mod types;
 mod visible_sites;
 
-pub(crate) use lowered::{LoweredExpression, TypedPlace};
+pub(crate) use lowered_expression::{LoweredExpression, TypedPlace};
 pub use programs::{Program, lower};
 pub(crate) use scene::{LoweredSite, Scene};
 pub(crate) use statements::lower_body;

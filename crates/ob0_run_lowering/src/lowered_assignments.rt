@@ -5,7 +5,7 @@
 ghost use Rattle.std.specs.Prelude.{◌≡◌, IfOk};
 ghost use Rattle.ob0_tree.specs.View.{assignment_of};
 ghost use Rattle.ob0_scope_table.specs.LabelledTrees.{tree_with_labels};
-ghost use Rattle.ob0_run_machine.specs.Lowered as machine;
+ghost use Rattle.ob0_run_machine.specs.LoweredSyntax as machine;
 ghost use Rattle.ob0_run_machine.specs.View.{operation_with_link, number_of, operation_of, place_of, statement_of, truth_of, variable_of};
 ghost use Rattle.ob0_run_lowering.specs.LoweredBodies.{LowersStatement};
 
@@ -41,7 +41,7 @@ fn variable_assignment(
             operation_assignment(alloc, variable, Box::into_inner(operation))
         }
         Number::Chain(chain) => Ok(Instruction::StoreChain(variable, chain)),
-        other => Ok(Instruction::StoreVariable(variable, other)),
+        other => Ok(Instruction::StoreNumberInVariable(variable, other)),
     }
 }
 
@@ -52,7 +52,7 @@ fn update_assignment(variable: Variable, link: Link) -> Instruction
         (operation_with_link link (machine.cell (variable_of variable))) }
 {
     match link {
-        Link::SumLiteral(n) => Instruction::Increase(variable, n),
+        Link::SumWithLiteral(n) => Instruction::Increase(variable, n),
         link => Instruction::Update(variable, link),
     }
 }
@@ -78,11 +78,11 @@ fn operation_assignment(
                 link,
             };
             let n = Number::Operation(Box::new(alloc, operation)?);
-            Ok(Instruction::StoreVariable(variable, n))
+            Ok(Instruction::StoreNumberInVariable(variable, n))
         }
         first => {
             let n = Number::Operation(Box::new(alloc, Operation { first, link })?);
-            Ok(Instruction::StoreVariable(variable, n))
+            Ok(Instruction::StoreNumberInVariable(variable, n))
         }
     }
 }
@@ -93,7 +93,7 @@ fn constant_assignment(place: Place, b: bool) -> Instruction
     ensures { statement_of result ≡ machine.stores_truth (place_of place) (machine.constant b) }
 {
     match place {
-        Place::VariableElement(row) => Instruction::StoreConstant(row, b),
+        Place::VariableElement(row) => Instruction::StoreConstantInElement(row, b),
         other => Instruction::StoreTruth(other, Truth::Constant(b)),
     }
 }

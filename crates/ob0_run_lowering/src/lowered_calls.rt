@@ -11,11 +11,11 @@ ghost use Rattle.std.specs.Prelude.{◌≡◌, IfOk, Some, map, option_map, slic
 ghost use Rattle.ob0_tree.specs.View.{arguments_of, call_of};
 ghost use Rattle.ob0_tree.specs.Tree.{calls};
 ghost use Rattle.ob0_language_names.specs.Names.{Label};
-ghost use Rattle.ob0_types_table.specs.KnownTables.{shapes_of};
+ghost use Rattle.ob0_types_table.specs.DeclarationTables.{shapes_of};
 ghost use Rattle.ob0_types_table.specs.DeclarationTableView.{formal_view, standard_procedure_of};
 ghost use Rattle.ob0_types_table.specs.Designators.{labelled_expressions};
 ghost use Rattle.ob0_scope_table.specs.LabelledTrees.{tree_with_labels, label_at_token};
-ghost use Rattle.ob0_language_types.specs.Expressions.{a_procedure, a_standard, read_procedure, write_procedure};
+ghost use Rattle.ob0_language_types.specs.Expressions.{a_procedure, a_standard_procedure, read_procedure, write_procedure};
 ghost use Rattle.ob0_run_machine.specs.View.{argument_of, statement_of};
 ghost use Rattle.ob0_run_lowering.specs.Scenes.{object_of_label};
 ghost use Rattle.ob0_run_lowering.specs.LoweredBodies.{LowersArguments, LowersStatement, arguments_or_empty_list};
@@ -131,7 +131,7 @@ fn lower_standard_call(
     given: &Option<Vec<Expression>>,
 ) -> Result<Instruction, AllocError>
     ensures { IfOk result (λ made. (x : Label)
-        → object_of_label scene.now.types.now x ≡ Some (a_standard (standard_procedure_of standard))
+        → object_of_label scene.now.types.now x ≡ Some (a_standard_procedure (standard_procedure_of standard))
         → LowersStatement scene.now (statement_of made)
         (calls x (tree_with_labels scene.now.resolved.now (arguments_of given.now)))) }
 {
@@ -148,7 +148,7 @@ fn lower_read(
     given: &Option<Vec<Expression>>,
 ) -> Result<Instruction, AllocError>
     ensures { IfOk result (λ made. (x : Label)
-        → object_of_label scene.now.types.now x ≡ Some (a_standard read_procedure)
+        → object_of_label scene.now.types.now x ≡ Some (a_standard_procedure read_procedure)
         → LowersStatement scene.now (statement_of made)
         (calls x (tree_with_labels scene.now.resolved.now (arguments_of given.now)))) }
 {
@@ -167,7 +167,7 @@ fn lower_write(
     given: &Option<Vec<Expression>>,
 ) -> Result<Instruction, AllocError>
     ensures { IfOk result (λ made. (x : Label)
-        → object_of_label scene.now.types.now x ≡ Some (a_standard write_procedure)
+        → object_of_label scene.now.types.now x ≡ Some (a_standard_procedure write_procedure)
         → LowersStatement scene.now (statement_of made)
         (calls x (tree_with_labels scene.now.resolved.now (arguments_of given.now)))) }
 {

@@ -2,17 +2,17 @@
 
 ghost use Rattle.std.specs.Prelude.{◌≡◌, IfOk, Some};
 ghost use Rattle.ob0_tree.specs.declared.tree.Sign.TheVariants as signs;
-ghost use Rattle.ob0_run_machine.specs.Lowered as machine;
+ghost use Rattle.ob0_run_machine.specs.LoweredSyntax as machine;
 ghost use Rattle.ob0_run_machine.specs.View.{number_of, operator_of, truth_of};
 ghost use Rattle.ob0_run_cells.specs.Lowering.{relation_of};
 ghost use Rattle.ob0_run_machine.specs.View as view;
 ghost use Rattle.ob0_run_lowering.specs.Codes as codes;
 ghost use Rattle.ob0_run_lowering.specs.Parts.{number_in_code, truth_in_code};
-ghost use Rattle.ob0_run_lowering.specs.TruthDepths.{LeftIsNoDeeperThanWhole, IsNotNestedOnLeft, and_depth, or_depth};
-ghost use Rattle.ob0_run_lowering.specs.Trees.{code_of};
+ghost use Rattle.ob0_run_lowering.specs.TruthDepths.{WholeIsNoDeeperThanLeft, IsNotNestedOnLeft, and_depth, or_depth};
+ghost use Rattle.ob0_run_lowering.specs.TreeCodes.{code_of};
 
 use crate::chains::{conjunction_of_two, disjunction_of_two, negation, operation_on_numbers};
-use crate::lowered::LoweredExpression;
+use crate::lowered_expression::LoweredExpression;
 use ob0_run_machine::code;
 use ob0_run_machine::code::{
     Number, NumberPair, Operator, Place, Truth, TruthPair, Variable, VariableElement,
@@ -52,7 +52,7 @@ fn lower_number_operation(
 ) -> Result<LoweredExpression, AllocError>
     ensures code { IfOk result
         (λ l. code_of l ≡ codes.number_operation (operator_of operator) (code_of left) (code_of right)) }
-    ensures flat { IfOk result (LeftIsNoDeeperThanWhole left) }
+    ensures flat { IfOk result (WholeIsNoDeeperThanLeft left) }
 {
     let Some(first) = number_in_code(left) else {
         return Ok(LoweredExpression::Nothing);
@@ -71,7 +71,7 @@ fn lower_conjunction(
 ) -> Result<LoweredExpression, AllocError>
     ensures code { IfOk result
         (λ l. code_of l ≡ codes.truth_operation machine.both (code_of left) (code_of right)) }
-    ensures flat { IfOk result (LeftIsNoDeeperThanWhole left) }
+    ensures flat { IfOk result (WholeIsNoDeeperThanLeft left) }
 {
     let Some(first) = truth_in_code(left) else {
         return Ok(LoweredExpression::Nothing);
@@ -90,7 +90,7 @@ fn lower_disjunction(
 ) -> Result<LoweredExpression, AllocError>
     ensures code { IfOk result
         (λ l. code_of l ≡ codes.truth_operation machine.either (code_of left) (code_of right)) }
-    ensures flat { IfOk result (LeftIsNoDeeperThanWhole left) }
+    ensures flat { IfOk result (WholeIsNoDeeperThanLeft left) }
 {
     let Some(first) = truth_in_code(left) else {
         return Ok(LoweredExpression::Nothing);
@@ -110,7 +110,7 @@ pub(crate) fn lower_addition(
 ) -> Result<LoweredExpression, AllocError>
     ensures code { IfOk result
         (λ l. code_of l ≡ codes.addition_code operator (code_of left) (code_of right)) }
-    ensures flat { IfOk result (LeftIsNoDeeperThanWhole left) }
+    ensures flat { IfOk result (WholeIsNoDeeperThanLeft left) }
 {
     match operator {
         AddOperator::Add => lower_number_operation(alloc, Operator::Sum, left, right),
@@ -127,7 +127,7 @@ pub(crate) fn lower_multiplication(
 ) -> Result<LoweredExpression, AllocError>
     ensures code { IfOk result
         (λ l. code_of l ≡ codes.multiplication_code operator (code_of left) (code_of right)) }
-    ensures flat { IfOk result (LeftIsNoDeeperThanWhole left) }
+    ensures flat { IfOk result (WholeIsNoDeeperThanLeft left) }
 {
     match operator {
         MultiplyOperator::Multiply => lower_number_operation(alloc, Operator::Product, left, right),
@@ -142,8 +142,8 @@ fn lower_unary_minus(
     operand: LoweredExpression,
 ) -> Result<LoweredExpression, AllocError>
     ensures code { IfOk result
-        (λ l. code_of l ≡ codes.signed_code (Some signs.Minus) (code_of operand)) }
-    ensures flat { IfOk result (LeftIsNoDeeperThanWhole operand) }
+        (λ l. code_of l ≡ codes.signed_term_code (Some signs.Minus) (code_of operand)) }
+    ensures flat { IfOk result (WholeIsNoDeeperThanLeft operand) }
 {
     match operand {
         LoweredExpression::Number(number) => {
@@ -162,8 +162,8 @@ fn lower_unary_plus(
     operand: LoweredExpression,
 ) -> Result<LoweredExpression, AllocError>
     ensures code { IfOk result
-        (λ l. code_of l ≡ codes.signed_code (Some signs.Plus) (code_of operand)) }
-    ensures flat { IfOk result (LeftIsNoDeeperThanWhole operand) }
+        (λ l. code_of l ≡ codes.signed_term_code (Some signs.Plus) (code_of operand)) }
+    ensures flat { IfOk result (WholeIsNoDeeperThanLeft operand) }
 {
     lower_number_operation(
         alloc,
@@ -180,8 +180,8 @@ pub(crate) fn lower_signed_term(
     sign: Option<Sign>,
     operand: LoweredExpression,
 ) -> Result<LoweredExpression, AllocError>
-    ensures code { IfOk result (λ l. code_of l ≡ codes.signed_code sign (code_of operand)) }
-    ensures flat { IfOk result (LeftIsNoDeeperThanWhole operand) }
+    ensures code { IfOk result (λ l. code_of l ≡ codes.signed_term_code sign (code_of operand)) }
+    ensures flat { IfOk result (WholeIsNoDeeperThanLeft operand) }
 {
     match sign {
         None => Ok(operand),
@@ -226,8 +226,8 @@ fn lower_literal_comparison(relation: code::Comparator, variable: Variable, n: i
     ensures flat { (and_depth result ≡ 0) × (or_depth result ≡ 0) }
 {
     match relation {
-        code::Comparator::Less => Truth::LessThanLiteral(variable, n),
-        other => Truth::ComparedToLiteral(other, variable, n),
+        code::Comparator::Less => Truth::VariableLessThanLiteral(variable, n),
+        other => Truth::VariableComparedToLiteral(other, variable, n),
     }
 }
 
@@ -245,11 +245,11 @@ fn lower_variable_comparison(
 {
     match right {
         Number::Literal(n) => Ok(lower_literal_comparison(relation, variable, n)),
-        Number::Variable(other) => Ok(Truth::ComparedToVariable(relation, variable, other)),
+        Number::Variable(other) => Ok(Truth::VariableComparedToVariable(relation, variable, other)),
         right => {
             let left = Number::Variable(variable);
             let operands = Box::new(alloc, NumberPair { left, right })?;
-            Ok(Truth::Related(relation, operands))
+            Ok(Truth::NumberComparison(relation, operands))
         }
     }
 }
@@ -272,7 +272,7 @@ fn lower_cell_comparison(
         place => {
             let left = Number::Cell(place);
             let operands = Box::new(alloc, NumberPair { left, right })?;
-            Ok(Truth::Related(relation, operands))
+            Ok(Truth::NumberComparison(relation, operands))
         }
     }
 }
@@ -290,12 +290,12 @@ fn lower_element_comparison(
     match right {
         Number::Variable(variable) => {
             let row = Box::new(alloc, row)?;
-            Ok(Truth::ElementToVariable(relation, row, variable))
+            Ok(Truth::ElementComparedToVariable(relation, row, variable))
         }
         right => {
             let left = Number::Cell(Place::VariableElement(Box::new(alloc, row)?));
             let operands = Box::new(alloc, NumberPair { left, right })?;
-            Ok(Truth::Related(relation, operands))
+            Ok(Truth::NumberComparison(relation, operands))
         }
     }
 }
@@ -317,7 +317,7 @@ fn lower_number_comparison(
         Number::Cell(place) => lower_cell_comparison(alloc, relation, place, right),
         left => {
             let operands = Box::new(alloc, NumberPair { left, right })?;
-            Ok(Truth::Related(relation, operands))
+            Ok(Truth::NumberComparison(relation, operands))
         }
     }
 }

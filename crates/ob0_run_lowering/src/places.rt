@@ -9,7 +9,7 @@
 //! variable itself.
 
 ghost use Rattle.std.specs.Prelude.{◌≡◌, IfOk, length};
-ghost use Rattle.ob0_run_machine.specs.Lowered as machine;
+ghost use Rattle.ob0_run_machine.specs.LoweredSyntax as machine;
 ghost use Rattle.ob0_run_machine.specs.View.{chain_of, element_of, first_operand_of, number_of, place_of, variable_element_of, variable_of};
 ghost use Rattle.ob0_run_machine.specs.declared.code.Chain.{out-Chain};
 ghost use Rattle.ob0_run_cells.specs.Lowering.{place_at_offset};
@@ -36,11 +36,11 @@ pub(crate) fn shifted_place(alloc: Global, whole: Place, offset: usize) -> Resul
 {
     match whole {
         Place::Variable(variable) => shifted_variable_place(alloc, variable, offset),
-        Place::Outside { up, offset: at } => Ok(Place::Outside {
+        Place::InEnclosingActivation { up, offset: at } => Ok(Place::InEnclosingActivation {
             up,
             offset: at.wrapping_add(offset),
         }),
-        Place::Passed(r) => {
+        Place::InVarParameter(r) => {
             let VarParameterPlace {
                 up,
                 index,
@@ -61,7 +61,7 @@ fn shifted_variable_place(
     ensures { IfOk result (λ p. place_of p ≡ place_at_offset (variable_of variable) offset) }
 {
     match variable {
-        Variable::Module(at) => Ok(Place::Variable(Variable::Module(at.wrapping_add(offset)))),
+        Variable::InModule(at) => Ok(Place::Variable(Variable::InModule(at.wrapping_add(offset)))),
         Variable::InOwnActivation(at) => Ok(Place::Variable(Variable::InOwnActivation(
             at.wrapping_add(offset),
         ))),
@@ -73,7 +73,7 @@ fn shifted_variable_place(
 
 /// Returns the place at an offset from the address that was passed for a VAR parameter. The
 /// parameter belongs to the activation `up` levels out. If `up` is 0, and the index and the offset
-/// have at most 32 bits, the place is a `Variable`. Otherwise it is a `Place::Passed`.
+/// have at most 32 bits, the place is a `Variable`. Otherwise it is a `Place::InVarParameter`.
 pub(crate) fn var_parameter_place(
     alloc: Global,
     up: usize,
@@ -89,7 +89,7 @@ pub(crate) fn var_parameter_place(
         }));
     }
     let var_parameter_place = VarParameterPlace { up, index, offset };
-    Ok(Place::Passed(Box::new(alloc, var_parameter_place)?))
+    Ok(Place::InVarParameter(Box::new(alloc, var_parameter_place)?))
 }
 
 /// Returns the place `row` with `offset` added to its field `offset`. `row` is a place in an

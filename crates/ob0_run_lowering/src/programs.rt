@@ -4,7 +4,7 @@ ghost use Rattle.std.specs.Prelude.{◌≡◌, ℕ, IfOk, OnOk, slice_set};
 ghost use Rattle.ob0_tree.specs.Tree.{more};
 ghost use Rattle.ob0_tree.specs.View.{block_of, procedure_of};
 ghost use Rattle.ob0_tree.specs.ParsedModule.{named_tree_of};
-ghost use Rattle.ob0_types_table.specs.KnownTables.{declared_object_in};
+ghost use Rattle.ob0_types_table.specs.DeclarationTables.{declared_object_in};
 ghost use Rattle.ob0_language_types.specs.Bindings.{declared_object};
 ghost use Rattle.ob0_language_types.specs.WellTyped.{WellTyped};
 ghost use Rattle.ob0_language_names.specs.Names.{naming_by_label};
@@ -80,7 +80,7 @@ impl Lowering {
         let index = self.procedures.len();
         let ordinal = context.resolved.ordinal_at(name);
         self.visible
-            .bind(ordinal, LoweredSite::Procedure { depth, index })?;
+            .bind_optional_ordinal(ordinal, LoweredSite::Procedure { depth, index })?;
         self.procedures.push(code::Routine {
             cells: 0,
             body: Vec::new(context.alloc),

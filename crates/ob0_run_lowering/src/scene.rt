@@ -20,7 +20,7 @@ pub enum LoweredSite {
     /// The declaration isn't in lowered code, for example because it is a constant or a type.
     Nowhere,
     /// A variable, at an offset in the cells of the module.
-    Module(usize),
+    InModule(usize),
     /// A variable, at an offset in the cells of an activation with this depth.
     InActivation { depth: usize, offset: usize },
     /// A VAR parameter of an activation with this depth, by its index among the VAR parameters.
@@ -40,7 +40,7 @@ pub struct CallTarget {
 
 impl CallTarget {
     /// Returns the target for a name that isn't a procedure's name: index 0, and 0 levels out.
-    fn none() -> CallTarget
+    fn fallback_target() -> CallTarget
         ensures { result ≡ record { procedure = 0; up = 0 } }
     {
         CallTarget {
@@ -64,7 +64,7 @@ pub struct Scene<'s, 'k, 't> {
 impl<'s, 'k, 't> Scene<'s, 'k, 't> {
     ghost use Rattle.std.specs.Prelude.{option_and_then};
     ghost use Rattle.ob0_scope_table.specs.LabelledTrees.{label_at_token};
-    ghost use Rattle.ob0_types_table.specs.KnownTables.{shapes_of};
+    ghost use Rattle.ob0_types_table.specs.DeclarationTables.{shapes_of};
     ghost use Rattle.ob0_types_table.specs.DeclarationTableView.{object_view};
     ghost use Rattle.ob0_run_lowering.specs.Scenes.{object_of_label, place_seen_from, slot_of_label, target_of_label, place_of_label};
 
@@ -104,10 +104,10 @@ impl<'s, 'k, 't> Scene<'s, 'k, 't> {
                 procedure: index,
                 up: self.depth.saturating_sub(depth),
             },
-            LoweredSite::Nowhere => CallTarget::none(),
-            LoweredSite::Module(_) => CallTarget::none(),
-            LoweredSite::InActivation { .. } => CallTarget::none(),
-            LoweredSite::ByReference { .. } => CallTarget::none(),
+            LoweredSite::Nowhere => CallTarget::fallback_target(),
+            LoweredSite::InModule(_) => CallTarget::fallback_target(),
+            LoweredSite::InActivation { .. } => CallTarget::fallback_target(),
+            LoweredSite::ByReference { .. } => CallTarget::fallback_target(),
         }
     }
 
@@ -118,15 +118,15 @@ impl<'s, 'k, 't> Scene<'s, 'k, 't> {
             ≡ slot_place (slot_of_label self.now (label_at_token self.now.resolved.now name))) }
     {
         match self.site(name) {
-            LoweredSite::Module(offset) => Ok(Place::Variable(Variable::Module(offset))),
+            LoweredSite::InModule(offset) => Ok(Place::Variable(Variable::InModule(offset))),
             LoweredSite::InActivation { depth, offset } => {
                 Ok(place_in_activation(self.depth.saturating_sub(depth), offset))
             }
             LoweredSite::ByReference { depth, index } => {
                 var_parameter_place(alloc, self.depth.saturating_sub(depth), index, 0)
             }
-            LoweredSite::Nowhere => Ok(Place::Variable(Variable::Module(0))),
-            LoweredSite::Procedure { .. } => Ok(Place::Variable(Variable::Module(0))),
+            LoweredSite::Nowhere => Ok(Place::Variable(Variable::InModule(0))),
+            LoweredSite::Procedure { .. } => Ok(Place::Variable(Variable::InModule(0))),
         }
     }
 }
@@ -138,6 +138,6 @@ fn place_in_activation(up: usize, offset: usize) -> Place
     if up == 0 {
         Place::Variable(Variable::InOwnActivation(offset))
     } else {
-        Place::Outside { up, offset }
+        Place::InEnclosingActivation { up, offset }
     }
 }

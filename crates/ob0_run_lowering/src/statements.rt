@@ -36,7 +36,7 @@ pub fn lower_body(
 
 /// Adds the code of a statement at the end of a list. Does nothing for None, which is the code of
 /// an empty statement.
-fn push_if_some(
+fn push_optional_instruction(
     made: &mut Vec<code::Instruction>,
     next: Option<code::Instruction>,
 ) -> Result<(), AllocError>
@@ -92,7 +92,7 @@ fn lower_sequence(
     let mut made = Vec::new(alloc);
     for s in statements {
         let next = lower_statement(alloc, scene, s)?;
-        push_if_some(&mut made, next)?;
+        push_optional_instruction(&mut made, next)?;
     }
     Ok(made)
 }

@@ -8,7 +8,7 @@ ghost use Rattle.std.specs.Prelude.{◌≡◌, ◌≤◌, ◌+◌, ◌*◌, ◌^
 ghost use Rattle.ob0_run_cells.specs.Cells.{field_offset, size, step_offset};
 ghost use Rattle.ob0_language_names.specs.Names.{Name};
 ghost use Rattle.ob0_types_table.specs.FieldPlaces.{selected_field};
-ghost use Rattle.ob0_types_table.specs.KnownTables.{shapes_of};
+ghost use Rattle.ob0_types_table.specs.DeclarationTables.{shapes_of};
 ghost use Rattle.ob0_types_table.specs.DeclarationTableView.{field_shapes, entry_shape, faulty_shape, array_or_faulty, record_or_faulty, type_shape};
 ghost use Rattle.ob0_language_values.specs.Values as values;
 ghost use Rattle.ob0_run_lowering.specs.Layouts.{IsLayoutOfFields, HaveLayouts, HasLayout, IsLayoutOfRecord};
@@ -41,7 +41,7 @@ pub struct TypeLayouts<'k> {
 
 /// Returns the sum of two numbers of cells. Fails exactly if the sum has more than 64 bits. The
 /// error is a failed allocation, since no allocation is that large.
-fn cell_sum(cells: usize, more: usize) -> Result<usize, AllocError>
+fn cell_count_sum(cells: usize, more: usize) -> Result<usize, AllocError>
     ensures { MatchResult result (λ n. n ≡ cells + more) (λ _. 2 ^ 64 ≤ cells + more) }
 {
     match cells.checked_add(more) {
@@ -52,7 +52,7 @@ fn cell_sum(cells: usize, more: usize) -> Result<usize, AllocError>
 
 /// Returns the product of a number of elements and the number of cells of each. Fails exactly if
 /// the product has more than 64 bits.
-fn cell_product(count: usize, cells: usize) -> Result<usize, AllocError>
+fn cell_count_product(count: usize, cells: usize) -> Result<usize, AllocError>
     ensures { MatchResult result (λ n. n ≡ count * cells) (λ _. 2 ^ 64 ≤ count * cells) }
 {
     match count.checked_mul(cells) {
@@ -135,7 +135,7 @@ fn lay_out_record(
     let mut cells = 0;
     for field in fields {
         offsets.push(cells)?;
-        cells = cell_sum(cells, size_from_layouts(layouts, field.of))?;
+        cells = cell_count_sum(cells, size_from_layouts(layouts, field.of))?;
     }
     Ok(RecordLayout { cells, offsets })
 }
@@ -153,7 +153,10 @@ fn entry_layout(
 {
     match shape {
         TypeEntry::Array(array) => {
-            let cells = cell_product(array.length, size_from_layouts(layouts, array.element))?;
+            let cells = cell_count_product(
+                array.length,
+                size_from_layouts(layouts, array.element),
+            )?;
             Ok(CellLayout::Array(cells))
         }
         TypeEntry::Record(record) => {
@@ -164,7 +167,7 @@ fn entry_layout(
 }
 
 impl<'k> Model for TypeLayouts<'k> {
-    ghost use Rattle.ob0_types_table.specs.KnownTables.{DeclarationTableView, shapes_of};
+    ghost use Rattle.ob0_types_table.specs.DeclarationTables.{DeclarationTableView, shapes_of};
     ghost use Rattle.ob0_run_lowering.specs.Layouts.{HaveLayouts};
 
     ghost Value = { DeclarationTableView };
@@ -175,7 +178,7 @@ impl<'k> Model for TypeLayouts<'k> {
 }
 
 impl<'k> TypeLayouts<'k> {
-    ghost use Rattle.ob0_types_table.specs.KnownTables.{shapes_of};
+    ghost use Rattle.ob0_types_table.specs.DeclarationTables.{shapes_of};
     ghost use Rattle.ob0_language_values.specs.Values.{at_field};
 
     /// Computes the layouts of all array and record types in the table `known`.

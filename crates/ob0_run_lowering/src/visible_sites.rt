@@ -46,7 +46,7 @@ fn site_of_next_variable(frame: Frame) -> LoweredSite
     ensures { IsSiteOfNextVariable frame result }
 {
     if frame.depth == 0 {
-        LoweredSite::Module(frame.cells)
+        LoweredSite::InModule(frame.cells)
     } else {
         LoweredSite::InActivation {
             depth: frame.depth,
@@ -73,8 +73,8 @@ impl Frame {
 
 impl VisibleSites {
     ghost use Rattle.std.specs.Prelude.{[], Some};
-    ghost use Rattle.ob0_tree.specs.View.{formals_of, items_of, further_parameter_section_of, names_of, variable_of, variable_section_of};
-    ghost use Rattle.ob0_language_names.specs.Parts.{formal_sections, names_in_list, section_variables};
+    ghost use Rattle.ob0_tree.specs.View.{formals_of, items_of, parameter_section_after_semicolon_of, names_of, variable_of, variable_section_of};
+    ghost use Rattle.ob0_language_names.specs.BlockParts.{formal_sections, names_in_list, section_variables};
     ghost use Rattle.ob0_scope_table.specs.LabelledTrees.{tree_with_labels, label_at_token};
     ghost use Rattle.ob0_run_cells.specs.Activations.{add_name_to_placement};
     ghost use Rattle.ob0_run_lowering.specs.PlacedNames.{HidesMoreSites, HiddenSitesAreRestored, PlacesNames, declared_size, add_declared_names_to_placement, sites_after_binding, variable_slot_at_depth};
@@ -148,7 +148,7 @@ impl VisibleSites {
 
     /// Brings the declaration with an ordinal into scope at `site`, as `bind_ordinal` does. Does
     /// nothing if the ordinal is None.
-    pub(crate) fn bind(
+    pub(crate) fn bind_optional_ordinal(
         &mut self,
         ordinal: Option<usize>,
         site: LoweredSite,
@@ -212,7 +212,7 @@ impl VisibleSites {
                 depth: frame.depth,
                 index: frame.var_parameter_count,
             };
-            self.bind(ordinal, site)?;
+            self.bind_optional_ordinal(ordinal, site)?;
             return Ok(Frame {
                 depth: frame.depth,
                 cells: frame.cells,
@@ -222,13 +222,13 @@ impl VisibleSites {
         let Some(next) = frame.with_more_cells(context.declared_size_at_token(name)) else {
             return Err(AllocError);
         };
-        self.bind(ordinal, site_of_next_variable(frame))?;
+        self.bind_optional_ordinal(ordinal, site_of_next_variable(frame))?;
         Ok(next)
     }
 
     /// Gives the names of one declaration their sites in an activation, one after the other.
     /// Returns the frame with these names added.
-    fn place_declared_names(
+    fn place_names_of_declaration(
         &mut self,
         context: &LoweringContext<'_, '_, '_>,
         frame: Frame,
@@ -258,7 +258,7 @@ impl VisibleSites {
     {
         let mut now = frame;
         for group in groups {
-            now = self.place_declared_names(context, now, false, &group.names)?;
+            now = self.place_names_of_declaration(context, now, false, &group.names)?;
         }
         Ok(now)
     }
@@ -289,11 +289,16 @@ impl VisibleSites {
     ) -> Result<Frame, AllocError>
         ensures { IfOk result (PlacesNames self.old self.new frame (placed.place_parameter_sections
             (variable_slot_at_depth frame.depth) (declared_size context.now.types.now)
-            (tree_with_labels context.now.resolved.now (items_of further_parameter_section_of sections.now)))) }
+            (tree_with_labels context.now.resolved.now (items_of parameter_section_after_semicolon_of sections.now)))) }
     {
         let mut now = frame;
         for section in sections {
-            now = self.place_declared_names(context, now, section.by_reference, &section.names)?;
+            now = self.place_names_of_declaration(
+                context,
+                now,
+                section.by_reference,
+                &section.names,
+            )?;
         }
         Ok(now)
     }

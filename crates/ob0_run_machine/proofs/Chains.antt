@@ -8,8 +8,8 @@ use Rattle.ob0_run_machine.specs.declared.code.Chain.{out-Chain}
 use Rattle.ob0_run_machine.specs.declared.code.Number.{Chain, Row_of-Link, end_of-Link, more_of-Link, items-the_row-Link, items_hidden-the_row-Link-0}
 use Rattle.ob0_run_machine.specs.declared.code.FirstOperand.TheBlock.{hidden-the_row-Link-0}
 use Rattle.ob0_run_machine.specs.Evaluation.{Levels, StepResult, ends, gives, number, ◌>>=◌}
-use Rattle.ob0_run_machine.specs.Lowered as lowered
-use Rattle.ob0_run_machine.specs.Answers.{outcome_of_applied_link}
+use Rattle.ob0_run_machine.specs.LoweredSyntax as lowered
+use Rattle.ob0_run_machine.specs.StepOutcomes.{outcome_of_applied_link}
 use Rattle.ob0_run_machine.specs.View.{operation_with_link, operation_with_row_of_links, operation_with_links, chain_of, first_operand_of, number_of, variable_of}
 
 pub bind_gives : {A : Type 0} (o : StepResult A) → (o >>= (λ a. gives a)) ≡ o
@@ -28,14 +28,14 @@ continued ls cells (l ∷ rest) a = outcome_of_applied_link ls cells l a >>= con
 -- a variable is there, so an operation between it and a number ends as the number does
 after_variable : (ls : Levels) (cells : List ℤ) (o : lowered.Operator) (v : Variable) (right : lowered.Number)
     → number ls cells (lowered.operation o (lowered.cell (variable_of v)) right) ≡ (number ls cells right >>= (λ b. number ls cells (lowered.operation o (lowered.cell (variable_of v)) (lowered.literal b))))
-after_variable ls cells o (variable.Module offset) right = refl
+after_variable ls cells o (variable.InModule offset) right = refl
 after_variable ls cells o _ right = refl
 
 -- an operation on a number is that on its value
 pub applied_to : (ls : Levels) (cells : List ℤ) (left : lowered.Number) (l : Link) → number ls cells (operation_with_link l left) ≡ (number ls cells left >>= outcome_of_applied_link ls cells l)
-applied_to ls cells left (link.VariableSum v) = after_variable ls cells lowered.sum v left
-applied_to ls cells left (link.VariableDifference v) = after_variable ls cells lowered.difference v left
-applied_to ls cells left (link.VariableProduct v) = after_variable ls cells lowered.product v left
+applied_to ls cells left (link.SumWithLeftVariable v) = after_variable ls cells lowered.sum v left
+applied_to ls cells left (link.DifferenceWithLeftVariable v) = after_variable ls cells lowered.difference v left
+applied_to ls cells left (link.ProductWithLeftVariable v) = after_variable ls cells lowered.product v left
 applied_to ls cells left _ = refl
 
 pub chained : (ls : Levels) (cells : List ℤ) (left : lowered.Number) (links : List Link) → number ls cells (operation_with_links left links) ≡ (number ls cells left >>= continued ls cells links)

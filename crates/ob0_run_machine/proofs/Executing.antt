@@ -9,19 +9,19 @@ use Rattle.ob0_run_machine.specs.declared.code.ProcedureCall as call
 use Rattle.ob0_run_machine.specs.declared.code.Conditional.{Conditional, out-Conditional}
 use Rattle.ob0_run_machine.specs.declared.code.RepeatLoop.{RepeatLoop}
 use Rattle.ob0_run_machine.specs.declared.code.Instruction.{Increase, Instruction}
-use Rattle.ob0_run_machine.specs.declared.ending.EvaluationFault.{EvaluationFault}
-use Rattle.ob0_run_machine.specs.declared.ending.StopReason.{StopReason}
-use Rattle.ob0_run_machine.specs.declared.ending.StopReason.TheVariants as stop
+use Rattle.ob0_run_machine.specs.declared.stop_reasons.EvaluationFault.{EvaluationFault}
+use Rattle.ob0_run_machine.specs.declared.stop_reasons.StopReason.{StopReason}
+use Rattle.ob0_run_machine.specs.declared.stop_reasons.StopReason.TheVariants as stop
 use Rattle.ob0_run_machine.specs.declared.machine.Machine.{Machine}
 use Rattle.ob0_run_machine.specs.declared.memory.Memory.{Memory}
 use Rattle.ob0_run_machine.specs.Allocations.{has_failed}
-use Rattle.ob0_run_machine.specs.Answers.{end_of_stop_reason, end_of}
+use Rattle.ob0_run_machine.specs.StepOutcomes.{end_of_stop_reason, end_of}
 use Rattle.ob0_run_machine.specs.declared.code.Variable.{Variable}
 use Rattle.ob0_run_machine.specs.declared.code.Comparator.TheVariants as relation
 use Rattle.ob0_run_machine.specs.Evaluation.{Halt, Levels, StepResult, TurnBound, address, cell_at, compare, ends, gives, number, truth, ◌>>=◌}
 use Rattle.ob0_run_machine.specs.Execution.{CallEffect, CallArguments, MachineProgress, MachineState, choose_by_truth, levels_in_call, execute, execute_sequence, execute_branches, continue_with, no_room, pass_arguments, running, stopped, execute_while, execute_repeat, continue_with_result}
-use Rattle.ob0_run_machine.specs.Lowered as lowered
-use Rattle.ob0_run_machine.specs.Machines.{StepHasEffect, CodeEffect, PerformsCalls, CallPostcondition, IsProgressAfterStep, StopsRun, StopsPassing, statement_effect, sequence_effect, elsifs_effect, procedure_entry_effect, output_items, passed_arguments, state_of}
+use Rattle.ob0_run_machine.specs.LoweredSyntax as lowered
+use Rattle.ob0_run_machine.specs.Machines.{StepHasEffect, CodeEffect, PerformsCalls, CallPostcondition, IsProgressAfterStep, StopsRun, StopsArgumentPassing, statement_effect, sequence_effect, elsifs_effect, procedure_entry_effect, output_items, passed_arguments, state_of}
 use Rattle.ob0_run_machine.specs.View.{branches_of_list, argument_of, conditional_of, call_of, variable_comparison, variable_increase, elsif_branches, else_statements, repeat_of, sequence_of, statement_of, truth_of, variable_of}
 
 stopped_then : (o : Option Halt) (m : Machine) (p : MachineProgress) (k : MachineState → MachineProgress) → StopsRun o m p → StopsRun o m (continue_with p k)
@@ -355,12 +355,12 @@ unfolding execute
 call-goes t ls c enters s = refl
 
 passing_stops : (m m' : Machine) (o : Option Halt) (memory : Memory) → m'.output ≡ m.output → m'.memory ≡ memory → (given : StepResult CallArguments) (next : CallArguments → MachineProgress)
-    → StopsPassing o memory given → StopsRun o m' (continue_with_result (state_of m) given next)
+    → StopsArgumentPassing o memory given → StopsRun o m' (continue_with_result (state_of m) given next)
 passing_stops m m' (Some x) memory out kept given next h = ap (λ o. continue_with_result (state_of m) o next) h ∙ ap (λ o. stopped x (output_items o.items)) (sym out)
 passing_stops m m' None memory out kept given next h = ap has_failed kept ∙ h
 
 pub call_fails : {post : CallPostcondition} {m m' : Machine} (memory : Memory) (e : StopReason) (t : ℕ) (ls : Levels) (c : call.ProcedureCall) (xs : List Argument) (none : List ℕ)
-    → none ≡ [] → xs ≡ c.arguments.items → StopsPassing (end_of_stop_reason e) memory (pass_arguments ls m.cells.items (map argument_of xs) (passed_arguments m.cells.items none)) → m'.output ≡ m.output → m'.memory ≡ memory
+    → none ≡ [] → xs ≡ c.arguments.items → StopsArgumentPassing (end_of_stop_reason e) memory (pass_arguments ls m.cells.items (map argument_of xs) (passed_arguments m.cells.items none)) → m'.output ≡ m.output → m'.memory ≡ memory
     → StepHasEffect post (Err e) m m' (statement_effect t ls (call_of c))
 call_fails {m = m} {m' = m'} memory e t ls c xs none empty same h out kept = record {
   has_effect = λ enters p. subst (StopsRun (end_of_stop_reason e) m') (sym (call-goes t ls c enters (state_of m)

@@ -1,7 +1,7 @@
 -- Exits by `?`.
 use Rattle.std.proofs.Common.{◌≡◌, ap, ◌∙◌, Err, Result}
-use Rattle.ob0_run_machine.specs.declared.ending.EvaluationFault.{EvaluationFault}
-use Rattle.ob0_run_machine.specs.Answers.{end_of, outcome_of_result}
+use Rattle.ob0_run_machine.specs.declared.stop_reasons.EvaluationFault.{EvaluationFault}
+use Rattle.ob0_run_machine.specs.StepOutcomes.{end_of, outcome_of_result}
 use Rattle.ob0_run_machine.specs.Evaluation.{StepResult, ends}
 
 pub reported_exit : {A : Type 0} (r : Result A EvaluationFault) (e : EvaluationFault) (o : StepResult A) → (y : EvaluationFault) × (r ≡ Err y) × (y ≡ e) → ends (end_of e) ≡ o → outcome_of_result r ≡ o

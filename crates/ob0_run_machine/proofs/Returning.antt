@@ -3,23 +3,23 @@ use Rattle.std.proofs.Common.{◌≡◌, ◌≢◌, ℕ, zero, suc, arith, ◌+�
 use Rattle.std.proofs.lemmas.List.{length-replicate}
 use Rattle.std.proofs.lemmas.Bool.{lt-ltb}
 use Rattle.ob0_run_machine.specs.declared.code.LoweredCode.{LoweredCode}
-use Rattle.ob0_run_machine.specs.declared.ending.StopReason.{StopReason}
-use Rattle.ob0_run_machine.specs.declared.ending.StopReason.TheVariants as stop
+use Rattle.ob0_run_machine.specs.declared.stop_reasons.StopReason.{StopReason}
+use Rattle.ob0_run_machine.specs.declared.stop_reasons.StopReason.TheVariants as stop
 use Rattle.ob0_run_machine.specs.declared.level.Level as level
 use Rattle.ob0_run_machine.specs.declared.machine.Machine.{Machine}
-use Rattle.ob0_run_machine.specs.Answers.{end_of_stop_reason}
+use Rattle.ob0_run_machine.specs.StepOutcomes.{end_of_stop_reason}
 use Rattle.ob0_run_machine.specs.Evaluation as ending
 use Rattle.ob0_run_machine.specs.Evaluation.{CallBound, Levels, innermost_level}
 use Rattle.ob0_run_machine.specs.Execution.{MachineProgress, MachineState, OutputItem, activate, call, execute_sequence, run_result, drop_variables, no_room, module_levels, run, running, stopped, run_with_added_cells, zeros}
 use Rattle.ob0_run_machine.specs.Levels.{levels_of}
-use Rattle.ob0_run_machine.specs.Lowered.{Routine}
+use Rattle.ob0_run_machine.specs.LoweredSyntax.{Routine}
 use Rattle.ob0_run_machine.specs.Machines.{StepHasEffect, IsProgressAfterCall, StopsRun, PerformsCalls, CallPostcondition, IsProgressAfterStep, activation_effect, sequence_effect, output_items, state_of}
 use Rattle.ob0_run_machine.specs.declared.machine.Item.{Item}
-use Rattle.ob0_run_machine.specs.Lowered as lowered
+use Rattle.ob0_run_machine.specs.LoweredSyntax as lowered
 use Rattle.ob0_run_machine.specs.View.{program_of, sequence_of}
 use Rattle.ob0_run_machine.specs.declared.code.Instruction.{Instruction}
 use Rattle.ob0_run_machine.specs.Outcomes.{ReturnsEnd, IsEndAfterExecution, progress_after_body, meaning_of_end}
-use Rattle.ob0_run_machine.specs.declared.running.End.{End}
+use Rattle.ob0_run_machine.specs.declared.program_runs.End.{End}
 use Rattle.std.specs.declared.alloc.AllocError.{AllocError}
 use Rattle.std.specs.Prelude.{slice_get}
 

@@ -4,7 +4,7 @@ use Rattle.ob0_run_machine.specs.declared.code.TruthList.{out-TruthList}
 use Rattle.ob0_run_machine.specs.declared.code.Truth.{Truth, All, Any, Row_of-Truth, end_of-Truth, more_of-Truth, items-the_row-Truth, items_hidden-the_row-Truth-0}
 use Rattle.ob0_run_machine.specs.declared.code.Truth.TheBlock.{hidden-the_row-Truth-0}
 use Rattle.ob0_run_machine.specs.Evaluation.{Levels, StepResult, gives, truth, ◌>>=◌}
-use Rattle.ob0_run_machine.specs.Lowered as lowered
+use Rattle.ob0_run_machine.specs.LoweredSyntax as lowered
 use Rattle.ob0_run_machine.specs.View.{conjunction_with_list, conjunction_of, conjunction_with_row, disjunction_with_list, disjunction_of, disjunction_with_row, truth_of}
 use Rattle.ob0_run_machine.proofs.Chains.{bind_assoc, bind_gives}
 

@@ -8,7 +8,7 @@ use Rattle.ob0_run_machine.specs.declared.statements.CountingCondition.{Counting
 use Rattle.ob0_run_machine.specs.declared.statements.CountingLimit.{CountingLimit}
 use Rattle.ob0_run_machine.specs.declared.statements.CountingLimit.TheVariants as limit
 use Rattle.ob0_run_machine.specs.Evaluation.{Levels, cell_at, gives, number}
-use Rattle.ob0_run_machine.specs.Lowered as lowered
+use Rattle.ob0_run_machine.specs.LoweredSyntax as lowered
 use Rattle.ob0_run_machine.specs.View.{truth_of, variable_comparison}
 
 -- returns the value of a limit: its literal, or the number in the cell at its address

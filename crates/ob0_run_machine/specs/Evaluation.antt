@@ -5,7 +5,7 @@ use Rattle.std.specs.Prelude.{ℕ, suc, zero, ◌+◌, ◌*◌, ◌%◌, ◌^◌
 use Rattle.ob0_language_values.specs.Division as division
 use Rattle.ob0_language_values.specs.Division.{checked_division}
 pub use Rattle.ob0_language_values.specs.Values.{fits_in_32_bits, same_truth}
-use Rattle.ob0_run_machine.specs.Lowered.{Place, in_module, in_own_activation, outside, passed, element, Number, literal, cell, negative, operation, Operator, sum, difference, product, quotient, remainder, Comparator, equal, not_equal, less, less_equal, greater, greater_equal, Truth, constant, flag, negation, both, either, related, same, different}
+use Rattle.ob0_run_machine.specs.LoweredSyntax.{Place, in_module, in_own_activation, outside, passed, element, Number, literal, cell, negative, operation, Operator, sum, difference, product, quotient, remainder, Comparator, equal, not_equal, less, less_equal, greater, greater_equal, Truth, constant, flag, negation, both, either, related, same, different}
 
 infixl 20 ◌>>=◌
 -- The end of a run: Done, or the reason why the run ended before the end of the program.
@@ -110,10 +110,10 @@ compare greater a b = int_lt b a
 compare greater_equal a b = int_le b a
 
 -- returns the truth value that is stored in a cell: FALSE for 0, TRUE for any other number
-abbrev pub is_true : ℤ → Bool
-is_true (pos zero) = false
-is_true (pos (suc n)) = true
-is_true (negsuc n) = true
+abbrev pub is_cell_true : ℤ → Bool
+is_cell_true (pos zero) = false
+is_cell_true (pos (suc n)) = true
+is_cell_true (negsuc n) = true
 
 -- returns the number that is stored in a cell for a truth value: 0 for FALSE, 1 for TRUE
 abbrev pub truth_as_cell : Bool → ℤ
@@ -125,7 +125,7 @@ truth_as_cell true = pos 1
 -- occurs.
 abbrev pub truth : Levels → List ℤ → Truth → StepResult Bool
 truth ls cells (constant b) = gives b
-truth ls cells (flag p) = address ls cells p >>= (λ a. gives (is_true (cell_at cells a)))
+truth ls cells (flag p) = address ls cells p >>= (λ a. gives (is_cell_true (cell_at cells a)))
 truth ls cells (negation t) = truth ls cells t >>= (λ a. gives (not a))
 truth ls cells (both t u) = truth ls cells t >>= (λ a. if a then truth ls cells u else gives false)
 truth ls cells (either t u) = truth ls cells t >>= (λ a. if a then gives true else truth ls cells u)

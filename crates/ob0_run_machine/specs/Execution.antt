@@ -4,7 +4,7 @@
 -- execution of a loop.
 -- Rule: docs/LANGUAGE.md, Runs 5 to 10.
 use Rattle.std.specs.Prelude.{ℕ, zero, suc, ◌+◌, ◌-◌, ◌^◌, Bool, true, false, ◌&&◌, List, [], ◌∷◌, ◌++◌, length, take, drop, replicate, ℤ, pos, Some, None, Option, if◌then◌else◌, nat_le, nat_lt, slice_get, slice_set}
-use Rattle.ob0_run_machine.specs.Lowered.{LoweredArgument, by_place, by_number, by_truth, by_block, Instruction, stores_number, stores_truth, copies, reads, writes, writes_line, chooses, while_loop, repeat_loop, calls, Instructions, no_statement, next_statement, Branches, no_branch, branch, Routine, LoweredCode}
+use Rattle.ob0_run_machine.specs.LoweredSyntax.{LoweredArgument, by_place, by_number, by_truth, by_block, Instruction, stores_number, stores_truth, copies, reads, writes, writes_line, chooses_branch, while_loop, repeat_loop, calls, Instructions, no_statement, next_statement, Branches, no_branch, branch, Routine, LoweredCode}
 use Rattle.ob0_run_machine.specs.Evaluation.{CallBound, Done, Halt, InputEnd, StepResult, Levels, TurnBound, address, truth_as_cell, ends, gives, innermost_level, number, truth, ◌>>=◌}
 
 -- An item of output: a number, or the end of a line.
@@ -175,7 +175,7 @@ unfoldable mutual
   execute enter t ls (writes n) s =
       continue_with_result s (number ls s.cells n) (λ v. running (append_output s (number_out v)))
   execute enter t ls writes_line s = running (append_output s line_out)
-  execute enter t ls (chooses bs otherwise) s =
+  execute enter t ls (chooses_branch bs otherwise) s =
       execute_branches enter t ls bs (execute_sequence enter t ls otherwise) s
   execute enter t ls (while_loop c body) s =
       execute_while t (λ s'. truth ls s'.cells c) (execute_sequence enter t ls body) s

@@ -1,10 +1,10 @@
 -- Converts the machine's activations (`Level`), and the addresses that it passes for VAR parameters
--- (`VarAddresses`), to the lists that the definitions of runs use.
+-- (`VarParameterAddresses`), to the lists that the definitions of runs use.
 -- Rule: none; used in contracts of the machine.
 use Rattle.std.specs.Prelude.{ℕ, List, Option, Some, None, [], ◌∷◌}
 use denote.Ref.{Bor}
-use Rattle.ob0_run_machine.specs.declared.addresses.VarAddresses.{VarAddresses}
-use Rattle.ob0_run_machine.specs.declared.addresses.VarAddresses.TheVariants as addresses
+use Rattle.ob0_run_machine.specs.declared.addresses.VarParameterAddresses.{VarParameterAddresses}
+use Rattle.ob0_run_machine.specs.declared.addresses.VarParameterAddresses.TheVariants as addresses
 use Rattle.ob0_run_machine.specs.declared.level.Level as code
 use Rattle.ob0_run_machine.specs.Evaluation.{Levels}
 
@@ -28,7 +28,7 @@ levels_of_option None = []
 levels_of_option (Some l) = levels_of l.now
 
 -- returns the addresses that a call passes for its VAR parameters, in the order of the parameters
-abbrev pub addresses_in : VarAddresses → List ℕ
+abbrev pub addresses_in : VarParameterAddresses → List ℕ
 addresses_in addresses.Empty = []
 addresses_in (addresses.One a) = a ∷ []
 addresses_in (addresses.Two a b) = a ∷ b ∷ []

@@ -1,10 +1,10 @@
-pub mod Lowered
+pub mod LoweredSyntax
 pub mod Evaluation
 pub mod Execution
 pub mod View
 pub mod Levels
 pub mod CountingLoops
-pub mod Answers
+pub mod StepOutcomes
 pub mod Machines
 pub mod Outcomes
 pub mod Allocations

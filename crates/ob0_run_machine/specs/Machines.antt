@@ -2,7 +2,7 @@
 -- `Execution` defines. The state has only cells, input and output, since the functions get the
 -- bound on iterations as a parameter. The contract of a step that allocates nothing is an equation
 -- (`progress_after_step`). The contract of any other step has a case for each result
--- (`IsProgressAfterStep`, `IsOutcomeOfPassing`). `StepHasEffect` is a record, so lemmas about it
+-- (`IsProgressAfterStep`, `IsOutcomeOfArgumentPassing`). `StepHasEffect` is a record, so lemmas about it
 -- can have implicit arguments. The invariants of loops in `proofs/Executing` (`InSequence`,
 -- `InBranches`, `InWhile`, `InRepeat`) are records for the same reason. There is a lemma for each
 -- way to continue a loop or to leave it.
@@ -10,19 +10,19 @@
 use Rattle.std.specs.Prelude.{◌≡◌, ℕ, ℤ, List, map, Ok, Err, None, Option, Some, Result, true}
 use denote.MutBor.{MutBor}
 use denote.Ref.{Bor}
-use Rattle.ob0_run_machine.specs.declared.ending.EvaluationFault.{EvaluationFault}
-use Rattle.ob0_run_machine.specs.declared.ending.StopReason.{StopReason}
+use Rattle.ob0_run_machine.specs.declared.stop_reasons.EvaluationFault.{EvaluationFault}
+use Rattle.ob0_run_machine.specs.declared.stop_reasons.StopReason.{StopReason}
 use Rattle.ob0_run_machine.specs.declared.level.Level as level
 use Rattle.ob0_run_machine.specs.declared.machine.Item.{Item}
 use Rattle.ob0_run_machine.specs.declared.machine.Item.TheVariants as item
 use Rattle.ob0_run_machine.specs.declared.machine.Machine.{Machine}
 use Rattle.ob0_run_machine.specs.declared.memory.Memory.{Memory}
 use Rattle.ob0_run_machine.specs.Allocations.{has_failed}
-use Rattle.ob0_run_machine.specs.Answers.{end_of_stop_reason, end_of}
+use Rattle.ob0_run_machine.specs.StepOutcomes.{end_of_stop_reason, end_of}
 use Rattle.ob0_run_machine.specs.Evaluation.{Halt, Levels, StepResult, ends, gives}
 use Rattle.ob0_run_machine.specs.Execution.{CallEffect, CallArguments, MachineProgress, MachineState, OutputItem, activate, call, levels_in_call, execute, execute_sequence, execute_branches, line_out, number_out, running, stopped}
 use Rattle.ob0_run_machine.specs.Levels.{levels_of}
-use Rattle.ob0_run_machine.specs.Lowered.{Branches, Routine, Instruction, Instructions}
+use Rattle.ob0_run_machine.specs.LoweredSyntax.{Branches, Routine, Instruction, Instructions}
 use Rattle.ob0_run_machine.specs.View.{program_of}
 use Rattle.ob0_run_machine.specs.declared.code.LoweredCode.{LoweredCode}
 
@@ -118,15 +118,15 @@ procedure_entry_effect k up ls base addresses enters s =
 
 -- States that the outcome `o` of evaluating arguments is the given end of the run. For None, states
 -- instead that an allocation has failed, and claims nothing about `o`.
-abbrev pub StopsPassing : Option Halt → Memory → StepResult CallArguments → Type 0
-StopsPassing (Some e) memory o = o ≡ ends e
-StopsPassing None memory o = has_failed memory ≡ true
+abbrev pub StopsArgumentPassing : Option Halt → Memory → StepResult CallArguments → Type 0
+StopsArgumentPassing (Some e) memory o = o ≡ ends e
+StopsArgumentPassing None memory o = has_failed memory ≡ true
 
 -- States that `o` is the outcome of passing arguments, given the machine's result. If the result is
--- Ok, `o` gives these cells and addresses. If it is an error, the run ends as `StopsPassing` says.
-abbrev pub IsOutcomeOfPassing : Result (Unit {0}) StopReason → Memory → List ℤ → List ℕ → StepResult CallArguments → Type 0
-IsOutcomeOfPassing (Ok done) memory cells addresses o = o ≡ gives (passed_arguments cells addresses)
-IsOutcomeOfPassing (Err s) memory cells addresses o = StopsPassing (end_of_stop_reason s) memory o
+-- Ok, `o` gives these cells and addresses. If it is an error, the run ends as `StopsArgumentPassing` says.
+abbrev pub IsOutcomeOfArgumentPassing : Result (Unit {0}) StopReason → Memory → List ℤ → List ℕ → StepResult CallArguments → Type 0
+IsOutcomeOfArgumentPassing (Ok done) memory cells addresses o = o ≡ gives (passed_arguments cells addresses)
+IsOutcomeOfArgumentPassing (Err s) memory cells addresses o = StopsArgumentPassing (end_of_stop_reason s) memory o
 
 -- Returns the effect of a procedure's activation: the cells of the variables that the procedure
 -- declares are added, and then its body runs. If there is no procedure (None), nothing happens.

@@ -3,14 +3,14 @@
 -- Rule: none; used in contracts to give values of the code a meaning.
 use Rattle.std.specs.Prelude.{◌≡◌, ℕ, IsErr, Ok, Err, None, Option, Result, Some}
 use Rattle.std.specs.declared.alloc.AllocError.{AllocError}
-use Rattle.ob0_run_machine.specs.declared.running.End.{End}
-use Rattle.ob0_run_machine.specs.declared.running.End.TheVariants as code
-use Rattle.ob0_run_machine.specs.declared.running.Outcome.{Outcome}
-use Rattle.ob0_run_machine.specs.declared.ending.StopReason.{StopReason}
-use Rattle.ob0_run_machine.specs.Answers.{end_of_stop_reason}
+use Rattle.ob0_run_machine.specs.declared.program_runs.End.{End}
+use Rattle.ob0_run_machine.specs.declared.program_runs.End.TheVariants as code
+use Rattle.ob0_run_machine.specs.declared.program_runs.Outcome.{Outcome}
+use Rattle.ob0_run_machine.specs.declared.stop_reasons.StopReason.{StopReason}
+use Rattle.ob0_run_machine.specs.StepOutcomes.{end_of_stop_reason}
 use Rattle.ob0_run_machine.specs.Evaluation.{CallBound, Divisor, Done, Halt, Index, InputEnd, Overflow, TurnBound}
 use Rattle.ob0_run_machine.specs.Execution.{MachineProgress, MachineRun, MachineState, call, execute_sequence, module_levels}
-use Rattle.ob0_run_machine.specs.Lowered.{LoweredCode}
+use Rattle.ob0_run_machine.specs.LoweredSyntax.{LoweredCode}
 use Rattle.ob0_run_machine.specs.Machines.{output_items}
 
 -- converts an end of a run as the machine returns it (`End`) to an end as it is defined (`Halt`)

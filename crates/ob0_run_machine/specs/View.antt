@@ -1,4 +1,4 @@
--- Converts values of the machine's types (`src/code.rt`) to lowered code (`Lowered`), which defines
+-- Converts values of the machine's types (`src/code.rt`) to lowered code (`LoweredSyntax`), which defines
 -- their meaning. A row (`Row_of-Link`, ..) is a list inside a recursive type, in the form over
 -- which definitions can recurse. So some conversions have two forms, one for a row and one for a
 -- list.
@@ -38,7 +38,7 @@ use Rattle.ob0_run_machine.specs.declared.code.RepeatLoop.{RepeatLoop}
 use Rattle.ob0_run_machine.specs.declared.code.ProcedureCall as call
 use Rattle.ob0_run_machine.specs.declared.code.Routine as procedure
 use Rattle.ob0_run_machine.specs.declared.code.LoweredCode as program
-use Rattle.ob0_run_machine.specs.Lowered as lowered
+use Rattle.ob0_run_machine.specs.LoweredSyntax as lowered
 
 -- converts an `Operator` to a lowered operator
 abbrev pub operator_of : Operator → lowered.Operator
@@ -50,7 +50,7 @@ operator_of operator.Remainder = lowered.remainder
 
 -- converts a `Variable` to a lowered place
 abbrev pub variable_of : Variable → lowered.Place
-variable_of (variable.Module offset) = lowered.in_module offset
+variable_of (variable.InModule offset) = lowered.in_module offset
 variable_of (variable.InOwnActivation offset) = lowered.in_own_activation offset
 variable_of (variable.ByReference index offset) = lowered.passed 0 index offset
 
@@ -71,8 +71,8 @@ abbrev mutual
   pub place_of : Place → lowered.Place
   place_of (place.Variable v) = variable_of v
   place_of (place.VariableElement r) = variable_element_of r.value
-  place_of (place.Outside up offset) = lowered.outside up offset
-  place_of (place.Passed r) = var_parameter_place_of r.value
+  place_of (place.InEnclosingActivation up offset) = lowered.outside up offset
+  place_of (place.InVarParameter r) = var_parameter_place_of r.value
   place_of (place.Element' pointer array index length stride offset) =
       lowered.element (place_of array) (number_of index) length stride offset
 
@@ -95,29 +95,29 @@ abbrev mutual
   -- Returns the lowered operation that applies a link to a number. A link is a binary operator with
   -- one of its operands, and the number is the other operand.
   pub operation_with_link : Link → lowered.Number → lowered.Number
-  operation_with_link (link.SumLiteral n) left = lowered.operation lowered.sum left (lowered.literal n)
-  operation_with_link (link.SumVariable v) left =
+  operation_with_link (link.SumWithLiteral n) left = lowered.operation lowered.sum left (lowered.literal n)
+  operation_with_link (link.SumWithVariable v) left =
       lowered.operation lowered.sum left (lowered.cell (variable_of v))
-  operation_with_link (link.DifferenceLiteral n) left =
+  operation_with_link (link.DifferenceWithLiteral n) left =
       lowered.operation lowered.difference left (lowered.literal n)
-  operation_with_link (link.DifferenceVariable v) left =
+  operation_with_link (link.DifferenceWithVariable v) left =
       lowered.operation lowered.difference left (lowered.cell (variable_of v))
-  operation_with_link (link.ProductLiteral n) left = lowered.operation lowered.product left (lowered.literal n)
-  operation_with_link (link.ProductVariable v) left =
+  operation_with_link (link.ProductWithLiteral n) left = lowered.operation lowered.product left (lowered.literal n)
+  operation_with_link (link.ProductWithVariable v) left =
       lowered.operation lowered.product left (lowered.cell (variable_of v))
-  operation_with_link (link.QuotientLiteral n) left =
+  operation_with_link (link.QuotientWithLiteral n) left =
       lowered.operation lowered.quotient left (lowered.literal n)
-  operation_with_link (link.QuotientVariable v) left =
+  operation_with_link (link.QuotientWithVariable v) left =
       lowered.operation lowered.quotient left (lowered.cell (variable_of v))
-  operation_with_link (link.RemainderLiteral n) left =
+  operation_with_link (link.RemainderWithLiteral n) left =
       lowered.operation lowered.remainder left (lowered.literal n)
-  operation_with_link (link.RemainderVariable v) left =
+  operation_with_link (link.RemainderWithVariable v) left =
       lowered.operation lowered.remainder left (lowered.cell (variable_of v))
-  operation_with_link (link.VariableSum v) right =
+  operation_with_link (link.SumWithLeftVariable v) right =
       lowered.operation lowered.sum (lowered.cell (variable_of v)) right
-  operation_with_link (link.VariableDifference v) right =
+  operation_with_link (link.DifferenceWithLeftVariable v) right =
       lowered.operation lowered.difference (lowered.cell (variable_of v)) right
-  operation_with_link (link.VariableProduct v) right =
+  operation_with_link (link.ProductWithLeftVariable v) right =
       lowered.operation lowered.product (lowered.cell (variable_of v)) right
   operation_with_link (link.Other o n) left = lowered.operation (operator_of o) left (number_of n)
 
@@ -173,17 +173,17 @@ abbrev mutual
   pub truth_of : Truth → lowered.Truth
   truth_of (truth.Constant b) = lowered.constant b
   truth_of (truth.Flag p) = lowered.flag (place_of p)
-  truth_of (truth.Unset p) = lowered.negation (lowered.flag (place_of p))
+  truth_of (truth.NegatedFlag p) = lowered.negation (lowered.flag (place_of p))
   truth_of (truth.Negation' pointer t) = lowered.negation (truth_of t)
   truth_of (truth.Both' pointer left right) = lowered.both (truth_of left) (truth_of right)
   truth_of (truth.Either' pointer left right) = lowered.either (truth_of left) (truth_of right)
   truth_of (truth.All' pointer first shape row) = conjunction_with_row row (truth_of first)
   truth_of (truth.Any' pointer first shape row) = disjunction_with_row row (truth_of first)
-  truth_of (truth.Related r o) = operands_comparison r o.value
-  truth_of (truth.LessThanLiteral v n) = variable_comparison relation.Less v (lowered.literal n)
-  truth_of (truth.ComparedToLiteral r v n) = variable_comparison r v (lowered.literal n)
-  truth_of (truth.ComparedToVariable r v w) = variable_comparison r v (lowered.cell (variable_of w))
-  truth_of (truth.ElementToVariable r q v) = element_comparison r q.value v
+  truth_of (truth.NumberComparison r o) = operands_comparison r o.value
+  truth_of (truth.VariableLessThanLiteral v n) = variable_comparison relation.Less v (lowered.literal n)
+  truth_of (truth.VariableComparedToLiteral r v n) = variable_comparison r v (lowered.literal n)
+  truth_of (truth.VariableComparedToVariable r v w) = variable_comparison r v (lowered.cell (variable_of w))
+  truth_of (truth.ElementComparedToVariable r q v) = element_comparison r q.value v
   truth_of (truth.Same' pointer left right) = lowered.same (truth_of left) (truth_of right)
   truth_of (truth.Different' pointer left right) =
       lowered.different (truth_of left) (truth_of right)
@@ -237,41 +237,41 @@ abbrev mutual
   -- converts an `Instruction` to a lowered statement
   pub statement_of : Instruction → lowered.Instruction
   statement_of (statement.StoreNumber p n) = lowered.stores_number (place_of p) (number_of n)
-  statement_of (statement.StoreVariable v n) = lowered.stores_number (variable_of v) (number_of n)
+  statement_of (statement.StoreNumberInVariable v n) = lowered.stores_number (variable_of v) (number_of n)
   statement_of (statement.StoreChain v c) = lowered.stores_number (variable_of v) (chain_of c.value)
   statement_of (statement.Increase v n) = variable_increase v n
   statement_of (statement.Update v l) =
       lowered.stores_number (variable_of v) (operation_with_link l (lowered.cell (variable_of v)))
   statement_of (statement.StoreTruth p t) = lowered.stores_truth (place_of p) (truth_of t)
-  statement_of (statement.StoreConstant r b) =
+  statement_of (statement.StoreConstantInElement r b) =
       lowered.stores_truth (variable_element_of r.value) (lowered.constant b)
   statement_of (statement.Copy p q n) = lowered.copies (place_of p) (place_of q) n
   statement_of (statement.Read p) = lowered.reads (place_of p)
   statement_of (statement.Write n) = lowered.writes (number_of n)
   statement_of statement.WriteLine = lowered.writes_line
   statement_of (statement.If i) = if_of i
-  statement_of (statement.While' c shape row) = lowered.while_loop (truth_of c) (statements_of row)
+  statement_of (statement.While' c shape row) = lowered.while_loop (truth_of c) (statements_of_row row)
   statement_of (statement.Repeat' shape row c) =
-      lowered.repeat_loop (statements_of row) (truth_of c)
+      lowered.repeat_loop (statements_of_row row) (truth_of c)
   statement_of (statement.Call c) = call_of c
 
   -- converts a `Conditional` to a lowered IF
   pub if_of : if_statement.Conditional → lowered.Instruction
   if_of (if_statement.Conditional' c shape body shape' branches shape'' otherwise) =
-      lowered.chooses (lowered.branch (truth_of c) (statements_of body) (branches_of branches))
-      (statements_of otherwise)
+      lowered.chooses_branch (lowered.branch (truth_of c) (statements_of_row body) (branches_of_row branches))
+      (statements_of_row otherwise)
 
   -- converts a list of statements to lowered statements
-  pub statements_of : {n : _} → statement.Row_of-Instruction n → lowered.Instructions
-  statements_of statement.end_of-Instruction = lowered.no_statement
-  statements_of (statement.more_of-Instruction s row) =
-      lowered.next_statement (statement_of s) (statements_of row)
+  pub statements_of_row : {n : _} → statement.Row_of-Instruction n → lowered.Instructions
+  statements_of_row statement.end_of-Instruction = lowered.no_statement
+  statements_of_row (statement.more_of-Instruction s row) =
+      lowered.next_statement (statement_of s) (statements_of_row row)
 
   -- converts a list of branches to lowered branches
-  pub branches_of : {n : _} → if_statement.Row_of-Branch n → lowered.Branches
-  branches_of if_statement.end_of-Branch = lowered.no_branch
-  branches_of (if_statement.more_of-Branch c shape body row) =
-      lowered.branch (truth_of c) (statements_of body) (branches_of row)
+  pub branches_of_row : {n : _} → if_statement.Row_of-Branch n → lowered.Branches
+  branches_of_row if_statement.end_of-Branch = lowered.no_branch
+  branches_of_row (if_statement.more_of-Branch c shape body row) =
+      lowered.branch (truth_of c) (statements_of_row body) (branches_of_row row)
 
 -- converts a list of statements to lowered statements
 abbrev pub sequence_of : List Instruction → lowered.Instructions
@@ -316,6 +316,6 @@ else_statements i = sequence_of (if_statement.out-Conditional i).otherwise.items
 -- converts a `Conditional` to a lowered IF, as `if_of` does
 abbrev pub conditional_of : if_statement.Conditional → lowered.Instruction
 conditional_of i =
-    lowered.chooses
+    lowered.chooses_branch
     (lowered.branch (truth_of (if_statement.out-Conditional i).condition)
     (sequence_of (if_statement.out-Conditional i).body.items) (elsif_branches i)) (else_statements i)

@@ -11,21 +11,21 @@ use std::alloc::AllocError;
 /// two addresses are stored inline, three or more in a list. So most calls allocate no memory for
 /// them.
 #[derive(Drop)]
-pub(crate) enum VarAddresses {
+pub(crate) enum VarParameterAddresses {
     Empty,
     One(usize),
     Two(usize, usize),
     More(Vec<usize>),
 }
 
-/// Returns the addresses `a`, `b` and `c`, in this order, in a list (`VarAddresses::More`). Fails
+/// Returns the addresses `a`, `b` and `c`, in this order, in a list (`VarParameterAddresses::More`). Fails
 /// only if an allocation fails.
 fn list_of_three_addresses(
     memory: &mut Memory,
     a: usize,
     b: usize,
     c: usize,
-) -> Result<VarAddresses, AllocError>
+) -> Result<VarParameterAddresses, AllocError>
     ensures listed { IfOk result (λ r. addresses_in r ≡ a ∷ b ∷ c ∷ []) }
     ensures failed { OnErr result (has_failed memory.new ≡ true) }
 {
@@ -33,10 +33,10 @@ fn list_of_three_addresses(
     memory.push(&mut all, a)?;
     memory.push(&mut all, b)?;
     memory.push(&mut all, c)?;
-    Ok(VarAddresses::More(all))
+    Ok(VarParameterAddresses::More(all))
 }
 
-impl VarAddresses {
+impl VarParameterAddresses {
     /// Adds `address` at the end of the addresses. Allocates no memory for the first two addresses.
     /// Fails only if an allocation fails.
     #[inline(always)]
@@ -46,16 +46,16 @@ impl VarAddresses {
         ensures failed { OnErr result (has_failed memory.new ≡ true) }
     {
         match self {
-            VarAddresses::Empty => *self = VarAddresses::One(address),
-            VarAddresses::One(a) => {
+            VarParameterAddresses::Empty => *self = VarParameterAddresses::One(address),
+            VarParameterAddresses::One(a) => {
                 let a = *a;
-                *self = VarAddresses::Two(a, address);
+                *self = VarParameterAddresses::Two(a, address);
             }
-            VarAddresses::Two(a, b) => {
+            VarParameterAddresses::Two(a, b) => {
                 let (a, b) = (*a, *b);
                 *self = list_of_three_addresses(memory, a, b, address)?;
             }
-            VarAddresses::More(all) => memory.push(all, address)?,
+            VarParameterAddresses::More(all) => memory.push(all, address)?,
         }
         Ok(())
     }

@@ -8,10 +8,10 @@ ghost use Rattle.ob0_run_machine.specs.Machines.{StepHasEffect, IsProgressAfterC
 ghost use Rattle.ob0_run_machine.specs.View.{procedure_of};
 
 use crate::code::{LoweredCode, Routine};
-use crate::ending::StopReason;
 use crate::level::Level;
 use crate::machine::Machine;
 use crate::statements::run_sequence_inline;
+use crate::stop_reasons::StopReason;
 
 /// Returns the procedure at the index `procedure` of `procedures`, or None if there is no procedure
 /// at this index.

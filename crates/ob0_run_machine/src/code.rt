@@ -13,17 +13,17 @@
 //!   assignment. It also occurs as the array or the index of a `VariableElement`.
 //! - The operations of a chain are links, which are applied to the result so far. A `Link` has the
 //!   operator and the kind of its operand, a literal or a variable, in one tag. Any other right
-//!   operand is evaluated by a called function (`apply_to_expression`). `v + i * j` is also a chain
-//!   (`VariableSum`), since `v` has the same value before and after the product is evaluated.
+//!   operand is evaluated by a called function (`apply_operator_to_expression`). `v + i * j` is also a chain
+//!   (`SumWithLeftVariable`), since `v` has the same value before and after the product is evaluated.
 //! - `x := x + k` is an `Increase`, `x := x * y` an `Update`. The assignment of a chain to a
 //!   variable is a `StoreChain`.
-//! - A variable compared with a literal or a variable is one node (`LessThanLiteral`,
-//!   `ComparedToLiteral`, `ComparedToVariable`). The same holds for an element compared with a
-//!   variable (`ElementToVariable`), and for `~flag` (`Unset`). It also holds for the assignment of
-//!   TRUE or FALSE to an element (`StoreConstant`).
+//! - A variable compared with a literal or a variable is one node (`VariableLessThanLiteral`,
+//!   `VariableComparedToLiteral`, `VariableComparedToVariable`). The same holds for an element compared with a
+//!   variable (`ElementComparedToVariable`), and for `~flag` (`NegatedFlag`). It also holds for the assignment of
+//!   TRUE or FALSE to an element (`StoreConstantInElement`).
 //! - Constants and comparisons of variables are evaluated inline. Small functions evaluate flags
 //!   and comparisons of elements (`evaluate_flag`, `compare_element`). A large function evaluates
-//!   all other conditions (`evaluate_truth_flat`).
+//!   all other conditions (`evaluate_truth_as_flat_outcome`).
 //!
 //! A long sum is a `Chain`, a long conjunction an `All`, and a long disjunction an `Any`. Each has
 //! the meaning of pairs that are nested on the left. A loop evaluates the operands, so a longer
@@ -41,16 +41,16 @@ pub enum Operator {
 }
 
 /// The place of a variable, or of an element or a field in it, if no index has to be evaluated to
-/// find the place. `Module` is at an offset in the cells of the module, `InOwnActivation` at an
+/// find the place. `InModule` is at an offset in the cells of the module, `InOwnActivation` at an
 /// offset in the cells of the running activation. `ByReference` is at an offset from the address
 /// that was passed for a VAR parameter of the running activation. An offset is a number of cells.
 #[derive(Clone, Copy, PartialEq, Eq, Debug)]
 pub enum Variable {
-    Module(usize),
+    InModule(usize),
     InOwnActivation(usize),
     /// The index of a VAR parameter among the VAR parameters, and an offset from the address that
     /// was passed for it. Both have 32 bits, so that a `Variable` has 16 bytes. If one of them
-    /// needs more bits, the place is a `Place::Passed`.
+    /// needs more bits, the place is a `Place::InVarParameter`.
     ByReference { index: u32, offset: u32 },
 }
 
@@ -62,8 +62,8 @@ pub enum Place {
     Variable(Variable),
     /// A place at an offset in the cells of an enclosing activation, which is `up` levels out from
     /// the running activation.
-    Outside { up: usize, offset: usize },
-    Passed(Box<VarParameterPlace>),
+    InEnclosingActivation { up: usize, offset: usize },
+    InVarParameter(Box<VarParameterPlace>),
     /// A place in an element whose array and index are variables. It is a special form of `Element`
     /// that is evaluated in one step.
     VariableElement(Box<VariableElement>),
@@ -147,24 +147,24 @@ pub struct Chain {
 }
 
 /// A binary operator with one of its two operands: a literal, a variable or another number. The
-/// other operand is the result so far. It is the left operand, except in `VariableSum`,
-/// `VariableDifference` and `VariableProduct`. In these cases it is the right operand.
+/// other operand is the result so far. It is the left operand, except in `SumWithLeftVariable`,
+/// `DifferenceWithLeftVariable` and `ProductWithLeftVariable`. In these cases it is the right operand.
 #[cycle(numbers)]
 #[derive(Drop)]
 pub enum Link {
-    SumLiteral(i32),
-    SumVariable(Variable),
-    DifferenceLiteral(i32),
-    DifferenceVariable(Variable),
-    ProductLiteral(i32),
-    ProductVariable(Variable),
-    QuotientLiteral(i32),
-    QuotientVariable(Variable),
-    RemainderLiteral(i32),
-    RemainderVariable(Variable),
-    VariableSum(Variable),
-    VariableDifference(Variable),
-    VariableProduct(Variable),
+    SumWithLiteral(i32),
+    SumWithVariable(Variable),
+    DifferenceWithLiteral(i32),
+    DifferenceWithVariable(Variable),
+    ProductWithLiteral(i32),
+    ProductWithVariable(Variable),
+    QuotientWithLiteral(i32),
+    QuotientWithVariable(Variable),
+    RemainderWithLiteral(i32),
+    RemainderWithVariable(Variable),
+    SumWithLeftVariable(Variable),
+    DifferenceWithLeftVariable(Variable),
+    ProductWithLeftVariable(Variable),
     Other(Operator, Number),
 }
 
@@ -193,7 +193,7 @@ pub enum Truth {
     Constant(bool),
     Flag(Place),
     /// The negation of a flag (`~flag`), which is evaluated in one step.
-    Unset(Place),
+    NegatedFlag(Place),
     Negation(Box<Truth>),
     Both(Box<TruthPair>),
     Either(Box<TruthPair>),
@@ -201,15 +201,15 @@ pub enum Truth {
     All(Box<TruthList>),
     /// A disjunction (OR) of several truths, which a loop evaluates.
     Any(Box<TruthList>),
-    Related(Comparator, Box<NumberPair>),
+    NumberComparison(Comparator, Box<NumberPair>),
     /// The relation that a variable is less than a literal. This case and the next three are
-    /// special forms of `Related`, which are evaluated in one step.
-    LessThanLiteral(Variable, i32),
+    /// special forms of `NumberComparison`, which are evaluated in one step.
+    VariableLessThanLiteral(Variable, i32),
     /// A variable compared with a literal.
-    ComparedToLiteral(Comparator, Variable, i32),
-    ComparedToVariable(Comparator, Variable, Variable),
+    VariableComparedToLiteral(Comparator, Variable, i32),
+    VariableComparedToVariable(Comparator, Variable, Variable),
     /// A comparison of an array's element with a variable. The array and the index are variables.
-    ElementToVariable(Comparator, Box<VariableElement>, Variable),
+    ElementComparedToVariable(Comparator, Box<VariableElement>, Variable),
     Same(Box<TruthPair>),
     Different(Box<TruthPair>),
 }
@@ -246,7 +246,7 @@ pub enum Argument {
 pub enum Instruction {
     StoreNumber(Place, Number),
     /// Assigns a number to a variable.
-    StoreVariable(Variable, Number),
+    StoreNumberInVariable(Variable, Number),
     /// Assigns the result of a chain of operations to a variable.
     StoreChain(Variable, Box<Chain>),
     /// Assigns to a variable the result of an operation on this variable, as in `x := x * 2`.
@@ -255,7 +255,7 @@ pub enum Instruction {
     Increase(Variable, i32),
     StoreTruth(Place, Truth),
     /// Assigns TRUE or FALSE to an array's element whose array and index are variables.
-    StoreConstant(Box<VariableElement>, bool),
+    StoreConstantInElement(Box<VariableElement>, bool),
     /// Copies cells from the second place to the first. The last field is the number of cells.
     Copy(Place, Place, usize),
     Read(Place),

@@ -3,10 +3,10 @@
 //! functions that can fail return a `Result`.
 
 ghost use Rattle.std.specs.Prelude.{◌≡◌, List, ℤ, false, if◌then◌else◌, true};
-ghost use Rattle.ob0_run_machine.specs.Answers.{outcome_of_applied_link, outcome_of, outcome_of_result};
+ghost use Rattle.ob0_run_machine.specs.StepOutcomes.{outcome_of_applied_link, outcome_of, outcome_of_result};
 ghost use Rattle.ob0_run_machine.specs.Evaluation.{address, cell_at, gives, number, truth};
 ghost use Rattle.ob0_run_machine.specs.declared.code.TruthPair.{out-TruthPair};
-ghost use Rattle.ob0_run_machine.specs.Lowered as lowered;
+ghost use Rattle.ob0_run_machine.specs.LoweredSyntax as lowered;
 ghost use Rattle.ob0_run_machine.specs.Levels.{levels_of};
 ghost use Rattle.ob0_run_machine.specs.View.{conjunction_of, disjunction_of, operation_with_link, chain_of, variable_comparison, element_of, first_operand_of, number_of, operation_of, operator_of, place_of, operands_comparison, element_comparison, variable_element_of, truth_of, variable_of};
 
@@ -14,15 +14,15 @@ use crate::code::{
     Chain, Comparator, Element, FirstOperand, Link, Number, NumberPair, Operation, Operator, Place,
     Truth, TruthList, TruthPair, Variable, VariableElement,
 };
-use crate::ending::EvaluationFault;
 use crate::flat_outcome::{FlatOutcome, into_flat_outcome, into_result};
 use crate::level::{
     Level, base_of_enclosing_level, outer_var_parameter_address, var_parameter_address,
 };
 use crate::operators::{
-    add, add_offset, apply_operator, compare, divide, element_address, equal_truths, is_true,
-    modulo, multiply, negate, subtract,
+    add, add_offset, apply_operator, are_truths_equal, compare, divide, element_address,
+    is_cell_true, modulo, multiply, negate, subtract,
 };
+use crate::stop_reasons::EvaluationFault;
 
 /// Returns the value of a cell, or 0 if there is no cell at the address.
 #[inline(always)]
@@ -42,7 +42,7 @@ pub(crate) fn variable_address(variable: Variable, level: &Level<'_>) -> usize
         → address (levels_of level.now) cells (variable_of variable) ≡ gives result }
 {
     match variable {
-        Variable::Module(offset) => offset,
+        Variable::InModule(offset) => offset,
         Variable::InOwnActivation(offset) => add_offset(level.base, offset),
         Variable::ByReference { index, offset } => {
             add_offset(
@@ -81,7 +81,7 @@ pub(crate) fn variable_element_address(
 /// of an index in the place fails, or if the index is outside its array.
 #[inline(always)]
 #[cycle(evaluation)]
-pub(crate) fn locate(
+pub(crate) fn locate_place(
     place: &Place,
     level: &Level<'_>,
     cells: &[i32],
@@ -91,23 +91,27 @@ pub(crate) fn locate(
 {
     match place {
         Place::Variable(variable) => Ok(variable_address(*variable, level)),
-        Place::Outside { up, offset } => Ok(add_offset(
+        Place::InEnclosingActivation { up, offset } => Ok(add_offset(
             base_of_enclosing_level(level, *up),
             *offset,
         )),
-        Place::Passed(r) => Ok(add_offset(
+        Place::InVarParameter(r) => Ok(add_offset(
             outer_var_parameter_address(level, r.up, r.index),
             r.offset,
         )),
         Place::VariableElement(r) => variable_element_address(r, level, cells),
-        Place::Element(e) => into_result(locate_element_flat(e, level, cells)),
+        Place::Element(e) => into_result(locate_element_as_flat_outcome(e, level, cells)),
     }
 }
 
 /// Returns the result of `locate_element` as a `FlatOutcome`, so that it is returned in registers.
 #[inline(never)]
 #[cycle(evaluation)]
-fn locate_element_flat(e: &Element, level: &Level<'_>, cells: &[i32]) -> FlatOutcome<usize>
+fn locate_element_as_flat_outcome(
+    e: &Element,
+    level: &Level<'_>,
+    cells: &[i32],
+) -> FlatOutcome<usize>
     ensures { outcome_of result ≡ address (levels_of level.now) cells.now (element_of e.now) }
 {
     into_flat_outcome(locate_element(e, level, cells))
@@ -119,7 +123,7 @@ fn locate_element(e: &Element, level: &Level<'_>, cells: &[i32]) -> Result<usize
     ensures { outcome_of_result result
         ≡ address (levels_of level.now) cells.now (element_of e.now) }
 {
-    let a = locate(&e.array, level, cells)?;
+    let a = locate_place(&e.array, level, cells)?;
     let i = evaluate_number(&e.index, level, cells)?;
     element_address(add_offset(a, e.offset), e.length, e.stride, i)
 }
@@ -138,12 +142,12 @@ pub(crate) fn evaluate_number(
         Number::Literal(n) => Ok(*n),
         Number::Variable(variable) => Ok(variable_value(*variable, level, cells)),
         Number::Cell(place) => {
-            let a = locate(place, level, cells)?;
+            let a = locate_place(place, level, cells)?;
             Ok(cell_at(cells, a))
         }
-        Number::Negative(operand) => into_result(evaluate_negative(operand, level, cells)),
+        Number::Negative(operand) => into_result(evaluate_unary_minus(operand, level, cells)),
         Number::Operation(o) => into_result(evaluate_operation(o, level, cells)),
-        Number::Chain(c) => into_result(evaluate_chain_flat(c, level, cells)),
+        Number::Chain(c) => into_result(evaluate_chain_as_flat_outcome(c, level, cells)),
     }
 }
 
@@ -162,16 +166,16 @@ fn evaluate_first_operand(
         FirstOperand::Literal(n) => Ok(*n),
         FirstOperand::Variable(variable) => Ok(variable_value(*variable, level, cells)),
         FirstOperand::Cell(place) => {
-            let a = locate(place, level, cells)?;
+            let a = locate_place(place, level, cells)?;
             Ok(cell_at(cells, a))
         }
-        FirstOperand::Negative(operand) => into_result(evaluate_negative(operand, level, cells)),
+        FirstOperand::Negative(operand) => into_result(evaluate_unary_minus(operand, level, cells)),
     }
 }
 
 #[inline(never)]
 #[cycle(evaluation)]
-fn evaluate_negative(operand: &Number, level: &Level<'_>, cells: &[i32]) -> FlatOutcome<i32>
+fn evaluate_unary_minus(operand: &Number, level: &Level<'_>, cells: &[i32]) -> FlatOutcome<i32>
     ensures { outcome_of result
         ≡ number (levels_of level.now) cells.now (lowered.negative (number_of operand.now)) }
 {
@@ -213,7 +217,7 @@ fn evaluate_general_operation(o: &Operation, level: &Level<'_>, cells: &[i32]) -
 
 #[inline(never)]
 #[cycle(evaluation)]
-fn evaluate_chain_flat(c: &Chain, level: &Level<'_>, cells: &[i32]) -> FlatOutcome<i32>
+fn evaluate_chain_as_flat_outcome(c: &Chain, level: &Level<'_>, cells: &[i32]) -> FlatOutcome<i32>
     ensures { outcome_of result ≡ number (levels_of level.now) cells.now (chain_of c.now) }
 {
     into_flat_outcome(evaluate_chain(c, level, cells))
@@ -239,7 +243,7 @@ pub(crate) fn evaluate_chain(
 
 /// Applies a link to the number `left`, which is the result so far. Returns the new result, or the
 /// fault that ends the evaluation. If the link's operand is neither a literal nor a variable,
-/// `apply_to_expression` evaluates it. So `apply_link` is small enough to be inlined.
+/// `apply_operator_to_expression` evaluates it. So `apply_link` is small enough to be inlined.
 #[inline(always)]
 #[cycle(evaluation)]
 fn apply_link(
@@ -251,20 +255,20 @@ fn apply_link(
     ensures { outcome_of_result result ≡ outcome_of_applied_link (levels_of level.now) cells.now link.now left }
 {
     match link {
-        Link::SumLiteral(n) => add(left, *n),
-        Link::SumVariable(v) => add(left, variable_value(*v, level, cells)),
-        Link::DifferenceLiteral(n) => subtract(left, *n),
-        Link::DifferenceVariable(v) => subtract(left, variable_value(*v, level, cells)),
-        Link::ProductLiteral(n) => multiply(left, *n),
-        Link::ProductVariable(v) => multiply(left, variable_value(*v, level, cells)),
-        Link::QuotientLiteral(n) => divide(left, *n),
-        Link::QuotientVariable(v) => divide(left, variable_value(*v, level, cells)),
-        Link::RemainderLiteral(n) => modulo(left, *n),
-        Link::RemainderVariable(v) => modulo(left, variable_value(*v, level, cells)),
-        Link::VariableSum(v) => add(variable_value(*v, level, cells), left),
-        Link::VariableDifference(v) => subtract(variable_value(*v, level, cells), left),
-        Link::VariableProduct(v) => multiply(variable_value(*v, level, cells), left),
-        Link::Other(o, n) => into_result(apply_to_expression(*o, left, n, level, cells)),
+        Link::SumWithLiteral(n) => add(left, *n),
+        Link::SumWithVariable(v) => add(left, variable_value(*v, level, cells)),
+        Link::DifferenceWithLiteral(n) => subtract(left, *n),
+        Link::DifferenceWithVariable(v) => subtract(left, variable_value(*v, level, cells)),
+        Link::ProductWithLiteral(n) => multiply(left, *n),
+        Link::ProductWithVariable(v) => multiply(left, variable_value(*v, level, cells)),
+        Link::QuotientWithLiteral(n) => divide(left, *n),
+        Link::QuotientWithVariable(v) => divide(left, variable_value(*v, level, cells)),
+        Link::RemainderWithLiteral(n) => modulo(left, *n),
+        Link::RemainderWithVariable(v) => modulo(left, variable_value(*v, level, cells)),
+        Link::SumWithLeftVariable(v) => add(variable_value(*v, level, cells), left),
+        Link::DifferenceWithLeftVariable(v) => subtract(variable_value(*v, level, cells), left),
+        Link::ProductWithLeftVariable(v) => multiply(variable_value(*v, level, cells), left),
+        Link::Other(o, n) => into_result(apply_operator_to_expression(*o, left, n, level, cells)),
     }
 }
 
@@ -272,7 +276,7 @@ fn apply_link(
 /// the result, or the first fault that occurs.
 #[inline(never)]
 #[cycle(evaluation)]
-fn apply_to_expression(
+fn apply_operator_to_expression(
     operator: Operator,
     left: i32,
     n: &Number,
@@ -312,8 +316,8 @@ fn evaluate_flag(place: &Place, level: &Level<'_>, cells: &[i32]) -> FlatOutcome
     ensures { outcome_of result
         ≡ truth (levels_of level.now) cells.now (lowered.flag (place_of place.now)) }
 {
-    match locate(place, level, cells) {
-        Ok(a) => FlatOutcome::Value(is_true(cell_at(cells, a))),
+    match locate_place(place, level, cells) {
+        Ok(a) => FlatOutcome::Value(is_cell_true(cell_at(cells, a))),
         Err(ending) => into_flat_outcome(Err(ending)),
     }
 }
@@ -348,16 +352,18 @@ pub(crate) fn evaluate_truth(
     match t {
         Truth::Constant(b) => Ok(*b),
         Truth::Flag(place) => into_result(evaluate_flag(place, level, cells)),
-        Truth::Unset(place) => evaluate_negated_flag(place, level, cells),
-        Truth::LessThanLiteral(v, n) => {
+        Truth::NegatedFlag(place) => evaluate_negated_flag(place, level, cells),
+        Truth::VariableLessThanLiteral(v, n) => {
             Ok(compare_variable(Comparator::Less, *v, *n, level, cells))
         }
-        Truth::ComparedToLiteral(r, v, n) => Ok(compare_variable(*r, *v, *n, level, cells)),
-        Truth::ComparedToVariable(r, v, w) => {
+        Truth::VariableComparedToLiteral(r, v, n) => Ok(compare_variable(*r, *v, *n, level, cells)),
+        Truth::VariableComparedToVariable(r, v, w) => {
             let right = variable_value(*w, level, cells);
             Ok(compare_variable(*r, *v, right, level, cells))
         }
-        Truth::ElementToVariable(r, q, v) => into_result(compare_element(*r, q, *v, level, cells)),
+        Truth::ElementComparedToVariable(r, q, v) => into_result(compare_element(
+            *r, q, *v, level, cells,
+        )),
         _ => evaluate_truth_out_of_line(t, level, cells),
     }
 }
@@ -371,12 +377,12 @@ fn evaluate_truth_out_of_line(
 ) -> Result<bool, EvaluationFault>
     ensures { outcome_of_result result ≡ truth (levels_of level.now) cells.now (truth_of t.now) }
 {
-    into_result(evaluate_truth_flat(t, level, cells))
+    into_result(evaluate_truth_as_flat_outcome(t, level, cells))
 }
 
 #[inline(never)]
 #[cycle(truths)]
-fn evaluate_truth_flat(t: &Truth, level: &Level<'_>, cells: &[i32]) -> FlatOutcome<bool>
+fn evaluate_truth_as_flat_outcome(t: &Truth, level: &Level<'_>, cells: &[i32]) -> FlatOutcome<bool>
     ensures { outcome_of result ≡ truth (levels_of level.now) cells.now (truth_of t.now) }
 {
     into_flat_outcome(evaluate_general_truth(t, level, cells))
@@ -394,7 +400,7 @@ fn evaluate_general_truth(
     match t {
         Truth::Constant(b) => Ok(*b),
         Truth::Flag(place) => into_result(evaluate_flag(place, level, cells)),
-        Truth::Unset(place) => evaluate_negated_flag(place, level, cells),
+        Truth::NegatedFlag(place) => evaluate_negated_flag(place, level, cells),
         Truth::Negation(operand) => {
             let a = evaluate_truth_out_of_line(operand, level, cells)?;
             Ok(!a)
@@ -403,16 +409,20 @@ fn evaluate_general_truth(
         Truth::Either(operands) => evaluate_disjunction_pair(operands, level, cells),
         Truth::All(several) => evaluate_conjunction_list(several, level, cells),
         Truth::Any(several) => evaluate_disjunction_list(several, level, cells),
-        Truth::Related(relation, operands) => compare_operands(*relation, operands, level, cells),
-        Truth::LessThanLiteral(v, n) => {
+        Truth::NumberComparison(relation, operands) => compare_operands(
+            *relation, operands, level, cells,
+        ),
+        Truth::VariableLessThanLiteral(v, n) => {
             Ok(compare_variable(Comparator::Less, *v, *n, level, cells))
         }
-        Truth::ComparedToLiteral(r, v, n) => Ok(compare_variable(*r, *v, *n, level, cells)),
-        Truth::ComparedToVariable(r, v, w) => {
+        Truth::VariableComparedToLiteral(r, v, n) => Ok(compare_variable(*r, *v, *n, level, cells)),
+        Truth::VariableComparedToVariable(r, v, w) => {
             let right = variable_value(*w, level, cells);
             Ok(compare_variable(*r, *v, right, level, cells))
         }
-        Truth::ElementToVariable(r, q, v) => into_result(compare_element(*r, q, *v, level, cells)),
+        Truth::ElementComparedToVariable(r, q, v) => into_result(compare_element(
+            *r, q, *v, level, cells,
+        )),
         Truth::Same(operands) => evaluate_truth_equality(operands, level, cells),
         Truth::Different(operands) => evaluate_truth_inequality(operands, level, cells),
     }
@@ -518,7 +528,7 @@ fn evaluate_truth_equality(
 {
     let left = evaluate_truth_out_of_line(&operands.left, level, cells)?;
     let right = evaluate_truth_out_of_line(&operands.right, level, cells)?;
-    Ok(equal_truths(left, right))
+    Ok(are_truths_equal(left, right))
 }
 
 #[cycle(truths)]
@@ -533,7 +543,7 @@ fn evaluate_truth_inequality(
 {
     let left = evaluate_truth_out_of_line(&operands.left, level, cells)?;
     let right = evaluate_truth_out_of_line(&operands.right, level, cells)?;
-    Ok(!equal_truths(left, right))
+    Ok(!are_truths_equal(left, right))
 }
 
 /// Returns the conjunction of several truth values, or the first fault that occurs. The values are

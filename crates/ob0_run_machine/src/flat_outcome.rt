@@ -2,7 +2,7 @@
 //!
 //! A `Result` with a number or an address is returned through memory. A `FlatOutcome` has a payload
 //! in only one case, and is therefore returned in registers. The functions of the evaluator that
-//! are marked `#[inline(never)]` (`evaluate_operation`, `evaluate_truth_flat`, ..) return a
+//! are marked `#[inline(never)]` (`evaluate_operation`, `evaluate_truth_as_flat_outcome`, ..) return a
 //! `FlatOutcome`. The inlined functions that can fail return a `Result` and use `?`.
 //! `into_flat_outcome` and `into_result` convert between the two types.
 //!
@@ -11,9 +11,9 @@
 //! run for a `StopReason`, or None if an allocation failed.
 
 ghost use Rattle.std.specs.Prelude.{◌≡◌};
-ghost use Rattle.ob0_run_machine.specs.Answers.{outcome_of, outcome_of_result};
+ghost use Rattle.ob0_run_machine.specs.StepOutcomes.{outcome_of, outcome_of_result};
 
-use crate::ending::EvaluationFault;
+use crate::stop_reasons::EvaluationFault;
 
 /// The value of an evaluation, or the fault that ends the run. A single tag distinguishes the value
 /// and the three faults.

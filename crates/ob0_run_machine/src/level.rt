@@ -5,7 +5,7 @@
 //! `levels_of` reads the list by structural recursion, so no invariant about a table of frames is
 //! needed.
 //!
-//! A call's addresses of VAR parameters are in a `VarAddresses`, which stores up to two addresses
+//! A call's addresses of VAR parameters are in a `VarParameterAddresses`, which stores up to two addresses
 //! without allocating memory. Only the cells, the output and more than two such addresses are in
 //! lists that allocate memory.
 

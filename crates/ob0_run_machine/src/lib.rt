@@ -3,19 +3,19 @@
 #![tactic(auto)]
 
 mod addresses;
-mod argument_passing;
+mod call_arguments;
 mod calls;
 mod cell_copies;
 pub mod code;
-mod ending;
 mod evaluator;
 mod flat_outcome;
 mod level;
 mod machine;
 mod memory;
 mod operators;
-mod running;
+mod program_runs;
 mod statements;
+mod stop_reasons;
 
 pub use machine::Item;
-pub use running::{End, Outcome, run};
+pub use program_runs::{End, Outcome, run};

@@ -7,8 +7,8 @@ ghost use Rattle.ob0_run_machine.specs.Machines.{IsProgressAfterStep, item_of, s
 ghost use Rattle.ob0_run_machine.specs.Allocations.{has_failed};
 
 use crate::cell_copies::copy_cells;
-use crate::ending::StopReason;
 use crate::memory::Memory;
+use crate::stop_reasons::StopReason;
 use std::alloc::AllocError;
 
 /// An item of a run's output: a number, or the end of a line.
@@ -32,7 +32,7 @@ pub(crate) struct Machine<'i> {
 
 /// Stores a number in the cell at an address. Does nothing if there is no such cell.
 #[inline(always)]
-pub(crate) fn store(cells: &mut Vec<i32>, address: usize, number: i32)
+pub(crate) fn store_in_cell(cells: &mut Vec<i32>, address: usize, number: i32)
     ensures { cells.new.items ≡ slice_set cells.old.items address number }
 {
     if address < cells.len() {
@@ -42,7 +42,7 @@ pub(crate) fn store(cells: &mut Vec<i32>, address: usize, number: i32)
 
 /// Copies the `count` cells that begin at the address `from` to the address `to`. Does nothing if
 /// fewer than `count` cells begin at one of these addresses.
-pub(crate) fn copy(cells: &mut Vec<i32>, to: usize, from: usize, count: usize)
+pub(crate) fn copy_existing_cells(cells: &mut Vec<i32>, to: usize, from: usize, count: usize)
     ensures { cells.new.items ≡ cells_after_copy cells.old.items to from count }
 {
     let length = cells.len();
@@ -75,7 +75,7 @@ impl<'i> Machine<'i> {
         match self.input {
             [] => Err(StopReason::InputEnd),
             [first, rest @ ..] => {
-                store(&mut self.cells, address, *first);
+                store_in_cell(&mut self.cells, address, *first);
                 self.input = rest;
                 Ok(())
             }

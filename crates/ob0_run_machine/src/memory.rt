@@ -2,7 +2,7 @@
 //! grow only by functions in this file, so the flag shows whether an allocation has failed.
 //!
 //! A step may report a failed allocation only if `Memory::record_failed_allocation` was called
-//! (`IsProgressAfterStep`, `IsOutcomeOfPassing`). So a fault or a bound can't be reported as a
+//! (`IsProgressAfterStep`, `IsOutcomeOfArgumentPassing`). So a fault or a bound can't be reported as a
 //! failed allocation. A function that grows a list fails only if the list had too little capacity
 //! (`full`). No contract states that the run needed a larger list, or that the allocator refused
 //! the request.

@@ -2,13 +2,13 @@
 
 ghost use Rattle.std.specs.Int.{w32};
 ghost use Rattle.std.specs.Prelude.{◌≡◌, ◌+ℤ◌, FitsSigned, SomeIff, neg_ℤ};
-ghost use Rattle.ob0_run_machine.specs.Answers.{number_or_overflow, outcome_of_result};
-ghost use Rattle.ob0_run_machine.specs.Evaluation.{compare, division_outcome, element_address, add_offset, checked_number, is_true, truth_as_cell, apply_operator, same_truth};
-ghost use Rattle.ob0_run_machine.specs.Lowered.{difference, product, quotient, remainder, sum};
+ghost use Rattle.ob0_run_machine.specs.StepOutcomes.{number_or_overflow, outcome_of_result};
+ghost use Rattle.ob0_run_machine.specs.Evaluation.{compare, division_outcome, element_address, add_offset, checked_number, is_cell_true, truth_as_cell, apply_operator, same_truth};
+ghost use Rattle.ob0_run_machine.specs.LoweredSyntax.{difference, product, quotient, remainder, sum};
 ghost use Rattle.ob0_run_machine.specs.View.{operator_of, relation_of};
 
 use crate::code::{Comparator, Operator};
-use crate::ending::EvaluationFault;
+use crate::stop_reasons::EvaluationFault;
 
 /// Returns the number, or the fault Overflow for None. `number` is the result of an operation, and
 /// None means that this result has more than 32 bits.
@@ -135,7 +135,7 @@ pub(crate) fn compare(relation: Comparator, left: i32, right: i32) -> bool
 
 /// Returns whether two truth values are equal.
 #[inline(always)]
-pub(crate) fn equal_truths(left: bool, right: bool) -> bool
+pub(crate) fn are_truths_equal(left: bool, right: bool) -> bool
     ensures { result ≡ same_truth left right }
 {
     left == right
@@ -143,8 +143,8 @@ pub(crate) fn equal_truths(left: bool, right: bool) -> bool
 
 /// Returns the truth value that is stored in a cell: FALSE for 0, TRUE for any other number.
 #[inline(always)]
-pub(crate) fn is_true(number: i32) -> bool
-    ensures { result ≡ is_true number }
+pub(crate) fn is_cell_true(number: i32) -> bool
+    ensures { result ≡ is_cell_true number }
 {
     number != 0
 }

@@ -2,31 +2,31 @@
 //! function that may reach a call.
 
 ghost use Rattle.std.specs.Prelude.{◌≡◌, ◌++◌, ◌∷◌, [], IfSome, List, ℕ, ℤ};
-ghost use Rattle.ob0_run_machine.specs.Answers.{outcome_of_result};
+ghost use Rattle.ob0_run_machine.specs.StepOutcomes.{outcome_of_result};
 ghost use Rattle.ob0_run_machine.specs.Evaluation.{Levels, address as address_of, gives, number, truth};
 ghost use Rattle.ob0_run_machine.specs.CountingLoops.{IsCountingLimit, IsCountingCondition, limit_value};
 ghost use Rattle.ob0_run_machine.specs.declared.code.Comparator.TheVariants.{Less};
 ghost use Rattle.ob0_run_machine.specs.declared.code.Instruction.{Increase};
 ghost use Rattle.ob0_run_machine.specs.Execution.{CallEffect, execute};
 ghost use Rattle.ob0_run_machine.specs.Levels.{levels_of};
-ghost use Rattle.ob0_run_machine.specs.Lowered as lowered;
+ghost use Rattle.ob0_run_machine.specs.LoweredSyntax as lowered;
 ghost use Rattle.ob0_run_machine.specs.Machines.{StepHasEffect, IsProgressAfterStep, procedure_entry_effect, statement_effect, sequence_effect, elsifs_effect, progress_after_step, state_of};
 ghost use Rattle.ob0_run_machine.specs.View.{operation_with_link, conditional_of, call_of, chain_of, variable_comparison, variable_increase, number_of, elsif_branches, else_statements, place_of, repeat_of, variable_element_of, sequence_of, statement_of, truth_of, variable_of, while_of};
 
-use crate::addresses::VarAddresses;
-use crate::argument_passing::pass_arguments;
+use crate::addresses::VarParameterAddresses;
+use crate::call_arguments::pass_arguments;
 use crate::code::{
     Chain, Comparator, Conditional, Instruction, Link, Number, Place, ProcedureCall, RepeatLoop,
     Truth, Variable, VariableElement, WhileLoop,
 };
-use crate::ending::{EvaluationFault, StopReason};
 use crate::evaluator::{
-    cell_at, evaluate_chain, evaluate_number, evaluate_truth, evaluate_update, locate,
+    cell_at, evaluate_chain, evaluate_number, evaluate_truth, evaluate_update, locate_place,
     variable_address, variable_element_address,
 };
 use crate::level::{Level, enclosing_level};
-use crate::machine::{Item, Machine, copy, store};
+use crate::machine::{Item, Machine, copy_existing_cells, store_in_cell};
 use crate::operators::{add, compare, truth_as_cell};
+use crate::stop_reasons::{EvaluationFault, StopReason};
 
 /// Assigns the value of `n` to a place of any form. Returns a fault if the evaluation of the place
 /// or of `n` has one. This function isn't inlined, so `run_statement` is small enough to be
@@ -44,16 +44,16 @@ fn store_number(
         ≡ execute enters t (levels_of level.now)
         (lowered.stores_number (place_of place.now) (number_of n.now)) (state_of machine.old) }
 {
-    let a = locate(place, level, machine.cells.as_slice())?;
+    let a = locate_place(place, level, machine.cells.as_slice())?;
     let v = evaluate_number(n, level, machine.cells.as_slice())?;
-    store(&mut machine.cells, a, v);
+    store_in_cell(&mut machine.cells, a, v);
     Ok(())
 }
 
 /// Assigns the value of `n` to a variable. Returns a fault if the evaluation of `n` has one.
 #[tactic(auto, unfolding(crate::specs::Execution::execute))]
 #[inline(always)]
-fn store_variable(
+fn store_number_in_variable(
     variable: Variable,
     n: &Number,
     level: &Level<'_>,
@@ -65,7 +65,7 @@ fn store_variable(
         (lowered.stores_number (variable_of variable) (number_of n.now)) (state_of machine.old) }
 {
     let v = evaluate_number(n, level, machine.cells.as_slice())?;
-    store(&mut machine.cells, variable_address(variable, level), v);
+    store_in_cell(&mut machine.cells, variable_address(variable, level), v);
     Ok(())
 }
 
@@ -85,7 +85,7 @@ fn store_chain(
         (lowered.stores_number (variable_of variable) (chain_of c.now)) (state_of machine.old) }
 {
     let v = evaluate_chain(c, level, machine.cells.as_slice())?;
-    store(&mut machine.cells, variable_address(variable, level), v);
+    store_in_cell(&mut machine.cells, variable_address(variable, level), v);
     Ok(())
 }
 
@@ -100,13 +100,13 @@ fn increase_at(address: usize, by: i32, machine: &mut Machine<'_>) -> Result<(),
         ≡ execute enters t ls (variable_increase v by) (state_of machine.old) }
 {
     let v = add(cell_at(machine.cells.as_slice(), address), by)?;
-    store(&mut machine.cells, address, v);
+    store_in_cell(&mut machine.cells, address, v);
     Ok(())
 }
 
 /// Adds the number `by` to a variable. Returns the fault Overflow if the sum has more than 32 bits.
 #[inline(always)]
-fn increase(
+fn increase_variable(
     variable: Variable,
     by: i32,
     level: &Level<'_>,
@@ -123,7 +123,7 @@ fn increase(
 /// fault. Like `store_number`, this function isn't inlined.
 #[tactic(auto, unfolding(crate::specs::Execution::execute))]
 #[inline(never)]
-fn update(
+fn update_variable(
     variable: Variable,
     link: &Link,
     level: &Level<'_>,
@@ -135,7 +135,7 @@ fn update(
         (operation_with_link link.now (lowered.cell (variable_of variable)))) (state_of machine.old) }
 {
     let v = evaluate_update(variable, link, level, machine.cells.as_slice())?;
-    store(&mut machine.cells, variable_address(variable, level), v);
+    store_in_cell(&mut machine.cells, variable_address(variable, level), v);
     Ok(())
 }
 
@@ -154,9 +154,9 @@ fn store_truth(
         ≡ execute enters turns (levels_of level.now)
         (lowered.stores_truth (place_of place.now) (truth_of t.now)) (state_of machine.old) }
 {
-    let a = locate(place, level, machine.cells.as_slice())?;
+    let a = locate_place(place, level, machine.cells.as_slice())?;
     let v = evaluate_truth(t, level, machine.cells.as_slice())?;
-    store(&mut machine.cells, a, truth_as_cell(v));
+    store_in_cell(&mut machine.cells, a, truth_as_cell(v));
     Ok(())
 }
 
@@ -176,7 +176,7 @@ fn store_truth_constant_in_element(
         (lowered.stores_truth (variable_element_of r.now) (lowered.constant b)) (state_of machine.old) }
 {
     let a = variable_element_address(r, level, machine.cells.as_slice())?;
-    store(&mut machine.cells, a, truth_as_cell(b));
+    store_in_cell(&mut machine.cells, a, truth_as_cell(b));
     Ok(())
 }
 
@@ -193,9 +193,9 @@ fn copy_block(
         ≡ execute enters t (levels_of level.now)
         (lowered.copies (place_of to.now) (place_of from.now) count) (state_of machine.old) }
 {
-    let a = locate(to, level, machine.cells.as_slice())?;
-    let b = locate(from, level, machine.cells.as_slice())?;
-    copy(&mut machine.cells, a, b, count);
+    let a = locate_place(to, level, machine.cells.as_slice())?;
+    let b = locate_place(from, level, machine.cells.as_slice())?;
+    copy_existing_cells(&mut machine.cells, a, b, count);
     Ok(())
 }
 
@@ -205,7 +205,7 @@ fn run_read(place: &Place, level: &Level<'_>, machine: &mut Machine<'_>) -> Resu
         → IsProgressAfterStep result machine.new (execute enters t (levels_of level.now)
         (lowered.reads (place_of place.now)) (state_of machine.old)) }
 {
-    let a = locate(place, level, machine.cells.as_slice())?;
+    let a = locate_place(place, level, machine.cells.as_slice())?;
     machine.read_number(a)
 }
 
@@ -268,7 +268,7 @@ fn run_call<F: Fn(&mut Machine<'_>, usize, &Level<'_>) -> Result<(), StopReason>
         (statement_effect t (levels_of level.now) (call_of c.now)) }
 {
     let base = machine.cell_count();
-    let mut addresses = VarAddresses::Empty;
+    let mut addresses = VarParameterAddresses::Empty;
     pass_arguments(
         &mut machine.memory,
         c.arguments.as_slice(),
@@ -278,10 +278,24 @@ fn run_call<F: Fn(&mut Machine<'_>, usize, &Level<'_>) -> Result<(), StopReason>
         &mut addresses,
     )?;
     match &addresses {
-        VarAddresses::Empty => enter_procedure(c, base, &[], level, machine, enter),
-        VarAddresses::One(a) => enter_procedure(c, base, &[*a], level, machine, enter),
-        VarAddresses::Two(a, b) => enter_procedure(c, base, &[*a, *b], level, machine, enter),
-        VarAddresses::More(all) => enter_procedure(c, base, all.as_slice(), level, machine, enter),
+        VarParameterAddresses::Empty => enter_procedure(c, base, &[], level, machine, enter),
+        VarParameterAddresses::One(a) => enter_procedure(c, base, &[*a], level, machine, enter),
+        VarParameterAddresses::Two(a, b) => enter_procedure(
+            c,
+            base,
+            &[*a, *b],
+            level,
+            machine,
+            enter,
+        ),
+        VarParameterAddresses::More(all) => enter_procedure(
+            c,
+            base,
+            all.as_slice(),
+            level,
+            machine,
+            enter,
+        ),
     }
 }
 
@@ -313,14 +327,18 @@ fn run_statement<F: Fn(&mut Machine<'_>, usize, &Level<'_>) -> Result<(), StopRe
 {
     match s {
         Instruction::StoreNumber(place, n) => Ok(store_number(place, n, level, machine)?),
-        Instruction::StoreVariable(variable, n) => Ok(store_variable(
+        Instruction::StoreNumberInVariable(variable, n) => Ok(store_number_in_variable(
             *variable, n, level, machine,
         )?),
         Instruction::StoreChain(variable, c) => Ok(store_chain(*variable, c, level, machine)?),
-        Instruction::Update(variable, link) => Ok(update(*variable, link, level, machine)?),
-        Instruction::Increase(variable, by) => Ok(increase(*variable, *by, level, machine)?),
+        Instruction::Update(variable, link) => Ok(update_variable(
+            *variable, link, level, machine,
+        )?),
+        Instruction::Increase(variable, by) => Ok(increase_variable(
+            *variable, *by, level, machine,
+        )?),
         Instruction::StoreTruth(place, t) => Ok(store_truth(place, t, level, machine)?),
-        Instruction::StoreConstant(r, b) => Ok(store_truth_constant_in_element(
+        Instruction::StoreConstantInElement(r, b) => Ok(store_truth_constant_in_element(
             r, *b, level, machine,
         )?),
         Instruction::Copy(to, from, count) => Ok(copy_block(to, from, *count, level, machine)?),
@@ -450,7 +468,11 @@ fn run_elsifs<F: Fn(&mut Machine<'_>, usize, &Level<'_>) -> Result<(), StopReaso
 /// `StopReason`, the error type of a statement.
 #[tactic(auto, unfolding(crate::specs::Execution::execute))]
 #[inline(always)]
-fn increase_or_stop(address: usize, by: i32, machine: &mut Machine<'_>) -> Result<(), StopReason>
+fn increase_cell_or_stop_run(
+    address: usize,
+    by: i32,
+    machine: &mut Machine<'_>,
+) -> Result<(), StopReason>
     ensures { (enters : CallEffect) (t : ℕ) (ls : Levels) (v : Variable)
         → address_of ls machine.old.cells.items (variable_of v) ≡ gives address
         → IsProgressAfterStep result machine.new
@@ -480,11 +502,11 @@ fn counting_condition(condition: &Truth, level: &Level<'_>) -> Option<CountingCo
     ensures { IfSome result (λ c. IsCountingCondition (levels_of level.now) condition.now c) }
 {
     match condition {
-        Truth::LessThanLiteral(v, n) => Some(CountingCondition {
+        Truth::VariableLessThanLiteral(v, n) => Some(CountingCondition {
             variable: *v,
             limit: CountingLimit::Literal(*n),
         }),
-        Truth::ComparedToVariable(relation, v, w) => match relation {
+        Truth::VariableComparedToVariable(relation, v, w) => match relation {
             Comparator::Less => Some(CountingCondition {
                 variable: *v,
                 limit: CountingLimit::Address(variable_address(*w, level)),
@@ -545,7 +567,7 @@ fn run_counting_loop_body<F: Fn(&mut Machine<'_>, usize, &Level<'_>) -> Result<(
         (sequence_of (statements.now ++ Increase v by ∷ []))) }
 {
     run_sequence_inline(statements, level, turns, machine, enter)?;
-    increase_or_stop(address, by, machine)
+    increase_cell_or_stop_run(address, by, machine)
 }
 
 /// Runs a counting loop. The condition of this WHILE is that a variable is less than a literal or a

@@ -3,7 +3,7 @@
 use Rattle.std.proofs.Common.{◌≡◌, ℕ, ◌+◌, ◌-◌, ◌≤◌, List, [], ◌∷◌, ◌++◌, map, take, drop, refl, sym, ap, ◌∙◌, arith}
 use Rattle.std.proofs.lemmas.List.{take-append-drop, drop-drop}
 use Rattle.ob0_scan.specs.declared.lexeme.Token.{Token}
-use Rattle.ob0_scan.specs.Reused.{kind_without_value, kinds, token_after_shift}
+use Rattle.ob0_scan.specs.ReusedLexemes.{kind_without_value, kinds, token_after_shift}
 
 pub kinds-moved : (removed added : ℕ) (tokens : List Token) → kinds (map (token_after_shift removed added) tokens) ≡ kinds tokens
 kinds-moved removed added [] = refl

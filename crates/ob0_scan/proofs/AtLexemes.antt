@@ -11,7 +11,7 @@ use Rattle.ob0_scan.specs.declared.lexeme.Span.{Span}
 use Rattle.ob0_scan.specs.declared.lexeme.Token.{Token}
 use Rattle.ob0_scan.specs.Lexed.{Lexeme, text_of_lexemes, AreLeadingLexemes}
 use Rattle.ob0_scan.specs.TextWithTokens.{span_from, tokens_of_lexeme, comments_of_lexeme, tokens_of_lexemes_from, comments_of_lexemes_from}
-use Rattle.ob0_scan.specs.Reused.{span_after_shift, token_after_shift}
+use Rattle.ob0_scan.specs.ReusedLexemes.{span_after_shift, token_after_shift}
 use Rattle.ob0_scan.proofs.Cuts.{nonempty}
 
 -- A kind of item that lexemes have, such as tokens or comments. Each lexeme has at most one, at the

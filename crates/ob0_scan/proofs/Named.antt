@@ -10,7 +10,7 @@ use Rattle.ob0_scan.specs.declared.lexeme.Token.{Token}
 use Rattle.ob0_scan.specs.declared.lexeme.TokenKind.{TokenKind}
 use Rattle.ob0_scan.specs.declared.incremental_scan.RescannedMiddle.{RescannedMiddle}
 use Rattle.ob0_scan.specs.TextWithTokens.{TextWithTokens, Word, text_in_span}
-use Rattle.ob0_scan.specs.Reused.{ReplacesRange, name_or_empty, spellings_of_identifiers_in, words_of_tokens, span_after_shift, token_after_shift}
+use Rattle.ob0_scan.specs.ReusedLexemes.{ReplacesRange, name_or_empty, spellings_of_identifiers_in, words_of_tokens, span_after_shift, token_after_shift}
 use Rattle.ob0_scan.specs.RescanState.{IsRescannedMiddle, scan_with_new_middle}
 
 -- A part that lies within the first n bytes of a text is the same part of those n bytes.

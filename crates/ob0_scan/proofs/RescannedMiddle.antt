@@ -6,10 +6,10 @@ use Rattle.ob0_scan.specs.declared.lexeme.Span.{Span}
 use Rattle.ob0_scan.specs.declared.lexeme.Token.{Token}
 use Rattle.ob0_scan.specs.declared.scanner.Scanner.{Scanner}
 use Rattle.ob0_scan.specs.TextWithTokens.{TextWithTokens, IsScan, max_text_length, span_from, tokens_of_lexeme, comments_of_lexeme, tokens_of_lexemes_from, comments_of_lexemes_from}
-use Rattle.ob0_scan.specs.Reused.{ReplacesRange, NoLexemeBeginsAt, IsNewAfterChange, ReusesOldLexemes, span_after_shift, token_after_shift, tokens_ending_before, comments_ending_before, tokens_beginning_at_or_after, comments_beginning_at_or_after}
+use Rattle.ob0_scan.specs.ReusedLexemes.{ReplacesRange, NoLexemeBeginsAt, IsNewAfterChange, ReusesOldLexemes, span_after_shift, token_after_shift, tokens_ending_before, comments_ending_before, tokens_beginning_at_or_after, comments_beginning_at_or_after}
 use Rattle.ob0_scan.specs.RescanState.{first_token_begins_at, first_comment_begins_at, IsShiftable, AddsOneLexeme, AddsNewLexemes, CanStopRescanAt}
 use Rattle.ob0_scan.specs.Progress.{IsScannedUpTo}
-use Rattle.ob0_scan.specs.UnderWay.{IsConsistentScanner}
+use Rattle.ob0_scan.specs.ScannerState.{IsConsistentScanner}
 use Rattle.ob0_scan.proofs.Spans.{token_with, comment_with}
 use Rattle.ob0_scan.proofs.AtLexemes.{of_tokens, of_comments, full, AreAscending, ascending, starts_after, first_at, none_at, at_first, Border, begin_at_borders}
 use Rattle.ob0_scan.proofs.Reusing.{end_border, none_following, finished, movable}

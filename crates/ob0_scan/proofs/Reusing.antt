@@ -8,11 +8,11 @@ use Rattle.ob0_scan.specs.declared.lexeme.Span.{Span}
 use Rattle.ob0_scan.specs.declared.lexeme.Token.{Token}
 use Rattle.ob0_scan.specs.declared.fault.Fault.{Fault}
 use Rattle.ob0_scan.specs.Lexed.{Lexeme, text_of_lexemes, IsFirstLexeme, AreLeadingLexemes}
-use Rattle.ob0_scan.specs.Ends.{EndsBeforeByte}
+use Rattle.ob0_scan.specs.LexemeEnds.{EndsBeforeByte}
 use Rattle.ob0_scan.specs.TextWithTokens.{tokens_of_lexemes_from, comments_of_lexemes_from, IsRangeOf, TextWithTokens, IsScan, max_text_length}
 use Rattle.ob0_scan.specs.Faults.{AreFirstFaultsFrom, lexeme}
 use Rattle.ob0_scan.specs.Progress.{IsCutIntoLexemesUpTo, IsScannedUpTo}
-use Rattle.ob0_scan.specs.Reused.{ReplacesRange, span_after_shift, token_after_shift, tokens_ending_before, comments_ending_before, tokens_beginning_at_or_after, comments_beginning_at_or_after}
+use Rattle.ob0_scan.specs.ReusedLexemes.{ReplacesRange, span_after_shift, token_after_shift, tokens_ending_before, comments_ending_before, tokens_beginning_at_or_after, comments_beginning_at_or_after}
 use Rattle.ob0_scan.specs.RescanState.{end_of_last_lexeme, IsShiftable}
 use Rattle.ob0_scan.proofs.Borders.{first_from_end, end_from_first}
 use Rattle.ob0_scan.proofs.Spans.{LexemesFrom, next_from}

@@ -3,7 +3,7 @@ use Rattle.std.proofs.Common.{◌≡◌, ℕ, ◌+◌, ◌-◌, ◌≤◌, List,
 use Rattle.std.proofs.lemmas.List.{take-map, drop-map, take_at, drop_at, length-map, length-take-le}
 use Rattle.ob0_scan.specs.declared.lexeme.Token.{Token}
 use Rattle.ob0_scan.specs.declared.tokens.CommonPrefixAndSuffix.{CommonPrefixAndSuffix}
-use Rattle.ob0_scan.specs.Reused.{kind_without_value, kinds, token_after_shift}
+use Rattle.ob0_scan.specs.ReusedLexemes.{kind_without_value, kinds, token_after_shift}
 use Rattle.ob0_scan.specs.SameKinds.{PrefixAndSuffixHaveSameKinds}
 use Rattle.ob0_scan.proofs.Alike.{kinds-append, kinds-moved}
 

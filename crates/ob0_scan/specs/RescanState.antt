@@ -9,7 +9,7 @@ use Rattle.ob0_scan.specs.declared.lexeme.LexemeKind.{LexemeKind}
 use Rattle.ob0_scan.specs.declared.scanner.Scanner.{Scanner}
 use Rattle.ob0_scan.specs.declared.incremental_scan.RescannedMiddle.{RescannedMiddle}
 use Rattle.ob0_scan.specs.TextWithTokens.{TextWithTokens, IsScan, span_from, tokens_of_lexeme, comments_of_lexeme}
-use Rattle.ob0_scan.specs.Reused.{tokens_beginning_at_or_after, comments_beginning_at_or_after, span_after_shift, token_after_shift, ReusesOldLexemes, IsNewAfterChange}
+use Rattle.ob0_scan.specs.ReusedLexemes.{tokens_beginning_at_or_after, comments_beginning_at_or_after, span_after_shift, token_after_shift, ReusesOldLexemes, IsNewAfterChange}
 
 -- Returns the byte offset at which a token ends, or 0 for None.
 abbrev pub token_end_or_zero : Option Token → ℕ

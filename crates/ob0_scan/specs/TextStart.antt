@@ -4,7 +4,7 @@
 use Rattle.std.specs.Prelude.{◌≡◌, ◌≢◌, ℕ, ◌≤◌, List, ◌++◌, length, take, drop}
 use Rattle.ob0_scan.specs.declared.lexeme.LexemeKind.{LexemeKind}
 use Rattle.ob0_scan.specs.declared.lexeme.Symbol.{Symbol}
-use Rattle.ob0_scan.specs.Classes.{symbol_text}
+use Rattle.ob0_scan.specs.LexemeClasses.{symbol_text}
 use Rattle.ob0_scan.specs.Lexed.{Lexeme, IsFirstLexeme}
 
 -- States that the first `len` bytes of the text are its first lexeme, and that this lexeme has this

@@ -4,7 +4,7 @@
 //! `rescan_in_place` takes the tokens of the old text and turns them into the tokens of the new
 //! text. If the new text has faults, the function returns the faults and the old tokens. `rescan`
 //! does the same with a copy of the old tokens. Both functions return the tokens and comments that
-//! `scan` of the new text returns. `ReusesOldLexemes` (`specs/Reused`) says which of these are old:
+//! `scan` of the new text returns. `ReusesOldLexemes` (`specs/ReusedLexemes`) says which of these are old:
 //! - Before the change: each token and comment that ends before it. (A token that ends right at the
 //!   change may continue with the inserted text.)
 //! - After the change, shifted by `added - removed` bytes: each token and comment that begins at a
@@ -53,11 +53,11 @@ ghost use Rattle.std.specs.Prelude.{◌≡◌, ℕ, List, [], false, ◌+◌, �
 ghost use Rattle.ob0_scan.specs.declared.lexeme.TokenKind.TheVariants.{Identifier, Integer};
 ghost use Rattle.ob0_scan.specs.declared.incremental_scan.RescanRefusal.TheVariants as rescanned;
 ghost use Rattle.ob0_scan.specs.TextWithTokens.{IsScanOf, word_of_token, text_in_span};
-ghost use Rattle.ob0_scan.specs.Refused.{IsRightScanRefusal, IsRightRescanRefusal};
-ghost use Rattle.ob0_scan.specs.UnderWay.{IsConsistentScanner};
-ghost use Rattle.ob0_scan.specs.Reused.{ReplacesRange, ReusesOldLexemes, kinds, kind_without_value, name_or_empty, spellings_of_identifiers_in, words_of_tokens};
+ghost use Rattle.ob0_scan.specs.ScanRefusals.{IsRightScanRefusal, IsRightRescanRefusal};
+ghost use Rattle.ob0_scan.specs.ScannerState.{IsConsistentScanner};
+ghost use Rattle.ob0_scan.specs.ReusedLexemes.{ReplacesRange, ReusesOldLexemes, kinds, kind_without_value, name_or_empty, spellings_of_identifiers_in, words_of_tokens};
 ghost use Rattle.ob0_scan.specs.SameKinds.{PrefixAndSuffixHaveSameKinds, PrefixAndSuffixHaveSameWords};
-ghost use Rattle.ob0_scan.specs.Rescanned.{IsRescanOf};
+ghost use Rattle.ob0_scan.specs.RescanResult.{IsRescanOf};
 ghost use Rattle.ob0_scan.specs.RescanState.{AddsNewLexemes, CanStopRescanAt, IsRescannedMiddle};
 
 use crate::fault::{Fault, ScanRefusal};

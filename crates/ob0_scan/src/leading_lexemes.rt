@@ -5,9 +5,9 @@ ghost use Rattle.std.specs.List.{AllPass, prefix_len};
 ghost use Rattle.std.specs.Char.{is_ascii_alphabetic, is_ascii_alphanumeric, is_ascii_digit};
 ghost use Rattle.std.specs.Str.{IsCharBoundary};
 ghost use Rattle.ob0_scan.specs.Comments.{IsComment};
-ghost use Rattle.ob0_scan.specs.Classes.{is_white_space, max_integer, symbol_text, IsIdentifierOrReservedWord, IsLexemeOfKind, decimal_value};
+ghost use Rattle.ob0_scan.specs.LexemeClasses.{is_white_space, max_integer, symbol_text, IsIdentifierOrReservedWord, IsLexemeOfKind, decimal_value};
 ghost use Rattle.ob0_scan.specs.TextStart.{IsLongestSymbol, StartsWithNoSymbol};
-ghost use Rattle.ob0_scan.specs.Begins.{StartsWithLexemeOrFault};
+ghost use Rattle.ob0_scan.specs.LeadingLexemeOrFault.{StartsWithLexemeOrFault};
 ghost use Rattle.ob0_scan.specs.Faults.{IsFirstCharLength};
 
 use crate::fault::FaultCode;

@@ -14,7 +14,7 @@ ghost use Rattle.std.specs.List.{All, prefix_len};
 ghost use Rattle.std.specs.List.Sorted.{IsNonDecreasingBy};
 ghost use Rattle.ob0_scan.specs.declared.lexeme.Span.{Span};
 ghost use Rattle.ob0_scan.specs.declared.lexeme.Token.{Token};
-ghost use Rattle.ob0_scan.specs.Reused.{ReplacesRange, span_after_shift, token_after_shift, tokens_ending_before, comments_ending_before, tokens_beginning_at_or_after, comments_beginning_at_or_after};
+ghost use Rattle.ob0_scan.specs.ReusedLexemes.{ReplacesRange, span_after_shift, token_after_shift, tokens_ending_before, comments_ending_before, tokens_beginning_at_or_after, comments_beginning_at_or_after};
 ghost use Rattle.ob0_scan.specs.RescanState.{token_end_or_zero, comment_end_or_zero, end_of_last_lexeme, first_token_begins_at, first_comment_begins_at, SpansAreInOrder, IsShiftable};
 
 use crate::lexeme::{Span, Token};

@@ -2,7 +2,7 @@
 use Rattle.std.proofs.Common.{◌≡◌, ℕ, List, [], ◌∷◌, ◌++◌, refl}
 use Rattle.ob0_tree.specs.declared.tree.Role.{Role}
 use Rattle.ob0_tree.specs.declared.tree.Role.TheVariants as role
-use Rattle.ob0_tree.specs.Tree.{Sort, Tree, identifiers, mapped_tree, adds, array_type, assigns, begins, branches, calls, compares, declares, declares_constant, declares_constants, declares_procedure, declares_type, declares_types, declares_variable, declares_variables, designator, else_branch, elsif_branch, empty, end, field, forms_block, index, integer, is_module, listed, more, multiplies, named_type, negation, no_arguments, no_fields, no_formals, none, one, parenthesised, product, record_type, relates, repeat_loop, runs, some_arguments, some_fields, some_formals, sum, then_argument, then_fields, then_name, then_section, then_statement, value_section, variable_section, while_loop}
+use Rattle.ob0_tree.specs.Tree.{Sort, Tree, identifiers, mapped_tree, adds, array_type, assigns, begins, branches, calls, compares, declares, declares_constant, declares_const_section, declares_procedure, declares_type, declares_type_section, declares_variable, declares_var_section, designator, else_branch, elsif_branch, empty, end, field, forms_block, index, integer, forms_module, listed, more, multiplies, named_type, negation, no_arguments, no_fields, no_formals, none, one, parenthesised, product, record_type, relates, repeat_loop, runs, some_arguments, some_fields, some_formals, sum, comma_then_argument, semicolon_then_fields, comma_then_name, semicolon_then_section, semicolon_then_statement, value_section, variable_section, while_loop}
 
 pub record Two (P Q : Type 0) : Type 0 where
   pub first : P
@@ -58,32 +58,32 @@ module _ {M : Type 0} (f f' : ℕ → M) (g : ℕ → ℕ) where
   alike r (repeat_loop a b) = to (both (alike r a) (alike r b)) (λ p i. repeat_loop (p.first i) (p.second i))
   alike r no_arguments = nothing refl
   alike r (some_arguments a b) = to (both (alike r a) (alike r b)) (λ p i. some_arguments (p.first i) (p.second i))
-  alike r (then_argument a) = to (alike r a) (λ p i. then_argument (p i))
+  alike r (comma_then_argument a) = to (alike r a) (λ p i. comma_then_argument (p i))
   alike r (runs a b) = to (both (alike r a) (alike r b)) (λ p i. runs (p.first i) (p.second i))
-  alike r (then_statement a) = to (alike r a) (λ p i. then_statement (p i))
+  alike r (semicolon_then_statement a) = to (alike r a) (λ p i. semicolon_then_statement (p i))
   alike r (elsif_branch a b) = to (both (alike r a) (alike r b)) (λ p i. elsif_branch (p.first i) (p.second i))
   alike r (else_branch a) = to (alike r a) (λ p i. else_branch (p i))
   alike r (listed a b) = to (first (alike r b)) (λ p i. listed (p.first i) (p.second i))
-  alike r (then_name a) = to (first (nothing {P = Unit {0}} tt)) (λ p i. then_name (p.first i))
+  alike r (comma_then_name a) = to (first (nothing {P = Unit {0}} tt)) (λ p i. comma_then_name (p.first i))
   alike r (named_type a) = to (first (nothing {P = Unit {0}} tt)) (λ p i. named_type (p.first i))
   alike r (array_type a b) = to (both (alike r a) (alike r b)) (λ p i. array_type (p.first i) (p.second i))
   alike r (record_type a b) = to (both (alike r a) (alike r b)) (λ p i. record_type (p.first i) (p.second i))
   alike r no_fields = nothing refl
   alike r (some_fields a b) = to (both (alike role.FieldName a) (alike r b)) (λ p i. some_fields (p.first i) (p.second i))
-  alike r (then_fields a) = to (alike r a) (λ p i. then_fields (p i))
+  alike r (semicolon_then_fields a) = to (alike r a) (λ p i. semicolon_then_fields (p i))
   alike r no_formals = nothing refl
   alike r (some_formals a b) = to (both (alike r a) (alike r b)) (λ p i. some_formals (p.first i) (p.second i))
   alike r (value_section a b) = to (both (alike role.Declaring a) (alike r b)) (λ p i. value_section (p.first i) (p.second i))
   alike r (variable_section a b) = to (both (alike role.Declaring a) (alike r b)) (λ p i. variable_section (p.first i) (p.second i))
-  alike r (then_section a) = to (alike r a) (λ p i. then_section (p i))
+  alike r (semicolon_then_section a) = to (alike r a) (λ p i. semicolon_then_section (p i))
   alike r (declares_constant a b) = to (first (alike r b)) (λ p i. declares_constant (p.first i) (p.second i))
-  alike r (declares_constants a) = to (alike r a) (λ p i. declares_constants (p i))
+  alike r (declares_const_section a) = to (alike r a) (λ p i. declares_const_section (p i))
   alike r (declares_type a b) = to (first (alike r b)) (λ p i. declares_type (p.first i) (p.second i))
-  alike r (declares_types a) = to (alike r a) (λ p i. declares_types (p i))
+  alike r (declares_type_section a) = to (alike r a) (λ p i. declares_type_section (p i))
   alike r (declares_variable a b) = to (both (alike role.Declaring a) (alike r b)) (λ p i. declares_variable (p.first i) (p.second i))
-  alike r (declares_variables a) = to (alike r a) (λ p i. declares_variables (p i))
+  alike r (declares_var_section a) = to (alike r a) (λ p i. declares_var_section (p i))
   alike r (declares_procedure a b c d) = to (first (both (alike r b) (both (alike r c) (first (nothing {P = Unit {0}} tt))))) (λ p i. declares_procedure (p.first i) (p.second.first i) (p.second.second.first i) (p.second.second.second.first i))
   alike r (declares a b c d) = to (both (alike r a) (both (alike r b) (both (alike r c) (alike r d)))) (λ p i. declares (p.first i) (p.second.first i) (p.second.second.first i) (p.second.second.second i))
   alike r (begins a) = to (alike r a) (λ p i. begins (p i))
   alike r (forms_block a b) = to (both (alike r a) (alike r b)) (λ p i. forms_block (p.first i) (p.second i))
-  alike r (is_module a b c) = to (first (both (alike r b) (first (nothing {P = Unit {0}} tt)))) (λ p i. is_module (p.first i) (p.second.first i) (p.second.second.first i))
+  alike r (forms_module a b c) = to (first (both (alike r b) (first (nothing {P = Unit {0}} tt)))) (λ p i. forms_module (p.first i) (p.second.first i) (p.second.second.first i))

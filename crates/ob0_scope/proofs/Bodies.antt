@@ -7,7 +7,7 @@ use Rattle.ob0_tree.specs.View.{block_of, body_of, constant_section_of, items_of
 use Rattle.ob0_tree.specs.declared.tree.Block.{Block, out-Block}
 use Rattle.ob0_tree.specs.declared.tree.Procedure.{Procedure, out-Procedure}
 use Rattle.ob0_tree.proofs.Viewed.{block_parts, procedure_parts}
-use Rattle.ob0_scope_table.specs.BodyReplaced.{PathToBody, body_at_path_in_procedures, body_at_path_in_block, body_at_path_in_procedure, closing_name_at_path_in_procedures, closing_name_at_path_in_block, closing_name_at_path_in_procedure, path_after_insertion_in_front, path_to_body_in_procedures, path_to_body_in_block, path_to_body_in_procedure}
+use Rattle.ob0_scope_table.specs.BodyReplacement.{PathToBody, body_at_path_in_procedures, body_at_path_in_block, body_at_path_in_procedure, closing_name_at_path_in_procedures, closing_name_at_path_in_block, closing_name_at_path_in_procedure, path_after_insertion_in_front, path_to_body_in_procedures, path_to_body_in_block, path_to_body_in_procedure}
 use Rattle.ob0_scope_table.specs.OneBody.{closing_name}
 
 -- the statements of a block, with its closing name

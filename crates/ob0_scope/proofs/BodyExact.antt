@@ -5,11 +5,11 @@ use Rattle.std.proofs.lemmas.Bool.Decides.{nat_tests}
 use Rattle.std.proofs.lemmas.Bool.{and_parts, le-leb}
 use Rattle.ob0_tree.specs.declared.tree.Role.{Role}
 use Rattle.ob0_tree.specs.declared.tree.Role.TheVariants as role
-use Rattle.ob0_tree.specs.Order.{AreAscendingWithin, identifier_names, names_without_roles}
-use Rattle.ob0_tree.specs.Tree.{Tree, block, body, declares, declares_procedure, end, forms_block, identifiers, is_module, item, items, maybe, module_text, more, none, procedure}
+use Rattle.ob0_tree.specs.IdentifierIndexes.{AreAscendingWithin, identifier_names, names_without_roles}
+use Rattle.ob0_tree.specs.Tree.{Tree, block, body, declares, declares_procedure, end, forms_block, identifiers, forms_module, item, items, maybe, module_text, more, none, procedure}
 use Rattle.ob0_tree.specs.FirstIdentifier.{token_of_first_identifier}
 use Rattle.ob0_tree.proofs.AscendingNumbers.{AllBelow, AllFrom, ascend_first, ascend_second, ascending_from, below_second, from_second, leaves_append}
-use Rattle.ob0_scope_table.specs.BodyReplaced.{PathToBody, body_at_path_in_procedures, body_at_path, body_at_path_in_block, body_at_path_in_procedure, closing_name_at_path_in_procedures, closing_name_at_path, closing_name_at_path_in_block, closing_name_at_path_in_procedure, path_after_insertion_in_front, path_to_body_in_procedures, path_to_body_in_block, path_to_body_in_procedure, path_to_body_in_module}
+use Rattle.ob0_scope_table.specs.BodyReplacement.{PathToBody, body_at_path_in_procedures, body_at_path, body_at_path_in_block, body_at_path_in_procedure, closing_name_at_path_in_procedures, closing_name_at_path, closing_name_at_path_in_block, closing_name_at_path_in_procedure, path_after_insertion_in_front, path_to_body_in_procedures, path_to_body_in_block, path_to_body_in_procedure, path_to_body_in_module}
 use Rattle.ob0_scope_table.specs.OneBody.{first_identifier_is_at_or_before, closing_name, is_range_in_body_of_block, is_range_in_one_body, is_range_in_body_of_procedure, is_range_in_body_of_procedures}
 use Rattle.ob0_scope.proofs.Bodies.{Place, among, one_later}
 use Rattle.ob0_scope.proofs.BodySplit.{split_among, split_inside}
@@ -141,11 +141,11 @@ module _ (low high first closing : ℕ) (less : first < low) where
         block_exact b closing' from to lies (ascend_first from (identifier_names b) (closing' ∷ []) to parts) e f
 
   pub module_exact : (t : Tree ℕ module_text) (to : ℕ) → is_range_in_one_body low high t ≡ true → AreAscendingWithin 0 (identifier_names t) to → token_of_first_identifier (identifiers role.Declaring (body_at_path (path_to_body_in_module low t) t)) ≡ Some first → closing ≡ closing_name_at_path (path_to_body_in_module low t) t → is_range_in_one_body first closing t ≡ true
-  module_exact (is_module x b closing') to lies rising e f =
+  module_exact (forms_module x b closing') to lies rising e f =
       let both = and_parts (nat_le high closing') (is_range_in_body_of_block low high b) lies in
       let ids = identifiers role.Declaring b in
-      let as_procedure : identifier_names (is_module x b closing') ≡ identifier_names (declares_procedure x none b closing') = ap (λ l. x ∷ l) (leaves_append ids ((role.ModuleName, closing') ∷ []) ∙ sym (leaves_append ids ((role.ClosingName, closing') ∷ []))) in
+      let as_procedure : identifier_names (forms_module x b closing') ≡ identifier_names (declares_procedure x none b closing') = ap (λ l. x ∷ l) (leaves_append ids ((role.ModuleName, closing') ∷ []) ∙ sym (leaves_append ids ((role.ClosingName, closing') ∷ []))) in
       let last = closing_last (path_to_body_in_block low b) (declares_procedure x none b closing') 0 to (subst (λ l. AreAscendingWithin 0 l to) as_procedure rising) in
-      let split : identifier_names (is_module x b closing') ≡ (x ∷ []) ++ (identifier_names b ++ (closing' ∷ [])) = simp (leaves_append, append_assoc) in
+      let split : identifier_names (forms_module x b closing') ≡ (x ∷ []) ++ (identifier_names b ++ (closing' ∷ [])) = simp (leaves_append, append_assoc) in
       let parts = ascend_second 0 (x ∷ []) (identifier_names b ++ (closing' ∷ [])) to (subst (λ l. AreAscendingWithin 0 l to) split rising) in
       λ i. le-leb closing closing' (omega (arith, f, last)) i && block_exact b closing' 0 to both.1 (ascend_first 0 (identifier_names b) (closing' ∷ []) to parts) e f i

@@ -4,8 +4,8 @@
 use Rattle.std.proofs.Common.{◌≡◌, ℕ, zero, suc, List, [], ◌∷◌, ◌++◌, refl, sym, ap, ◌∙◌, append_assoc, append-nil}
 use Rattle.ob0_tree.specs.declared.tree.Role.{Role}
 use Rattle.ob0_tree.specs.declared.tree.Role.TheVariants as role
-use Rattle.ob0_tree.specs.Tree.{Tree, block, declares, declares_procedure, end, forms_block, identifiers, is_module, item, items, module_text, more, procedure}
-use Rattle.ob0_scope_table.specs.BodyReplaced.{PathToBody, block_without_body, body_at_path_in_procedures, body_at_path, body_at_path_in_block, body_at_path_in_procedure, closing_name_at_path_in_procedures, closing_name_at_path, closing_name_at_path_in_block, closing_name_at_path_in_procedure, procedure_without_body, procedures_without_body, module_without_body}
+use Rattle.ob0_tree.specs.Tree.{Tree, block, declares, declares_procedure, end, forms_block, identifiers, forms_module, item, items, module_text, more, procedure}
+use Rattle.ob0_scope_table.specs.BodyReplacement.{PathToBody, block_without_body, body_at_path_in_procedures, body_at_path, body_at_path_in_block, body_at_path_in_procedure, closing_name_at_path_in_procedures, closing_name_at_path, closing_name_at_path_in_block, closing_name_at_path_in_procedure, procedure_without_body, procedures_without_body, module_without_body}
 
 -- states that `whole` is `rest` with the identifiers of a body inserted; the closing name comes
 -- first after the body
@@ -85,4 +85,4 @@ mutual
 
 -- Splits the identifiers of a module.
 pub split_module : {N : Type 0} (path : PathToBody) (t : Tree N module_text) → Split (identifiers role.Declaring t) (identifiers role.Declaring (module_without_body path t)) (identifiers role.Declaring (body_at_path path t)) (closing_name_at_path path t)
-split_module path (is_module x b closing) = prepend ((role.ModuleName, x) ∷ []) (split_block path role.ModuleName closing [] b)
+split_module path (forms_module x b closing) = prepend ((role.ModuleName, x) ∷ []) (split_block path role.ModuleName closing [] b)

@@ -7,7 +7,7 @@ use Rattle.ob0_scope.specs.declared.name_conflicts.FirstConflict as reported
 use Rattle.ob0_scope.specs.declared.name_conflicts.FirstConflict.TheVariants as reports
 use Rattle.ob0_language_names.specs.Names.{Name, same_name}
 use Rattle.ob0_language_names.specs.Occurrences.{IsFreeName, at_declaration, at_occurrence, bindings, scopes_in_block, declares_ordinal, first_name_conflict, first_binding_difference, is_duplicate_name, another_declaration_has_name}
-use Rattle.ob0_language_names.specs.Parts.{module_block}
+use Rattle.ob0_language_names.specs.BlockParts.{module_block}
 use Rattle.ob0_scope.specs.Renames.{namesake, namesake_in_scopes, other_declaration_with_name, conflict_of}
 use Rattle.ob0_language_names.specs.Scopes.{Scope, renamed}
 use Rattle.ob0_scope.proofs.FirstCaptures.{name_is_free_iff_no_conflict-holds}

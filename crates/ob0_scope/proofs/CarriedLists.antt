@@ -6,7 +6,7 @@ use Rattle.std.proofs.Math.Seq.{get_or-append_right}
 use Rattle.std.proofs.lemmas.List.{get_or-drop, length-replicate}
 use Rattle.ob0_tree.specs.declared.tree.Role.{Role}
 use Rattle.ob0_tree.specs.declared.tree.Role.TheVariants as role
-use Rattle.ob0_tree.specs.Order.{AreAscendingWithin, names_without_roles}
+use Rattle.ob0_tree.specs.IdentifierIndexes.{AreAscendingWithin, names_without_roles}
 use Rattle.ob0_tree.proofs.Occurring.{looked_up_only, looked_up_only-append}
 use Rattle.ob0_tree.specs.FirstIdentifier.{token_of_first_identifier}
 use Rattle.ob0_tree.proofs.AscendingNumbers.{AllBelow, AllFrom, ascend_second, ascending_below, ascending_from, before_one, below_more, from_first, from_less, leaves_append}
@@ -14,7 +14,7 @@ use Rattle.ob0_tree.proofs.MappedIdentifiers.{beside_role}
 use Rattle.ob0_scope_table.specs.Resolution.{declaring_names, ordinal_in}
 use Rattle.ob0_scope_table.proofs.Plain.{declaring_names-append}
 use Rattle.ob0_scope_numbering.proofs.Tables.{none_at}
-use Rattle.ob0_scope.specs.Carried.{tokens_after_body, tokens_before_body, tokens_in_changed_text, ordinals_in_changed_text, shifted_token}
+use Rattle.ob0_scope.specs.BindingsOutsideBody.{tokens_after_body, tokens_before_body, tokens_in_changed_text, ordinals_in_changed_text, shifted_token}
 use Rattle.ob0_scope.specs.declared.body_range.BodyRange.{BodyRange}
 
 -- ---- identifiers in three parts

@@ -9,13 +9,13 @@ use Rattle.std.specs.Ordering.{is_eq, nat_cmp}
 use Rattle.ob0_scan.specs.declared.fault.FaultCode.TheVariants as code
 use Rattle.ob0_tree.specs.declared.tree.OptionalFieldGroup.{OptionalFieldGroup}
 use Rattle.ob0_tree.specs.Tree.{Tree, block, body, constants, declares, declares_procedure, formals, forms_block, items, maybe, procedure, type_definitions, variables}
-use Rattle.ob0_tree.specs.View.{optional_field_group_of, further_field_group_of, items_of, record_type_of_list}
-use Rattle.ob0_language_names.specs.ConsistentNames.{block_names, further_field_names, is_among, procedure_names}
+use Rattle.ob0_tree.specs.View.{optional_field_group_of, field_group_after_semicolon_of, items_of, record_type_of_list}
+use Rattle.ob0_language_names.specs.ConsistentNames.{names_declared_in_block, field_names_after_first_group, is_among, procedure_names}
 use Rattle.ob0_scope_table.specs.DuplicatesAndEndNames.{duplicate_faults, block_declaration_faults, closing_name_faults, duplicate_field_faults, duplicate_field_faults_in_formals, duplicate_field_faults_in_group, duplicate_field_faults_in_groups, procedure_declaration_faults, procedures_declaration_faults, duplicate_field_faults_in_types, fault_unless, duplicate_field_faults_in_variables}
 use Rattle.ob0_scope_table.specs.FaultsAtTokens.{fault_at_token}
 use Rattle.ob0_scope_table.specs.declared.faults.FaultAtTokens.{FaultAtTokens}
 use Rattle.ob0_language_names.specs.Names.{Name, same_name}
-use Rattle.ob0_language_names.specs.Parts.{constant_names, formal_names, formal_sections, declared_type_names, section_constants, section_types, section_variables, variable_names}
+use Rattle.ob0_language_names.specs.BlockParts.{constant_names, formal_names, formal_sections, declared_type_names, section_constants, section_types, section_variables, variable_names}
 use Rattle.ob0_language_names.proofs.NameEquality.{same_name-comm}
 
 -- states that what was collected, with the items still to collect, is what all items give
@@ -93,13 +93,13 @@ one_further text (x ∷ xs) (suc done) d less q =
     ap (λ b. same_name q (text x) || b) (one_further text xs done d (omega (arith, less)) q) ∙ swapped (same_name q (text x)) (same_name q (text (get_or xs done d))) (is_among q (map text (take done xs)))
 
 -- The faults of a record's fields are reported, whichever group is the first.
-pub record_reported : (text : ℕ → Name) (start own after : List FaultAtTokens) (gs : List OptionalFieldGroup) (fs : List ℕ) → fs ≡ further_field_names (items_of further_field_group_of gs) → own ≡ start ++ duplicate_faults text [] fs
-    → after ≡ own ++ duplicate_field_faults_in_groups text (items_of further_field_group_of gs) → after ≡ start ++ duplicate_field_faults text (record_type_of_list gs)
+pub record_reported : (text : ℕ → Name) (start own after : List FaultAtTokens) (gs : List OptionalFieldGroup) (fs : List ℕ) → fs ≡ field_names_after_first_group (items_of field_group_after_semicolon_of gs) → own ≡ start ++ duplicate_faults text [] fs
+    → after ≡ own ++ duplicate_field_faults_in_groups text (items_of field_group_after_semicolon_of gs) → after ≡ start ++ duplicate_field_faults text (record_type_of_list gs)
 record_reported text start own after [] fs are e f = f ∙ (append-nil own ∙ (e ∙ ap (λ ns. start ++ duplicate_faults text [] ns) are))
 record_reported text start own after (g ∷ gs) fs are e f =
-    let rest = items_of further_field_group_of gs in
+    let rest = items_of field_group_after_semicolon_of gs in
     let inner = duplicate_field_faults_in_group text (optional_field_group_of g) ++ duplicate_field_faults_in_groups text rest in
-    let names = further_field_names (items_of further_field_group_of (g ∷ gs)) in
+    let names = field_names_after_first_group (items_of field_group_after_semicolon_of (g ∷ gs)) in
     f ∙ (ap (λ d. d ++ inner) (e ∙ ap (λ ns. start ++ duplicate_faults text [] ns) are) ∙ append_assoc start (duplicate_faults text [] names) inner)
 
 five_names : (a b c d e : List ℕ) → (((a ++ b) ++ c) ++ d) ++ e ≡ a ++ (b ++ (c ++ (d ++ e)))
@@ -115,7 +115,7 @@ block_reported text start own cs ts vs ps statements all named typed varied afte
     let T = duplicate_field_faults_in_types text (section_types ts) in
     let V = duplicate_field_faults_in_variables text (section_variables vs) in
     let P = procedures_declaration_faults text ps in
-    let D = duplicate_faults text [] (own ++ block_names (forms_block (declares cs ts vs ps) statements)) in
+    let D = duplicate_faults text [] (own ++ names_declared_in_block (forms_block (declares cs ts vs ps) statements)) in
     let first : named ≡ start ++ D = d ∙ ap (λ xs. start ++ duplicate_faults text [] xs) names in
     p ∙ (ap (λ z. z ++ P) (v ∙ ap (λ z. z ++ V) (t ∙ ap (λ z. z ++ T) first))
     ∙ (append_assoc ((start ++ D) ++ T) V P ∙ (append_assoc (start ++ D) T (V ++ P) ∙ append_assoc start D (T ++ (V ++ P)))))

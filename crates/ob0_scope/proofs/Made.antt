@@ -15,12 +15,12 @@ use Rattle.ob0_scope_table.specs.DuplicatesAndEndNames.{declaration_faults}
 use Rattle.ob0_scope_table.specs.FaultsAtTokens.{fault_at_token}
 use Rattle.ob0_scope_table.specs.declared.faults.FaultAtTokens.{FaultAtTokens}
 use Rattle.ob0_language_names.specs.Names.{Name, naming_by_spelling}
-use Rattle.ob0_scope_table.specs.Resolution.{AreNameFaultsOf, IsNumberingTable, IsResolution, OnlyIdentifiersHaveOrdinals, declaring_names, is_duplicate_or_end_name, is_undeclared_fault, is_unbound, label_from_table, ordinal_in, undeclared_faults_by_labels, undeclared_faults, undeclared_faults_by_table, ordinal_and_spelling}
+use Rattle.ob0_scope_table.specs.Resolution.{AreNameFaultsOf, IsNumberingTable, IsResolution, OnlyIdentifiersHaveOrdinals, declaring_names, is_duplicate_or_end_name, is_undeclared_fault, is_unbound, label_from_table, ordinal_in, undeclared_faults_from_labels, undeclared_faults, undeclared_faults_from_table, ordinal_and_spelling}
 use Rattle.ob0_language_names.specs.Scopes.{label_from_ordinal}
-use Rattle.ob0_scope_numbering.specs.Marks.{with_marks}
+use Rattle.ob0_scope_numbering.specs.OrdinalMarks.{with_marks}
 use Rattle.ob0_scope_numbering.specs.MarkWalk.{WalkState, initial_walk_state}
 use Rattle.ob0_scope_numbering.specs.IdentifierWalk.{visit_module}
-use Rattle.ob0_scope_numbering.specs.Written.{original_spellings}
+use Rattle.ob0_scope_numbering.specs.IdentifierSpellings.{original_spellings}
 use Rattle.ob0_scope_table.proofs.Bound.{bindings_by_table}
 use Rattle.ob0_scope_numbering.proofs.Passing.{HasMarks, at_start, module_passed}
 use Rattle.ob0_scope_numbering.proofs.Tables.{kept_elsewhere, marks_in_table, none_at}
@@ -31,28 +31,28 @@ undeclared_none : (o : Option ℕ) (token : ℕ) (rest : List FaultAtTokens) →
 undeclared_none None token rest e = e
 undeclared_none (Some k) token rest e = e
 
-undeclared_declares : (ordinals : List (Option ℕ)) (is : List ℕ) → list_any is_duplicate_or_end_name (undeclared_faults_by_table ordinals is) ≡ false
+undeclared_declares : (ordinals : List (Option ℕ)) (is : List ℕ) → list_any is_duplicate_or_end_name (undeclared_faults_from_table ordinals is) ≡ false
 undeclared_declares ordinals [] = refl
-undeclared_declares ordinals (i ∷ is) = undeclared_none (ordinal_in ordinals i) i (undeclared_faults_by_table ordinals is) (undeclared_declares ordinals is)
+undeclared_declares ordinals (i ∷ is) = undeclared_none (ordinal_in ordinals i) i (undeclared_faults_from_table ordinals is) (undeclared_declares ordinals is)
 
 unbound_one : (o : Option ℕ) (x : Name) (token : ℕ) (rest other : List FaultAtTokens) → rest ≡ other
     → (if is_some o then rest else fault_at_token code.Undeclared token ∷ rest) ≡ (if is_unbound (label_from_ordinal naming_by_spelling o x) then fault_at_token code.Undeclared token ∷ other else other)
 unbound_one None x token rest other e = ap (λ fs. fault_at_token code.Undeclared token ∷ fs) e
 unbound_one (Some k) x token rest other e = e
 
-unbound_all : (source : TextWithTokens) (ordinals : List (Option ℕ)) (is : List ℕ) → undeclared_faults_by_table ordinals is ≡ undeclared_faults_by_labels is (map (label_from_table source ordinals) is)
+unbound_all : (source : TextWithTokens) (ordinals : List (Option ℕ)) (is : List ℕ) → undeclared_faults_from_table ordinals is ≡ undeclared_faults_from_labels is (map (label_from_table source ordinals) is)
 unbound_all source ordinals [] = refl
 unbound_all source ordinals (i ∷ is) =
-    unbound_one (ordinal_in ordinals i) (token_text_at source i) i (undeclared_faults_by_table ordinals is) (undeclared_faults_by_labels is (map (label_from_table source ordinals) is)) (unbound_all source ordinals is)
+    unbound_one (ordinal_in ordinals i) (token_text_at source i) i (undeclared_faults_from_table ordinals is) (undeclared_faults_from_labels is (map (label_from_table source ordinals) is)) (unbound_all source ordinals is)
 
 occurrences_kept : (o : Option ℕ) (token : ℕ) (rest : List FaultAtTokens) → filter is_undeclared_fault rest ≡ rest
     → filter is_undeclared_fault (if is_some o then rest else fault_at_token code.Undeclared token ∷ rest) ≡ (if is_some o then rest else fault_at_token code.Undeclared token ∷ rest)
 occurrences_kept None token rest e = ap (λ fs. fault_at_token code.Undeclared token ∷ fs) e
 occurrences_kept (Some k) token rest e = e
 
-all_occurrences : (ordinals : List (Option ℕ)) (is : List ℕ) → filter is_undeclared_fault (undeclared_faults_by_table ordinals is) ≡ undeclared_faults_by_table ordinals is
+all_occurrences : (ordinals : List (Option ℕ)) (is : List ℕ) → filter is_undeclared_fault (undeclared_faults_from_table ordinals is) ≡ undeclared_faults_from_table ordinals is
 all_occurrences ordinals [] = refl
-all_occurrences ordinals (i ∷ is) = occurrences_kept (ordinal_in ordinals i) i (undeclared_faults_by_table ordinals is) (all_occurrences ordinals is)
+all_occurrences ordinals (i ∷ is) = occurrences_kept (ordinal_in ordinals i) i (undeclared_faults_from_table ordinals is) (all_occurrences ordinals is)
 
 not_false : (a : Bool) → not a ≡ false → a ≡ true
 not_false true e = refl
@@ -76,15 +76,15 @@ no_more : (a b : Bool) → b ≡ false → (a || b) ≡ a
 no_more true b e = refl
 no_more false b e = e
 
-pub undeclared_unbound : (m : ParsedModule) (ordinals : List (Option ℕ)) → IsNumberingTable m ordinals → undeclared_faults_by_table ordinals (occurrences (tree_of m)) ≡ undeclared_faults m
+pub undeclared_unbound : (m : ParsedModule) (ordinals : List (Option ℕ)) → IsNumberingTable m ordinals → undeclared_faults_from_table ordinals (occurrences (tree_of m)) ≡ undeclared_faults m
 undeclared_unbound m ordinals numbering =
-    unbound_all m.source ordinals (occurrences (tree_of m)) ∙ ap (undeclared_faults_by_labels (occurrences (tree_of m))) (sym (bindings_by_table m ordinals numbering))
+    unbound_all m.source ordinals (occurrences (tree_of m)) ∙ ap (undeclared_faults_from_labels (occurrences (tree_of m))) (sym (bindings_by_table m ordinals numbering))
 
 -- The faults of a module are the faults of its declarations, then the undeclared names.
-pub faults_reported : (m : ParsedModule) (ordinals : List (Option ℕ)) → IsNumberingTable m ordinals → AreNameFaultsOf m (declaration_faults m ++ undeclared_faults_by_table ordinals (occurrences (tree_of m)))
+pub faults_reported : (m : ParsedModule) (ordinals : List (Option ℕ)) → IsNumberingTable m ordinals → AreNameFaultsOf m (declaration_faults m ++ undeclared_faults_from_table ordinals (occurrences (tree_of m)))
 faults_reported m ordinals numbering =
     let once = declaration_faults m in
-    let unbound = undeclared_faults_by_table ordinals (occurrences (tree_of m)) in
+    let unbound = undeclared_faults_from_table ordinals (occurrences (tree_of m)) in
     let each : unbound ≡ undeclared_faults m = undeclared_unbound m ordinals numbering in
     record {
       by_kind = ap (λ fs. once ++ fs) each;
@@ -95,7 +95,7 @@ faults_reported m ordinals numbering =
 
 -- A module with its faults and a table that has all its marks is resolved.
 pub resolution_marked : (m : ParsedModule) (ordinals : List (Option ℕ)) (declaration_tokens uses : List ℕ) (once faults : List FaultAtTokens) → IsParsed m → HasMarks (ordinal_in ordinals) (visit_module (tree_of m) (initial_walk_state (original_spellings m.source))).marks → OnlyIdentifiersHaveOrdinals m ordinals
-    → declaration_tokens ≡ declaring_names (identifiers role.Declaring (tree_of m)) → uses ≡ occurrences (tree_of m) → once ≡ declaration_faults m → faults ≡ once ++ undeclared_faults_by_table ordinals uses
+    → declaration_tokens ≡ declaring_names (identifiers role.Declaring (tree_of m)) → uses ≡ occurrences (tree_of m) → once ≡ declaration_faults m → faults ≡ once ++ undeclared_faults_from_table ordinals uses
     → IsResolution (record { module_read = m; ordinals = ordinals; declaration_tokens = declaration_tokens; uses = uses; faults = faults })
 resolution_marked m ordinals declaration_tokens uses once faults parsed are_there alone declaring occurring twice all =
     let numbered_so = module_passed (ordinal_in ordinals) (label_from_ordinal naming_by_spelling) (original_spellings m.source) (tree_of m) (initial_walk_state (original_spellings m.source)) (at_start (original_spellings m.source)) in
@@ -108,12 +108,12 @@ resolution_marked m ordinals declaration_tokens uses once faults parsed are_ther
       ordinals_only_at_names = alone;
       declaring = declaring;
       occurring = occurring;
-      reported = subst (AreNameFaultsOf m) (sym (all ∙ (λ i. twice i ++ undeclared_faults_by_table ordinals (occurring i)))) (faults_reported m ordinals numbering);
+      reported = subst (AreNameFaultsOf m) (sym (all ∙ (λ i. twice i ++ undeclared_faults_from_table ordinals (occurring i)))) (faults_reported m ordinals numbering);
     }
 
 -- A visited module with its faults and the table of its marks is resolved.
 pub resolution_made : (m : ParsedModule) (v : WalkState) (ordinals : List (Option ℕ)) (declaration_tokens uses : List ℕ) (once faults : List FaultAtTokens) → IsParsed m → v ≡ visit_module (tree_of m) (initial_walk_state (original_spellings m.source))
-    → ordinals ≡ with_marks (replicate (length m.source.tokens) None) v.marks → declaration_tokens ≡ v.declaration_tokens → uses ≡ v.uses → once ≡ declaration_faults m → faults ≡ once ++ undeclared_faults_by_table ordinals uses
+    → ordinals ≡ with_marks (replicate (length m.source.tokens) None) v.marks → declaration_tokens ≡ v.declaration_tokens → uses ≡ v.uses → once ≡ declaration_faults m → faults ≡ once ++ undeclared_faults_from_table ordinals uses
     → IsResolution (record { module_read = m; ordinals = ordinals; declaration_tokens = declaration_tokens; uses = uses; faults = faults })
 resolution_made m v ordinals declaration_tokens uses once faults parsed gone tabled declares occurs twice all =
     let w = original_spellings m.source in

@@ -14,11 +14,11 @@ use Rattle.ob0_scan.specs.declared.tokens.CommonPrefixAndSuffix.{CommonPrefixAnd
 use Rattle.ob0_scan.specs.TextWithTokens.{TextWithTokens}
 use Rattle.ob0_tree.specs.declared.tree.Role.{Role}
 use Rattle.ob0_tree.specs.declared.tree.Role.TheVariants as role
-use Rattle.ob0_tree.specs.Order.{AreAscendingWithin, identifier_names, names_without_roles}
+use Rattle.ob0_tree.specs.IdentifierIndexes.{AreAscendingWithin, identifier_names, names_without_roles}
 use Rattle.ob0_tree.specs.ParsedModule.{ParsedModule, named_tree_of, tree_of}
 use Rattle.ob0_tree.specs.Places.{tree_with_names, token_text_at, token_value_at}
 use Rattle.ob0_tree.specs.Tree.{identifiers, mapped_tree, occurrences}
-use Rattle.ob0_tree.specs.Visited.{state_after_identifiers}
+use Rattle.ob0_tree.specs.VisitorStates.{state_after_identifiers}
 use Rattle.ob0_tree.proofs.Leaves.{leaves_ascend}
 use Rattle.ob0_tree.proofs.Occurring.{looked_up-occurrences, looked_up_only}
 use Rattle.ob0_language_names.specs.Names.{naming_by_spelling}
@@ -26,25 +26,25 @@ use Rattle.ob0_language_names.specs.Scopes.{relabel_module}
 use Rattle.ob0_tree.specs.FirstIdentifier.{token_of_first_identifier}
 use Rattle.ob0_tree.proofs.AscendingNumbers.{AllBelow, AllFrom, below_more, from_less, leaves_append}
 use Rattle.ob0_tree.proofs.MappedIdentifiers.{beside_role, identifiers-mapped_tree, leaves_mapped}
-use Rattle.ob0_scope_table.specs.BodyReplaced.{IsBodyReplaced, PathToBody, body_at_path, closing_name_at_path, shifted_token_index, path_to_body_in_module, module_without_body}
+use Rattle.ob0_scope_table.specs.BodyReplacement.{ReplacesStatementsOfOneBody, PathToBody, body_at_path, closing_name_at_path, shifted_token_index, path_to_body_in_module, module_without_body}
 use Rattle.ob0_scope_table.specs.DuplicatesAndEndNames.{declaration_faults}
 use Rattle.ob0_scope_table.specs.OneBody.{is_outside_range}
-use Rattle.ob0_scope_table.specs.Resolution.{IsBindingTable, IsResolution, ordinal_and_spelling_at, declaring_names, ordinal_in, undeclared_faults_by_table, ordinal_and_spelling}
+use Rattle.ob0_scope_table.specs.Resolution.{IsBindingTable, IsResolution, ordinal_and_spelling_at, declaring_names, ordinal_in, undeclared_faults_from_table, ordinal_and_spelling}
 use Rattle.ob0_scope_table.specs.declared.faults.FaultAtTokens.{FaultAtTokens}
 use Rattle.ob0_scope_table.specs.declared.resolved.Bindings.{Bindings}
-use Rattle.ob0_scope_table.proofs.BodyReplaced.{names_outside, without_mapped}
+use Rattle.ob0_scope_table.proofs.BodyReplacement.{names_outside, without_mapped}
 use Rattle.ob0_scope_table.proofs.Moved.{moved_above, moved_below}
 use Rattle.ob0_scope_table.proofs.Plain.{declares_nothing}
 use Rattle.ob0_scope_numbering.specs.MarkWalk.{initial_walk_state}
 use Rattle.ob0_scope_numbering.specs.IdentifierWalk.{visit_module}
-use Rattle.ob0_scope_numbering.specs.Marks.{OrdinalMark, with_marks}
+use Rattle.ob0_scope_numbering.specs.OrdinalMarks.{OrdinalMark, with_marks}
 use Rattle.ob0_scope_numbering.specs.BodyWalk.{renumber_module, initial_walk_state_with_table}
-use Rattle.ob0_scope_numbering.specs.Written.{original_spellings}
+use Rattle.ob0_scope_numbering.specs.IdentifierSpellings.{original_spellings}
 use Rattle.ob0_scope_numbering.proofs.BodyTables.{HasMarksAt, body_renumbered}
 use Rattle.ob0_scope_table.proofs.FewTokens.{few_tokens}
 use Rattle.ob0_scope_numbering.proofs.Passing.{HasMarks, at_start, module_passed, tokens_of}
 use Rattle.ob0_scope_numbering.proofs.Tables.{marks_in_table}
-use Rattle.ob0_scope.specs.Carried.{IsRangeOfNewBody, tokens_in_changed_text, ordinals_in_changed_text, no_names_seen, old_closing_token, with_identifier}
+use Rattle.ob0_scope.specs.BindingsOutsideBody.{IsRangeOfNewBody, tokens_in_changed_text, ordinals_in_changed_text, no_names_seen, old_closing_token, with_identifier}
 use Rattle.ob0_scope.specs.declared.body_range.BodyRange.{BodyRange}
 use Rattle.ob0_scope.proofs.BodyExact.{module_exact}
 use Rattle.ob0_scope.proofs.BodySplit.{split_module}
@@ -109,7 +109,7 @@ record Known (old new : ParsedModule) (path : PathToBody) (range : BodyRange) : 
   new_parts : Parted before others (map (beside_role (far range)) after) range.first range.closing (length new.source.tokens)
   few : high + range.closing ≤ 2 ^ 64 - 1
 
-module _ (old new : ParsedModule) (path : PathToBody) (s : CommonPrefixAndSuffix) (r : IsBodyReplaced old new path s) where
+module _ (old new : ParsedModule) (path : PathToBody) (s : CommonPrefixAndSuffix) (r : ReplacesStatementsOfOneBody old new path s) where
   abbrev old_closing : ℕ
   old_closing = closing_name_at_path path (tree_of old)
 
@@ -178,7 +178,7 @@ module _ (old new : ParsedModule) (path : PathToBody) (s : CommonPrefixAndSuffix
       let there : new_closing - s.new_suffix + s.old_suffix ≡ old_closing = omega (arith, closing, back) in
       min-eq_left (let small : new_closing - s.new_suffix + s.old_suffix ≤ 2 ^ 64 - 1 = omega (arith, there, few, inside) in small) ∙ there
 
-known_in : (old new : ParsedModule) (path : PathToBody) (s : CommonPrefixAndSuffix) (range : BodyRange) (r : IsBodyReplaced old new path s) → range.first ≡ r.first → range.closing ≡ closing_name_at_path path (tree_of new) → range.old_closing ≡ old_closing_token s range.closing → Known old new path range
+known_in : (old new : ParsedModule) (path : PathToBody) (s : CommonPrefixAndSuffix) (range : BodyRange) (r : ReplacesStatementsOfOneBody old new path s) → range.first ≡ r.first → range.closing ≡ closing_name_at_path path (tree_of new) → range.old_closing ≡ old_closing_token s range.closing → Known old new path range
 known_in old new path s range r first closing place =
     let there = place ∙ (ap (old_closing_token s) closing ∙ place_is old new path s r) in
     let is : exact old new path s r ≡ range = λ i. record { first = sym first i; old_closing = sym there i; closing = sym closing i } in
@@ -204,7 +204,7 @@ ordinals_at_tokens source ordinals [] = refl
 ordinals_at_tokens source ordinals (x ∷ xs) = ap (λ l. ordinal_in ordinals x ∷ l) (ordinals_at_tokens source ordinals xs)
 
 -- The bindings of names outside the body are unchanged.
-same_outside : (old new : ParsedModule) (path : PathToBody) (s : CommonPrefixAndSuffix) (before now : List (Option ℕ)) → IsBodyReplaced old new path s → IsBindingTable old before → IsBindingTable new now
+same_outside : (old new : ParsedModule) (path : PathToBody) (s : CommonPrefixAndSuffix) (before now : List (Option ℕ)) → ReplacesStatementsOfOneBody old new path s → IsBindingTable old before → IsBindingTable new now
     → map (ordinal_in now) (identifier_names (module_without_body path (tree_of new))) ≡ map (ordinal_in before) (identifier_names (module_without_body path (tree_of old)))
 same_outside old new path s before now r was is =
     let outside : (m : ParsedModule) (ordinals : List (Option ℕ)) → IsBindingTable m ordinals → relabel_module naming_by_spelling ordinal_and_spelling (tree_with_names m.source (module_without_body path (tree_of m))) ≡ mapped_tree (ordinal_and_spelling_at m.source ordinals) (token_value_at m.source) (module_without_body path (tree_of m)) =
@@ -349,7 +349,7 @@ module _ (old new : ParsedModule) (path : PathToBody) (range : BodyRange) (known
 pub new_body_bound : (m : ParsedModule) (b : Bindings) (range : BodyRange) (own : List ℕ) (ordinals : List (Option ℕ)) (declaration_tokens uses : List ℕ) (once faults : List FaultAtTokens) → IsRangeOfNewBody m b range own
     → length m.source.tokens ≤ length (ordinals_in_changed_text range b.ordinals.items) → declaration_tokens ≡ tokens_in_changed_text range b.declaration_tokens.items []
     → ordinals ≡ (renumber_module declaration_tokens range.first (tree_of m) (initial_walk_state_with_table (original_spellings m.source) (ordinals_in_changed_text range b.ordinals.items))).marks → uses ≡ tokens_in_changed_text range b.occurrences.items own
-    → once ≡ declaration_faults m → faults ≡ once ++ undeclared_faults_by_table ordinals uses
+    → once ≡ declaration_faults m → faults ≡ once ++ undeclared_faults_from_table ordinals uses
     → IsResolution (record { module_read = m; ordinals = ordinals; declaration_tokens = declaration_tokens; uses = uses; faults = faults })
 new_body_bound m b range own ordinals declaration_tokens uses once faults n long declared numbered used twice all =
     let was = n.was_bound in

@@ -7,13 +7,13 @@ use Rattle.std.specs.List.{list_any}
 use Rattle.std.proofs.lemmas.Cmp.{nat_list_eq_equiv}
 use Rattle.std.proofs.lemmas.List.Folds.{list_any-append}
 use Rattle.std.proofs.lemmas.Slice.Eq.{bytes_eq-Decides}
-use Rattle.ob0_tree.specs.Tree.{Sort, Tree, mapped_leaves, mapped_tree, occurrences, block, constant, constants, formals, further_name, further_section, item, items, maybe, module_text, names, procedure, section, type_definition, type_definitions, variable, variables, declares, declares_constant, declares_constants, declares_procedure, declares_type, declares_types, declares_variable, declares_variables, end, forms_block, is_module, listed, more, no_formals, none, one, some_formals, then_name, then_section, value_section, variable_section}
+use Rattle.ob0_tree.specs.Tree.{Sort, Tree, mapped_leaves, mapped_tree, occurrences, block, constant, constants, formals, name_after_comma, section_after_semicolon, item, items, maybe, module_text, names, procedure, section, type_definition, type_definitions, variable, variables, declares, declares_constant, declares_const_section, declares_procedure, declares_type, declares_type_section, declares_variable, declares_var_section, end, forms_block, forms_module, listed, more, no_formals, none, one, some_formals, comma_then_name, semicolon_then_section, value_section, variable_section}
 use Rattle.ob0_tree.proofs.Mapped.{mapped_twice}
-use Rattle.ob0_language_names.specs.Mapping.{map_names}
+use Rattle.ob0_language_names.specs.MappedNames.{map_names}
 use Rattle.ob0_language_names.specs.Names.{Label, Name, naming_by_spelling, as_written, declared, same_name}
-use Rattle.ob0_language_names.specs.Occurrences.{IsFreeName, bindings, scopes_in_block, scopes_in_procedure, scopes_in_procedures, declares_ordinal, another_declaration_has_name}
-use Rattle.ob0_language_names.specs.Parts.{constant_names, formal_names, formal_sections, further_names, declared_type_names, names_in_list, procedure_name, section_constants, parameter_section_names, section_types, section_variables, variable_names}
-use Rattle.ob0_language_names.specs.Scopes.{Labelling, Scope, ordinal_after_names, ordinal_after_procedure, label_from_ordinal, body_scope, declare_names, declare_procedure_names, first_procedure_ordinal, first_type_ordinal, first_variable_ordinal, labels_of_declared_names, label_of, ordinal_in_scope, predeclared_scope, scope_before_procedures, relabel_block, relabel_constant_section, relabel_constants, relabel_formals, relabel_names, relabel_procedure, relabel_procedures, relabel_parameter_section, relabel_parameter_sections, relabel_type_section, relabel_types, relabel_uses, relabel_variable_section, relabel_variables, renamed, same_ordinal, scope_before_types, scope_before_variables}
+use Rattle.ob0_language_names.specs.Occurrences.{IsFreeName, bindings, scopes_in_block, scopes_in_procedure, scopes_in_procedure_list, declares_ordinal, another_declaration_has_name}
+use Rattle.ob0_language_names.specs.BlockParts.{constant_names, formal_names, formal_sections, names_after_first, declared_type_names, names_in_list, procedure_name, section_constants, parameter_section_names, section_types, section_variables, variable_names}
+use Rattle.ob0_language_names.specs.Scopes.{Labelling, Scope, ordinal_after_names, ordinal_after_procedure, label_from_ordinal, body_scope, declare_names, declare_procedure_names, first_procedure_ordinal, first_type_ordinal, first_variable_ordinal, labels_of_declared_names, label_of, ordinal_in_scope, predeclared_scope, scope_before_procedures, relabel_block, relabel_constant_section, relabel_constants, relabel_formals, relabel_names, relabel_procedure, relabel_procedure_list, relabel_parameter_section, relabel_parameter_section_list, relabel_type_section, relabel_types, relabel_uses, relabel_variable_section, relabel_variables, renamed, same_ordinal, scope_before_types, scope_before_variables}
 use Rattle.ob0_language_names.proofs.DistinctNames.{new_name}
 use Rattle.ob0_language_names.proofs.Relabelled.{constants-section, formals-section, names-relabel, parameter_section_names-relabel, types-section, variables-section}
 use Rattle.ob0_language_names.proofs.RenamedDeclarations.{constants-labels, sections-labels, types-labels, variables-labels}
@@ -105,9 +105,9 @@ module _ (d : ℕ) (new : Name) (f : ℕ → Name) (g : ℕ → ℕ) (fresh : (i
 
   -- No name of the text is the new name.
 
-  new_further : (ns : Tree ℕ (items further_name)) → AllNew (further_names (mapped_tree f g ns))
+  new_further : (ns : Tree ℕ (items name_after_comma)) → AllNew (names_after_first (mapped_tree f g ns))
   new_further end = tt
-  new_further (more (then_name x) ns) = (fresh x, new_further ns)
+  new_further (more (comma_then_name x) ns) = (fresh x, new_further ns)
 
   new_listed : (ns : Tree ℕ names) → AllNew (names_in_list (mapped_tree f g ns))
   new_listed (listed x ns) = (fresh x, new_further ns)
@@ -129,27 +129,27 @@ module _ (d : ℕ) (new : Name) (f : ℕ → Name) (g : ℕ → ℕ) (fresh : (i
   new_section (value_section ns t) = new_listed ns
   new_section (variable_section ns t) = new_listed ns
 
-  new_sections : (fs : Tree ℕ (items further_section)) → AllNew (formal_names (mapped_tree f g fs))
+  new_sections : (fs : Tree ℕ (items section_after_semicolon)) → AllNew (formal_names (mapped_tree f g fs))
   new_sections end = tt
-  new_sections (more (then_section s) fs) =
+  new_sections (more (semicolon_then_section s) fs) =
       all_new-append (parameter_section_names (mapped_tree f g s)) (formal_names (mapped_tree f g fs)) (new_section s) (new_sections fs)
 
   new_constant_section : (cs : Tree ℕ (maybe constants)) → AllNew (constant_names (section_constants (mapped_tree f g cs)))
   new_constant_section none = tt
-  new_constant_section (one (declares_constants cs)) = new_constants cs
+  new_constant_section (one (declares_const_section cs)) = new_constants cs
 
   new_type_section : (ts : Tree ℕ (maybe type_definitions)) → AllNew (declared_type_names (section_types (mapped_tree f g ts)))
   new_type_section none = tt
-  new_type_section (one (declares_types ts)) = new_types ts
+  new_type_section (one (declares_type_section ts)) = new_types ts
 
   new_variable_section : (vs : Tree ℕ (maybe variables)) → AllNew (variable_names (section_variables (mapped_tree f g vs)))
   new_variable_section none = tt
-  new_variable_section (one (declares_variables vs)) = new_variables vs
+  new_variable_section (one (declares_var_section vs)) = new_variables vs
 
   new_formals : (fs : Tree ℕ (maybe formals)) → AllNew (formal_names (formal_sections (mapped_tree f g fs)))
   new_formals none = tt
   new_formals (one no_formals) = tt
-  new_formals (one (some_formals s fs)) = new_sections (more (then_section s) fs)
+  new_formals (one (some_formals s fs)) = new_sections (more (semicolon_then_section s) fs)
 
   -- The scopes of a block agree if the scopes before it do.
 
@@ -181,7 +181,7 @@ module _ (d : ℕ) (new : Name) (f : ℕ → Name) (g : ℕ → ℕ) (fresh : (i
       (agrees_variables there here j k jk agrees (forms_block (declares cs ts vs ps) statements))
 
   agrees_procedure_names : (visible there here : Scope Name) (j k : ℕ) → j ≡ k → Agrees there here → (ps : Tree ℕ (items procedure))
-      → Agrees (declare_procedure_names j (relabel_procedures naming_by_spelling ren visible k (mapped_tree f g ps)) there) (declare_procedure_names k (mapped_tree f g ps) here)
+      → Agrees (declare_procedure_names j (relabel_procedure_list naming_by_spelling ren visible k (mapped_tree f g ps)) there) (declare_procedure_names k (mapped_tree f g ps) here)
   agrees_procedure_names visible there here j k jk agrees end = agrees
   agrees_procedure_names visible there here j k jk agrees (more (declares_procedure x fs b closing) ps) =
       let p : Tree Name (item procedure) = mapped_tree f g (declares_procedure x fs b closing) in
@@ -236,12 +236,12 @@ module _ (d : ℕ) (new : Name) (f : ℕ → Name) (g : ℕ → ℕ) (fresh : (i
   section_same there here j k jk agrees (value_section ns t) = λ i. value_section (names-twice naming_by_spelling ren j k jk (mapped_tree f g ns) i) (uses_same there here agrees t i)
   section_same there here j k jk agrees (variable_section ns t) = λ i. variable_section (names-twice naming_by_spelling ren j k jk (mapped_tree f g ns) i) (uses_same there here agrees t i)
 
-  sections_same : (there here : Scope Name) (j k : ℕ) → j ≡ k → Agrees there here → (fs : Tree ℕ (items further_section))
-      → relabel_parameter_sections naming_by_spelling label there j (relabel_parameter_sections naming_by_spelling ren here k (mapped_tree f g fs)) ≡ relabel_parameter_sections naming_by_spelling label here k (mapped_tree f g fs)
+  sections_same : (there here : Scope Name) (j k : ℕ) → j ≡ k → Agrees there here → (fs : Tree ℕ (items section_after_semicolon))
+      → relabel_parameter_section_list naming_by_spelling label there j (relabel_parameter_section_list naming_by_spelling ren here k (mapped_tree f g fs)) ≡ relabel_parameter_section_list naming_by_spelling label here k (mapped_tree f g fs)
   sections_same there here j k jk agrees end = refl
-  sections_same there here j k jk agrees (more (then_section s) fs) =
+  sections_same there here j k jk agrees (more (semicolon_then_section s) fs) =
       let s' : Tree Name section = mapped_tree f g s in λ i.
-      more (then_section (section_same there here j k jk agrees s i))
+      more (semicolon_then_section (section_same there here j k jk agrees s i))
       (sections_same (declare_names j (parameter_section_names (relabel_parameter_section naming_by_spelling ren here k s')) there) (declare_names k (parameter_section_names s') here)
       (ordinal_after_names j (parameter_section_names (relabel_parameter_section naming_by_spelling ren here k s'))) (ordinal_after_names k (parameter_section_names s')) (after_section naming_by_spelling ren here j k jk s')
       (agrees_listed j k jk _ _ (parameter_section_names-relabel naming_by_spelling ren here k s') (new_section s) there here agrees) fs i)
@@ -260,17 +260,17 @@ module _ (d : ℕ) (new : Name) (f : ℕ → Name) (g : ℕ → ℕ) (fresh : (i
   constant_section_same : (there here : Scope Name) (j k : ℕ) → j ≡ k → Agrees there here → (cs : Tree ℕ (maybe constants))
       → relabel_constant_section naming_by_spelling label there j (relabel_constant_section naming_by_spelling ren here k (mapped_tree f g cs)) ≡ relabel_constant_section naming_by_spelling label here k (mapped_tree f g cs)
   constant_section_same there here j k jk agrees none = refl
-  constant_section_same there here j k jk agrees (one (declares_constants cs)) = λ i. one (declares_constants (constants_same there here j k jk agrees cs i))
+  constant_section_same there here j k jk agrees (one (declares_const_section cs)) = λ i. one (declares_const_section (constants_same there here j k jk agrees cs i))
 
   type_section_same : (there here : Scope Name) (j k : ℕ) → j ≡ k → Agrees there here → (ts : Tree ℕ (maybe type_definitions))
       → relabel_type_section naming_by_spelling label there j (relabel_type_section naming_by_spelling ren here k (mapped_tree f g ts)) ≡ relabel_type_section naming_by_spelling label here k (mapped_tree f g ts)
   type_section_same there here j k jk agrees none = refl
-  type_section_same there here j k jk agrees (one (declares_types ts)) = λ i. one (declares_types (types_same there here j k jk agrees ts i))
+  type_section_same there here j k jk agrees (one (declares_type_section ts)) = λ i. one (declares_type_section (types_same there here j k jk agrees ts i))
 
   variable_section_same : (there here : Scope Name) (j k : ℕ) → j ≡ k → Agrees there here → (vs : Tree ℕ (maybe variables))
       → relabel_variable_section naming_by_spelling label there j (relabel_variable_section naming_by_spelling ren here k (mapped_tree f g vs)) ≡ relabel_variable_section naming_by_spelling label here k (mapped_tree f g vs)
   variable_section_same there here j k jk agrees none = refl
-  variable_section_same there here j k jk agrees (one (declares_variables vs)) = λ i. one (declares_variables (variables_same there here j k jk agrees vs i))
+  variable_section_same there here j k jk agrees (one (declares_var_section vs)) = λ i. one (declares_var_section (variables_same there here j k jk agrees vs i))
 
   agrees_procedure : (there here : Scope Name) (j k : ℕ) → j ≡ k → Agrees there here → (p : Tree ℕ (item procedure))
       → Agrees ((procedure_name (relabel_procedure naming_by_spelling ren here k (mapped_tree f g p)), j) ∷ there) ((procedure_name (mapped_tree f g p), k) ∷ here)
@@ -291,7 +291,7 @@ module _ (d : ℕ) (new : Name) (f : ℕ → Name) (g : ℕ → ℕ) (fresh : (i
         (uses_same (body_scope j b' there) (body_scope k b here) (agrees_body there here j k jk agrees b₀) statements i)
 
     procedures_same : (there here : Scope Name) (j k : ℕ) → j ≡ k → Agrees there here → (ps : Tree ℕ (items procedure))
-        → relabel_procedures naming_by_spelling label there j (relabel_procedures naming_by_spelling ren here k (mapped_tree f g ps)) ≡ relabel_procedures naming_by_spelling label here k (mapped_tree f g ps)
+        → relabel_procedure_list naming_by_spelling label there j (relabel_procedure_list naming_by_spelling ren here k (mapped_tree f g ps)) ≡ relabel_procedure_list naming_by_spelling label here k (mapped_tree f g ps)
     procedures_same there here j k jk agrees end = refl
     procedures_same there here j k jk agrees (more p₀ ps) =
         let p : Tree Name (item procedure) = mapped_tree f g p₀ in
@@ -339,9 +339,9 @@ module _ (d : ℕ) (new : Name) (f : ℕ → Name) (g : ℕ → ℕ) (fresh : (i
       ap (λ b. ordinal_in_scope naming_by_spelling (predeclared_scope naming_by_spelling) (if b then new else y)) (bound_to_others (predeclared_scope naming_by_spelling) (other_scope h) y)
 
   bindings_same : 7 ≤ d → (m : Tree ℕ module_text) → bindings (renamed (mapped_tree f g m) d new) ≡ bindings (mapped_tree f g m)
-  bindings_same h (is_module x b closing) =
+  bindings_same h (forms_module x b closing) =
       let scope : Scope Name = predeclared_scope naming_by_spelling in
-      ap occurrences (λ i. is_module (as_written (f x)) (block_same scope scope 7 7 refl (agrees_predeclared h) b i) (as_written (f closing)))
+      ap occurrences (λ i. forms_module (as_written (f x)) (block_same scope scope 7 7 refl (agrees_predeclared h) b i) (as_written (f closing)))
 
   -- holds if no other declaration has the name
 
@@ -376,14 +376,14 @@ module _ (d : ℕ) (new : Name) (f : ℕ → Name) (g : ℕ → ℕ) (fresh : (i
         (new_names k (constant_names (section_constants (mapped_tree f g cs))) own (new_constant_section cs) others))) in λ i.
         and-false (declares_ordinal (body_scope k b own) d) _ (none_named (body_scope k b own) mine) i || no_clash-procedures (first_procedure_ordinal k b) ps i
 
-    no_clash-procedures : (k : ℕ) (ps : Tree ℕ (items procedure)) → list_any clashes (scopes_in_procedures k (mapped_tree f g ps)) ≡ false
+    no_clash-procedures : (k : ℕ) (ps : Tree ℕ (items procedure)) → list_any clashes (scopes_in_procedure_list k (mapped_tree f g ps)) ≡ false
     no_clash-procedures k end = refl
     no_clash-procedures k (more (declares_procedure x fs b closing) ps) =
         let p : Tree Name (item procedure) = mapped_tree f g (declares_procedure x fs b closing) in
-        list_any-append clashes (scopes_in_procedure (suc k) p) (scopes_in_procedures (ordinal_after_procedure (suc k) p) (mapped_tree f g ps))
+        list_any-append clashes (scopes_in_procedure (suc k) p) (scopes_in_procedure_list (ordinal_after_procedure (suc k) p) (mapped_tree f g ps))
         ∙ (λ i. no_clash-block (ordinal_after_names (suc k) (formal_names (formal_sections (mapped_tree f g fs)))) (declare_names (suc k) (formal_names (formal_sections (mapped_tree f g fs))) []) (new_names (suc k) (formal_names (formal_sections (mapped_tree f g fs))) [] (new_formals fs) tt) b i
         || no_clash-procedures (ordinal_after_procedure (suc k) p) ps i)
 
   -- A name that no token has is free.
   pub new_is_free : 7 ≤ d → (m : Tree ℕ module_text) → IsFreeName (mapped_tree f g m) d new
-  new_is_free h (is_module x b closing) = (no_clash-block 7 [] tt b, bindings_same h (is_module x b closing))
+  new_is_free h (forms_module x b closing) = (no_clash-block 7 [] tt b, bindings_same h (forms_module x b closing))

@@ -10,7 +10,7 @@ use Rattle.ob0_scan.specs.declared.lexeme.TokenKind.TheVariants as kind
 use Rattle.ob0_tree.proofs.Leaves.{leaves_parsed, leaves_spelled, lexeme_names}
 use Rattle.ob0_tree.proofs.Mapped.{spell_mapped}
 use Rattle.ob0_tree.specs.Lexeme.{EndOfText, Terminal, WordOrSymbol, Name, Number, mapped_terminal}
-use Rattle.ob0_tree.specs.Order.{index_if_identifier, identifier_indexes_from, identifier_names, names_without_roles}
+use Rattle.ob0_tree.specs.IdentifierIndexes.{index_if_identifier, identifier_indexes_from, identifier_names, names_without_roles}
 use Rattle.ob0_tree.specs.ParsedModule.{tree_of}
 use Rattle.ob0_tree.specs.Places.{token_text_at, token_value_at}
 use Rattle.ob0_tree.specs.Tree.{Sort, Tree, identifiers, mapped_tree, spell}
@@ -22,8 +22,8 @@ use Rattle.ob0_language_names.specs.Occurrences.{label_ordinal}
 use Rattle.ob0_scope_table.specs.Resolution.{IsResolution, Resolution, label_from_table, ordinal_in, span_at}
 use Rattle.ob0_scope_table.specs.Spans.{span_or_empty}
 use Rattle.ob0_language_names.specs.Scopes.{label_from_ordinal, same_ordinal}
-use Rattle.ob0_scope.specs.declared.naming.BoundName as named
-use Rattle.ob0_scope.specs.Listing.{is_identifier, is_identifier_at_offset}
+use Rattle.ob0_scope.specs.declared.bound_names.BoundName as named
+use Rattle.ob0_scope.specs.BoundTokens.{is_identifier, is_identifier_at_offset}
 use Rattle.ob0_scope_table.specs.Spans.{is_in_span_or_at_end}
 use Rattle.ob0_scope.specs.NamesAtPlaces.{LabelledIdentifier, is_declaring, name_at_offset, bound_name_of, is_bound_to, labelled_identifiers, tokens_bound_to}
 

@@ -10,10 +10,10 @@ use Rattle.ob0_language_names.specs.Occurrences.{bindings, first_binding_differe
 use Rattle.ob0_scope.specs.Renames.{AreOrdinalsAfterRename, have_same_binding, spellings_after_rename}
 use Rattle.ob0_scope_table.specs.Resolution.{IsResolution, Resolution, ordinal_and_spelling_at, label_from_table, ordinal_in, ordinal_and_spelling}
 use Rattle.ob0_language_names.specs.Scopes.{label_from_ordinal, numbered, renamed, same_ordinal}
-use Rattle.ob0_scope_numbering.specs.Marks.{with_marks}
+use Rattle.ob0_scope_numbering.specs.OrdinalMarks.{with_marks}
 use Rattle.ob0_scope_numbering.specs.MarkWalk.{WalkState, initial_walk_state}
 use Rattle.ob0_scope_numbering.specs.IdentifierWalk.{visit_module}
-use Rattle.ob0_scope_numbering.specs.Written.{spelling_at, tree_with_spellings}
+use Rattle.ob0_scope_numbering.specs.IdentifierSpellings.{spelling_at, tree_with_spellings}
 use Rattle.ob0_scope_table.proofs.Bound.{bindings_by_table}
 use Rattle.ob0_scope.proofs.FirstCaptures.{same_binding-refl}
 use Rattle.ob0_scope.proofs.Fused.{relabel_module-mapped_tree}

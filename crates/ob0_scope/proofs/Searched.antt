@@ -5,15 +5,15 @@ use Rattle.std.specs.List.{list_any}
 use Rattle.std.specs.Option.{option_or}
 use Rattle.ob0_tree.specs.ParsedModule.{named_tree_of, tree_of}
 use Rattle.ob0_tree.specs.Places.{token_value_at}
-use Rattle.ob0_tree.specs.Tree.{Tree, block, constant, constants, declares, declares_constant, declares_constants, declares_procedure, declares_type, declares_types, declares_variable, declares_variables, end, formals, further_name, further_section, forms_block, is_module, item, items, listed, mapped_tree, maybe, module_text, more, names, no_formals, none, one, procedure, section, some_formals, then_name, then_section, type_definition, type_definitions, value_section, variable, variable_section, variables}
-use Rattle.ob0_language_names.specs.ConsistentNames.{block_names, procedure_names}
+use Rattle.ob0_tree.specs.Tree.{Tree, block, constant, constants, declares, declares_constant, declares_const_section, declares_procedure, declares_type, declares_type_section, declares_variable, declares_var_section, end, formals, name_after_comma, section_after_semicolon, forms_block, forms_module, item, items, listed, mapped_tree, maybe, module_text, more, names, no_formals, none, one, procedure, section, some_formals, comma_then_name, semicolon_then_section, type_definition, type_definitions, value_section, variable, variable_section, variables}
+use Rattle.ob0_language_names.specs.ConsistentNames.{names_declared_in_block, procedure_names}
 use Rattle.ob0_language_names.specs.Names.{Name, naming_by_spelling, same_name}
-use Rattle.ob0_language_names.specs.Occurrences.{scopes_in_block, scopes_in_procedure, scopes_in_procedures, declares_ordinal}
-use Rattle.ob0_language_names.specs.Parts.{constant_names, formal_names, formal_sections, further_names, module_block, declared_type_names, names_in_list, procedure_name, section_constants, parameter_section_names, section_types, section_variables, variable_names}
+use Rattle.ob0_language_names.specs.Occurrences.{scopes_in_block, scopes_in_procedure, scopes_in_procedure_list, declares_ordinal}
+use Rattle.ob0_language_names.specs.BlockParts.{constant_names, formal_names, formal_sections, names_after_first, module_block, declared_type_names, names_in_list, procedure_name, section_constants, parameter_section_names, section_types, section_variables, variable_names}
 use Rattle.ob0_scope.specs.Renames.{namesake, namesake_in_scopes, other_declaration_with_name}
 use Rattle.ob0_scope_table.specs.Resolution.{IsResolution, Resolution, ordinal_and_spelling_at, ordinal_in, ordinal_and_spelling}
-use Rattle.ob0_language_names.specs.Scopes.{Scope, ordinal_after_names, ordinal_after_procedure, body_scope, declare_names, first_procedure_ordinal, predeclared_scope, scope_before_procedures, relabel_block, relabel_formals, relabel_procedure, relabel_procedures, relabel_module, same_ordinal}
-use Rattle.ob0_scope.specs.BlockSearches.{NamesakeSearchView, namesake_in_block, namesake_in_procedure, namesake_in_procedures, is_bound_to_declaration, last_namesake, namesake_among}
+use Rattle.ob0_language_names.specs.Scopes.{Scope, ordinal_after_names, ordinal_after_procedure, body_scope, declare_names, first_procedure_ordinal, predeclared_scope, scope_before_procedures, relabel_block, relabel_formals, relabel_procedure, relabel_procedure_list, relabel_module, same_ordinal}
+use Rattle.ob0_scope.specs.NamesakeSearches.{NamesakeSearchView, namesake_in_block, namesake_in_procedure, namesake_in_procedures, is_bound_to_declaration, last_namesake, namesake_among}
 use Rattle.ob0_scope.proofs.Finding.{or_assoc}
 use Rattle.ob0_language_names.proofs.DistinctNames.{labels_in, onto, onto-append}
 use Rattle.ob0_language_names.proofs.RenamedDeclarations.{labels_in-block, labels_in-names, sections-labels}
@@ -21,9 +21,9 @@ use Rattle.ob0_language_names.proofs.Relabelled.{formals-section}
 
 -- Mapping the leaves of a tree maps the names of its parts.
 
-further-with : {N M : Type 0} (f : N → M) (g : ℕ → ℕ) (ns : Tree N (items further_name)) → further_names (mapped_tree f g ns) ≡ map f (further_names ns)
+further-with : {N M : Type 0} (f : N → M) (g : ℕ → ℕ) (ns : Tree N (items name_after_comma)) → names_after_first (mapped_tree f g ns) ≡ map f (names_after_first ns)
 further-with f g end = refl
-further-with f g (more (then_name x) rest) = λ i. f x ∷ further-with f g rest i
+further-with f g (more (comma_then_name x) rest) = λ i. f x ∷ further-with f g rest i
 
 listed-with : {N M : Type 0} (f : N → M) (g : ℕ → ℕ) (ns : Tree N names) → names_in_list (mapped_tree f g ns) ≡ map f (names_in_list ns)
 listed-with f g (listed x rest) = λ i. f x ∷ further-with f g rest i
@@ -34,7 +34,7 @@ constants-with f g (more (declares_constant x e) cs) = λ i. f x ∷ constants-w
 
 pub constant_section-with : {N M : Type 0} (f : N → M) (g : ℕ → ℕ) (cs : Tree N (maybe constants)) → constant_names (section_constants (mapped_tree f g cs)) ≡ map f (constant_names (section_constants cs))
 constant_section-with f g none = refl
-constant_section-with f g (one (declares_constants cs)) = constants-with f g cs
+constant_section-with f g (one (declares_const_section cs)) = constants-with f g cs
 
 types-with : {N M : Type 0} (f : N → M) (g : ℕ → ℕ) (ts : Tree N (items type_definition)) → declared_type_names (mapped_tree f g ts) ≡ map f (declared_type_names ts)
 types-with f g end = refl
@@ -42,7 +42,7 @@ types-with f g (more (declares_type x t) ts) = λ i. f x ∷ types-with f g ts i
 
 pub type_section-with : {N M : Type 0} (f : N → M) (g : ℕ → ℕ) (ts : Tree N (maybe type_definitions)) → declared_type_names (section_types (mapped_tree f g ts)) ≡ map f (declared_type_names (section_types ts))
 type_section-with f g none = refl
-type_section-with f g (one (declares_types ts)) = types-with f g ts
+type_section-with f g (one (declares_type_section ts)) = types-with f g ts
 
 variables-with : {N M : Type 0} (f : N → M) (g : ℕ → ℕ) (vs : Tree N (items variable)) → variable_names (mapped_tree f g vs) ≡ map f (variable_names vs)
 variables-with f g end = refl
@@ -51,7 +51,7 @@ variables-with f g (more (declares_variable ns t) vs) =
 
 pub variable_section-with : {N M : Type 0} (f : N → M) (g : ℕ → ℕ) (vs : Tree N (maybe variables)) → variable_names (section_variables (mapped_tree f g vs)) ≡ map f (variable_names (section_variables vs))
 variable_section-with f g none = refl
-variable_section-with f g (one (declares_variables vs)) = variables-with f g vs
+variable_section-with f g (one (declares_var_section vs)) = variables-with f g vs
 
 procedures-with : {N M : Type 0} (f : N → M) (g : ℕ → ℕ) (ps : Tree N (items procedure)) → procedure_names (mapped_tree f g ps) ≡ map f (procedure_names ps)
 procedures-with f g end = refl
@@ -61,22 +61,22 @@ section-with : {N M : Type 0} (f : N → M) (g : ℕ → ℕ) (s : Tree N sectio
 section-with f g (value_section ns t) = listed-with f g ns
 section-with f g (variable_section ns t) = listed-with f g ns
 
-sections-with : {N M : Type 0} (f : N → M) (g : ℕ → ℕ) (fs : Tree N (items further_section)) → formal_names (mapped_tree f g fs) ≡ map f (formal_names fs)
+sections-with : {N M : Type 0} (f : N → M) (g : ℕ → ℕ) (fs : Tree N (items section_after_semicolon)) → formal_names (mapped_tree f g fs) ≡ map f (formal_names fs)
 sections-with f g end = refl
-sections-with f g (more (then_section s) fs) =
+sections-with f g (more (semicolon_then_section s) fs) =
     (λ i. section-with f g s i ++ sections-with f g fs i) ∙ sym (map-append f (parameter_section_names s) (formal_names fs))
 
 pub formals-with : {N M : Type 0} (f : N → M) (g : ℕ → ℕ) (fs : Tree N (maybe formals)) → formal_names (formal_sections (mapped_tree f g fs)) ≡ map f (formal_names (formal_sections fs))
 formals-with f g none = refl
 formals-with f g (one no_formals) = refl
-formals-with f g (one (some_formals s fs)) = sections-with f g (more (then_section s) fs)
+formals-with f g (one (some_formals s fs)) = sections-with f g (more (semicolon_then_section s) fs)
 
 pub map-append₄ : {N M : Type 0} (f : N → M) (a b c d : List N) → map f a ++ (map f b ++ (map f c ++ map f d)) ≡ map f (a ++ (b ++ (c ++ d)))
 map-append₄ f a b c d =
     (λ i. map f a ++ (map f b ++ sym (map-append f c d) i))
     ∙ ((λ i. map f a ++ sym (map-append f b (c ++ d)) i) ∙ sym (map-append f a (b ++ (c ++ d))))
 
-block-with : {N M : Type 0} (f : N → M) (g : ℕ → ℕ) (b : Tree N block) → block_names (mapped_tree f g b) ≡ map f (block_names b)
+block-with : {N M : Type 0} (f : N → M) (g : ℕ → ℕ) (b : Tree N block) → names_declared_in_block (mapped_tree f g b) ≡ map f (names_declared_in_block b)
 block-with f g (forms_block (declares cs ts vs ps) statements) =
     (λ i. constant_section-with f g cs i ++ (type_section-with f g ts i ++ (variable_section-with f g vs i ++ procedures-with f g ps i)))
     ∙ map-append₄ f (constant_names (section_constants cs)) (declared_type_names (section_types ts)) (variable_names (section_variables vs)) (procedure_names ps)
@@ -106,7 +106,7 @@ module _ (d : ℕ) (new : Name) where
   abbrev mutual
     new_in_block : List Bound → Tree Bound block → Option ℕ
     new_in_block own (forms_block (declares cs ts vs ps) statements) =
-        option_or (new_among (own ++ block_names (forms_block (declares cs ts vs ps) statements))) (new_in_procedures ps)
+        option_or (new_among (own ++ names_declared_in_block (forms_block (declares cs ts vs ps) statements))) (new_in_procedures ps)
 
     new_in_procedures : Tree Bound (items procedure) → Option ℕ
     new_in_procedures end = None
@@ -140,7 +140,7 @@ module _ (d : ℕ) (new : Name) where
       block_bound : (own : List ℕ) (b : Tree ℕ block) → namesake_in_block sought own b ≡ new_in_block (map bound own) (mapped_tree bound value b)
       block_bound own (forms_block (declares cs ts vs ps) statements) =
           let b : Tree ℕ block = forms_block (declares cs ts vs ps) statements in
-          let here = among_bound (own ++ block_names b) ∙ ap new_among (map-append bound own (block_names b) ∙ ap (λ xs. map bound own ++ xs) (sym (block-with bound value b))) in
+          let here = among_bound (own ++ names_declared_in_block b) ∙ ap new_among (map-append bound own (names_declared_in_block b) ∙ ap (λ xs. map bound own ++ xs) (sym (block-with bound value b))) in
           λ j. option_or (here j) (procedures_bound ps j)
 
       procedures_bound : (ps : Tree ℕ (items procedure)) → namesake_in_procedures sought ps ≡ new_in_procedures (mapped_tree bound value ps)
@@ -196,15 +196,15 @@ module _ (d : ℕ) (new : Name) where
         → new_in_block ps (relabel_block naming_by_spelling ordinal_and_spelling visible k b) ≡ namesake_in_scopes (scopes_in_block k own b) d new
     block_scopes visible k own ps (forms_block (declares cs ts vs procedures) statements) e =
         let b : Tree Name block = forms_block (declares cs ts vs procedures) statements in
-        let declared = block_names (relabel_block naming_by_spelling ordinal_and_spelling visible k b) in
+        let declared = names_declared_in_block (relabel_block naming_by_spelling ordinal_and_spelling visible k b) in
         let labels = labels_in-block naming_by_spelling ordinal_and_spelling visible k b own ∙ (ap (onto declared) e ∙ sym (onto-append ps declared [])) in
         λ i. option_or (sym (scope_among (body_scope k b own) (ps ++ declared) labels) i) (procedures_scopes (scope_before_procedures k b visible) (first_procedure_ordinal k b) procedures i)
 
-    procedures_scopes : (visible : Scope Name) (k : ℕ) (ps : Tree Name (items procedure)) → new_in_procedures (relabel_procedures naming_by_spelling ordinal_and_spelling visible k ps) ≡ namesake_in_scopes (scopes_in_procedures k ps) d new
+    procedures_scopes : (visible : Scope Name) (k : ℕ) (ps : Tree Name (items procedure)) → new_in_procedures (relabel_procedure_list naming_by_spelling ordinal_and_spelling visible k ps) ≡ namesake_in_scopes (scopes_in_procedure_list k ps) d new
     procedures_scopes visible k end = refl
     procedures_scopes visible k (more p rest) =
         (λ i. option_or (procedure_scopes visible k p i) (procedures_scopes ((procedure_name p, k) ∷ visible) (ordinal_after_procedure (suc k) p) rest i))
-        ∙ sym (namesake-append (scopes_in_procedure (suc k) p) (scopes_in_procedures (ordinal_after_procedure (suc k) p) rest))
+        ∙ sym (namesake-append (scopes_in_procedure (suc k) p) (scopes_in_procedure_list (ordinal_after_procedure (suc k) p) rest))
 
     procedure_scopes : (visible : Scope Name) (k : ℕ) (p : Tree Name (item procedure)) → new_in_procedure (relabel_procedure naming_by_spelling ordinal_and_spelling visible k p) ≡ namesake_in_scopes (scopes_in_procedure (suc k) p) d new
     procedure_scopes visible k (declares_procedure x fs b closing) =
@@ -214,7 +214,7 @@ module _ (d : ℕ) (new : Name) where
         (labels_in-names ordinal_and_spelling (suc k) own [] ∙ ap (λ xs. onto xs []) (sym labelled))
 
   module_scopes : (m : Tree Name module_text) → new_in_block [] (module_block (relabel_module naming_by_spelling ordinal_and_spelling m)) ≡ namesake m d new
-  module_scopes (is_module x b closing) = block_scopes (predeclared_scope naming_by_spelling) 7 [] [] b refl
+  module_scopes (forms_module x b closing) = block_scopes (predeclared_scope naming_by_spelling) 7 [] [] b refl
 
 -- The search in a module's block finds the namesake.
 pub namesake_found : (r : Resolution) (d : ℕ) (new : Name) → IsResolution r → namesake_in_block (record { source = r.module_read.source; ordinals = r.ordinals; declaration = d; new = new }) [] (module_block (tree_of r.module_read)) ≡ namesake (named_tree_of r.module_read) d new

@@ -12,21 +12,21 @@ use Rattle.ob0_tree.proofs.Leaves.{leaves_ascend, ascending_lower}
 use Rattle.ob0_tree.proofs.Occurring.{looked_up_only, looked_up-occurrences}
 use Rattle.ob0_tree.specs.declared.tree.Role.{Role}
 use Rattle.ob0_tree.specs.declared.tree.Role.TheVariants as role
-use Rattle.ob0_tree.specs.Order.{AreAscendingWithin, names_without_roles}
+use Rattle.ob0_tree.specs.IdentifierIndexes.{AreAscendingWithin, names_without_roles}
 use Rattle.ob0_tree.specs.ParsedModule.{named_tree_of, tree_of}
 use Rattle.ob0_tree.specs.Places.{token_text_at, token_value_at}
-use Rattle.ob0_tree.specs.Tree.{Sort, Tree, mapped_tree, occurrences, identifiers, block, constant, constants, declares, declares_constant, declares_constants, declares_procedure, declares_type, declares_types, declares_variable, declares_variables, end, formals, further_name, further_section, forms_block, is_module, item, items, listed, maybe, module_text, more, names, no_formals, none, one, procedure, section, some_formals, then_name, then_section, type_definition, type_definitions, value_section, variable, variable_section, variables}
+use Rattle.ob0_tree.specs.Tree.{Sort, Tree, mapped_tree, occurrences, identifiers, block, constant, constants, declares, declares_constant, declares_const_section, declares_procedure, declares_type, declares_type_section, declares_variable, declares_var_section, end, formals, name_after_comma, section_after_semicolon, forms_block, forms_module, item, items, listed, maybe, module_text, more, names, no_formals, none, one, procedure, section, some_formals, comma_then_name, semicolon_then_section, type_definition, type_definitions, value_section, variable, variable_section, variables}
 use Rattle.ob0_language_names.specs.Names.{Label, Name, Naming, naming_by_spelling, same_name}
 use Rattle.ob0_language_names.specs.Occurrences.{label_ordinal}
-use Rattle.ob0_language_names.specs.Parts.{constant_names, formal_names, formal_sections, further_names, declared_type_names, names_in_list, procedure_name, section_constants, parameter_section_names, section_types, section_variables, variable_names}
+use Rattle.ob0_language_names.specs.BlockParts.{constant_names, formal_names, formal_sections, names_after_first, declared_type_names, names_in_list, procedure_name, section_constants, parameter_section_names, section_types, section_variables, variable_names}
 use Rattle.ob0_scope_table.specs.Resolution.{IsResolution, Resolution, ordinal_in}
-use Rattle.ob0_language_names.specs.Scopes.{Labelling, Scope, ordinal_after_block, ordinal_after_names, ordinal_after_procedure, ordinal_after_procedures, label_from_ordinal, declare_names, declare_procedure_names, label_of, ordinal_in_scope, predeclared_scope, relabel_block, relabel_constant_section, relabel_constants, relabel_formals, relabel_procedure, relabel_procedures, relabel_parameter_section, relabel_parameter_sections, relabel_type_section, relabel_types, relabel_uses, relabel_variable_section, relabel_variables, relabel_module, same_ordinal}
-use Rattle.ob0_language_names.specs.OccurrenceLookup.{naming_for_lookup_of, resolve_name_at_occurrences, resolve_name_at_occurrence}
-use Rattle.ob0_scope_numbering.specs.Marks.{zero_mark_at}
-use Rattle.ob0_scope_numbering.specs.Marks.{with_marks}
+use Rattle.ob0_language_names.specs.Scopes.{Labelling, Scope, ordinal_after_block, ordinal_after_names, ordinal_after_procedure, ordinal_after_procedure_list, label_from_ordinal, declare_names, declare_procedure_names, label_of, ordinal_in_scope, predeclared_scope, relabel_block, relabel_constant_section, relabel_constants, relabel_formals, relabel_procedure, relabel_procedure_list, relabel_parameter_section, relabel_parameter_section_list, relabel_type_section, relabel_types, relabel_uses, relabel_variable_section, relabel_variables, relabel_module, same_ordinal}
+use Rattle.ob0_language_names.specs.OccurrenceLookup.{naming_that_looks_up, resolve_name_at_each_occurrence, resolve_name_at_occurrence}
+use Rattle.ob0_scope_numbering.specs.OrdinalMarks.{zero_mark_at}
+use Rattle.ob0_scope_numbering.specs.OrdinalMarks.{with_marks}
 use Rattle.ob0_scope_numbering.specs.MarkWalk.{WalkState, initial_walk_state}
 use Rattle.ob0_scope_numbering.specs.IdentifierWalk.{visit_module}
-use Rattle.ob0_scope_numbering.specs.Written.{Spellings, spelling_at}
+use Rattle.ob0_scope_numbering.specs.IdentifierSpellings.{Spellings, spelling_at}
 use Rattle.ob0_scope.proofs.Fused.{relabel_module-mapped_tree}
 use Rattle.ob0_language_names.proofs.OccurrencesMapped.{occurrences-mapped}
 use Rattle.ob0_scope_numbering.proofs.Passing.{at_start, module_passed, tokens_of}
@@ -64,35 +64,35 @@ looked_up-written y f h ((role.ModuleName, i) ∷ xs) a = looked_up-written y f 
 abbrev forget : {N : Type 0} → Labelling N (Option ℕ)
 forget ordinal x = ordinal
 
-looked : (y : Name) (scope : Scope Name) (x : Name) → ordinal_in_scope naming_by_spelling scope y ≡ ordinal_in_scope (naming_for_lookup_of y) scope x
+looked : (y : Name) (scope : Scope Name) (x : Name) → ordinal_in_scope naming_by_spelling scope y ≡ ordinal_in_scope (naming_that_looks_up y) scope x
 looked y [] x = refl
 looked y (b ∷ scope) x =
-    elim (same_name y b.0) as (λ v. (elim v [ true ↦ Some b.1 | false ↦ ordinal_in_scope naming_by_spelling scope y ]) ≡ (elim v [ true ↦ Some b.1 | false ↦ ordinal_in_scope (naming_for_lookup_of y) scope x ]))
+    elim (same_name y b.0) as (λ v. (elim v [ true ↦ Some b.1 | false ↦ ordinal_in_scope naming_by_spelling scope y ]) ≡ (elim v [ true ↦ Some b.1 | false ↦ ordinal_in_scope (naming_that_looks_up y) scope x ]))
     [ true ↦ refl | false ↦ looked y scope x ]
 
 module _ (y : Name) (f h : ℕ → Name) (g : ℕ → ℕ) where
-  names_alike : (scope : Scope Name) (is : List ℕ) → AllWritten y f is → map (label_of naming_by_spelling forget scope) (map f is) ≡ map (label_of (naming_for_lookup_of y) forget scope) (map h is)
+  names_alike : (scope : Scope Name) (is : List ℕ) → AllWritten y f is → map (label_of naming_by_spelling forget scope) (map f is) ≡ map (label_of (naming_that_looks_up y) forget scope) (map h is)
   names_alike scope [] a = refl
   names_alike scope (i ∷ is) a = λ j. (ap (ordinal_in_scope naming_by_spelling scope) a.0 ∙ looked y scope (h i)) j ∷ names_alike scope is a.1 j
 
   uses_alike : {s : Sort} (r : Role) → ((n : ℕ) (xs : List (Role × ℕ)) → looked_up_only ((r, n) ∷ xs) ≡ looked_up_only xs) → (scope : Scope Name) (t : Tree ℕ s) → AllSought y f h (identifiers r t)
-      → occurrences (relabel_uses naming_by_spelling forget scope (mapped_tree f g t)) ≡ occurrences (relabel_uses (naming_for_lookup_of y) forget scope (mapped_tree h g t))
+      → occurrences (relabel_uses naming_by_spelling forget scope (mapped_tree f g t)) ≡ occurrences (relabel_uses (naming_that_looks_up y) forget scope (mapped_tree h g t))
   uses_alike r other scope t a =
       let written = subst (AllWritten y f) (looked_up-occurrences r other t) (looked_up-written y f h (identifiers r t) a) in
       occurrences-mapped (label_of naming_by_spelling forget scope) (forget None) (λ n. n) (mapped_tree f g t)
       ∙ (ap (map (label_of naming_by_spelling forget scope)) (occurrences-mapped f f g t)
       ∙ (names_alike scope (occurrences t) written
-      ∙ (sym (ap (map (label_of (naming_for_lookup_of y) forget scope)) (occurrences-mapped h h g t))
-      ∙ sym (occurrences-mapped (label_of (naming_for_lookup_of y) forget scope) (forget None) (λ n. n) (mapped_tree h g t)))))
+      ∙ (sym (ap (map (label_of (naming_that_looks_up y) forget scope)) (occurrences-mapped h h g t))
+      ∙ sym (occurrences-mapped (label_of (naming_that_looks_up y) forget scope) (forget None) (λ n. n) (mapped_tree h g t)))))
 
   part_alike : {s : Sort} (scope : Scope Name) (t : Tree ℕ s) → AllSought y f h (identifiers role.Declaring t)
-      → occurrences (relabel_uses naming_by_spelling forget scope (mapped_tree f g t)) ≡ occurrences (relabel_uses (naming_for_lookup_of y) forget scope (mapped_tree h g t))
+      → occurrences (relabel_uses naming_by_spelling forget scope (mapped_tree f g t)) ≡ occurrences (relabel_uses (naming_that_looks_up y) forget scope (mapped_tree h g t))
   part_alike scope t a = uses_alike role.Declaring (λ n xs. refl) scope t a
 
   -- The declared names are the names of the text.
-  further_same : (ns : Tree ℕ (items further_name)) → AllSought y f h (identifiers role.Declaring ns) → further_names (mapped_tree f g ns) ≡ further_names (mapped_tree h g ns)
+  further_same : (ns : Tree ℕ (items name_after_comma)) → AllSought y f h (identifiers role.Declaring ns) → names_after_first (mapped_tree f g ns) ≡ names_after_first (mapped_tree h g ns)
   further_same end a = refl
-  further_same (more (then_name x) rest) a = λ i. a.0 i ∷ further_same rest a.1 i
+  further_same (more (comma_then_name x) rest) a = λ i. a.0 i ∷ further_same rest a.1 i
 
   names_same : (ns : Tree ℕ names) → AllSought y f h (identifiers role.Declaring ns) → names_in_list (mapped_tree f g ns) ≡ names_in_list (mapped_tree h g ns)
   names_same (listed x rest) a = λ i. a.0 i ∷ further_same rest a.1 i
@@ -120,28 +120,28 @@ module _ (y : Name) (f h : ℕ → Name) (g : ℕ → ℕ) where
   section_same (value_section ns t) a = names_same ns (split y f h (identifiers role.Declaring ns) (identifiers role.Declaring t) a).0
   section_same (variable_section ns t) a = names_same ns (split y f h (identifiers role.Declaring ns) (identifiers role.Declaring t) a).0
 
-  sections_same : (fs : Tree ℕ (items further_section)) → AllSought y f h (identifiers role.Declaring fs) → formal_names (mapped_tree f g fs) ≡ formal_names (mapped_tree h g fs)
+  sections_same : (fs : Tree ℕ (items section_after_semicolon)) → AllSought y f h (identifiers role.Declaring fs) → formal_names (mapped_tree f g fs) ≡ formal_names (mapped_tree h g fs)
   sections_same end a = refl
-  sections_same (more (then_section s) fs) a =
+  sections_same (more (semicolon_then_section s) fs) a =
       let b = split y f h (identifiers role.Declaring s) (identifiers role.Declaring fs) a in
       λ i. section_same s b.0 i ++ sections_same fs b.1 i
 
   formals_same : (fs : Tree ℕ (maybe formals)) → AllSought y f h (identifiers role.Declaring fs) → formal_names (formal_sections (mapped_tree f g fs)) ≡ formal_names (formal_sections (mapped_tree h g fs))
   formals_same none a = refl
   formals_same (one no_formals) a = refl
-  formals_same (one (some_formals s fs)) a = sections_same (more (then_section s) fs) a
+  formals_same (one (some_formals s fs)) a = sections_same (more (semicolon_then_section s) fs) a
 
   constant_section_same : (cs : Tree ℕ (maybe constants)) → AllSought y f h (identifiers role.Declaring cs) → constant_names (section_constants (mapped_tree f g cs)) ≡ constant_names (section_constants (mapped_tree h g cs))
   constant_section_same none a = refl
-  constant_section_same (one (declares_constants cs)) a = constants_same cs a
+  constant_section_same (one (declares_const_section cs)) a = constants_same cs a
 
   type_section_same : (ts : Tree ℕ (maybe type_definitions)) → AllSought y f h (identifiers role.Declaring ts) → declared_type_names (section_types (mapped_tree f g ts)) ≡ declared_type_names (section_types (mapped_tree h g ts))
   type_section_same none a = refl
-  type_section_same (one (declares_types ts)) a = types_same ts a
+  type_section_same (one (declares_type_section ts)) a = types_same ts a
 
   variable_section_same : (vs : Tree ℕ (maybe variables)) → AllSought y f h (identifiers role.Declaring vs) → variable_names (section_variables (mapped_tree f g vs)) ≡ variable_names (section_variables (mapped_tree h g vs))
   variable_section_same none a = refl
-  variable_section_same (one (declares_variables vs)) a = variables_same vs a
+  variable_section_same (one (declares_var_section vs)) a = variables_same vs a
 
   -- states a property of all parts of a block's or a procedure's identifiers
   record OfBlock (cs ts vs ps statements : List (Role × ℕ)) : Type 0 where
@@ -174,15 +174,15 @@ module _ (y : Name) (f h : ℕ → Name) (g : ℕ → ℕ) where
     after_block_same : (k : ℕ) (b : Tree ℕ block) → AllSought y f h (identifiers role.Declaring b) → ordinal_after_block k (mapped_tree f g b) ≡ ordinal_after_block k (mapped_tree h g b)
     after_block_same k (forms_block (declares cs ts vs ps) statements) a =
         let o = of_block (identifiers role.Declaring cs) (identifiers role.Declaring ts) (identifiers role.Declaring vs) (identifiers role.Declaring ps) (identifiers role.Declaring statements) a in
-        ap (λ n. ordinal_after_procedures n (mapped_tree f g ps))
+        ap (λ n. ordinal_after_procedure_list n (mapped_tree f g ps))
         (λ i. ordinal_after_names (ordinal_after_names (ordinal_after_names k (constant_section_same cs o.constants_are i)) (type_section_same ts o.types_are i)) (variable_section_same vs o.variables_are i))
         ∙ after_procedures_same _ ps o.procedures_are
 
-    after_procedures_same : (k : ℕ) (ps : Tree ℕ (items procedure)) → AllSought y f h (identifiers role.Declaring ps) → ordinal_after_procedures k (mapped_tree f g ps) ≡ ordinal_after_procedures k (mapped_tree h g ps)
+    after_procedures_same : (k : ℕ) (ps : Tree ℕ (items procedure)) → AllSought y f h (identifiers role.Declaring ps) → ordinal_after_procedure_list k (mapped_tree f g ps) ≡ ordinal_after_procedure_list k (mapped_tree h g ps)
     after_procedures_same k end a = refl
     after_procedures_same k (more p rest) a =
         let b = split y f h (identifiers role.Declaring p) (identifiers role.Declaring rest) a in
-        ap (λ n. ordinal_after_procedures n (mapped_tree f g rest)) (after_procedure_same (suc k) p b.0) ∙ after_procedures_same _ rest b.1
+        ap (λ n. ordinal_after_procedure_list n (mapped_tree f g rest)) (after_procedure_same (suc k) p b.0) ∙ after_procedures_same _ rest b.1
 
     after_procedure_same : (k : ℕ) (p : Tree ℕ (item procedure)) → AllSought y f h (identifiers role.Declaring p) → ordinal_after_procedure k (mapped_tree f g p) ≡ ordinal_after_procedure k (mapped_tree h g p)
     after_procedure_same k (declares_procedure x fs b closing) a =
@@ -201,21 +201,21 @@ module _ (y : Name) (f h : ℕ → Name) (g : ℕ → ℕ) where
 
   -- Each occurrence of a part has the same ordinal in both.
   constants_alike : (scope : Scope Name) (k : ℕ) (cs : Tree ℕ (items constant)) → AllSought y f h (identifiers role.Declaring cs)
-      → occurrences (relabel_constants naming_by_spelling forget scope k (mapped_tree f g cs)) ≡ occurrences (relabel_constants (naming_for_lookup_of y) forget scope k (mapped_tree h g cs))
+      → occurrences (relabel_constants naming_by_spelling forget scope k (mapped_tree f g cs)) ≡ occurrences (relabel_constants (naming_that_looks_up y) forget scope k (mapped_tree h g cs))
   constants_alike scope k end a = refl
   constants_alike scope k (more (declares_constant x e) cs) a =
       let b = split y f h ((role.Declaring, x) ∷ identifiers role.Declaring e) (identifiers role.Declaring cs) a in
       λ i. part_alike scope e b.0.1 i ++ (ap (λ z. occurrences (relabel_constants naming_by_spelling forget ((z, k) ∷ scope) (suc k) (mapped_tree f g cs))) b.0.0 ∙ constants_alike ((h x, k) ∷ scope) (suc k) cs b.1) i
 
   types_alike : (scope : Scope Name) (k : ℕ) (ts : Tree ℕ (items type_definition)) → AllSought y f h (identifiers role.Declaring ts)
-      → occurrences (relabel_types naming_by_spelling forget scope k (mapped_tree f g ts)) ≡ occurrences (relabel_types (naming_for_lookup_of y) forget scope k (mapped_tree h g ts))
+      → occurrences (relabel_types naming_by_spelling forget scope k (mapped_tree f g ts)) ≡ occurrences (relabel_types (naming_that_looks_up y) forget scope k (mapped_tree h g ts))
   types_alike scope k end a = refl
   types_alike scope k (more (declares_type x t) ts) a =
       let b = split y f h ((role.Declaring, x) ∷ identifiers role.Declaring t) (identifiers role.Declaring ts) a in
       λ i. part_alike scope t b.0.1 i ++ (ap (λ z. occurrences (relabel_types naming_by_spelling forget ((z, k) ∷ scope) (suc k) (mapped_tree f g ts))) b.0.0 ∙ types_alike ((h x, k) ∷ scope) (suc k) ts b.1) i
 
   variables_alike : (scope : Scope Name) (k : ℕ) (gs : Tree ℕ (items variable)) → AllSought y f h (identifiers role.Declaring gs)
-      → occurrences (relabel_variables naming_by_spelling forget scope k (mapped_tree f g gs)) ≡ occurrences (relabel_variables (naming_for_lookup_of y) forget scope k (mapped_tree h g gs))
+      → occurrences (relabel_variables naming_by_spelling forget scope k (mapped_tree f g gs)) ≡ occurrences (relabel_variables (naming_that_looks_up y) forget scope k (mapped_tree h g gs))
   variables_alike scope k end a = refl
   variables_alike scope k (more (declares_variable ns t) gs) a =
       let b = split y f h (identifiers role.Declaring ns ++ identifiers role.Declaring t) (identifiers role.Declaring gs) a in
@@ -224,42 +224,42 @@ module _ (y : Name) (f h : ℕ → Name) (g : ℕ → ℕ) where
       ++ (ap (λ xs. occurrences (relabel_variables naming_by_spelling forget (declare_names k xs scope) (ordinal_after_names k xs) (mapped_tree f g gs))) (names_same ns c.0) ∙ variables_alike (declare_names k (names_in_list (mapped_tree h g ns)) scope) (ordinal_after_names k (names_in_list (mapped_tree h g ns))) gs b.1) i
 
   section_alike : (scope : Scope Name) (k : ℕ) (s : Tree ℕ section) → AllSought y f h (identifiers role.Declaring s)
-      → occurrences (relabel_parameter_section naming_by_spelling forget scope k (mapped_tree f g s)) ≡ occurrences (relabel_parameter_section (naming_for_lookup_of y) forget scope k (mapped_tree h g s))
+      → occurrences (relabel_parameter_section naming_by_spelling forget scope k (mapped_tree f g s)) ≡ occurrences (relabel_parameter_section (naming_that_looks_up y) forget scope k (mapped_tree h g s))
   section_alike scope k (value_section ns t) a = part_alike scope t (split y f h (identifiers role.Declaring ns) (identifiers role.Declaring t) a).1
   section_alike scope k (variable_section ns t) a = part_alike scope t (split y f h (identifiers role.Declaring ns) (identifiers role.Declaring t) a).1
 
-  sections_alike : (scope : Scope Name) (k : ℕ) (fs : Tree ℕ (items further_section)) → AllSought y f h (identifiers role.Declaring fs)
-      → occurrences (relabel_parameter_sections naming_by_spelling forget scope k (mapped_tree f g fs)) ≡ occurrences (relabel_parameter_sections (naming_for_lookup_of y) forget scope k (mapped_tree h g fs))
+  sections_alike : (scope : Scope Name) (k : ℕ) (fs : Tree ℕ (items section_after_semicolon)) → AllSought y f h (identifiers role.Declaring fs)
+      → occurrences (relabel_parameter_section_list naming_by_spelling forget scope k (mapped_tree f g fs)) ≡ occurrences (relabel_parameter_section_list (naming_that_looks_up y) forget scope k (mapped_tree h g fs))
   sections_alike scope k end a = refl
-  sections_alike scope k (more (then_section s) fs) a =
+  sections_alike scope k (more (semicolon_then_section s) fs) a =
       let b = split y f h (identifiers role.Declaring s) (identifiers role.Declaring fs) a in
       λ i. section_alike scope k s b.0 i
-      ++ (ap (λ xs. occurrences (relabel_parameter_sections naming_by_spelling forget (declare_names k xs scope) (ordinal_after_names k xs) (mapped_tree f g fs))) (section_same s b.0) ∙ sections_alike (declare_names k (parameter_section_names (mapped_tree h g s)) scope) (ordinal_after_names k (parameter_section_names (mapped_tree h g s))) fs b.1) i
+      ++ (ap (λ xs. occurrences (relabel_parameter_section_list naming_by_spelling forget (declare_names k xs scope) (ordinal_after_names k xs) (mapped_tree f g fs))) (section_same s b.0) ∙ sections_alike (declare_names k (parameter_section_names (mapped_tree h g s)) scope) (ordinal_after_names k (parameter_section_names (mapped_tree h g s))) fs b.1) i
 
   formals_alike : (scope : Scope Name) (k : ℕ) (fs : Tree ℕ (maybe formals)) → AllSought y f h (identifiers role.Declaring fs)
-      → occurrences (relabel_formals naming_by_spelling forget scope k (mapped_tree f g fs)) ≡ occurrences (relabel_formals (naming_for_lookup_of y) forget scope k (mapped_tree h g fs))
+      → occurrences (relabel_formals naming_by_spelling forget scope k (mapped_tree f g fs)) ≡ occurrences (relabel_formals (naming_that_looks_up y) forget scope k (mapped_tree h g fs))
   formals_alike scope k none a = refl
   formals_alike scope k (one no_formals) a = refl
-  formals_alike scope k (one (some_formals s fs)) a = sections_alike scope k (more (then_section s) fs) a
+  formals_alike scope k (one (some_formals s fs)) a = sections_alike scope k (more (semicolon_then_section s) fs) a
 
   constant_section_alike : (scope : Scope Name) (k : ℕ) (cs : Tree ℕ (maybe constants)) → AllSought y f h (identifiers role.Declaring cs)
-      → occurrences (relabel_constant_section naming_by_spelling forget scope k (mapped_tree f g cs)) ≡ occurrences (relabel_constant_section (naming_for_lookup_of y) forget scope k (mapped_tree h g cs))
+      → occurrences (relabel_constant_section naming_by_spelling forget scope k (mapped_tree f g cs)) ≡ occurrences (relabel_constant_section (naming_that_looks_up y) forget scope k (mapped_tree h g cs))
   constant_section_alike scope k none a = refl
-  constant_section_alike scope k (one (declares_constants cs)) a = constants_alike scope k cs a
+  constant_section_alike scope k (one (declares_const_section cs)) a = constants_alike scope k cs a
 
   type_section_alike : (scope : Scope Name) (k : ℕ) (ts : Tree ℕ (maybe type_definitions)) → AllSought y f h (identifiers role.Declaring ts)
-      → occurrences (relabel_type_section naming_by_spelling forget scope k (mapped_tree f g ts)) ≡ occurrences (relabel_type_section (naming_for_lookup_of y) forget scope k (mapped_tree h g ts))
+      → occurrences (relabel_type_section naming_by_spelling forget scope k (mapped_tree f g ts)) ≡ occurrences (relabel_type_section (naming_that_looks_up y) forget scope k (mapped_tree h g ts))
   type_section_alike scope k none a = refl
-  type_section_alike scope k (one (declares_types ts)) a = types_alike scope k ts a
+  type_section_alike scope k (one (declares_type_section ts)) a = types_alike scope k ts a
 
   variable_section_alike : (scope : Scope Name) (k : ℕ) (vs : Tree ℕ (maybe variables)) → AllSought y f h (identifiers role.Declaring vs)
-      → occurrences (relabel_variable_section naming_by_spelling forget scope k (mapped_tree f g vs)) ≡ occurrences (relabel_variable_section (naming_for_lookup_of y) forget scope k (mapped_tree h g vs))
+      → occurrences (relabel_variable_section naming_by_spelling forget scope k (mapped_tree f g vs)) ≡ occurrences (relabel_variable_section (naming_that_looks_up y) forget scope k (mapped_tree h g vs))
   variable_section_alike scope k none a = refl
-  variable_section_alike scope k (one (declares_variables vs)) a = variables_alike scope k vs a
+  variable_section_alike scope k (one (declares_var_section vs)) a = variables_alike scope k vs a
 
   mutual
     block_alike : (scope : Scope Name) (k : ℕ) (b : Tree ℕ block) → AllSought y f h (identifiers role.Declaring b)
-        → occurrences (relabel_block naming_by_spelling forget scope k (mapped_tree f g b)) ≡ occurrences (relabel_block (naming_for_lookup_of y) forget scope k (mapped_tree h g b))
+        → occurrences (relabel_block naming_by_spelling forget scope k (mapped_tree f g b)) ≡ occurrences (relabel_block (naming_that_looks_up y) forget scope k (mapped_tree h g b))
     block_alike scope k (forms_block (declares cs ts vs ps) statements) a =
         let o = of_block (identifiers role.Declaring cs) (identifiers role.Declaring ts) (identifiers role.Declaring vs) (identifiers role.Declaring ps) (identifiers role.Declaring statements) a in
         let xs = constant_section_same cs o.constants_are in
@@ -269,29 +269,29 @@ module _ (y : Name) (f h : ℕ → Name) (g : ℕ → ℕ) where
         (constant_section_alike scope k cs o.constants_are i
         ++ ((ap (λ l. occurrences (relabel_type_section naming_by_spelling forget (declare_names k l scope) (ordinal_after_names k l) (mapped_tree f g ts))) xs ∙ type_section_alike _ _ ts o.types_are) i
         ++ (((λ j. occurrences (relabel_variable_section naming_by_spelling forget (declare_names (ordinal_after_names k (xs j)) (ys j) (declare_names k (xs j) scope)) (ordinal_after_names (ordinal_after_names k (xs j)) (ys j)) (mapped_tree f g vs))) ∙ variable_section_alike _ _ vs o.variables_are) i
-        ++ ((λ j. occurrences (relabel_procedures naming_by_spelling forget (declare_names (ordinal_after_names (ordinal_after_names k (xs j)) (ys j)) (zs j) (declare_names (ordinal_after_names k (xs j)) (ys j) (declare_names k (xs j) scope))) (ordinal_after_names (ordinal_after_names (ordinal_after_names k (xs j)) (ys j)) (zs j)) (mapped_tree f g ps)))
+        ++ ((λ j. occurrences (relabel_procedure_list naming_by_spelling forget (declare_names (ordinal_after_names (ordinal_after_names k (xs j)) (ys j)) (zs j) (declare_names (ordinal_after_names k (xs j)) (ys j) (declare_names k (xs j) scope))) (ordinal_after_names (ordinal_after_names (ordinal_after_names k (xs j)) (ys j)) (zs j)) (mapped_tree f g ps)))
         ∙ procedures_alike _ _ ps o.procedures_are) i)))
         ++ ((λ j. occurrences (relabel_uses naming_by_spelling forget (declare_procedure_names (ordinal_after_names (ordinal_after_names (ordinal_after_names k (xs j)) (ys j)) (zs j)) (mapped_tree f g ps) (declare_names (ordinal_after_names (ordinal_after_names k (xs j)) (ys j)) (zs j) (declare_names (ordinal_after_names k (xs j)) (ys j) (declare_names k (xs j) scope)))) (mapped_tree f g statements)))
         ∙ (ap (λ sc. occurrences (relabel_uses naming_by_spelling forget sc (mapped_tree f g statements))) (procedures_declared _ ps _ o.procedures_are) ∙ part_alike _ statements o.statements_are)) i
 
     procedures_alike : (scope : Scope Name) (k : ℕ) (ps : Tree ℕ (items procedure)) → AllSought y f h (identifiers role.Declaring ps)
-        → occurrences (relabel_procedures naming_by_spelling forget scope k (mapped_tree f g ps)) ≡ occurrences (relabel_procedures (naming_for_lookup_of y) forget scope k (mapped_tree h g ps))
+        → occurrences (relabel_procedure_list naming_by_spelling forget scope k (mapped_tree f g ps)) ≡ occurrences (relabel_procedure_list (naming_that_looks_up y) forget scope k (mapped_tree h g ps))
     procedures_alike scope k end a = refl
     procedures_alike scope k (more p rest) a =
         let b = split y f h (identifiers role.Declaring p) (identifiers role.Declaring rest) a in
         λ i. procedure_alike scope k p b.0 i
-        ++ ((λ j. occurrences (relabel_procedures naming_by_spelling forget ((procedure_same p b.0 j, k) ∷ scope) (after_procedure_same (suc k) p b.0 j) (mapped_tree f g rest))) ∙ procedures_alike ((procedure_name (mapped_tree h g p), k) ∷ scope) (ordinal_after_procedure (suc k) (mapped_tree h g p)) rest b.1) i
+        ++ ((λ j. occurrences (relabel_procedure_list naming_by_spelling forget ((procedure_same p b.0 j, k) ∷ scope) (after_procedure_same (suc k) p b.0 j) (mapped_tree f g rest))) ∙ procedures_alike ((procedure_name (mapped_tree h g p), k) ∷ scope) (ordinal_after_procedure (suc k) (mapped_tree h g p)) rest b.1) i
 
     procedure_alike : (scope : Scope Name) (k : ℕ) (p : Tree ℕ (item procedure)) → AllSought y f h (identifiers role.Declaring p)
-        → occurrences (relabel_procedure naming_by_spelling forget scope k (mapped_tree f g p)) ≡ occurrences (relabel_procedure (naming_for_lookup_of y) forget scope k (mapped_tree h g p))
+        → occurrences (relabel_procedure naming_by_spelling forget scope k (mapped_tree f g p)) ≡ occurrences (relabel_procedure (naming_that_looks_up y) forget scope k (mapped_tree h g p))
     procedure_alike scope k (declares_procedure x fs b closing) a =
         let o = of_procedure x closing (identifiers role.Declaring fs) (identifiers role.Declaring b) a in
         let xs = formals_same fs o.formals_are in
         λ i. formals_alike scope (suc k) fs o.formals_are i
         ++ ((λ j. occurrences (relabel_block naming_by_spelling forget (declare_names (suc k) (xs j) ((o.name_is j, k) ∷ scope)) (ordinal_after_names (suc k) (xs j)) (mapped_tree f g b))) ∙ block_alike _ _ b o.block_is) i
 
-  module_alike : (m : Tree ℕ module_text) → AllSought y f h (identifiers role.Declaring m) → occurrences (relabel_module naming_by_spelling forget (mapped_tree f g m)) ≡ occurrences (relabel_module (naming_for_lookup_of y) forget (mapped_tree h g m))
-  module_alike (is_module x b closing) a =
+  module_alike : (m : Tree ℕ module_text) → AllSought y f h (identifiers role.Declaring m) → occurrences (relabel_module naming_by_spelling forget (mapped_tree f g m)) ≡ occurrences (relabel_module (naming_that_looks_up y) forget (mapped_tree h g m))
+  module_alike (forms_module x b closing) a =
       block_alike (predeclared_scope naming_by_spelling) 7 b (split y f h (identifiers role.Declaring b) ((role.ModuleName, closing) ∷ []) a.1).0
 
 -- Labels without names are the ordinals of labels with names.
@@ -395,7 +395,7 @@ all_sought source table y ((role.ModuleName, i) ∷ xs) a = (ap (λ o. if same_o
 -- each.
 pub seen_in_places : (r : Resolution) (y : Name) (v : WalkState) (sought ordinals : List (Option ℕ)) → IsResolution r → sought ≡ with_marks (replicate (length r.module_read.source.tokens) None) (map zero_mark_at r.uses)
     → v ≡ visit_module (tree_of r.module_read) (initial_walk_state (record { source = r.module_read.source; ordinals = sought; declaration = Some 0; new = y }))
-    → ordinals ≡ with_marks (replicate (length r.module_read.source.tokens) None) v.marks → map (ordinal_in ordinals) r.uses ≡ resolve_name_at_occurrences (named_tree_of r.module_read) y
+    → ordinals ≡ with_marks (replicate (length r.module_read.source.tokens) None) v.marks → map (ordinal_in ordinals) r.uses ≡ resolve_name_at_each_occurrence (named_tree_of r.module_read) y
 seen_in_places r y v sought ordinals is table gone tabled =
     let m = r.module_read in
     let w : Spellings = record { source = m.source; ordinals = sought; declaration = Some 0; new = y } in
@@ -407,12 +407,12 @@ seen_in_places r y v sought ordinals is table gone tabled =
     ∙ (sym (occurrences-mapped (ordinal_in ordinals) (ordinal_in ordinals) (token_value_at m.source) (tree_of m))
     ∙ (sym (ap occurrences agree)
     ∙ (module_alike y (spelling_at w) (token_text_at m.source) (token_value_at m.source) (tree_of m) (all_sought m.source sought y ids reported_so)
-    ∙ forgotten (naming_for_lookup_of y) (named_tree_of m))))
+    ∙ forgotten (naming_that_looks_up y) (named_tree_of m))))
 
 -- Each entry of the list is the binding of the name in that place.
-pub sees_entry : (m : Tree Name module_text) (y : Name) (k : ℕ) → option_and_then (λ o. o) (slice_get (resolve_name_at_occurrences m y) k) ≡ resolve_name_at_occurrence m k y
+pub sees_entry : (m : Tree Name module_text) (y : Name) (k : ℕ) → option_and_then (λ o. o) (slice_get (resolve_name_at_each_occurrence m y) k) ≡ resolve_name_at_occurrence m k y
 sees_entry m y k =
-    let ls = occurrences (relabel_module (naming_for_lookup_of y) (label_from_ordinal (naming_for_lookup_of y)) m) in
+    let ls = occurrences (relabel_module (naming_that_looks_up y) (label_from_ordinal (naming_that_looks_up y)) m) in
     ap (option_and_then (λ o. o)) (slice_get-map label_ordinal ls k) ∙ back (slice_get ls k)
   where
     back : (found : Option Label) → option_and_then (λ o. o) (option_map label_ordinal found) ≡ option_and_then label_ordinal found

@@ -7,7 +7,7 @@ use Rattle.std.specs.List.Sorted.{IsNonDecreasingBy, IsPartitionPoint}
 use Rattle.std.proofs.lemmas.Bool.{and_parts, leb-true, ltb-false, ltb-true}
 use Rattle.ob0_scan.specs.declared.lexeme.Token.{Token}
 use Rattle.ob0_scope_table.specs.Spans.{TokensAreDisjoint, is_in_span_or_at_end}
-use Rattle.ob0_scope.specs.Listing.{is_identifier, is_identifier_at_offset}
+use Rattle.ob0_scope.specs.BoundTokens.{is_identifier, is_identifier_at_offset}
 
 -- ---- the tokens of a text
 

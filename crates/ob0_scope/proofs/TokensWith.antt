@@ -10,7 +10,7 @@ use Rattle.std.proofs.lemmas.List.{drop_more, get_or-drop, get_or_past}
 use Rattle.std.specs.List.{filter, list_any}
 use Rattle.ob0_tree.specs.declared.tree.Role.{Role}
 use Rattle.ob0_tree.specs.declared.tree.Role.TheVariants as role
-use Rattle.ob0_tree.specs.Order.{AreAscendingWithin, identifier_names, names_without_roles}
+use Rattle.ob0_tree.specs.IdentifierIndexes.{AreAscendingWithin, identifier_names, names_without_roles}
 use Rattle.ob0_tree.specs.ParsedModule.{tree_of}
 use Rattle.ob0_tree.specs.Places.{token_text_at, token_value_at}
 use Rattle.ob0_tree.specs.Tree.{identifiers, mapped_tree}
@@ -20,12 +20,12 @@ use Rattle.ob0_language_names.specs.Names.{naming_by_spelling}
 use Rattle.ob0_language_names.specs.Occurrences.{label_ordinal}
 use Rattle.ob0_scope_table.specs.Resolution.{IsResolution, Resolution, declaring_names, label_from_table, ordinal_in, declaration_token}
 use Rattle.ob0_language_names.specs.Scopes.{label_from_ordinal, same_ordinal}
-use Rattle.ob0_scope.specs.Listing.{first_bound_token, omitted_token, tokens_bound_from, tokens_with_ordinal}
+use Rattle.ob0_scope.specs.BoundTokens.{first_bound_token, omitted_token, tokens_bound_from, tokens_with_ordinal}
 use Rattle.ob0_scope_numbering.specs.MarkWalk.{initial_walk_state}
 use Rattle.ob0_scope_numbering.specs.IdentifierWalk.{visit_module}
-use Rattle.ob0_scope_numbering.specs.Marks.{OrdinalMark, with_marks}
+use Rattle.ob0_scope_numbering.specs.OrdinalMarks.{OrdinalMark, with_marks}
 use Rattle.ob0_scope.specs.NamesAtPlaces.{is_declaring, tokens_bound_to}
-use Rattle.ob0_scope_numbering.specs.Written.{original_spellings}
+use Rattle.ob0_scope_numbering.specs.IdentifierSpellings.{original_spellings}
 use Rattle.ob0_scope_numbering.proofs.Passing.{AreInOrder, HasMarks, IsBefore, at_start, module_passed, tokens_of}
 use Rattle.ob0_scope.proofs.Placed.{bound_listed, is_listed, tokens_listed}
 use Rattle.ob0_scope.proofs.Renumbered.{ordinals_back}

@@ -7,11 +7,11 @@ use Rattle.std.specs.List.{list_any}
 use Rattle.ob0_scan.specs.declared.fault.FaultCode.TheVariants as code
 use Rattle.ob0_tree.specs.ParsedModule.{ParsedModule, named_tree_of, tree_of}
 use Rattle.ob0_tree.specs.Places.{token_text_at, token_value_at}
-use Rattle.ob0_tree.specs.Tree.{Sort, Tree, mapped_tree, array_type, block, body, constant, constants, declares, declares_constant, declares_constants, declares_procedure, declares_type, declares_types, declares_variable, declares_variables, end, fields, formals, further_fields, further_name, further_section, forms_block, is_module, item, items, listed, maybe, module_text, more, named_type, names, no_fields, no_formals, none, one, procedure, record_type, section, some_fields, some_formals, then_fields, then_name, then_section, type_definition, type_definitions, value_section, variable, variable_section, variables, written_type}
-use Rattle.ob0_language_names.specs.ConsistentNames.{are_distinct, block_names, block_has_consistent_names, has_consistent_names, has_distinct_fields, formals_have_distinct_fields, group_field_names, group_has_distinct_fields, further_field_names, groups_have_distinct_fields, is_among, procedure_names, procedure_has_consistent_names, procedures_have_consistent_names, types_have_distinct_fields, variables_have_distinct_fields}
+use Rattle.ob0_tree.specs.Tree.{Sort, Tree, mapped_tree, array_type, block, body, constant, constants, declares, declares_constant, declares_const_section, declares_procedure, declares_type, declares_type_section, declares_variable, declares_var_section, end, fields, formals, fields_after_semicolon, name_after_comma, section_after_semicolon, forms_block, forms_module, item, items, listed, maybe, module_text, more, named_type, names, no_fields, no_formals, none, one, procedure, record_type, section, some_fields, some_formals, semicolon_then_fields, comma_then_name, semicolon_then_section, type_definition, type_definitions, value_section, variable, variable_section, variables, written_type}
+use Rattle.ob0_language_names.specs.ConsistentNames.{are_distinct, names_declared_in_block, block_has_consistent_names, has_consistent_names, has_distinct_fields, formals_have_distinct_fields, group_field_names, group_has_distinct_fields, field_names_after_first_group, later_groups_have_distinct_fields, is_among, procedure_names, procedure_has_consistent_names, procedure_list_has_consistent_names, types_have_distinct_fields, variables_have_distinct_fields}
 use Rattle.ob0_scope_table.specs.DuplicatesAndEndNames.{duplicate_faults, block_declaration_faults, closing_name_faults, duplicate_field_faults, duplicate_field_faults_in_formals, duplicate_field_faults_in_group, duplicate_field_faults_in_groups, tree_declaration_faults, procedure_declaration_faults, procedures_declaration_faults, declaration_faults, duplicate_field_faults_in_types, fault_unless, duplicate_field_faults_in_variables}
 use Rattle.ob0_language_names.specs.Names.{Name, same_name}
-use Rattle.ob0_language_names.specs.Parts.{constant_names, formal_names, formal_sections, further_names, declared_type_names, names_in_list, section_constants, parameter_section_names, parameter_section_type, section_types, section_variables, variable_names}
+use Rattle.ob0_language_names.specs.BlockParts.{constant_names, formal_names, formal_sections, names_after_first, declared_type_names, names_in_list, section_constants, parameter_section_names, parameter_section_type, section_types, section_variables, variable_names}
 use Rattle.ob0_scope_table.specs.FaultsAtTokens.{fault_at_token}
 use Rattle.ob0_scope_table.specs.Resolution.{is_duplicate_or_end_name}
 use Rattle.ob0_scope_table.specs.declared.faults.FaultAtTokens.{FaultAtTokens}
@@ -104,17 +104,17 @@ module _ (value : ℕ → ℕ) where
   names_texts : (text : ℕ → Name) (ns : Tree ℕ names) → map text (names_in_list ns) ≡ names_in_list (named text ns)
   names_texts text (listed x rest) = ap (λ l. text x ∷ l) (further_texts rest)
     where
-      further_texts : (ns : Tree ℕ (items further_name)) → map text (further_names ns) ≡ further_names (named text ns)
+      further_texts : (ns : Tree ℕ (items name_after_comma)) → map text (names_after_first ns) ≡ names_after_first (named text ns)
       further_texts end = refl
-      further_texts (more (then_name x) rest) = ap (λ l. text x ∷ l) (further_texts rest)
+      further_texts (more (comma_then_name x) rest) = ap (λ l. text x ∷ l) (further_texts rest)
 
   group_texts : (text : ℕ → Name) (g : Tree ℕ fields) → map text (group_field_names g) ≡ group_field_names (named text g)
   group_texts text no_fields = refl
   group_texts text (some_fields ns t) = names_texts text ns
 
-  groups_texts : (text : ℕ → Name) (gs : Tree ℕ (items further_fields)) → map text (further_field_names gs) ≡ further_field_names (named text gs)
+  groups_texts : (text : ℕ → Name) (gs : Tree ℕ (items fields_after_semicolon)) → map text (field_names_after_first_group gs) ≡ field_names_after_first_group (named text gs)
   groups_texts text end = refl
-  groups_texts text (more (then_fields g) rest) = map-append text (group_field_names g) (further_field_names rest) ∙ (λ i. group_texts text g i ++ groups_texts text rest i)
+  groups_texts text (more (semicolon_then_fields g) rest) = map-append text (group_field_names g) (field_names_after_first_group rest) ∙ (λ i. group_texts text g i ++ groups_texts text rest i)
 
   constants_texts : (text : ℕ → Name) (cs : Tree ℕ (items constant)) → map text (constant_names cs) ≡ constant_names (named text cs)
   constants_texts text end = refl
@@ -122,7 +122,7 @@ module _ (value : ℕ → ℕ) where
 
   constant_section_texts : (text : ℕ → Name) (cs : Tree ℕ (maybe constants)) → map text (constant_names (section_constants cs)) ≡ constant_names (section_constants (named text cs))
   constant_section_texts text none = refl
-  constant_section_texts text (one (declares_constants cs)) = constants_texts text cs
+  constant_section_texts text (one (declares_const_section cs)) = constants_texts text cs
 
   types_texts : (text : ℕ → Name) (ts : Tree ℕ (items type_definition)) → map text (declared_type_names ts) ≡ declared_type_names (named text ts)
   types_texts text end = refl
@@ -130,7 +130,7 @@ module _ (value : ℕ → ℕ) where
 
   type_section_texts : (text : ℕ → Name) (ts : Tree ℕ (maybe type_definitions)) → map text (declared_type_names (section_types ts)) ≡ declared_type_names (section_types (named text ts))
   type_section_texts text none = refl
-  type_section_texts text (one (declares_types ts)) = types_texts text ts
+  type_section_texts text (one (declares_type_section ts)) = types_texts text ts
 
   variables_texts : (text : ℕ → Name) (gs : Tree ℕ (items variable)) → map text (variable_names gs) ≡ variable_names (named text gs)
   variables_texts text end = refl
@@ -138,20 +138,20 @@ module _ (value : ℕ → ℕ) where
 
   variable_section_texts : (text : ℕ → Name) (vs : Tree ℕ (maybe variables)) → map text (variable_names (section_variables vs)) ≡ variable_names (section_variables (named text vs))
   variable_section_texts text none = refl
-  variable_section_texts text (one (declares_variables vs)) = variables_texts text vs
+  variable_section_texts text (one (declares_var_section vs)) = variables_texts text vs
 
   section_texts : (text : ℕ → Name) (f : Tree ℕ section) → map text (parameter_section_names f) ≡ parameter_section_names (named text f)
   section_texts text (value_section ns t) = names_texts text ns
   section_texts text (variable_section ns t) = names_texts text ns
 
-  sections_texts : (text : ℕ → Name) (fs : Tree ℕ (items further_section)) → map text (formal_names fs) ≡ formal_names (named text fs)
+  sections_texts : (text : ℕ → Name) (fs : Tree ℕ (items section_after_semicolon)) → map text (formal_names fs) ≡ formal_names (named text fs)
   sections_texts text end = refl
-  sections_texts text (more (then_section f) rest) = map-append text (parameter_section_names f) (formal_names rest) ∙ (λ i. section_texts text f i ++ sections_texts text rest i)
+  sections_texts text (more (semicolon_then_section f) rest) = map-append text (parameter_section_names f) (formal_names rest) ∙ (λ i. section_texts text f i ++ sections_texts text rest i)
 
   formals_texts : (text : ℕ → Name) (fs : Tree ℕ (maybe formals)) → map text (formal_names (formal_sections fs)) ≡ formal_names (formal_sections (named text fs))
   formals_texts text none = refl
   formals_texts text (one no_formals) = refl
-  formals_texts text (one (some_formals f rest)) = sections_texts text (more (then_section f) rest)
+  formals_texts text (one (some_formals f rest)) = sections_texts text (more (semicolon_then_section f) rest)
 
   procedures_texts : (text : ℕ → Name) (ps : Tree ℕ (items procedure)) → map text (procedure_names ps) ≡ procedure_names (named text ps)
   procedures_texts text end = refl
@@ -162,18 +162,18 @@ module _ (value : ℕ → ℕ) where
     fields-fine text (named_type x) = refl
     fields-fine text (array_type e t) = fields-fine text t
     fields-fine text (record_type g rest) =
-        fine_both (duplicate_faults text [] (group_field_names g ++ further_field_names rest)) (duplicate_field_faults_in_group text g ++ duplicate_field_faults_in_groups text rest)
-        (are_distinct (group_field_names (named text g) ++ further_field_names (named text rest))) (group_has_distinct_fields (named text g) && groups_have_distinct_fields (named text rest))
-        (names-fine text (group_field_names g ++ further_field_names rest) (group_field_names (named text g) ++ further_field_names (named text rest)) (groups_texts text (more (then_fields g) rest)))
-        (fine_both (duplicate_field_faults_in_group text g) (duplicate_field_faults_in_groups text rest) (group_has_distinct_fields (named text g)) (groups_have_distinct_fields (named text rest)) (group-fine text g) (groups-fine text rest))
+        fine_both (duplicate_faults text [] (group_field_names g ++ field_names_after_first_group rest)) (duplicate_field_faults_in_group text g ++ duplicate_field_faults_in_groups text rest)
+        (are_distinct (group_field_names (named text g) ++ field_names_after_first_group (named text rest))) (group_has_distinct_fields (named text g) && later_groups_have_distinct_fields (named text rest))
+        (names-fine text (group_field_names g ++ field_names_after_first_group rest) (group_field_names (named text g) ++ field_names_after_first_group (named text rest)) (groups_texts text (more (semicolon_then_fields g) rest)))
+        (fine_both (duplicate_field_faults_in_group text g) (duplicate_field_faults_in_groups text rest) (group_has_distinct_fields (named text g)) (later_groups_have_distinct_fields (named text rest)) (group-fine text g) (groups-fine text rest))
 
     group-fine : (text : ℕ → Name) (g : Tree ℕ fields) → fine (duplicate_field_faults_in_group text g) ≡ group_has_distinct_fields (named text g)
     group-fine text no_fields = refl
     group-fine text (some_fields ns t) = fields-fine text t
 
-    groups-fine : (text : ℕ → Name) (gs : Tree ℕ (items further_fields)) → fine (duplicate_field_faults_in_groups text gs) ≡ groups_have_distinct_fields (named text gs)
+    groups-fine : (text : ℕ → Name) (gs : Tree ℕ (items fields_after_semicolon)) → fine (duplicate_field_faults_in_groups text gs) ≡ later_groups_have_distinct_fields (named text gs)
     groups-fine text end = refl
-    groups-fine text (more (then_fields g) rest) = fine_both (duplicate_field_faults_in_group text g) (duplicate_field_faults_in_groups text rest) (group_has_distinct_fields (named text g)) (groups_have_distinct_fields (named text rest)) (group-fine text g) (groups-fine text rest)
+    groups-fine text (more (semicolon_then_fields g) rest) = fine_both (duplicate_field_faults_in_group text g) (duplicate_field_faults_in_groups text rest) (group_has_distinct_fields (named text g)) (later_groups_have_distinct_fields (named text rest)) (group-fine text g) (groups-fine text rest)
 
   types-fine : (text : ℕ → Name) (ds : Tree ℕ (items type_definition)) → fine (duplicate_field_faults_in_types text ds) ≡ types_have_distinct_fields (named text ds)
   types-fine text end = refl
@@ -181,7 +181,7 @@ module _ (value : ℕ → ℕ) where
 
   type_section-fine : (text : ℕ → Name) (ts : Tree ℕ (maybe type_definitions)) → fine (duplicate_field_faults_in_types text (section_types ts)) ≡ types_have_distinct_fields (section_types (named text ts))
   type_section-fine text none = refl
-  type_section-fine text (one (declares_types ts)) = types-fine text ts
+  type_section-fine text (one (declares_type_section ts)) = types-fine text ts
 
   variables-fine : (text : ℕ → Name) (gs : Tree ℕ (items variable)) → fine (duplicate_field_faults_in_variables text gs) ≡ variables_have_distinct_fields (named text gs)
   variables-fine text end = refl
@@ -189,23 +189,23 @@ module _ (value : ℕ → ℕ) where
 
   variable_section-fine : (text : ℕ → Name) (vs : Tree ℕ (maybe variables)) → fine (duplicate_field_faults_in_variables text (section_variables vs)) ≡ variables_have_distinct_fields (section_variables (named text vs))
   variable_section-fine text none = refl
-  variable_section-fine text (one (declares_variables vs)) = variables-fine text vs
+  variable_section-fine text (one (declares_var_section vs)) = variables-fine text vs
 
   section-fine : (text : ℕ → Name) (s : Tree ℕ section) → fine (duplicate_field_faults text (parameter_section_type s)) ≡ has_distinct_fields (parameter_section_type (named text s))
   section-fine text (value_section ns t) = fields-fine text t
   section-fine text (variable_section ns t) = fields-fine text t
 
-  sections-fine : (text : ℕ → Name) (fs : Tree ℕ (items further_section)) → fine (duplicate_field_faults_in_formals text fs) ≡ formals_have_distinct_fields (named text fs)
+  sections-fine : (text : ℕ → Name) (fs : Tree ℕ (items section_after_semicolon)) → fine (duplicate_field_faults_in_formals text fs) ≡ formals_have_distinct_fields (named text fs)
   sections-fine text end = refl
-  sections-fine text (more (then_section s) fs) = fine_both (duplicate_field_faults text (parameter_section_type s)) (duplicate_field_faults_in_formals text fs) (has_distinct_fields (parameter_section_type (named text s))) (formals_have_distinct_fields (named text fs)) (section-fine text s) (sections-fine text fs)
+  sections-fine text (more (semicolon_then_section s) fs) = fine_both (duplicate_field_faults text (parameter_section_type s)) (duplicate_field_faults_in_formals text fs) (has_distinct_fields (parameter_section_type (named text s))) (formals_have_distinct_fields (named text fs)) (section-fine text s) (sections-fine text fs)
 
   formals-fine : (text : ℕ → Name) (fs : Tree ℕ (maybe formals)) → fine (duplicate_field_faults_in_formals text (formal_sections fs)) ≡ formals_have_distinct_fields (formal_sections (named text fs))
   formals-fine text none = refl
   formals-fine text (one no_formals) = refl
-  formals-fine text (one (some_formals s fs)) = sections-fine text (more (then_section s) fs)
+  formals-fine text (one (some_formals s fs)) = sections-fine text (more (semicolon_then_section s) fs)
 
   block_texts : (text : ℕ → Name) (own : List ℕ) (cs : Tree ℕ (maybe constants)) (ts : Tree ℕ (maybe type_definitions)) (vs : Tree ℕ (maybe variables)) (ps : Tree ℕ (items procedure)) (statements : Tree ℕ (maybe body))
-      → map text (own ++ block_names (forms_block (declares cs ts vs ps) statements)) ≡ map text own ++ block_names (named text (forms_block (declares cs ts vs ps) statements))
+      → map text (own ++ names_declared_in_block (forms_block (declares cs ts vs ps) statements)) ≡ map text own ++ names_declared_in_block (named text (forms_block (declares cs ts vs ps) statements))
   block_texts text own cs ts vs ps statements =
       five_texts text own (constant_names (section_constants cs)) (declared_type_names (section_types ts)) (variable_names (section_variables vs)) (procedure_names ps)
       ∙ (λ i. map text own ++ (constant_section_texts text cs i ++ (type_section_texts text ts i ++ (variable_section_texts text vs i ++ procedures_texts text ps i))))
@@ -213,20 +213,20 @@ module _ (value : ℕ → ℕ) where
   mutual
     block-fine : (text : ℕ → Name) (own : List ℕ) (b : Tree ℕ block) → fine (block_declaration_faults text own b) ≡ block_has_consistent_names (map text own) (named text b)
     block-fine text own (forms_block (declares cs ts vs ps) statements) =
-        let names = own ++ block_names (forms_block (declares cs ts vs ps) statements) in
+        let names = own ++ names_declared_in_block (forms_block (declares cs ts vs ps) statements) in
         let T = duplicate_field_faults_in_types text (section_types ts) in
         let V = duplicate_field_faults_in_variables text (section_variables vs) in
         let P = procedures_declaration_faults text ps in
         let t = types_have_distinct_fields (section_types (named text ts)) in
         let v = variables_have_distinct_fields (section_variables (named text vs)) in
-        let p = procedures_have_consistent_names (named text ps) in
-        fine_both (duplicate_faults text [] names) (T ++ (V ++ P)) (are_distinct (map text own ++ block_names (named text (forms_block (declares cs ts vs ps) statements)))) (t && (v && p))
-        (names-fine text names (map text own ++ block_names (named text (forms_block (declares cs ts vs ps) statements))) (block_texts text own cs ts vs ps statements))
+        let p = procedure_list_has_consistent_names (named text ps) in
+        fine_both (duplicate_faults text [] names) (T ++ (V ++ P)) (are_distinct (map text own ++ names_declared_in_block (named text (forms_block (declares cs ts vs ps) statements)))) (t && (v && p))
+        (names-fine text names (map text own ++ names_declared_in_block (named text (forms_block (declares cs ts vs ps) statements))) (block_texts text own cs ts vs ps statements))
         (fine_both T (V ++ P) t (v && p) (type_section-fine text ts) (fine_both V P v p (variable_section-fine text vs) (procedures-fine text ps)))
 
-    procedures-fine : (text : ℕ → Name) (ps : Tree ℕ (items procedure)) → fine (procedures_declaration_faults text ps) ≡ procedures_have_consistent_names (named text ps)
+    procedures-fine : (text : ℕ → Name) (ps : Tree ℕ (items procedure)) → fine (procedures_declaration_faults text ps) ≡ procedure_list_has_consistent_names (named text ps)
     procedures-fine text end = refl
-    procedures-fine text (more p rest) = fine_both (procedure_declaration_faults text p) (procedures_declaration_faults text rest) (procedure_has_consistent_names (named text p)) (procedures_have_consistent_names (named text rest)) (procedure-fine text p) (procedures-fine text rest)
+    procedures-fine text (more p rest) = fine_both (procedure_declaration_faults text p) (procedures_declaration_faults text rest) (procedure_has_consistent_names (named text p)) (procedure_list_has_consistent_names (named text rest)) (procedure-fine text p) (procedures-fine text rest)
 
     procedure-fine : (text : ℕ → Name) (p : Tree ℕ (item procedure)) → fine (procedure_declaration_faults text p) ≡ procedure_has_consistent_names (named text p)
     procedure-fine text (declares_procedure x fs b closing) =
@@ -240,7 +240,7 @@ module _ (value : ℕ → ℕ) where
         (fine_both F B f d (formals-fine text fs) (block-fine text (formal_names (formal_sections fs)) b ∙ ap (λ ns. block_has_consistent_names ns (named text b)) (formals_texts text fs)))
 
   module-fine : (text : ℕ → Name) (t : Tree ℕ module_text) → fine (tree_declaration_faults text t) ≡ has_consistent_names (named text t)
-  module-fine text (is_module x b closing) =
+  module-fine text (forms_module x b closing) =
       fine_both (closing_name_faults text x closing) (block_declaration_faults text [] b) (same_name (text x) (text closing)) (block_has_consistent_names [] (named text b))
       (fine_closing closing (same_name (text x) (text closing))) (block-fine text [] b)
 
@@ -282,16 +282,16 @@ mutual
   fields-alone text (named_type x) = refl
   fields-alone text (array_type e t) = fields-alone text t
   fields-alone text (record_type g rest) =
-      no_others (duplicate_faults text [] (group_field_names g ++ further_field_names rest)) (duplicate_field_faults_in_group text g ++ duplicate_field_faults_in_groups text rest) (duplicate_faults-alone text [] (group_field_names g ++ further_field_names rest))
+      no_others (duplicate_faults text [] (group_field_names g ++ field_names_after_first_group rest)) (duplicate_field_faults_in_group text g ++ duplicate_field_faults_in_groups text rest) (duplicate_faults-alone text [] (group_field_names g ++ field_names_after_first_group rest))
       (no_others (duplicate_field_faults_in_group text g) (duplicate_field_faults_in_groups text rest) (group-alone text g) (groups-alone text rest))
 
   group-alone : (text : ℕ → Name) (g : Tree ℕ fields) → others (duplicate_field_faults_in_group text g) ≡ false
   group-alone text no_fields = refl
   group-alone text (some_fields ns t) = fields-alone text t
 
-  groups-alone : (text : ℕ → Name) (gs : Tree ℕ (items further_fields)) → others (duplicate_field_faults_in_groups text gs) ≡ false
+  groups-alone : (text : ℕ → Name) (gs : Tree ℕ (items fields_after_semicolon)) → others (duplicate_field_faults_in_groups text gs) ≡ false
   groups-alone text end = refl
-  groups-alone text (more (then_fields g) rest) = no_others (duplicate_field_faults_in_group text g) (duplicate_field_faults_in_groups text rest) (group-alone text g) (groups-alone text rest)
+  groups-alone text (more (semicolon_then_fields g) rest) = no_others (duplicate_field_faults_in_group text g) (duplicate_field_faults_in_groups text rest) (group-alone text g) (groups-alone text rest)
 
 types-alone : (text : ℕ → Name) (ds : Tree ℕ (items type_definition)) → others (duplicate_field_faults_in_types text ds) ≡ false
 types-alone text end = refl
@@ -301,14 +301,14 @@ variables-alone : (text : ℕ → Name) (gs : Tree ℕ (items variable)) → oth
 variables-alone text end = refl
 variables-alone text (more (declares_variable ns t) gs) = no_others (duplicate_field_faults text t) (duplicate_field_faults_in_variables text gs) (fields-alone text t) (variables-alone text gs)
 
-formals-alone : (text : ℕ → Name) (fs : Tree ℕ (items further_section)) → others (duplicate_field_faults_in_formals text fs) ≡ false
+formals-alone : (text : ℕ → Name) (fs : Tree ℕ (items section_after_semicolon)) → others (duplicate_field_faults_in_formals text fs) ≡ false
 formals-alone text end = refl
-formals-alone text (more (then_section s) fs) = no_others (duplicate_field_faults text (parameter_section_type s)) (duplicate_field_faults_in_formals text fs) (fields-alone text (parameter_section_type s)) (formals-alone text fs)
+formals-alone text (more (semicolon_then_section s) fs) = no_others (duplicate_field_faults text (parameter_section_type s)) (duplicate_field_faults_in_formals text fs) (fields-alone text (parameter_section_type s)) (formals-alone text fs)
 
 mutual
   block-alone : (text : ℕ → Name) (own : List ℕ) (b : Tree ℕ block) → others (block_declaration_faults text own b) ≡ false
   block-alone text own (forms_block (declares cs ts vs ps) statements) =
-      let names = own ++ block_names (forms_block (declares cs ts vs ps) statements) in
+      let names = own ++ names_declared_in_block (forms_block (declares cs ts vs ps) statements) in
       let T = duplicate_field_faults_in_types text (section_types ts) in
       let V = duplicate_field_faults_in_variables text (section_variables vs) in
       let P = procedures_declaration_faults text ps in
@@ -328,7 +328,7 @@ mutual
       (no_others F B (formals-alone text (formal_sections fs)) (block-alone text (formal_names (formal_sections fs)) b))
 
 module-alone : (text : ℕ → Name) (t : Tree ℕ module_text) → others (tree_declaration_faults text t) ≡ false
-module-alone text (is_module x b closing) =
+module-alone text (forms_module x b closing) =
     no_others (closing_name_faults text x closing) (block_declaration_faults text [] b) (closing-alone closing (same_name (text x) (text closing))) (block-alone text [] b)
 
 pub twice_alone : (m : ParsedModule) → list_any (λ f. not (is_duplicate_or_end_name f)) (declaration_faults m) ≡ false

@@ -4,7 +4,7 @@ use Rattle.std.proofs.Common.{◌≡◌, ℕ, ◌+◌, Bool, true, false, cond, 
 use Rattle.std.specs.List.{filter}
 use Rattle.ob0_scan.specs.declared.lexeme.Token.{Token}
 use Rattle.ob0_tree.proofs.Leaves.{ascending_lower, leaves_are_identifiers, leaves_ascend}
-use Rattle.ob0_tree.specs.Order.{AreIdentifierTokens, AreAscendingWithin, names_without_roles}
+use Rattle.ob0_tree.specs.IdentifierIndexes.{AreIdentifierTokens, AreAscendingWithin, names_without_roles}
 use Rattle.ob0_tree.specs.ParsedModule.{tree_of}
 use Rattle.ob0_tree.specs.Places.{token_text_at, token_value_at}
 use Rattle.ob0_tree.specs.Tree.{identifiers}
@@ -14,7 +14,7 @@ use Rattle.ob0_language_names.specs.Names.{Name}
 use Rattle.ob0_scope.specs.Renames.{spellings_after_rename}
 use Rattle.ob0_scope_table.specs.Resolution.{IsResolution, Resolution, ordinal_in}
 use Rattle.ob0_language_names.specs.Scopes.{same_ordinal}
-use Rattle.ob0_scope_numbering.specs.Written.{spelling_at}
+use Rattle.ob0_scope_numbering.specs.IdentifierSpellings.{spelling_at}
 use Rattle.ob0_scope.proofs.Renumbered.{renamed_spelled}
 use Rattle.ob0_scope.specs.NamesAtPlaces.{RenamingChangesExactlyTokens, is_among, tokens_bound_to}
 use Rattle.ob0_scope.proofs.Alike.{AllAlike, alike}

@@ -11,10 +11,10 @@ use Rattle.ob0_scope.specs.declared.name_conflicts.FirstConflict as reported
 use Rattle.ob0_scope.specs.declared.name_conflicts.FirstConflict.TheVariants as reports
 use Rattle.ob0_language_names.specs.Names.{Name, naming_by_spelling, same_name}
 use Rattle.ob0_language_names.specs.Occurrences.{NameConflict, at_declaration, at_occurrence, scopes_in_block, declares_ordinal}
-use Rattle.ob0_language_names.specs.Parts.{module_block}
+use Rattle.ob0_language_names.specs.BlockParts.{module_block}
 use Rattle.ob0_scope_table.specs.Resolution.{Resolution, ordinal_in}
 use Rattle.ob0_language_names.specs.Scopes.{Scope, label_from_ordinal, numbered, predeclared_count, renamed}
-use Rattle.ob0_scope_numbering.specs.Written.{Spellings, spelling_at}
+use Rattle.ob0_scope_numbering.specs.IdentifierSpellings.{Spellings, spelling_at}
 
 -- returns the ordinal of the first declaration in a scope that has the name `new` and an ordinal other than `d`; None
 -- if there is none

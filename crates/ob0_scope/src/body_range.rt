@@ -3,8 +3,8 @@
 
 ghost use Rattle.std.specs.Prelude.{◌≡◌, ◌++◌, ◌∷◌, [], IfOk, OnOk};
 ghost use Rattle.ob0_tree.specs.View.{block_of, body_of, procedure_of};
-ghost use Rattle.ob0_scope_table.specs.BodyReplaced.{body_at_path_in_block, body_at_path_in_procedure, closing_name_at_path_in_block, closing_name_at_path_in_procedure, path_to_body_in_block, path_to_body_in_procedure};
-ghost use Rattle.ob0_scope.specs.Carried.{tokens_after_body, tokens_before_body, tokens_in_changed_text, ordinals_in_changed_text, old_closing_token, shifted_token, with_occurrence};
+ghost use Rattle.ob0_scope_table.specs.BodyReplacement.{body_at_path_in_block, body_at_path_in_procedure, closing_name_at_path_in_block, closing_name_at_path_in_procedure, path_to_body_in_block, path_to_body_in_procedure};
+ghost use Rattle.ob0_scope.specs.BindingsOutsideBody.{tokens_after_body, tokens_before_body, tokens_in_changed_text, ordinals_in_changed_text, old_closing_token, shifted_token, with_occurrence};
 
 use ob0_scan::CommonPrefixAndSuffix;
 use ob0_scope_table::OrdinalEntry;
@@ -39,7 +39,7 @@ pub(crate) struct BodyNames {
 }
 
 impl Model for BodyNames {
-    ghost use Rattle.ob0_scope.specs.Carried.{BodyNamesView};
+    ghost use Rattle.ob0_scope.specs.BindingsOutsideBody.{BodyNamesView};
 
     ghost Value = { BodyNamesView };
 
@@ -47,7 +47,7 @@ impl Model for BodyNames {
 }
 
 impl Visitor for BodyNames {
-    ghost use Rattle.ob0_scope.specs.Carried.{with_identifier};
+    ghost use Rattle.ob0_scope.specs.BindingsOutsideBody.{with_identifier};
 
     ghost seen = { with_identifier };
 

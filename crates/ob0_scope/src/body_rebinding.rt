@@ -3,15 +3,15 @@
 
 ghost use Rattle.std.specs.Prelude.{IfOk};
 ghost use Rattle.ob0_scope_table.specs.Resolution.{IsResolution};
-ghost use Rattle.ob0_scope_table.specs.Bindings.{resolution_with};
-ghost use Rattle.ob0_scope.specs.Rebound.{WasBoundBeforeBodyChange};
-ghost use Rattle.ob0_scope.specs.NewBody.{WasBoundBeforeNewBody};
-ghost use Rattle.ob0_scope.specs.Carried.{IsRangeOfNewBody};
+ghost use Rattle.ob0_scope_table.specs.Bindings.{resolution_with_bindings};
+ghost use Rattle.ob0_scope.specs.BodyChanges.{AreBindingsBeforeBodyChange};
+ghost use Rattle.ob0_scope.specs.NewBody.{AreBindingsBeforeBodyReplacement};
+ghost use Rattle.ob0_scope.specs.BindingsOutsideBody.{IsRangeOfNewBody};
 
 use crate::body_range::{BodyNames, BodyRange, find_body_in_block, old_closing_token};
 use crate::checks::recheck_declarations;
 use crate::module_resolution::bindings_of;
-use crate::table::report_undeclared;
+use crate::table::report_undeclared_names;
 use ob0_scan::CommonPrefixAndSuffix;
 use ob0_scope_numbering::renumber_body;
 use ob0_scope_table::Bindings;
@@ -23,15 +23,15 @@ use std::alloc::{AllocError, Global};
 /// the change. The changed tokens have the indexes from `low` up to, but not including,
 /// `_changed_end`, which only the contract uses. Only the names in the changed body are bound
 /// again.
-pub fn rebind_body(
+pub fn rebind_changed_body(
     alloc: Global,
     read: &Module<'_>,
     old: Bindings,
     low: usize,
     _changed_end: usize,
 ) -> Result<Bindings, AllocError>
-    requires { WasBoundBeforeBodyChange read.now old low _changed_end }
-    ensures { IfOk result (λ b. IsResolution (resolution_with read.now b)) }
+    requires { AreBindingsBeforeBodyChange read.now old low _changed_end }
+    ensures { IfOk result (λ b. IsResolution (resolution_with_bindings read.now b)) }
 {
     let tokens = read.tokens();
     if old.ordinals.len() < tokens.tokens().len() {
@@ -45,7 +45,7 @@ pub fn rebind_body(
     } = old;
     let ordinals = renumber_body(alloc, read, ordinals, &declaration_tokens, low)?;
     let mut faults = recheck_declarations(alloc, read, &known)?;
-    report_undeclared(&mut faults, &ordinals, &occurrences)?;
+    report_undeclared_names(&mut faults, &ordinals, &occurrences)?;
     Ok(Bindings {
         ordinals,
         declaration_tokens,
@@ -58,14 +58,14 @@ pub fn rebind_body(
 /// bindings before the replacement. `same` gives the unchanged tokens at the start and at the end
 /// of the text. Only the names in the new body are bound again. If the new body has no identifiers,
 /// all names of the module are bound again.
-pub fn rebind_new_body(
+pub fn rebind_replaced_body(
     alloc: Global,
     read: &Module<'_>,
     old: Bindings,
     same: CommonPrefixAndSuffix,
 ) -> Result<Bindings, AllocError>
-    requires { WasBoundBeforeNewBody read.now old same }
-    ensures { IfOk result (λ b. IsResolution (resolution_with read.now b)) }
+    requires { AreBindingsBeforeBodyReplacement read.now old same }
+    ensures { IfOk result (λ b. IsResolution (resolution_with_bindings read.now b)) }
 {
     let found = find_body_in_block(read.block(), read.closing_name(), same.prefix);
     let mut names = BodyNames {
@@ -95,7 +95,7 @@ fn rebind_body_range(
     own: &[usize],
 ) -> Result<Bindings, AllocError>
     requires { IsRangeOfNewBody read.now old.now range own.now }
-    ensures { IfOk result (λ b. IsResolution (resolution_with read.now b)) }
+    ensures { IfOk result (λ b. IsResolution (resolution_with_bindings read.now b)) }
 {
     let tokens = read.tokens();
     let table = range.ordinals_in_changed_text(alloc, &old.ordinals)?;
@@ -106,7 +106,7 @@ fn rebind_body_range(
     let ordinals = renumber_body(alloc, read, table, &declaration_tokens, range.first)?;
     let occurrences = range.tokens_in_changed_text(alloc, &old.occurrences, own)?;
     let mut faults = recheck_declarations(alloc, read, &old.faults)?;
-    report_undeclared(&mut faults, &ordinals, &occurrences)?;
+    report_undeclared_names(&mut faults, &ordinals, &occurrences)?;
     Ok(Bindings {
         ordinals,
         declaration_tokens,

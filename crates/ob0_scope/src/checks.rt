@@ -12,8 +12,8 @@ ghost use Rattle.ob0_tree.specs.ParsedModule.{named_tree_of};
 ghost use Rattle.ob0_tree.specs.Places.{token_text_at};
 ghost use Rattle.ob0_tree.specs.View.{items_of, names_of, type_of, record_type_of, optional_field_group_of, constant_section_of, type_section_of, variable_section_of, formals_of, procedure_of, block_of};
 ghost use Rattle.ob0_language_names.specs.Names.{same_name};
-ghost use Rattle.ob0_language_names.specs.Parts.{names_in_list, constant_names, declared_type_names, variable_names, formal_names, formal_sections, section_constants, section_types, section_variables};
-ghost use Rattle.ob0_language_names.specs.ConsistentNames.{block_names, has_consistent_names, group_field_names, is_among, procedure_names};
+ghost use Rattle.ob0_language_names.specs.BlockParts.{names_in_list, constant_names, declared_type_names, variable_names, formal_names, formal_sections, section_constants, section_types, section_variables};
+ghost use Rattle.ob0_language_names.specs.ConsistentNames.{names_declared_in_block, has_consistent_names, group_field_names, is_among, procedure_names};
 ghost use Rattle.ob0_scope_table.specs.Resolution.{is_duplicate_or_end_name};
 ghost use Rattle.ob0_scope_table.specs.DuplicatesAndEndNames.{duplicate_faults, block_declaration_faults, closing_name_faults, duplicate_field_faults, duplicate_field_faults_in_formals, duplicate_field_faults_in_group, procedure_declaration_faults, declaration_faults, duplicate_field_faults_in_types, fault_unless, duplicate_field_faults_in_variables};
 
@@ -213,7 +213,7 @@ fn append_procedure_names(out: &mut Vec<usize>, procedures: &[Procedure]) -> Res
 /// Appends to `out` the tokens of the names that a block declares: constants, types, variables and
 /// procedures. The parameters of the block's procedure aren't included.
 pub(crate) fn append_block_names(out: &mut Vec<usize>, b: &Block) -> Result<(), AllocError>
-    ensures { OnOk result (out.new.items ≡ out.old.items ++ block_names (block_of b.now)) }
+    ensures { OnOk result (out.new.items ≡ out.old.items ++ names_declared_in_block (block_of b.now)) }
 {
     append_constant_names(out, &b.constants)?;
     append_type_names(out, &b.types)?;

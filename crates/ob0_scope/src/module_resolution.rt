@@ -2,10 +2,10 @@
 
 ghost use Rattle.std.specs.Prelude.{◌≡◌, IfOk};
 ghost use Rattle.ob0_scope_table.specs.Resolution.{IsResolution};
-ghost use Rattle.ob0_scope_table.specs.Bindings.{resolution_with};
+ghost use Rattle.ob0_scope_table.specs.Bindings.{resolution_with_bindings};
 
 use crate::checks::check_declarations;
-use crate::table::report_undeclared;
+use crate::table::report_undeclared_names;
 use ob0_scope_numbering::{Spellings, number_identifiers};
 use ob0_scope_table::{Bindings, Resolved};
 use ob0_tree::Module;
@@ -24,13 +24,13 @@ pub fn resolve<'t>(alloc: Global, module: &'t Module<'t>) -> Result<Resolved<'t>
 /// Returns the bindings of a module's names. The bindings borrow nothing, so that they can be kept
 /// next to the module's tree.
 pub fn bindings_of(alloc: Global, module: &Module<'_>) -> Result<Bindings, AllocError>
-    ensures { IfOk result (λ b. IsResolution (resolution_with «module».now b)) }
+    ensures { IfOk result (λ b. IsResolution (resolution_with_bindings «module».now b)) }
 {
     let tokens = module.tokens();
     let numbering = number_identifiers(alloc, module, Spellings::original_spellings(tokens))?;
     let (declaration_tokens, occurrences, ordinals) = numbering.into_tokens_and_ordinals();
     let mut faults = check_declarations(alloc, module)?;
-    report_undeclared(&mut faults, &ordinals, &occurrences)?;
+    report_undeclared_names(&mut faults, &ordinals, &occurrences)?;
     Ok(Bindings {
         ordinals,
         declaration_tokens,

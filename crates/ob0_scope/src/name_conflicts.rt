@@ -15,7 +15,7 @@ ghost use Rattle.ob0_scope.specs.declared.name_conflicts.FirstConflict.TheVarian
 ghost use Rattle.ob0_scope.specs.Renames.{OccursNowhere, have_same_binding, namesake, other_declaration_in_conflict, conflict_of};
 ghost use Rattle.ob0_scope_table.specs.Resolution.{ordinal_in};
 ghost use Rattle.ob0_language_names.specs.Scopes.{renamed};
-ghost use Rattle.ob0_scope.specs.BlockSearches.{namesake_in_block, namesake_in_procedure, has_name_and_other_binding, is_bound_to_declaration, namesake_among};
+ghost use Rattle.ob0_scope.specs.NamesakeSearches.{namesake_in_block, namesake_in_procedure, has_name_and_other_binding, is_bound_to_declaration, namesake_among};
 
 use crate::checks::{append_block_names, append_formal_names};
 use crate::renamed::ordinals_after_rename;
@@ -158,7 +158,7 @@ struct NamesakeSearch<'t> {
 }
 
 impl<'t> Model for NamesakeSearch<'t> {
-    ghost use Rattle.ob0_scope.specs.BlockSearches as searching;
+    ghost use Rattle.ob0_scope.specs.NamesakeSearches as searching;
 
     ghost Value = { searching.NamesakeSearchView };
 

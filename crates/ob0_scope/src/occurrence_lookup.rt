@@ -4,9 +4,9 @@
 ghost use Rattle.std.specs.Prelude.{◌≡◌, IfOk, map, length, replicate, None};
 ghost use Rattle.ob0_tree.specs.ParsedModule.{named_tree_of};
 ghost use Rattle.ob0_scope_table.specs.Resolution.{ordinal_in};
-ghost use Rattle.ob0_language_names.specs.OccurrenceLookup.{resolve_name_at_occurrences};
-ghost use Rattle.ob0_scope_numbering.specs.Marks.{zero_mark_at};
-ghost use Rattle.ob0_scope_numbering.specs.Marks.{with_marks};
+ghost use Rattle.ob0_language_names.specs.OccurrenceLookup.{resolve_name_at_each_occurrence};
+ghost use Rattle.ob0_scope_numbering.specs.OrdinalMarks.{zero_mark_at};
+ghost use Rattle.ob0_scope_numbering.specs.OrdinalMarks.{with_marks};
 
 use crate::renamed::ordinals_at_tokens;
 use ob0_scope_numbering::{Spellings, number_identifiers};
@@ -16,13 +16,13 @@ use std::alloc::{AllocError, Global};
 /// Returns an entry for each occurrence of a module, in text order. The entry is the ordinal to
 /// which `name` would be bound if it replaced the occurrence. The entry is None if `name` would be
 /// unbound there.
-pub fn resolve_name_at_occurrences(
+pub fn resolve_name_at_each_occurrence(
     alloc: Global,
     names: &Resolved,
     name: &str,
 ) -> Result<Vec<Option<usize>>, AllocError>
     ensures { IfOk result
-        (λ found. found.items ≡ resolve_name_at_occurrences (named_tree_of names.now.module_read) name.now) }
+        (λ found. found.items ≡ resolve_name_at_each_occurrence (named_tree_of names.now.module_read) name.now) }
 {
     let ordinals = ordinals_with_replacement(alloc, names, name)?;
     ordinals_at_tokens(alloc, &ordinals, names.occurrences())
@@ -36,16 +36,16 @@ fn ordinals_with_replacement(
     name: &str,
 ) -> Result<Vec<OrdinalEntry>, AllocError>
     ensures { IfOk result (λ ordinals. map (ordinal_in ordinals.items) names.now.uses
-        ≡ resolve_name_at_occurrences (named_tree_of names.now.module_read) name.now) }
+        ≡ resolve_name_at_each_occurrence (named_tree_of names.now.module_read) name.now) }
 {
     let sought = occurrence_marks(alloc, names)?;
-    let writing = Spellings {
+    let spellings = Spellings {
         tokens: names.tokens(),
         ordinals: sought.as_slice(),
         declaration: Some(0),
         new: name,
     };
-    let numbering = number_identifiers(alloc, names.module(), writing)?;
+    let numbering = number_identifiers(alloc, names.module(), spellings)?;
     let (_declarations, _occurrences, ordinals) = numbering.into_tokens_and_ordinals();
     Ok(ordinals)
 }

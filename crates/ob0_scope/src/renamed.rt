@@ -42,13 +42,13 @@ pub(crate) fn ordinals_after_rename(
         (λ ordinals. AreOrdinalsAfterRename names.now declaration new.now ordinals.items) }
     ensures resolved { IsResolution names.now }
 {
-    let writing = Spellings {
+    let spellings = Spellings {
         tokens: names.tokens(),
         ordinals: names.ordinals(),
         declaration: Some(declaration),
         new,
     };
-    let numbering = number_identifiers(alloc, names.module(), writing)?;
+    let numbering = number_identifiers(alloc, names.module(), spellings)?;
     let (_declarations, _occurrences, ordinals) = numbering.into_tokens_and_ordinals();
     Ok(ordinals)
 }

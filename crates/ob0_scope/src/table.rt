@@ -1,7 +1,7 @@
 //! Reports the undeclared names.
 
 ghost use Rattle.std.specs.Prelude.{◌≡◌, ◌++◌, OnOk};
-ghost use Rattle.ob0_scope_table.specs.Resolution.{undeclared_faults_by_table};
+ghost use Rattle.ob0_scope_table.specs.Resolution.{undeclared_faults_from_table};
 
 use ob0_scan::FaultCode;
 use ob0_scope_table::{FaultAtTokens, OrdinalEntry, fault_at_token, ordinal_at};
@@ -9,13 +9,13 @@ use std::alloc::AllocError;
 
 /// Appends a fault `Undeclared` for each token in `occurrences` that has no ordinal in the table
 /// `ordinals`.
-pub(crate) fn report_undeclared(
+pub(crate) fn report_undeclared_names(
     faults: &mut Vec<FaultAtTokens>,
     ordinals: &[OrdinalEntry],
     occurrences: &[usize],
 ) -> Result<(), AllocError>
     ensures { OnOk result (faults.new.items
-        ≡ faults.old.items ++ undeclared_faults_by_table ordinals.now occurrences.now) }
+        ≡ faults.old.items ++ undeclared_faults_from_table ordinals.now occurrences.now) }
 {
     for token in occurrences {
         if ordinal_at(ordinals, *token).is_none() {

@@ -6,7 +6,7 @@ use Rattle.ob0_tree.specs.Tree.{Tree, body, declares_procedure, item, maybe, mor
 use Rattle.ob0_tree.specs.View.{block_of, formals_of, items_of, procedure_of}
 use Rattle.ob0_tree.specs.declared.tree.Procedure.{Procedure, out-Procedure}
 use Rattle.ob0_tree.proofs.Viewed.{procedure_parts}
-use Rattle.ob0_scope_numbering.specs.BodyWalk.{with_declarations_before, with_declaration, prefix_before_token, with_procedure_skipped, renumber_procedure, renumber_procedures}
+use Rattle.ob0_scope_numbering.specs.BodyWalk.{with_declarations_before, with_declaration, prefix_before_token, with_skipped_procedure_name, renumber_procedure, renumber_procedures}
 use Rattle.ob0_scope_numbering.specs.TableWalk.{WalkState}
 
 -- states that the declarations from an index onwards are still to be counted
@@ -42,13 +42,13 @@ module _ (all : List ℕ) (low : ℕ) (statements : Tree ℕ (maybe body)) where
   abbrev pub going : List Procedure → WalkState → WalkState
   going xs v = renumber_procedures all low (items_of procedure_of xs) statements v
 
-  pub passes_one : (q : Procedure) (rest : List Procedure) (v : WalkState) → (out-Procedure q).closing < low → going (q ∷ rest) v ≡ going rest (with_procedure_skipped (out-Procedure q).name (with_declarations_before all (out-Procedure q).name v))
+  pub passes_one : (q : Procedure) (rest : List Procedure) (v : WalkState) → (out-Procedure q).closing < low → going (q ∷ rest) v ≡ going rest (with_skipped_procedure_name (out-Procedure q).name (with_declarations_before all (out-Procedure q).name v))
   passes_one q rest v past =
       ap (λ p. renumber_procedures all low (more p (items_of procedure_of rest)) statements v) (procedure_parts q)
-      ∙ ap (λ b. if b then going rest (with_procedure_skipped (out-Procedure q).name (with_declarations_before all (out-Procedure q).name v)) else renumber_procedure all low (parts_of q) (with_declarations_before all (out-Procedure q).name v)) (lt-ltb (out-Procedure q).closing low past)
+      ∙ ap (λ b. if b then going rest (with_skipped_procedure_name (out-Procedure q).name (with_declarations_before all (out-Procedure q).name v)) else renumber_procedure all low (parts_of q) (with_declarations_before all (out-Procedure q).name v)) (lt-ltb (out-Procedure q).closing low past)
 
   pub enters_one : (q : Procedure) (rest : List Procedure) (v : WalkState) → low ≤ (out-Procedure q).closing → going (q ∷ rest) v ≡ renumber_procedure all low (procedure_of q) (with_declarations_before all (out-Procedure q).name v)
   enters_one q rest v le =
       ap (λ p. renumber_procedures all low (more p (items_of procedure_of rest)) statements v) (procedure_parts q)
-      ∙ (ap (λ b. if b then going rest (with_procedure_skipped (out-Procedure q).name (with_declarations_before all (out-Procedure q).name v)) else renumber_procedure all low (parts_of q) (with_declarations_before all (out-Procedure q).name v)) (le-ltb (out-Procedure q).closing low le)
+      ∙ (ap (λ b. if b then going rest (with_skipped_procedure_name (out-Procedure q).name (with_declarations_before all (out-Procedure q).name v)) else renumber_procedure all low (parts_of q) (with_declarations_before all (out-Procedure q).name v)) (le-ltb (out-Procedure q).closing low le)
       ∙ ap (λ p. renumber_procedure all low p (with_declarations_before all (out-Procedure q).name v)) (sym (procedure_parts q)))

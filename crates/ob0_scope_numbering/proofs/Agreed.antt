@@ -3,8 +3,8 @@
 use Rattle.std.proofs.Common.{◌≡◌, ℕ, Option, None, List, [], ◌∷◌, ◌++◌, refl, sym}
 use Rattle.ob0_tree.specs.declared.tree.Role.{Role}
 use Rattle.ob0_tree.specs.declared.tree.Role.TheVariants as role
-use Rattle.ob0_tree.specs.Tree.{Sort, Tree, identifiers, mapped_tree, adds, array_type, assigns, begins, branches, calls, compares, declares, declares_constant, declares_constants, declares_procedure, declares_type, declares_types, declares_variable, declares_variables, designator, else_branch, elsif_branch, empty, end, field, forms_block, index, integer, is_module, listed, more, multiplies, named_type, negation, no_arguments, no_fields, no_formals, none, one, parenthesised, product, record_type, relates, repeat_loop, runs, some_arguments, some_fields, some_formals, sum, then_argument, then_fields, then_name, then_section, then_statement, value_section, variable_section, while_loop}
-use Rattle.ob0_scope_numbering.specs.Written.{Spellings, spelling_at}
+use Rattle.ob0_tree.specs.Tree.{Sort, Tree, identifiers, mapped_tree, adds, array_type, assigns, begins, branches, calls, compares, declares, declares_constant, declares_const_section, declares_procedure, declares_type, declares_type_section, declares_variable, declares_var_section, designator, else_branch, elsif_branch, empty, end, field, forms_block, index, integer, forms_module, listed, more, multiplies, named_type, negation, no_arguments, no_fields, no_formals, none, one, parenthesised, product, record_type, relates, repeat_loop, runs, some_arguments, some_fields, some_formals, sum, comma_then_argument, semicolon_then_fields, comma_then_name, semicolon_then_section, semicolon_then_statement, value_section, variable_section, while_loop}
+use Rattle.ob0_scope_numbering.specs.IdentifierSpellings.{Spellings, spelling_at}
 use Rattle.ob0_language_names.specs.Names.{Name, naming_by_spelling}
 use Rattle.ob0_language_names.specs.Scopes.{Labelling, Scope, ordinal_in_scope, relabel_uses}
 use Rattle.ob0_language_names.proofs.Peeling.{Two}
@@ -68,32 +68,32 @@ module _ {M : Type 0} (table : ℕ → Option ℕ) (label : Labelling Name M) (s
   agreed r other (repeat_loop a b) = to (both (agreed r other a) (agreed r other b)) (λ p i. repeat_loop (p.first i) (p.second i))
   agreed r other no_arguments = nothing refl
   agreed r other (some_arguments a b) = to (both (agreed r other a) (agreed r other b)) (λ p i. some_arguments (p.first i) (p.second i))
-  agreed r other (then_argument a) = to (agreed r other a) (λ p i. then_argument (p i))
+  agreed r other (comma_then_argument a) = to (agreed r other a) (λ p i. comma_then_argument (p i))
   agreed r other (runs a b) = to (both (agreed r other a) (agreed r other b)) (λ p i. runs (p.first i) (p.second i))
-  agreed r other (then_statement a) = to (agreed r other a) (λ p i. then_statement (p i))
+  agreed r other (semicolon_then_statement a) = to (agreed r other a) (λ p i. semicolon_then_statement (p i))
   agreed r other (elsif_branch a b) = to (both (agreed r other a) (agreed r other b)) (λ p i. elsif_branch (p.first i) (p.second i))
   agreed r other (else_branch a) = to (agreed r other a) (λ p i. else_branch (p i))
   agreed r other (listed a b) = to (first (agreed r other b)) (λ p i. listed (label (sym (other a p.first) i) (spelling_at src a)) (p.second i))
-  agreed r other (then_name a) = to (first (nothing {P = Unit {0}} tt)) (λ p i. then_name (label (sym (other a p.first) i) (spelling_at src a)))
+  agreed r other (comma_then_name a) = to (first (nothing {P = Unit {0}} tt)) (λ p i. comma_then_name (label (sym (other a p.first) i) (spelling_at src a)))
   agreed r other (named_type a) = to (first (nothing {P = Unit {0}} tt)) (λ p i. named_type (label (sym p.first i) (spelling_at src a)))
   agreed r other (array_type a b) = to (both (agreed r other a) (agreed r other b)) (λ p i. array_type (p.first i) (p.second i))
   agreed r other (record_type a b) = to (both (agreed r other a) (agreed r other b)) (λ p i. record_type (p.first i) (p.second i))
   agreed r other no_fields = nothing refl
   agreed r other (some_fields a b) = to (both (agreed role.FieldName (λ i e. e) a) (agreed r other b)) (λ p i. some_fields (p.first i) (p.second i))
-  agreed r other (then_fields a) = to (agreed r other a) (λ p i. then_fields (p i))
+  agreed r other (semicolon_then_fields a) = to (agreed r other a) (λ p i. semicolon_then_fields (p i))
   agreed r other no_formals = nothing refl
   agreed r other (some_formals a b) = to (both (agreed r other a) (agreed r other b)) (λ p i. some_formals (p.first i) (p.second i))
   agreed r other (value_section a b) = to (both (agreed role.Declaring (λ i e. e) a) (agreed r other b)) (λ p i. value_section (p.first i) (p.second i))
   agreed r other (variable_section a b) = to (both (agreed role.Declaring (λ i e. e) a) (agreed r other b)) (λ p i. variable_section (p.first i) (p.second i))
-  agreed r other (then_section a) = to (agreed r other a) (λ p i. then_section (p i))
+  agreed r other (semicolon_then_section a) = to (agreed r other a) (λ p i. semicolon_then_section (p i))
   agreed r other (declares_constant a b) = to (first (agreed r other b)) (λ p i. declares_constant (label (sym p.first i) (spelling_at src a)) (p.second i))
-  agreed r other (declares_constants a) = to (agreed r other a) (λ p i. declares_constants (p i))
+  agreed r other (declares_const_section a) = to (agreed r other a) (λ p i. declares_const_section (p i))
   agreed r other (declares_type a b) = to (first (agreed r other b)) (λ p i. declares_type (label (sym p.first i) (spelling_at src a)) (p.second i))
-  agreed r other (declares_types a) = to (agreed r other a) (λ p i. declares_types (p i))
+  agreed r other (declares_type_section a) = to (agreed r other a) (λ p i. declares_type_section (p i))
   agreed r other (declares_variable a b) = to (both (agreed role.Declaring (λ i e. e) a) (agreed r other b)) (λ p i. declares_variable (p.first i) (p.second i))
-  agreed r other (declares_variables a) = to (agreed r other a) (λ p i. declares_variables (p i))
+  agreed r other (declares_var_section a) = to (agreed r other a) (λ p i. declares_var_section (p i))
   agreed r other (declares_procedure a b c d) = to (first (both (agreed r other b) (both (agreed r other c) (first (nothing {P = Unit {0}} tt))))) (λ p i. declares_procedure (label (sym p.first i) (spelling_at src a)) (p.second.first i) (p.second.second.first i) (label (sym p.second.second.second.first i) (spelling_at src d)))
   agreed r other (declares a b c d) = to (both (agreed r other a) (both (agreed r other b) (both (agreed r other c) (agreed r other d)))) (λ p i. declares (p.first i) (p.second.first i) (p.second.second.first i) (p.second.second.second i))
   agreed r other (begins a) = to (agreed r other a) (λ p i. begins (p i))
   agreed r other (forms_block a b) = to (both (agreed r other a) (agreed r other b)) (λ p i. forms_block (p.first i) (p.second i))
-  agreed r other (is_module a b c) = to (first (both (agreed r other b) (first (nothing {P = Unit {0}} tt)))) (λ p i. is_module (label (sym p.first i) (spelling_at src a)) (p.second.first i) (label (sym p.second.second.first i) (spelling_at src c)))
+  agreed r other (forms_module a b c) = to (first (both (agreed r other b) (first (nothing {P = Unit {0}} tt)))) (λ p i. forms_module (label (sym p.first i) (spelling_at src a)) (p.second.first i) (label (sym p.second.second.first i) (spelling_at src c)))

@@ -4,15 +4,15 @@
 use Rattle.std.proofs.Common.{◌≡◌, ℕ, zero, suc, ◌+◌, ◌-◌, Bool, true, Option, Some, None, List, [], ◌∷◌, ◌++◌, map, length, drop, refl, sym, ap, ◌∙◌, subst, append_assoc, append-nil}
 use Rattle.ob0_tree.specs.declared.tree.Role.{Role}
 use Rattle.ob0_tree.specs.declared.tree.Role.TheVariants as role
-use Rattle.ob0_tree.specs.Order.{identifier_names, names_without_roles}
-use Rattle.ob0_tree.specs.Tree.{Sort, Tree, block, constant, constants, declares, declares_constant, declares_constants, declares_procedure, declares_type, declares_types, declares_variable, declares_variables, end, formals, further_name, further_section, forms_block, identifiers, item, items, listed, maybe, more, names, no_formals, none, one, procedure, section, some_formals, then_name, then_section, type_definition, type_definitions, value_section, variable, variable_section, variables}
+use Rattle.ob0_tree.specs.IdentifierIndexes.{identifier_names, names_without_roles}
+use Rattle.ob0_tree.specs.Tree.{Sort, Tree, block, constant, constants, declares, declares_constant, declares_const_section, declares_procedure, declares_type, declares_type_section, declares_variable, declares_var_section, end, formals, name_after_comma, section_after_semicolon, forms_block, identifiers, item, items, listed, maybe, more, names, no_formals, none, one, procedure, section, some_formals, comma_then_name, semicolon_then_section, type_definition, type_definitions, value_section, variable, variable_section, variables}
 use Rattle.ob0_language_names.specs.Names.{naming_by_spelling}
-use Rattle.ob0_language_names.specs.Parts.{further_names, names_in_list}
+use Rattle.ob0_language_names.specs.BlockParts.{names_after_first, names_in_list}
 use Rattle.ob0_language_names.specs.Scopes.{declare_names, ordinal_in_scope}
 use Rattle.ob0_scope_numbering.specs.MarkWalk.{WalkState}
 use Rattle.ob0_scope_numbering.specs.IdentifierWalk.{state_after_heading, visit_identifier, visit_identifiers, state_after_procedure_block, with_oldest_bindings, with_mark, number_declarations, number_declaration, visit_nondeclaring_tree, with_visible_names_from, visit_block, visit_constant, visit_constant_section, visit_constants, visit_formals, visit_procedure, visit_procedures, visit_parameter_section, visit_parameter_sections, visit_type, visit_type_section, visit_types, visit_variable, visit_variable_section, visit_variables}
-use Rattle.ob0_scope_numbering.specs.Marks.{OrdinalMark}
-use Rattle.ob0_scope_numbering.specs.Written.{Spellings, spelling_at}
+use Rattle.ob0_scope_numbering.specs.OrdinalMarks.{OrdinalMark}
+use Rattle.ob0_scope_numbering.specs.IdentifierSpellings.{Spellings, spelling_at}
 
 -- holds if all of some tokens pass a test
 abbrev pub AllOut : (ℕ → Bool) → List ℕ → Type 0
@@ -55,8 +55,8 @@ module _ (out : ℕ → Bool) (a b : Spellings) (same_name : (i : ℕ) → out i
   -- states that two walks are at the same place: the same names are visible, and the declarations
   -- so far are the same
   pub record Beside (x y : WalkState) : Type 0 where
-    pub first : x.writing ≡ a
-    pub second : y.writing ≡ b
+    pub first : x.spellings ≡ a
+    pub second : y.spellings ≡ b
     pub scope : x.scope ≡ y.scope
     pub declaration_tokens : x.declaration_tokens ≡ y.declaration_tokens
     pub outside : AllOut out x.declaration_tokens
@@ -105,8 +105,8 @@ module _ (out : ℕ → Bool) (a b : Spellings) (same_name : (i : ℕ) → out i
 
   -- states that two walks see the same names
   pub record Sees (x y : WalkState) : Type 0 where
-    pub first : x.writing ≡ a
-    pub second : y.writing ≡ b
+    pub first : x.spellings ≡ a
+    pub second : y.spellings ≡ b
     pub scope : x.scope ≡ y.scope
 
   pub sees : (x y : WalkState) → Beside x y → Sees x y
@@ -114,7 +114,7 @@ module _ (out : ℕ → Bool) (a b : Spellings) (same_name : (i : ℕ) → out i
 
   found_adds : (r : Role) (i : ℕ) (x y : WalkState) → Sees x y → Adds x y (visit_identifier r i x) (visit_identifier r i y)
   found_adds role.LookedUp i x y at =
-      adds_one x y (visit_identifier role.LookedUp i x) (visit_identifier role.LookedUp i y) i (ordinal_in_scope naming_by_spelling x.scope (spelling_at x.writing i)) (ordinal_in_scope naming_by_spelling y.scope (spelling_at y.writing i)) refl refl
+      adds_one x y (visit_identifier role.LookedUp i x) (visit_identifier role.LookedUp i y) i (ordinal_in_scope naming_by_spelling x.scope (spelling_at x.spellings i)) (ordinal_in_scope naming_by_spelling y.scope (spelling_at y.spellings i)) refl refl
       (λ e. (λ j. ordinal_in_scope naming_by_spelling (at.scope j) (spelling_at (at.first j) i)) ∙ (ap (ordinal_in_scope naming_by_spelling y.scope) (same_name i e) ∙ ap (λ w. ordinal_in_scope naming_by_spelling y.scope (spelling_at w i)) (sym at.second)))
   found_adds role.Declaring i x y at = adds_one x y (visit_identifier role.Declaring i x) (visit_identifier role.Declaring i y) i None None refl refl (λ e. refl)
   found_adds role.ClosingName i x y at = adds_one x y (visit_identifier role.ClosingName i x) (visit_identifier role.ClosingName i y) i None None refl refl (λ e. refl)
@@ -123,26 +123,26 @@ module _ (out : ℕ → Bool) (a b : Spellings) (same_name : (i : ℕ) → out i
 
   -- states that a step changes neither the visible names nor the declarations
   pub record Keeps (x x' : WalkState) : Type 0 where
-    pub writing : x'.writing ≡ x.writing
+    pub spellings : x'.spellings ≡ x.spellings
     pub scope : x'.scope ≡ x.scope
     pub declaration_tokens : x'.declaration_tokens ≡ x.declaration_tokens
 
   found_keeps : (r : Role) (i : ℕ) (x : WalkState) → Keeps x (visit_identifier r i x)
-  found_keeps role.LookedUp i x = record { writing = refl; scope = refl; declaration_tokens = refl }
-  found_keeps role.Declaring i x = record { writing = refl; scope = refl; declaration_tokens = refl }
-  found_keeps role.ClosingName i x = record { writing = refl; scope = refl; declaration_tokens = refl }
-  found_keeps role.FieldName i x = record { writing = refl; scope = refl; declaration_tokens = refl }
-  found_keeps role.ModuleName i x = record { writing = refl; scope = refl; declaration_tokens = refl }
+  found_keeps role.LookedUp i x = record { spellings = refl; scope = refl; declaration_tokens = refl }
+  found_keeps role.Declaring i x = record { spellings = refl; scope = refl; declaration_tokens = refl }
+  found_keeps role.ClosingName i x = record { spellings = refl; scope = refl; declaration_tokens = refl }
+  found_keeps role.FieldName i x = record { spellings = refl; scope = refl; declaration_tokens = refl }
+  found_keeps role.ModuleName i x = record { spellings = refl; scope = refl; declaration_tokens = refl }
 
   all_keep : (xs : List (Role × ℕ)) (x : WalkState) → Keeps x (visit_identifiers xs x)
-  all_keep [] x = record { writing = refl; scope = refl; declaration_tokens = refl }
+  all_keep [] x = record { spellings = refl; scope = refl; declaration_tokens = refl }
   all_keep (r ∷ rs) x =
       let one = found_keeps r.0 r.1 x in
       let rest = all_keep rs (visit_identifier r.0 r.1 x) in
-      record { writing = rest.writing ∙ one.writing; scope = rest.scope ∙ one.scope; declaration_tokens = rest.declaration_tokens ∙ one.declaration_tokens }
+      record { spellings = rest.spellings ∙ one.spellings; scope = rest.scope ∙ one.scope; declaration_tokens = rest.declaration_tokens ∙ one.declaration_tokens }
 
   all_see : (x y x' y' : WalkState) → Sees x y → Keeps x x' → Keeps y y' → Sees x' y'
-  all_see x y x' y' at k l = record { first = k.writing ∙ at.first; second = l.writing ∙ at.second; scope = k.scope ∙ (at.scope ∙ sym l.scope) }
+  all_see x y x' y' at k l = record { first = k.spellings ∙ at.first; second = l.spellings ∙ at.second; scope = k.scope ∙ (at.scope ∙ sym l.scope) }
 
   all_add : (xs : List (Role × ℕ)) (x y : WalkState) → Sees x y → Adds x y (visit_identifiers xs x) (visit_identifiers xs y)
   all_add [] x y at = adds_nothing x y
@@ -159,8 +159,8 @@ module _ (out : ℕ → Bool) (a b : Spellings) (same_name : (i : ℕ) → out i
       let l = all_keep (identifiers role.Declaring t) y in
       record {
         at = record {
-          first = k.writing ∙ at.first;
-          second = l.writing ∙ at.second;
+          first = k.spellings ∙ at.first;
+          second = l.spellings ∙ at.second;
           scope = k.scope ∙ (at.scope ∙ sym l.scope);
           declaration_tokens = k.declaration_tokens ∙ (at.declaration_tokens ∙ sym l.declaration_tokens);
           outside = subst (AllOut out) (sym k.declaration_tokens) at.outside;
@@ -215,9 +215,9 @@ module _ (out : ℕ → Bool) (a b : Spellings) (same_name : (i : ℕ) → out i
       let one = all_numbered is x y o at in
       then_shown (length x.declaration_tokens) (length y.declaration_tokens) (ap length at.declaration_tokens) (goes_then one (used_goes t (number_declarations is x) (number_declarations is y) one.at))
 
-  further_out : (ns : Tree ℕ (items further_name)) → AllOut out (identifier_names ns) → AllOut out (further_names ns)
+  further_out : (ns : Tree ℕ (items name_after_comma)) → AllOut out (identifier_names ns) → AllOut out (names_after_first ns)
   further_out end o = tt
-  further_out (more (then_name x) rest) o = (o.0, further_out rest o.1)
+  further_out (more (comma_then_name x) rest) o = (o.0, further_out rest o.1)
 
   listed_out : (ns : Tree ℕ names) → AllOut out (identifier_names ns) → AllOut out (names_in_list ns)
   listed_out (listed x rest) o = (o.0, further_out rest o.1)
@@ -248,9 +248,9 @@ module _ (out : ℕ → Bool) (a b : Spellings) (same_name : (i : ℕ) → out i
   section_goes (value_section ns t) x y o at = group_goes (names_in_list ns) t x y (listed_out ns (out_parts out (identifiers role.Declaring ns) (identifiers role.Declaring t) o).0) at
   section_goes (variable_section ns t) x y o at = group_goes (names_in_list ns) t x y (listed_out ns (out_parts out (identifiers role.Declaring ns) (identifiers role.Declaring t) o).0) at
 
-  sections_go : (fs : Tree ℕ (items further_section)) (x y : WalkState) → AllOut out (identifier_names fs) → Beside x y → Goes x y (visit_parameter_sections fs x) (visit_parameter_sections fs y)
+  sections_go : (fs : Tree ℕ (items section_after_semicolon)) (x y : WalkState) → AllOut out (identifier_names fs) → Beside x y → Goes x y (visit_parameter_sections fs x) (visit_parameter_sections fs y)
   sections_go end x y o at = goes_nowhere x y at
-  sections_go (more (then_section f) fs) x y o at =
+  sections_go (more (semicolon_then_section f) fs) x y o at =
       let parts = out_parts out (identifiers role.Declaring f) (identifiers role.Declaring fs) o in
       let one = section_goes f x y parts.0 at in
       goes_then one (sections_go fs (visit_parameter_section f x) (visit_parameter_section f y) parts.1 one.at)
@@ -265,15 +265,15 @@ module _ (out : ℕ → Bool) (a b : Spellings) (same_name : (i : ℕ) → out i
 
   pub constant_section_goes : (cs : Tree ℕ (maybe constants)) (x y : WalkState) → AllOut out (identifier_names cs) → Beside x y → Goes x y (visit_constant_section cs x) (visit_constant_section cs y)
   constant_section_goes none x y o at = goes_nowhere x y at
-  constant_section_goes (one (declares_constants cs)) x y o at = constants_go cs x y o at
+  constant_section_goes (one (declares_const_section cs)) x y o at = constants_go cs x y o at
 
   pub type_section_goes : (ts : Tree ℕ (maybe type_definitions)) (x y : WalkState) → AllOut out (identifier_names ts) → Beside x y → Goes x y (visit_type_section ts x) (visit_type_section ts y)
   type_section_goes none x y o at = goes_nowhere x y at
-  type_section_goes (one (declares_types ts)) x y o at = types_go ts x y o at
+  type_section_goes (one (declares_type_section ts)) x y o at = types_go ts x y o at
 
   pub variable_section_goes : (vs : Tree ℕ (maybe variables)) (x y : WalkState) → AllOut out (identifier_names vs) → Beside x y → Goes x y (visit_variable_section vs x) (visit_variable_section vs y)
   variable_section_goes none x y o at = goes_nowhere x y at
-  variable_section_goes (one (declares_variables vs)) x y o at = variables_go vs x y o at
+  variable_section_goes (one (declares_var_section vs)) x y o at = variables_go vs x y o at
 
   -- ---- blocks
 

@@ -7,19 +7,19 @@ use Rattle.std.proofs.Math.Seq.{drop-append_seam}
 use Rattle.std.proofs.lemmas.Bool.{and_parts, lt-ltb}
 use Rattle.ob0_tree.specs.declared.tree.Role.{Role}
 use Rattle.ob0_tree.specs.declared.tree.Role.TheVariants as role
-use Rattle.ob0_tree.specs.Order.{AreAscendingWithin, identifier_names, names_without_roles}
-use Rattle.ob0_tree.specs.Tree.{Tree, block, body, declares, declares_procedure, end, forms_block, identifiers, is_module, item, items, maybe, module_text, more, procedure}
+use Rattle.ob0_tree.specs.IdentifierIndexes.{AreAscendingWithin, identifier_names, names_without_roles}
+use Rattle.ob0_tree.specs.Tree.{Tree, block, body, declares, declares_procedure, end, forms_block, identifiers, forms_module, item, items, maybe, module_text, more, procedure}
 use Rattle.ob0_tree.proofs.AscendingNumbers.{AllBelow, ascend_first, ascend_past, ascend_second, before_one, below_more, below_second, leaves_append}
 use Rattle.ob0_language_names.specs.Names.{Name}
-use Rattle.ob0_language_names.specs.Parts.{procedure_name}
+use Rattle.ob0_language_names.specs.BlockParts.{procedure_name}
 use Rattle.ob0_scope_table.specs.OneBody.{closing_name, is_range_in_body_of_block, is_range_in_one_body, is_range_in_body_of_procedure, is_range_in_body_of_procedures, is_outside_range}
 use Rattle.ob0_scope_table.specs.Resolution.{declaring_names}
 use Rattle.ob0_scope_table.proofs.Plain.{declares_nothing, declaring_names-append}
 use Rattle.ob0_scope_numbering.specs.MarkWalk.{WalkState, initial_walk_state}
 use Rattle.ob0_scope_numbering.specs.IdentifierWalk.{state_after_heading, with_mark, number_declaration, visit_nondeclaring_tree, visit_block, visit_constant_section, visit_formals, visit_module, visit_procedure, visit_procedures, visit_type_section, visit_variable_section}
-use Rattle.ob0_scope_numbering.specs.Marks.{OrdinalMark}
-use Rattle.ob0_scope_numbering.specs.BodyWalk.{with_declarations_before, prefix_before_token, with_procedure_skipped, renumber_block, renumber_procedure, renumber_procedures}
-use Rattle.ob0_scope_numbering.specs.Written.{Spellings, spelling_at}
+use Rattle.ob0_scope_numbering.specs.OrdinalMarks.{OrdinalMark}
+use Rattle.ob0_scope_numbering.specs.BodyWalk.{with_declarations_before, prefix_before_token, with_skipped_procedure_name, renumber_block, renumber_procedure, renumber_procedures}
+use Rattle.ob0_scope_numbering.specs.IdentifierSpellings.{Spellings, spelling_at}
 use Rattle.ob0_scope_numbering.proofs.Alongside.{Adds, Alike, AllOut, Beside, Goes, adds_then, declared_goes, ending_goes, goes_then, heading_goes, marked_goes, out_parts, out_split, procedure_goes, procedures_go, used_adds, used_goes}
 use Rattle.ob0_scope_numbering.proofs.Covered.{Covers, above_out, below_block, below_out, below_procedures, covers_all, covers_both, covers_more, covers_none, covers_same, is_above_out}
 use Rattle.ob0_scope_numbering.proofs.Tabled.{marks_again}
@@ -103,8 +103,8 @@ module _ (old new : Spellings) (all : List ℕ) (bound low high : ℕ) (same : (
 
   -- states that the walk to the body hasn't counted some declarations yet
   pub record Behind (v w : WalkState) : Type 0 where
-    pub first : v.writing ≡ new
-    pub second : w.writing ≡ new
+    pub first : v.spellings ≡ new
+    pub second : w.spellings ≡ new
     pub scope : v.scope ≡ w.scope
     pub behind : List ℕ
     pub is : w.declaration_tokens ≡ v.declaration_tokens ++ behind
@@ -194,7 +194,7 @@ module _ (old new : Spellings) (all : List ℕ) (bound low high : ℕ) (same : (
       → AreAscendingWithin from (identifier_names q ++ (identifier_names ps ++ identifier_names statements)) to → (b : Bool) → nat_lt (closing_name q) low ≡ b
       → (if b then is_range_in_body_of_procedures low high ps statements else nat_le high (closing_name q) && is_range_in_body_of_procedure low high q) ≡ true
       → Reaches o w v (visit_nondeclaring_tree statements (visit_procedures ps (visit_procedure q o))) (visit_nondeclaring_tree statements (visit_procedures ps (visit_procedure q w)))
-      (if b then renumber_procedures all low ps statements (with_procedure_skipped (procedure_name q) (with_declarations_before all (procedure_name q) v)) else renumber_procedure all low q (with_declarations_before all (procedure_name q) v))
+      (if b then renumber_procedures all low ps statements (with_skipped_procedure_name (procedure_name q) (with_declarations_before all (procedure_name q) v)) else renumber_procedure all low q (with_declarations_before all (procedure_name q) v))
   one_procedure q ps statements o w v from to rest later here first at near on parts true e inside_them =
       let x = procedure_name q in
       let v₁ = with_declarations_before all x v in
@@ -207,16 +207,16 @@ module _ (old new : Spellings) (all : List ℕ) (bound low high : ℕ) (same : (
       let less : closing_name q < low = grind (arith, nat_tests) in
       let outside = below_out low high (identifier_names q) (procedure_below low q from to less (ascend_first from (identifier_names q) (identifier_names ps ++ identifier_names statements) to parts)) in
       let n = procedure_goes out old new same q o w outside near in
-      let behind₁ : Behind (with_procedure_skipped x v₁) w₁ = record {
+      let behind₁ : Behind (with_skipped_procedure_name x v₁) w₁ = record {
         first = on.first;
-        second = passed.at.writing;
+        second = passed.at.spellings;
         scope = (λ j. (spelling_at (on.first j) x, 7 + length (on.declaration_tokens j)) ∷ on.scope j) ∙ sym (passed.at.scope ∙ name_passed q w);
         behind = declaring_names (identifiers role.Declaring q);
         is = passed.declared ∙ ap (λ ds. ds ++ declaring_names (identifiers role.Declaring q)) (sym on.declaration_tokens);
       } in
       let tokens : tokens_of n.adds.seconds ≡ identifier_names q = tokens_added w.marks w₁.marks n.adds.seconds (identifier_names q) n.adds.second_is passed.tokens in
       let covered = covers_all out n.adds.seconds (subst (AllOut out) (sym tokens) outside) in
-      let r = later (visit_procedure q o) w₁ (with_procedure_skipped x v₁) from to rest inside_them (ascend_second from (identifier_names q) (identifier_names ps ++ identifier_names statements) to parts) next (at_itself passed.at) n.at behind₁ in
+      let r = later (visit_procedure q o) w₁ (with_skipped_procedure_name x v₁) from to rest inside_them (ascend_second from (identifier_names q) (identifier_names ps ++ identifier_names statements) to parts) next (at_itself passed.at) n.at behind₁ in
       record { near = goes_then out old new same n r.near; added = r.added; is = r.is; covers = covers_both out covered r.covers }
   one_procedure q ps statements o w v from to rest later here first at near on parts false e inside_it =
       let v₁ = with_declarations_before all (procedure_name q) v in
@@ -344,7 +344,7 @@ module _ (old new : Spellings) (all : List ℕ) (bound low high : ℕ) (same : (
     pub covers : Covers out (visit_module m (initial_walk_state new)).marks (marks_again all low m new)
 
   pub module_marked : (m : Tree ℕ module_text) (to : ℕ) → is_range_in_one_body low high m ≡ true → AreAscendingWithin 0 (identifier_names m) to → all ≡ declaring_names (identifiers role.Declaring m) → Marked m
-  module_marked (is_module x b closing) to lies rising declared =
+  module_marked (forms_module x b closing) to lies rising declared =
       let i = identifiers role.Declaring b in
       let last : List (Role × ℕ) = (role.ModuleName, closing) ∷ [] in
       let both = and_parts (nat_le high closing) (is_range_in_body_of_block low high b) lies in
@@ -355,7 +355,7 @@ module _ (old new : Spellings) (all : List ℕ) (bound low high : ℕ) (same : (
       let n = marked_goes out old new same x None None o w refl near in
       let o₁ = with_mark x None o in
       let w₁ = with_mark x None w in
-      let at : Itself w₁ = record { writing = refl; scope = refl; next = refl; before = (at_start new).before } in
+      let at : Itself w₁ = record { spellings = refl; scope = refl; next = refl; before = (at_start new).before } in
       let on : On w w₁ = record { first = refl; second = refl; scope = refl; declaration_tokens = refl; outside = tt } in
       let split : names_without_roles (i ++ last) ≡ names_without_roles i ++ (closing ∷ []) = leaves_append i last in
       let parts : AreAscendingWithin 0 ((x ∷ names_without_roles i) ++ (closing ∷ [])) to = subst (λ l. AreAscendingWithin 0 (x ∷ l) to) split rising in
@@ -373,6 +373,6 @@ module _ (old new : Spellings) (all : List ℕ) (bound low high : ℕ) (same : (
       let closed = subst (λ ms. Covers out ms []) (sym ends) (covers_more last_mark (is_above_out low high closing le) covers_none) in
       let covered : Covers out whole.seconds (r.added ++ []) = covers_both out opened (covers_both out r.covers closed) in
       record {
-        alike = subst (λ ms. Alike out ms (visit_module (is_module x b closing) w).marks) (sym whole.first_is) (subst (λ ms. Alike out whole.firsts ms) (sym whole.second_is) whole.alike);
+        alike = subst (λ ms. Alike out ms (visit_module (forms_module x b closing) w).marks) (sym whole.first_is) (subst (λ ms. Alike out whole.firsts ms) (sym whole.second_is) whole.alike);
         covers = subst (λ ms. Covers out ms (renumber_block all low b w).marks) (sym whole.second_is) (subst (Covers out whole.seconds) (append-nil r.added ∙ sym r.is) covered);
       }

@@ -5,20 +5,20 @@ use Rattle.std.proofs.Math.ListN.{length-set}
 use Rattle.std.specs.List.{list_any}
 use Rattle.ob0_scan.specs.TextWithTokens.{IsScan, TextWithTokens}
 use Rattle.ob0_tree.specs.declared.tree.Role.TheVariants as role
-use Rattle.ob0_tree.specs.Order.{AreAscendingWithin, identifier_names}
+use Rattle.ob0_tree.specs.IdentifierIndexes.{AreAscendingWithin, identifier_names}
 use Rattle.ob0_tree.specs.ParsedModule.{IsParsed, ParsedModule, tree_of}
 use Rattle.ob0_tree.specs.Tree.{identifiers}
 use Rattle.ob0_tree.proofs.Leaves.{ascending_bounds, ascending_lower, leaves_ascend}
 use Rattle.ob0_language_names.specs.Names.{naming_by_spelling}
 use Rattle.ob0_language_names.specs.Scopes.{label_from_ordinal}
-use Rattle.ob0_scope_table.specs.OneBody.{IsBodyChange, is_range_in_one_body, is_outside_range}
+use Rattle.ob0_scope_table.specs.OneBody.{ChangesSpellingsInOneBody, is_range_in_one_body, is_outside_range}
 use Rattle.ob0_scope_table.specs.Resolution.{declaring_names, ordinal_in}
 use Rattle.ob0_scope_table.proofs.OneBody.{text_out}
 use Rattle.ob0_scope_numbering.specs.MarkWalk.{initial_walk_state}
 use Rattle.ob0_scope_numbering.specs.IdentifierWalk.{visit_module}
-use Rattle.ob0_scope_numbering.specs.Marks.{OrdinalMark, with_marks}
+use Rattle.ob0_scope_numbering.specs.OrdinalMarks.{OrdinalMark, with_marks}
 use Rattle.ob0_scope_numbering.specs.BodyWalk.{renumber_module, initial_walk_state_with_table}
-use Rattle.ob0_scope_numbering.specs.Written.{original_spellings}
+use Rattle.ob0_scope_numbering.specs.IdentifierSpellings.{original_spellings}
 use Rattle.ob0_scope_numbering.proofs.Alongside.{Alike}
 use Rattle.ob0_scope_numbering.proofs.BodyMarks.{module_marked}
 use Rattle.ob0_scope_numbering.proofs.Covered.{Covers, covers_more, covers_none, covers_one, declaring_ascend}
@@ -90,7 +90,7 @@ covered_marks out table low high has (covers_more {ms} {ns} m e p) ascend within
     (kept_below ns table (m.token + 1) high m.token others here ∙ has.0 e, covered_marks out table (m.token + 1) high has.1 p ascend.1 within)
 
 -- The marks of the two texts are alike except in the range.
-pub body_alike : (old : TextWithTokens) (m : ParsedModule) (low high : ℕ) → IsParsed m → IsBodyChange old m low high
+pub body_alike : (old : TextWithTokens) (m : ParsedModule) (low high : ℕ) → IsParsed m → ChangesSpellingsInOneBody old m low high
     → Alike (is_outside_range low high) (visit_module (tree_of m) (initial_walk_state (original_spellings old))).marks (visit_module (tree_of m) (initial_walk_state (original_spellings m.source))).marks
 body_alike old m low high parsed change =
     let all = declaring_names (identifiers role.Declaring (tree_of m)) in
@@ -128,7 +128,7 @@ body_renumbered m low high table all parsed scan lies has declared within =
       elsewhere = λ i e. ap (λ (t : List (Option ℕ)). ordinal_in t i) made ∙ kept_elsewhere again table i (covers_absent out i with_mark.covers (ap (list_any (λ j. j == i)) passed.tokens ∙ e));
     }
 
-pub body_numbered : (old : TextWithTokens) (m : ParsedModule) (low high : ℕ) (table : List (Option ℕ)) (all : List ℕ) → IsParsed m → IsBodyChange old m low high → HasMarks (ordinal_in table) (visit_module (tree_of m) (initial_walk_state (original_spellings old))).marks
+pub body_numbered : (old : TextWithTokens) (m : ParsedModule) (low high : ℕ) (table : List (Option ℕ)) (all : List ℕ) → IsParsed m → ChangesSpellingsInOneBody old m low high → HasMarks (ordinal_in table) (visit_module (tree_of m) (initial_walk_state (original_spellings old))).marks
     → all ≡ declaring_names (identifiers role.Declaring (tree_of m)) → length m.source.tokens ≤ length table
     → Renumbered m table (renumber_module all low (tree_of m) (initial_walk_state_with_table (original_spellings m.source) table)).marks
 body_numbered old m low high table all parsed change has declared within =

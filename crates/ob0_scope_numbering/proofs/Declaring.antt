@@ -1,14 +1,14 @@
 -- Proves the loops over declarations: names after the first, sections of parameters, and
 -- declarations that are still to be shown.
 use Rattle.std.proofs.Common.{◌≡◌, ℕ, List, [], ◌∷◌, refl, ap}
-use Rattle.ob0_tree.specs.Tree.{one, then_name}
+use Rattle.ob0_tree.specs.Tree.{one, comma_then_name}
 use Rattle.ob0_tree.specs.declared.tree.ParameterSection.{ParameterSection}
-use Rattle.ob0_tree.specs.View.{items_of, formals_of_list, further_parameter_section_of}
-use Rattle.ob0_language_names.specs.Parts.{further_names}
+use Rattle.ob0_tree.specs.View.{items_of, formals_of_list, parameter_section_after_semicolon_of}
+use Rattle.ob0_language_names.specs.BlockParts.{names_after_first}
 use Rattle.ob0_scope_numbering.specs.TableWalk.{WalkState}
 use Rattle.ob0_scope_numbering.specs.IdentifierWalk.{with_visible_names_from, visit_formals, visit_parameter_sections}
 
-pub names_further : (xs : List ℕ) → further_names (items_of then_name xs) ≡ xs
+pub names_further : (xs : List ℕ) → names_after_first (items_of comma_then_name xs) ≡ xs
 names_further [] = refl
 names_further (x ∷ xs) = ap (λ l. x ∷ l) (names_further xs)
 
@@ -17,6 +17,6 @@ pub record Showing (first : ℕ) (start : WalkState) (index : ℕ) (now : WalkSt
   pub so_far : with_visible_names_from index now ≡ with_visible_names_from first start
   pub kept : now.declaration_tokens ≡ start.declaration_tokens
 
-pub sections_first : (ss : List ParameterSection) (v : WalkState) → visit_parameter_sections (items_of further_parameter_section_of ss) v ≡ visit_formals (one (formals_of_list ss)) v
+pub sections_first : (ss : List ParameterSection) (v : WalkState) → visit_parameter_sections (items_of parameter_section_after_semicolon_of ss) v ≡ visit_formals (one (formals_of_list ss)) v
 sections_first [] v = refl
 sections_first (s ∷ ss) v = refl

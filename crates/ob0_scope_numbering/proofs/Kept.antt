@@ -5,19 +5,19 @@ use Rattle.std.proofs.Math.Nat.{min-eq_left}
 use Rattle.ob0_scan.specs.TextWithTokens.{IsScan}
 use Rattle.ob0_tree.specs.declared.tree.Role.{Role}
 use Rattle.ob0_tree.specs.declared.tree.Role.TheVariants as role
-use Rattle.ob0_tree.specs.Order.{AreAscendingWithin, names_without_roles}
+use Rattle.ob0_tree.specs.IdentifierIndexes.{AreAscendingWithin, names_without_roles}
 use Rattle.ob0_tree.specs.ParsedModule.{IsParsed, ParsedModule, tree_of}
 use Rattle.ob0_tree.specs.Tree.{identifiers}
 use Rattle.ob0_tree.proofs.Leaves.{leaves_ascend}
-use Rattle.ob0_scope_table.specs.Entries.{max_entry_ordinal, stored_ordinal}
+use Rattle.ob0_scope_table.specs.OrdinalEntries.{max_entry_ordinal, stored_ordinal}
 use Rattle.ob0_language_names.specs.Names.{naming_by_spelling}
 use Rattle.ob0_scope_table.specs.Resolution.{ordinal_in}
 use Rattle.ob0_scope_table.proofs.FewTokens.{few_tokens}
 use Rattle.ob0_language_names.specs.Scopes.{label_from_ordinal}
 use Rattle.ob0_scope_numbering.specs.MarkWalk.{initial_walk_state}
 use Rattle.ob0_scope_numbering.specs.IdentifierWalk.{visit_module}
-use Rattle.ob0_scope_numbering.specs.Marks.{OrdinalMark, with_marks}
-use Rattle.ob0_scope_numbering.specs.Written.{Spellings}
+use Rattle.ob0_scope_numbering.specs.OrdinalMarks.{OrdinalMark, with_marks}
+use Rattle.ob0_scope_numbering.specs.IdentifierSpellings.{Spellings}
 use Rattle.ob0_scope_numbering.proofs.Passing.{AreInOrder, HasMarks, IsBefore, at_start, module_passed, tokens_of}
 use Rattle.ob0_scope_numbering.proofs.Tables.{marks_in_table}
 

@@ -11,7 +11,7 @@ use Rattle.std.specs.Cmp.{nat_cmp_is}
 use Rattle.std.specs.Cmp.Lexicographic.{slice_cmp}
 use Rattle.std.specs.Ordering.{nat_cmp, ordering_then}
 use Rattle.ob0_scope_numbering.specs.declared.newest.NameEntry.{NameEntry}
-use Rattle.ob0_scope_numbering.specs.Keys.{NameKey, compare_keys, compare_name_with_key, suffix_number}
+use Rattle.ob0_scope_numbering.specs.NameKeys.{NameKey, compare_keys, compare_name_with_key, suffix_number}
 use Rattle.ob0_language_names.specs.Names.{Name, same_name}
 use Rattle.ob0_language_names.proofs.NameEquality.{same_name-comm, same_name-refl}
 use Rattle.ob0_scope_numbering.specs.NewestNames.{AreNamePositions, SetsNewestBinding, KeepsNewestBindings, newest_binding_in, position_of_name}

@@ -5,16 +5,16 @@ use Rattle.std.proofs.lemmas.List.{map-append}
 use Rattle.std.proofs.Math.Seq.{drop-append-add}
 use Rattle.ob0_tree.specs.declared.tree.Role.{Role}
 use Rattle.ob0_tree.specs.declared.tree.Role.TheVariants as role
-use Rattle.ob0_tree.specs.Tree.{Sort, Tree, block, constant, constants, declares, declares_constant, declares_constants, declares_procedure, declares_type, declares_types, declares_variable, declares_variables, end, formals, further_name, further_section, forms_block, identifiers, is_module, item, items, listed, mapped_tree, maybe, module_text, more, names, no_formals, none, one, procedure, section, some_formals, then_name, then_section, type_definition, type_definitions, value_section, variable, variable_section, variables, written_type}
-use Rattle.ob0_tree.specs.Order.{names_without_roles}
+use Rattle.ob0_tree.specs.Tree.{Sort, Tree, block, constant, constants, declares, declares_constant, declares_const_section, declares_procedure, declares_type, declares_type_section, declares_variable, declares_var_section, end, formals, name_after_comma, section_after_semicolon, forms_block, identifiers, forms_module, item, items, listed, mapped_tree, maybe, module_text, more, names, no_formals, none, one, procedure, section, some_formals, comma_then_name, semicolon_then_section, type_definition, type_definitions, value_section, variable, variable_section, variables, written_type}
+use Rattle.ob0_tree.specs.IdentifierIndexes.{names_without_roles}
 use Rattle.ob0_tree.specs.Places.{token_value_at}
-use Rattle.ob0_scope_numbering.specs.Written.{Spellings, spelling_at, tree_with_spellings}
+use Rattle.ob0_scope_numbering.specs.IdentifierSpellings.{Spellings, spelling_at, tree_with_spellings}
 use Rattle.ob0_tree.proofs.Occurring.{looked_up_only, looked_up_only-append}
-use Rattle.ob0_scope_numbering.specs.Marks.{OrdinalMark}
+use Rattle.ob0_scope_numbering.specs.OrdinalMarks.{OrdinalMark}
 use Rattle.ob0_language_names.specs.Names.{Name, naming_by_spelling, same_name}
-use Rattle.ob0_language_names.specs.Parts.{constant_names, formal_names, formal_sections, further_names, module_block, declared_type_names, names_in_list, procedure_name, section_constants, parameter_section_names, section_types, section_variables, variable_names}
+use Rattle.ob0_language_names.specs.BlockParts.{constant_names, formal_names, formal_sections, names_after_first, module_block, declared_type_names, names_in_list, procedure_name, section_constants, parameter_section_names, section_types, section_variables, variable_names}
 use Rattle.ob0_scope_table.specs.Resolution.{declaring_names}
-use Rattle.ob0_language_names.specs.Scopes.{Labelling, Scope, ordinal_after_block, ordinal_after_names, ordinal_after_procedure, ordinal_after_procedures, body_scope, declare_names, declare_procedure_names, ordinal_in_scope, predeclared_scope, relabel_block, relabel_constant_section, relabel_constants, relabel_formals, relabel_further_names, relabel_names, relabel_procedure, relabel_procedures, relabel_parameter_section, relabel_parameter_sections, relabel_type_section, relabel_types, relabel_uses, relabel_variable_section, relabel_variables, relabel_module}
+use Rattle.ob0_language_names.specs.Scopes.{Labelling, Scope, ordinal_after_block, ordinal_after_names, ordinal_after_procedure, ordinal_after_procedure_list, body_scope, declare_names, declare_procedure_names, ordinal_in_scope, predeclared_scope, relabel_block, relabel_constant_section, relabel_constants, relabel_formals, relabel_names_after_first, relabel_names, relabel_procedure, relabel_procedure_list, relabel_parameter_section, relabel_parameter_section_list, relabel_type_section, relabel_types, relabel_uses, relabel_variable_section, relabel_variables, relabel_module}
 use Rattle.ob0_scope_numbering.specs.MarkWalk.{WalkState, initial_walk_state}
 use Rattle.ob0_scope_numbering.specs.IdentifierWalk.{state_after_procedure_block, state_after_heading, visit_identifier, visit_identifiers, with_oldest_bindings, with_mark, number_declarations, number_declaration, with_visible_names_from, visit_nondeclaring_tree, visit_block, visit_constant, visit_constant_section, visit_constants, visit_formals, visit_module, visit_procedure, visit_procedures, visit_parameter_section, visit_parameter_sections, visit_type, visit_type_section, visit_types, visit_variable, visit_variable_section, visit_variables}
 use Rattle.ob0_scope_numbering.proofs.Agreed.{AllFit, agreed}
@@ -91,17 +91,17 @@ used_in_order table src s k ((role.FieldName, i) ∷ xs) rest low e h order = (s
 used_in_order table src s k ((role.ModuleName, i) ∷ xs) rest low e h order = (subst (IsBefore k) (sym h.0) tt, used_in_order table src s k xs rest low e h.1 order)
 
 pub record At (v : WalkState) (src : Spellings) (s : Scope Name) (k : ℕ) : Type 0 where
-  pub writing : v.writing ≡ src
+  pub spellings : v.spellings ≡ src
   pub scope : v.scope ≡ s
   pub next : 7 + length v.declaration_tokens ≡ k
   pub before : AreBefore k s
 
 -- The state has its own visible names and its own number of declarations.
 pub at_itself : {v : WalkState} {src : Spellings} {s : Scope Name} {k : ℕ} → At v src s k → At v src v.scope (7 + length v.declaration_tokens)
-at_itself {v = v} {k = k} at = record { writing = at.writing; scope = refl; next = refl; before = subst (λ n. AreBefore n v.scope) (sym at.next) (subst (AreBefore k) (sym at.scope) at.before) }
+at_itself {v = v} {k = k} at = record { spellings = at.spellings; scope = refl; next = refl; before = subst (λ n. AreBefore n v.scope) (sym at.next) (subst (AreBefore k) (sym at.scope) at.before) }
 
 pub at_start : (src : Spellings) → At (initial_walk_state src) src (predeclared_scope naming_by_spelling) 7
-at_start src = record { writing = refl; scope = refl; next = refl; before = names_before 0 (map naming_by_spelling.predeclared (0 ∷ 1 ∷ 2 ∷ 3 ∷ 4 ∷ 5 ∷ 6 ∷ [])) [] 7 (omega arith) tt }
+at_start src = record { spellings = refl; scope = refl; next = refl; before = names_before 0 (map naming_by_spelling.predeclared (0 ∷ 1 ∷ 2 ∷ 3 ∷ 4 ∷ 5 ∷ 6 ∷ [])) [] 7 (omega arith) tt }
 
 joined : {X Y : Type 0} (f : List X → List Y) (xs ys : List X) (a b c : List Y) → f (xs ++ ys) ≡ f xs ++ f ys → b ≡ a ++ f xs → c ≡ b ++ f ys → c ≡ a ++ f (xs ++ ys)
 joined f xs ys a b c split e g = g ∙ (ap (λ z. z ++ f ys) e ∙ (append_assoc a (f xs) (f ys) ∙ ap (λ z. a ++ z) (sym split)))
@@ -145,12 +145,12 @@ left_extends {s = s} e =
 
 -- states which state follows the identifiers of a part that declares nothing
 record FoundAll (table : ℕ → Option ℕ) (src : Spellings) (v w : WalkState) (xs : List (Role × ℕ)) : Type 0 where
-  writing : w.writing ≡ v.writing
+  spellings : w.spellings ≡ v.spellings
   scope : w.scope ≡ v.scope
   kept : w.declaration_tokens ≡ v.declaration_tokens
   used : w.uses ≡ v.uses ++ looked_up_only xs
   tokens : tokens_of w.marks ≡ tokens_of v.marks ++ names_without_roles xs
-  agree : v.writing ≡ src → HasMarks table w.marks → HasMarks table v.marks × AllFit table src v.scope xs
+  agree : v.spellings ≡ src → HasMarks table w.marks → HasMarks table v.marks × AllFit table src v.scope xs
 
 mark_added : (ms : List OrdinalMark) (m : OrdinalMark) → tokens_of (ms ++ (m ∷ [])) ≡ tokens_of ms ++ (m.token ∷ [])
 mark_added ms m = map-append (λ m. m.token) ms (m ∷ [])
@@ -160,9 +160,9 @@ found_none table src i v h = let m = marks_split table v.marks (record { token =
 
 found_one : (table : ℕ → Option ℕ) (src : Spellings) (r : Role) (i : ℕ) (v : WalkState) → FoundAll table src v (visit_identifier r i v) ((r, i) ∷ [])
 found_one table src role.LookedUp i v =
-    let m : OrdinalMark = record { token = i; ordinal = ordinal_in_scope naming_by_spelling v.scope (spelling_at v.writing i) } in
+    let m : OrdinalMark = record { token = i; ordinal = ordinal_in_scope naming_by_spelling v.scope (spelling_at v.spellings i) } in
     record {
-      writing = refl;
+      spellings = refl;
       scope = refl;
       kept = refl;
       used = refl;
@@ -171,24 +171,24 @@ found_one table src role.LookedUp i v =
           let parts = marks_split table v.marks (m ∷ []) h in
           (parts.0, (parts.1.0 ∙ ap (λ z. ordinal_in_scope naming_by_spelling v.scope (spelling_at z i)) e, tt));
     }
-found_one table src role.Declaring i v = record { writing = refl; scope = refl; kept = refl; used = sym (append-nil v.uses); tokens = mark_added v.marks (record { token = i; ordinal = None }); agree = λ e h. let f = found_none table src i v h in (f.0, (f.1, tt)) }
-found_one table src role.ClosingName i v = record { writing = refl; scope = refl; kept = refl; used = sym (append-nil v.uses); tokens = mark_added v.marks (record { token = i; ordinal = None }); agree = λ e h. let f = found_none table src i v h in (f.0, (f.1, tt)) }
-found_one table src role.FieldName i v = record { writing = refl; scope = refl; kept = refl; used = sym (append-nil v.uses); tokens = mark_added v.marks (record { token = i; ordinal = None }); agree = λ e h. let f = found_none table src i v h in (f.0, (f.1, tt)) }
-found_one table src role.ModuleName i v = record { writing = refl; scope = refl; kept = refl; used = sym (append-nil v.uses); tokens = mark_added v.marks (record { token = i; ordinal = None }); agree = λ e h. let f = found_none table src i v h in (f.0, (f.1, tt)) }
+found_one table src role.Declaring i v = record { spellings = refl; scope = refl; kept = refl; used = sym (append-nil v.uses); tokens = mark_added v.marks (record { token = i; ordinal = None }); agree = λ e h. let f = found_none table src i v h in (f.0, (f.1, tt)) }
+found_one table src role.ClosingName i v = record { spellings = refl; scope = refl; kept = refl; used = sym (append-nil v.uses); tokens = mark_added v.marks (record { token = i; ordinal = None }); agree = λ e h. let f = found_none table src i v h in (f.0, (f.1, tt)) }
+found_one table src role.FieldName i v = record { spellings = refl; scope = refl; kept = refl; used = sym (append-nil v.uses); tokens = mark_added v.marks (record { token = i; ordinal = None }); agree = λ e h. let f = found_none table src i v h in (f.0, (f.1, tt)) }
+found_one table src role.ModuleName i v = record { spellings = refl; scope = refl; kept = refl; used = sym (append-nil v.uses); tokens = mark_added v.marks (record { token = i; ordinal = None }); agree = λ e h. let f = found_none table src i v h in (f.0, (f.1, tt)) }
 
 found_every : (table : ℕ → Option ℕ) (src : Spellings) (xs : List (Role × ℕ)) (v : WalkState) → FoundAll table src v (visit_identifiers xs v) xs
-found_every table src [] v = record { writing = refl; scope = refl; kept = refl; used = sym (append-nil v.uses); tokens = sym (append-nil (tokens_of v.marks)); agree = λ e h. (h, tt) }
+found_every table src [] v = record { spellings = refl; scope = refl; kept = refl; used = sym (append-nil v.uses); tokens = sym (append-nil (tokens_of v.marks)); agree = λ e h. (h, tt) }
 found_every table src (x ∷ xs) v =
     let a = found_one table src x.0 x.1 v in
     let b = found_every table src xs (visit_identifier x.0 x.1 v) in
     record {
-      writing = b.writing ∙ a.writing;
+      spellings = b.spellings ∙ a.spellings;
       scope = b.scope ∙ a.scope;
       kept = b.kept ∙ a.kept;
       used = joined looked_up_only (x ∷ []) xs _ _ _ (looked_up_only-append (x ∷ []) xs) a.used b.used;
       tokens = joined names_without_roles (x ∷ []) xs _ _ _ (map-append (λ x. x.1) (x ∷ []) xs) a.tokens b.tokens;
       agree = λ e h.
-          let later = b.agree (a.writing ∙ e) h in
+          let later = b.agree (a.spellings ∙ e) h in
           let now = a.agree e later.0 in
           (now.0, (now.1.0, subst (λ s. AllFit table src s xs) a.scope later.1));
     }
@@ -237,7 +237,7 @@ module _ {M : Type 0} (table : ℕ → Option ℕ) (label : Labelling Name M) (s
   pass_is : {a b : WalkState} {xs ys : List (Role × ℕ)} {s s' : Scope Name} {k k' : ℕ} {P : Type 0} → xs ≡ ys → s ≡ s' → k ≡ k' → Passes a b xs s k P → Passes a b ys s' k' P
   pass_is {a = a} {s = s} {s' = s'} {k = k} e f g p =
       record {
-        at = record { writing = p.at.writing; scope = p.at.scope ∙ f; next = p.at.next ∙ g; before = subst (λ n. AreBefore n s') g (subst (AreBefore k) f p.at.before) };
+        at = record { spellings = p.at.spellings; scope = p.at.scope ∙ f; next = p.at.next ∙ g; before = subst (λ n. AreBefore n s') g (subst (AreBefore k) f p.at.before) };
         declared = p.declared ∙ ap (λ ids. a.declaration_tokens ++ declaring_names ids) e;
         used = p.used ∙ ap (λ ids. a.uses ++ looked_up_only ids) e;
         tokens = p.tokens ∙ ap (λ ids. tokens_of a.marks ++ names_without_roles ids) e;
@@ -252,15 +252,15 @@ module _ {M : Type 0} (table : ℕ → Option ℕ) (label : Labelling Name M) (s
       let plain = (declares_nothing is_plain t).plain in
       let f = found_every table src (identifiers role.Declaring t) v in
       record {
-        at = record { writing = f.writing ∙ at.writing; scope = f.scope ∙ at.scope; next = ap (λ ds. 7 + length ds) f.kept ∙ at.next; before = at.before };
+        at = record { spellings = f.spellings ∙ at.spellings; scope = f.scope ∙ at.scope; next = ap (λ ds. 7 + length ds) f.kept ∙ at.next; before = at.before };
         declared = f.kept ∙ (sym (append-nil v.declaration_tokens) ∙ ap (λ ds. v.declaration_tokens ++ ds) (sym plain));
         used = f.used;
         tokens = f.tokens;
         agree = λ h.
-            let x = f.agree at.writing h in
+            let x = f.agree at.spellings h in
             (x.0, (agreed table label src s value role.Declaring (λ i e. e) t).reads (subst (λ s. AllFit table src s (identifiers role.Declaring t)) at.scope x.1));
         in_order = λ h later o.
-            let fit = subst (λ s. AllFit table src s (identifiers role.Declaring t)) at.scope (f.agree at.writing h).1 in
+            let fit = subst (λ s. AllFit table src s (identifiers role.Declaring t)) at.scope (f.agree at.spellings h).1 in
             subst (λ n. AreInOrder table n (identifiers role.Declaring t ++ later)) (sym at.next) (used_in_order table src s k (identifiers role.Declaring t) later at.before plain fit o);
       }
 
@@ -268,7 +268,7 @@ module _ {M : Type 0} (table : ℕ → Option ℕ) (label : Labelling Name M) (s
   number_passed x v s k at =
       let m : OrdinalMark = record { token = x; ordinal = Some (7 + length v.declaration_tokens) } in
       record {
-        at = record { writing = at.writing; scope = at.scope; next = omega (arith, length-append v.declaration_tokens (x ∷ []), at.next); before = before_later k (suc k) s (omega arith) at.before };
+        at = record { spellings = at.spellings; scope = at.scope; next = omega (arith, length-append v.declaration_tokens (x ∷ []), at.next); before = before_later k (suc k) s (omega arith) at.before };
         declared = refl;
         used = sym (append-nil v.uses);
         tokens = mark_added v.marks m;
@@ -281,7 +281,7 @@ module _ {M : Type 0} (table : ℕ → Option ℕ) (label : Labelling Name M) (s
   mark_passed r x ordinal v s k no_declaration no_use low at =
       let m : OrdinalMark = record { token = x; ordinal = ordinal } in
       record {
-        at = record { writing = at.writing; scope = at.scope; next = at.next; before = at.before };
+        at = record { spellings = at.spellings; scope = at.scope; next = at.next; before = at.before };
         declared = sym (append-nil v.declaration_tokens) ∙ ap (λ ds. v.declaration_tokens ++ ds) (sym no_declaration);
         used = sym (append-nil v.uses) ∙ ap (λ us. v.uses ++ us) (sym no_use);
         tokens = mark_added v.marks m;
@@ -305,23 +305,23 @@ module _ {M : Type 0} (table : ℕ → Option ℕ) (label : Labelling Name M) (s
       let here = number_passed x v s k at in
       pass_to (pass_then here (numbers_passed xs (number_declaration x v) s (suc k) here.at)) (λ p. (p.first, p.second))
 
-  further_declaring : (ns : Tree ℕ (items further_name)) → all_declaring (further_names ns) ≡ identifiers role.Declaring ns
+  further_declaring : (ns : Tree ℕ (items name_after_comma)) → all_declaring (names_after_first ns) ≡ identifiers role.Declaring ns
   further_declaring end = refl
-  further_declaring (more (then_name x) rest) = λ i. (role.Declaring, x) ∷ further_declaring rest i
+  further_declaring (more (comma_then_name x) rest) = λ i. (role.Declaring, x) ∷ further_declaring rest i
 
   names_declaring : (ns : Tree ℕ names) → all_declaring (names_in_list ns) ≡ identifiers role.Declaring ns
   names_declaring (listed x rest) = λ i. (role.Declaring, x) ∷ further_declaring rest i
 
-  further_named : (ns : Tree ℕ (items further_name)) → map (spelling_at src) (further_names ns) ≡ further_names (spelled ns)
+  further_named : (ns : Tree ℕ (items name_after_comma)) → map (spelling_at src) (names_after_first ns) ≡ names_after_first (spelled ns)
   further_named end = refl
-  further_named (more (then_name x) rest) = λ i. spelling_at src x ∷ further_named rest i
+  further_named (more (comma_then_name x) rest) = λ i. spelling_at src x ∷ further_named rest i
 
   names_named : (ns : Tree ℕ names) → map (spelling_at src) (names_in_list ns) ≡ names_in_list (spelled ns)
   names_named (listed x rest) = λ i. spelling_at src x ∷ further_named rest i
 
-  further_agree : (ns : Tree ℕ (items further_name)) (k : ℕ) → HasNumbers k (further_names ns) → relabel_further_names label k (spelled ns) ≡ by_table ns
+  further_agree : (ns : Tree ℕ (items name_after_comma)) (k : ℕ) → HasNumbers k (names_after_first ns) → relabel_names_after_first label k (spelled ns) ≡ by_table ns
   further_agree end k h = refl
-  further_agree (more (then_name x) rest) k h = λ i. more (then_name (label (sym h.0 i) (spelling_at src x))) (further_agree rest (suc k) h.1 i)
+  further_agree (more (comma_then_name x) rest) k h = λ i. more (comma_then_name (label (sym h.0 i) (spelling_at src x))) (further_agree rest (suc k) h.1 i)
 
   names_agree : (ns : Tree ℕ names) (k : ℕ) → HasNumbers k (names_in_list ns) → relabel_names label k (spelled ns) ≡ by_table ns
   names_agree (listed x rest) k h = λ i. listed (label (sym h.0 i) (spelling_at src x)) (further_agree rest (suc k) h.1 i)
@@ -339,11 +339,11 @@ module _ {M : Type 0} (table : ℕ → Option ℕ) (label : Labelling Name M) (s
       → Passes a (with_visible_names_from (length a.declaration_tokens) b) xs (declare_names k ns s') k' P
   show_passed {a = a} {b = b} {xs = xs} {s' = s'} {k = k} {k' = k'} ns at are p =
       let left : drop (length a.declaration_tokens) b.declaration_tokens ≡ declaring_names xs = ap (drop (length a.declaration_tokens)) p.declared ∙ drop_past a.declaration_tokens (declaring_names xs) in
-      let visible : declare_names (7 + length a.declaration_tokens) (map (spelling_at b.writing) (drop (length a.declaration_tokens) b.declaration_tokens)) b.scope ≡ declare_names k ns s' =
-      (λ i. declare_names (at.next i) (map (spelling_at (p.at.writing i)) (left i)) (p.at.scope i)) ∙ ap (λ ns. declare_names k ns s') are in
+      let visible : declare_names (7 + length a.declaration_tokens) (map (spelling_at b.spellings) (drop (length a.declaration_tokens) b.declaration_tokens)) b.scope ≡ declare_names k ns s' =
+      (λ i. declare_names (at.next i) (map (spelling_at (p.at.spellings i)) (left i)) (p.at.scope i)) ∙ ap (λ ns. declare_names k ns s') are in
       let count : k + length ns ≤ k' = omega (arith, at.next, p.at.next, ap length p.declared, length-append a.declaration_tokens (declaring_names xs), length-map (spelling_at src) (declaring_names xs), ap length are) in
       record {
-        at = record { writing = p.at.writing; scope = visible; next = p.at.next; before = names_before k ns s' k' count p.at.before };
+        at = record { spellings = p.at.spellings; scope = visible; next = p.at.next; before = names_before k ns s' k' count p.at.before };
         declared = p.declared;
         used = p.used;
         tokens = p.tokens;
@@ -410,25 +410,25 @@ module _ {M : Type 0} (table : ℕ → Option ℕ) (label : Labelling Name M) (s
   section_passed (value_section ns t) v s k at = pass_to (group_passed ns t v s k at) (λ p i. value_section (p.first i) (p.second i))
   section_passed (variable_section ns t) v s k at = pass_to (group_passed ns t v s k at) (λ p i. variable_section (p.first i) (p.second i))
 
-  sections_passed : (fs : Tree ℕ (items further_section)) (v : WalkState) (s : Scope Name) (k : ℕ) → At v src s k
+  sections_passed : (fs : Tree ℕ (items section_after_semicolon)) (v : WalkState) (s : Scope Name) (k : ℕ) → At v src s k
       → Passes v (visit_parameter_sections fs v) (identifiers role.Declaring fs) (declare_names k (formal_names (spelled fs)) s) (ordinal_after_names k (formal_names (spelled fs)))
-      (relabel_parameter_sections naming_by_spelling label s k (spelled fs) ≡ by_table fs)
+      (relabel_parameter_section_list naming_by_spelling label s k (spelled fs) ≡ by_table fs)
   sections_passed end v s k at = pass_to (pass_nothing v s k at) (λ h. refl)
-  sections_passed (more (then_section f) fs) v s k at =
+  sections_passed (more (semicolon_then_section f) fs) v s k at =
       let xs = parameter_section_names (spelled f) in
       let rest = formal_names (spelled fs) in
       let a = section_passed f v s k at in
       pass_is refl (sym (declare_names-append k xs rest s)) (sym (ordinal_after_names-append k xs rest))
       (pass_to (pass_then a (sections_passed fs (visit_parameter_section f v) (declare_names k xs s) (ordinal_after_names k xs) a.at))
-      (λ p i. more (then_section (p.first i)) (p.second i)))
+      (λ p i. more (semicolon_then_section (p.first i)) (p.second i)))
 
   section_declaring : (f : Tree ℕ section) → map (spelling_at src) (declaring_names (identifiers role.Declaring f)) ≡ parameter_section_names (spelled f)
   section_declaring (value_section ns t) = ap (map (spelling_at src)) (group_declaring ns t) ∙ names_named ns
   section_declaring (variable_section ns t) = ap (map (spelling_at src)) (group_declaring ns t) ∙ names_named ns
 
-  sections_declaring : (fs : Tree ℕ (items further_section)) → map (spelling_at src) (declaring_names (identifiers role.Declaring fs)) ≡ formal_names (spelled fs)
+  sections_declaring : (fs : Tree ℕ (items section_after_semicolon)) → map (spelling_at src) (declaring_names (identifiers role.Declaring fs)) ≡ formal_names (spelled fs)
   sections_declaring end = refl
-  sections_declaring (more (then_section f) fs) =
+  sections_declaring (more (semicolon_then_section f) fs) =
       let xs = identifiers role.Declaring f in
       let ys = identifiers role.Declaring fs in
       ap (map (spelling_at src)) (declaring_names-append xs ys) ∙ (map-append (spelling_at src) (declaring_names xs) (declaring_names ys) ∙ (λ i. section_declaring f i ++ sections_declaring fs i))
@@ -449,30 +449,30 @@ module _ {M : Type 0} (table : ℕ → Option ℕ) (label : Labelling Name M) (s
   formals_declaring : (fs : Tree ℕ (maybe formals)) → map (spelling_at src) (declaring_names (identifiers role.Declaring fs)) ≡ formal_names (formal_sections (spelled fs))
   formals_declaring none = refl
   formals_declaring (one no_formals) = refl
-  formals_declaring (one (some_formals f fs)) = sections_declaring (more (then_section f) fs)
+  formals_declaring (one (some_formals f fs)) = sections_declaring (more (semicolon_then_section f) fs)
 
   pub constant_section_passed : (cs : Tree ℕ (maybe constants)) (v : WalkState) (s : Scope Name) (k : ℕ) → At v src s k
       → Passes v (visit_constant_section cs v) (identifiers role.Declaring cs) (declare_names k (constant_names (section_constants (spelled cs))) s) (ordinal_after_names k (constant_names (section_constants (spelled cs))))
       (relabel_constant_section naming_by_spelling label s k (spelled cs) ≡ by_table cs)
   constant_section_passed none v s k at = pass_to (pass_nothing v s k at) (λ h. refl)
-  constant_section_passed (one (declares_constants cs)) v s k at = pass_to (constants_passed cs v s k at) (λ p i. one (declares_constants (p i)))
+  constant_section_passed (one (declares_const_section cs)) v s k at = pass_to (constants_passed cs v s k at) (λ p i. one (declares_const_section (p i)))
 
   pub type_section_passed : (ts : Tree ℕ (maybe type_definitions)) (v : WalkState) (s : Scope Name) (k : ℕ) → At v src s k
       → Passes v (visit_type_section ts v) (identifiers role.Declaring ts) (declare_names k (declared_type_names (section_types (spelled ts))) s) (ordinal_after_names k (declared_type_names (section_types (spelled ts))))
       (relabel_type_section naming_by_spelling label s k (spelled ts) ≡ by_table ts)
   type_section_passed none v s k at = pass_to (pass_nothing v s k at) (λ h. refl)
-  type_section_passed (one (declares_types ts)) v s k at = pass_to (types_passed ts v s k at) (λ p i. one (declares_types (p i)))
+  type_section_passed (one (declares_type_section ts)) v s k at = pass_to (types_passed ts v s k at) (λ p i. one (declares_type_section (p i)))
 
   pub variable_section_passed : (vs : Tree ℕ (maybe variables)) (v : WalkState) (s : Scope Name) (k : ℕ) → At v src s k
       → Passes v (visit_variable_section vs v) (identifiers role.Declaring vs) (declare_names k (variable_names (section_variables (spelled vs))) s) (ordinal_after_names k (variable_names (section_variables (spelled vs))))
       (relabel_variable_section naming_by_spelling label s k (spelled vs) ≡ by_table vs)
   variable_section_passed none v s k at = pass_to (pass_nothing v s k at) (λ h. refl)
-  variable_section_passed (one (declares_variables vs)) v s k at = pass_to (variables_passed vs v s k at) (λ p i. one (declares_variables (p i)))
+  variable_section_passed (one (declares_var_section vs)) v s k at = pass_to (variables_passed vs v s k at) (λ p i. one (declares_var_section (p i)))
 
   left_passed : {a b : WalkState} {xs : List (Role × ℕ)} {s s' : Scope Name} {k' : ℕ} {P : Type 0} (outer : ℕ) → outer ≡ length s → Extends s s' → Passes a b xs s' k' P → Passes a (with_oldest_bindings outer b) xs s k' P
   left_passed {b = b} {s = s} {k' = k'} outer count extends p =
       record {
-        at = record { writing = p.at.writing; scope = (λ i. drop (length (p.at.scope i) - count i) (p.at.scope i)) ∙ left_extends extends; next = p.at.next; before = older_before k' extends.newer s (subst (AreBefore k') extends.is p.at.before) };
+        at = record { spellings = p.at.spellings; scope = (λ i. drop (length (p.at.scope i) - count i) (p.at.scope i)) ∙ left_extends extends; next = p.at.next; before = older_before k' extends.newer s (subst (AreBefore k') extends.is p.at.before) };
         declared = p.declared;
         used = p.used;
         tokens = p.tokens;
@@ -513,8 +513,8 @@ module _ {M : Type 0} (table : ℕ → Option ℕ) (label : Labelling Name M) (s
         (λ p i. forms_block (declares (p.first.first i) (p.first.second.first i) (p.first.second.second.first i) (p.first.second.second.second i)) (p.second i))
 
     pub procedures_passed : (ps : Tree ℕ (items procedure)) (v : WalkState) (s : Scope Name) (k : ℕ) → At v src s k
-        → Passes v (visit_procedures ps v) (identifiers role.Declaring ps) (declare_procedure_names k (spelled ps) s) (ordinal_after_procedures k (spelled ps))
-        (relabel_procedures naming_by_spelling label s k (spelled ps) ≡ by_table ps)
+        → Passes v (visit_procedures ps v) (identifiers role.Declaring ps) (declare_procedure_names k (spelled ps) s) (ordinal_after_procedure_list k (spelled ps))
+        (relabel_procedure_list naming_by_spelling label s k (spelled ps) ≡ by_table ps)
     procedures_passed end v s k at = pass_to (pass_nothing v s k at) (λ h. refl)
     procedures_passed (more p ps) v s k at =
         let a = procedure_passed p v s k at in
@@ -540,7 +540,7 @@ module _ {M : Type 0} (table : ℕ → Option ℕ) (label : Labelling Name M) (s
         let following = left_passed outside count e whole in
         let low : k < ordinal_after_block k₁ (spelled b) = omega (arith, le-ordinal_after_names (suc k) formal, le-ordinal_after_block k₁ (spelled b)) in
         let shown_again : At (state_after_procedure_block x (7 + own) outside (visit_block b v₃)) src ((name, k) ∷ s) (ordinal_after_block k₁ (spelled b)) =
-        record { writing = following.at.writing; scope = (λ i. (spelling_at (following.at.writing i) x, at.next i) ∷ following.at.scope i); next = following.at.next; before = (low, following.at.before) } in
+        record { spellings = following.at.spellings; scope = (λ i. (spelling_at (following.at.spellings i) x, at.next i) ∷ following.at.scope i); next = following.at.next; before = (low, following.at.before) } in
         let visible : Passes v (state_after_procedure_block x (7 + own) outside (visit_block b v₃)) (((role.Declaring, x) ∷ identifiers role.Declaring fs) ++ identifiers role.Declaring b) ((name, k) ∷ s) (ordinal_after_block k₁ (spelled b)) _ =
         record { at = shown_again; declared = following.declared; used = following.used; tokens = following.tokens; agree = following.agree; in_order = following.in_order } in
         let last = mark_passed role.ClosingName closing (Some (7 + own)) (state_after_procedure_block x (7 + own) outside (visit_block b v₃)) ((name, k) ∷ s) (ordinal_after_block k₁ (spelled b)) refl refl (omega (arith, low, at.next)) shown_again in
@@ -551,13 +551,13 @@ module _ {M : Type 0} (table : ℕ → Option ℕ) (label : Labelling Name M) (s
   pub module_passed_with : (m : Tree ℕ module_text) (v : WalkState) → At v src (predeclared_scope naming_by_spelling) 7
       → Passes v (visit_module m v) (identifiers role.Declaring m) (body_scope 7 (module_block (spelled m)) (predeclared_scope naming_by_spelling)) (ordinal_after_block 7 (module_block (spelled m)))
       (relabel_module naming_by_spelling label (spelled m) ≡ by_table m)
-  module_passed_with (is_module x b closing) v at =
+  module_passed_with (forms_module x b closing) v at =
       let s = predeclared_scope naming_by_spelling in
       let a = mark_passed role.ModuleName x None v s 7 refl refl tt at in
       let g = block_passed b (with_mark x None v) s 7 a.at in
       let last = mark_passed role.ModuleName closing None (visit_block b (with_mark x None v)) (body_scope 7 (spelled b) s) (ordinal_after_block 7 (spelled b)) refl refl tt g.at in
       pass_to (pass_then a (pass_then g last))
-      (λ p i. is_module (label (sym p.first i) (spelling_at src x)) (p.second.first i) (label (sym p.second.second i) (spelling_at src closing)))
+      (λ p i. forms_module (label (sym p.first i) (spelling_at src x)) (p.second.first i) (label (sym p.second.second i) (spelling_at src closing)))
 
 pub module_passed : {M : Type 0} (table : ℕ → Option ℕ) (label : Labelling Name M) (src : Spellings) (m : Tree ℕ module_text) (v : WalkState) → At v src (predeclared_scope naming_by_spelling) 7
     → Passed table src v (visit_module m v) (identifiers role.Declaring m) (body_scope 7 (module_block (tree_with_spellings src m)) (predeclared_scope naming_by_spelling)) (ordinal_after_block 7 (module_block (tree_with_spellings src m)))

@@ -4,20 +4,20 @@ use Rattle.std.proofs.Common.{◌≡◌, ℕ, ◌+◌, Bool, true, false, nat_lt
 use Rattle.ob0_scan.specs.TextWithTokens.{IsScan}
 use Rattle.ob0_tree.specs.declared.tree.Role.{Role}
 use Rattle.ob0_tree.specs.declared.tree.Role.TheVariants as role
-use Rattle.ob0_tree.specs.Tree.{Sort, Tree, block, body, constant, constants, declares, declares_constant, declares_constants, declares_procedure, declares_type, declares_types, declares_variable, declares_variables, end, formals, further_section, forms_block, identifiers, is_module, item, items, maybe, module_text, more, no_formals, none, one, procedure, section, some_formals, then_section, type_definition, type_definitions, value_section, variable, variable_section, variables}
+use Rattle.ob0_tree.specs.Tree.{Sort, Tree, block, body, constant, constants, declares, declares_constant, declares_const_section, declares_procedure, declares_type, declares_type_section, declares_variable, declares_var_section, end, formals, section_after_semicolon, forms_block, identifiers, forms_module, item, items, maybe, module_text, more, no_formals, none, one, procedure, section, some_formals, semicolon_then_section, type_definition, type_definitions, value_section, variable, variable_section, variables}
 use Rattle.ob0_tree.specs.ParsedModule.{IsParsed, ParsedModule, tree_of}
 use Rattle.ob0_scope_numbering.specs.MarkWalk as listing
 use Rattle.ob0_scope_numbering.specs.IdentifierWalk.{number_declaration, number_declarations, state_after_heading, state_after_procedure_block, visit_block, visit_constant, visit_constant_section, visit_constants, visit_formals, visit_identifier, visit_identifiers, visit_module, visit_nondeclaring_tree, visit_procedure, visit_procedures, visit_parameter_section, visit_parameter_sections, visit_type, visit_type_section, visit_types, visit_variable, visit_variable_section, visit_variables, with_mark, with_visible_names_from}
-use Rattle.ob0_scope_numbering.specs.Marks.{OrdinalMark}
-use Rattle.ob0_scope_table.specs.Entries.{stored_ordinal}
+use Rattle.ob0_scope_numbering.specs.OrdinalMarks.{OrdinalMark}
+use Rattle.ob0_scope_table.specs.OrdinalEntries.{stored_ordinal}
 use Rattle.ob0_language_names.specs.Names.{naming_by_spelling}
-use Rattle.ob0_language_names.specs.Parts.{names_in_list, procedure_name}
+use Rattle.ob0_language_names.specs.BlockParts.{names_in_list, procedure_name}
 use Rattle.ob0_scope_table.specs.OneBody.{closing_name}
-use Rattle.ob0_scope_numbering.specs.BodyWalk.{with_declarations_before, renumber_module, with_procedure_skipped, renumber_block, renumber_procedure, renumber_procedures, initial_walk_state_with_table}
+use Rattle.ob0_scope_numbering.specs.BodyWalk.{with_declarations_before, renumber_module, with_skipped_procedure_name, renumber_block, renumber_procedure, renumber_procedures, initial_walk_state_with_table}
 use Rattle.ob0_language_names.specs.Scopes.{ordinal_in_scope}
 use Rattle.ob0_scope_numbering.specs.TableWalk as tabling
 use Rattle.ob0_scope_numbering.specs.TableWalk.{number_module}
-use Rattle.ob0_scope_numbering.specs.Written.{Spellings, spelling_at}
+use Rattle.ob0_scope_numbering.specs.IdentifierSpellings.{Spellings, spelling_at}
 use Rattle.ob0_scope_numbering.proofs.Kept.{all_kept, with_entries}
 
 with_entries-added : (table : List (Option ℕ)) (ms : List OrdinalMark) (i : ℕ) (ordinal : Option ℕ) → set (with_entries table ms) i (stored_ordinal ordinal) ≡ with_entries table (ms ++ (record { token = i; ordinal = ordinal } ∷ []))
@@ -26,7 +26,7 @@ with_entries-added table (m ∷ ms) i ordinal = with_entries-added (set table m.
 
 -- returns the state with a table that has the entries of the listed marks
 abbrev entered : List (Option ℕ) → listing.WalkState → tabling.WalkState
-entered table v = record { writing = v.writing; scope = v.scope; declaration_tokens = v.declaration_tokens; uses = v.uses; marks = with_entries table v.marks }
+entered table v = record { spellings = v.spellings; scope = v.scope; declaration_tokens = v.declaration_tokens; uses = v.uses; marks = with_entries table v.marks }
 
 module _ (table : List (Option ℕ)) where
   with_mark-entered : (i : ℕ) (ordinal : Option ℕ) (v : listing.WalkState) → with_mark i ordinal (entered table v) ≡ entered table (with_mark i ordinal v)
@@ -40,7 +40,7 @@ module _ (table : List (Option ℕ)) where
   number_declarations-entered (i ∷ is) v = ap (number_declarations is) (number_declaration-entered i v) ∙ number_declarations-entered is (number_declaration i v)
 
   visit_identifier-entered : (r : Role) (i : ℕ) (v : listing.WalkState) → visit_identifier r i (entered table v) ≡ entered table (visit_identifier r i v)
-  visit_identifier-entered role.LookedUp i v = ap (λ marks. record (entered table v) { uses = v.uses ++ (i ∷ []); marks = marks }) (with_entries-added table v.marks i (ordinal_in_scope naming_by_spelling v.scope (spelling_at v.writing i)))
+  visit_identifier-entered role.LookedUp i v = ap (λ marks. record (entered table v) { uses = v.uses ++ (i ∷ []); marks = marks }) (with_entries-added table v.marks i (ordinal_in_scope naming_by_spelling v.scope (spelling_at v.spellings i)))
   visit_identifier-entered role.Declaring i v = with_mark-entered i None v
   visit_identifier-entered role.ClosingName i v = with_mark-entered i None v
   visit_identifier-entered role.FieldName i v = with_mark-entered i None v
@@ -83,9 +83,9 @@ module _ (table : List (Option ℕ)) where
   section-entered (value_section ns t) v = names-entered (names_in_list ns) t v
   section-entered (variable_section ns t) v = names-entered (names_in_list ns) t v
 
-  sections-entered : (ss : Tree ℕ (items further_section)) (v : listing.WalkState) → visit_parameter_sections ss (entered table v) ≡ entered table (visit_parameter_sections ss v)
+  sections-entered : (ss : Tree ℕ (items section_after_semicolon)) (v : listing.WalkState) → visit_parameter_sections ss (entered table v) ≡ entered table (visit_parameter_sections ss v)
   sections-entered end v = refl
-  sections-entered (more (then_section s) rest) v = ap (visit_parameter_sections rest) (section-entered s v) ∙ sections-entered rest (visit_parameter_section s v)
+  sections-entered (more (semicolon_then_section s) rest) v = ap (visit_parameter_sections rest) (section-entered s v) ∙ sections-entered rest (visit_parameter_section s v)
 
   formals-entered : (fs : Tree ℕ (maybe formals)) (v : listing.WalkState) → visit_formals fs (entered table v) ≡ entered table (visit_formals fs v)
   formals-entered none v = refl
@@ -94,15 +94,15 @@ module _ (table : List (Option ℕ)) where
 
   constant_section-entered : (cs : Tree ℕ (maybe constants)) (v : listing.WalkState) → visit_constant_section cs (entered table v) ≡ entered table (visit_constant_section cs v)
   constant_section-entered none v = refl
-  constant_section-entered (one (declares_constants cs)) v = constants-entered cs v
+  constant_section-entered (one (declares_const_section cs)) v = constants-entered cs v
 
   type_section-entered : (ts : Tree ℕ (maybe type_definitions)) (v : listing.WalkState) → visit_type_section ts (entered table v) ≡ entered table (visit_type_section ts v)
   type_section-entered none v = refl
-  type_section-entered (one (declares_types ts)) v = types-entered ts v
+  type_section-entered (one (declares_type_section ts)) v = types-entered ts v
 
   variable_section-entered : (vs : Tree ℕ (maybe variables)) (v : listing.WalkState) → visit_variable_section vs (entered table v) ≡ entered table (visit_variable_section vs v)
   variable_section-entered none v = refl
-  variable_section-entered (one (declares_variables vs)) v = variables-entered vs v
+  variable_section-entered (one (declares_var_section vs)) v = variables-entered vs v
 
   -- Visiting the declarations of a block before its procedures with a table enters their listed
   -- marks.
@@ -140,7 +140,7 @@ module _ (table : List (Option ℕ)) where
         ∙ with_mark-entered closing (Some ordinal) (state_after_procedure_block x ordinal outside (visit_block b w))
 
   text-entered : (m : Tree ℕ module_text) (v : listing.WalkState) → visit_module m (entered table v) ≡ entered table (visit_module m v)
-  text-entered (is_module x b closing) v =
+  text-entered (forms_module x b closing) v =
       let w = with_mark x None v in
       ap (with_mark closing None) (ap (visit_block b) (with_mark-entered x None v) ∙ block-entered b w) ∙ with_mark-entered closing None (visit_block b w)
 
@@ -149,8 +149,8 @@ module _ (table : List (Option ℕ)) where
   either false x y v w e f = f
 
   mutual
-    revisit_block-entered : (all : List ℕ) (low : ℕ) (b : Tree ℕ block) (v : listing.WalkState) → renumber_block all low b (entered table v) ≡ entered table (renumber_block all low b v)
-    revisit_block-entered all low (forms_block (declares cs ts vs ps) statements) v =
+    renumber_block-entered : (all : List ℕ) (low : ℕ) (b : Tree ℕ block) (v : listing.WalkState) → renumber_block all low b (entered table v) ≡ entered table (renumber_block all low b v)
+    renumber_block-entered all low (forms_block (declares cs ts vs ps) statements) v =
         let w = visit_variable_section vs (visit_type_section ts (visit_constant_section cs v)) in
         ap (renumber_procedures all low ps statements) (declaration_tokens-entered cs ts vs v) ∙ procedures_again-entered all low ps statements w
 
@@ -159,21 +159,21 @@ module _ (table : List (Option ℕ)) where
     procedures_again-entered all low end statements v = used-entered statements v
     procedures_again-entered all low (more p ps) statements v =
         let w = with_declarations_before all (procedure_name p) v in
-        either (nat_lt (closing_name p) low) (renumber_procedures all low ps statements (with_procedure_skipped (procedure_name p) (entered table w))) (renumber_procedure all low p (entered table w))
-        (renumber_procedures all low ps statements (with_procedure_skipped (procedure_name p) w)) (renumber_procedure all low p w)
-        (procedures_again-entered all low ps statements (with_procedure_skipped (procedure_name p) w)) (revisit_procedure-entered all low p w)
+        either (nat_lt (closing_name p) low) (renumber_procedures all low ps statements (with_skipped_procedure_name (procedure_name p) (entered table w))) (renumber_procedure all low p (entered table w))
+        (renumber_procedures all low ps statements (with_skipped_procedure_name (procedure_name p) w)) (renumber_procedure all low p w)
+        (procedures_again-entered all low ps statements (with_skipped_procedure_name (procedure_name p) w)) (renumber_procedure-entered all low p w)
 
-    revisit_procedure-entered : (all : List ℕ) (low : ℕ) (p : Tree ℕ (item procedure)) (v : listing.WalkState) → renumber_procedure all low p (entered table v) ≡ entered table (renumber_procedure all low p v)
-    revisit_procedure-entered all low (declares_procedure x fs b closing) v =
+    renumber_procedure-entered : (all : List ℕ) (low : ℕ) (p : Tree ℕ (item procedure)) (v : listing.WalkState) → renumber_procedure all low p (entered table v) ≡ entered table (renumber_procedure all low p v)
+    renumber_procedure-entered all low (declares_procedure x fs b closing) v =
         let w = state_after_heading (length v.declaration_tokens) (length v.scope) (visit_formals fs (number_declaration x v)) in
-        ap (renumber_block all low b) (heading-entered x fs v) ∙ revisit_block-entered all low b w
+        ap (renumber_block all low b) (heading-entered x fs v) ∙ renumber_block-entered all low b w
 
 -- returns the marks of the walk to one body
 abbrev pub marks_again : List ℕ → ℕ → Tree ℕ module_text → Spellings → List OrdinalMark
-marks_again all low (is_module x b closing) w = (renumber_block all low b (listing.initial_walk_state w)).marks
+marks_again all low (forms_module x b closing) w = (renumber_block all low b (listing.initial_walk_state w)).marks
 
 pub body_tabled : (all : List ℕ) (low : ℕ) (m : Tree ℕ module_text) (w : Spellings) (table : List (Option ℕ)) → (renumber_module all low m (initial_walk_state_with_table w table)).marks ≡ with_entries table (marks_again all low m w)
-body_tabled all low (is_module x b closing) w table = ap (λ (v : tabling.WalkState). v.marks) (revisit_block-entered table all low b (listing.initial_walk_state w))
+body_tabled all low (forms_module x b closing) w table = ap (λ (v : tabling.WalkState). v.marks) (renumber_block-entered table all low b (listing.initial_walk_state w))
 
 pub module_tabled : (m : ParsedModule) (w : Spellings) → IsParsed m → IsScan m.source → visit_module (tree_of m) (tabling.initial_walk_state w) ≡ number_module (tree_of m) w
 module_tabled m w parsed scan =

@@ -6,13 +6,13 @@ use Rattle.std.proofs.lemmas.Bool.{eqb-false, ltb-false, ltb-true, or_parts}
 use Rattle.std.proofs.lemmas.List.{get_or-replicate, get_or_past, length-replicate}
 use Rattle.std.specs.List.{list_any}
 use Rattle.std.proofs.Math.ListN.{length-set}
-use Rattle.ob0_tree.specs.Order.{AreAscendingWithin}
+use Rattle.ob0_tree.specs.IdentifierIndexes.{AreAscendingWithin}
 use Rattle.ob0_tree.specs.ParsedModule.{IsParsed, ParsedModule, tree_of}
 use Rattle.ob0_tree.proofs.Leaves.{ascending_bounds, leaves_ascend}
 use Rattle.ob0_scope_numbering.specs.MarkWalk.{WalkState, initial_walk_state}
 use Rattle.ob0_scope_numbering.specs.IdentifierWalk.{visit_module}
-use Rattle.ob0_scope_numbering.specs.Marks.{OrdinalMark, with_marks}
-use Rattle.ob0_scope_numbering.specs.Written.{Spellings}
+use Rattle.ob0_scope_numbering.specs.OrdinalMarks.{OrdinalMark, with_marks}
+use Rattle.ob0_scope_numbering.specs.IdentifierSpellings.{Spellings}
 use Rattle.ob0_language_names.specs.Names.{naming_by_spelling}
 use Rattle.ob0_language_names.specs.Scopes.{label_from_ordinal}
 use Rattle.ob0_scope_table.specs.Resolution.{ordinal_in}

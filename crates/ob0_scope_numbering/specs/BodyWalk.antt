@@ -3,12 +3,12 @@
 -- before the body only get visible names. The walk ends with the body's statements.
 -- Rule: none; used in contracts of the walk over identifiers.
 use Rattle.std.specs.Prelude.{ℕ, ◌+◌, nat_lt, List, [], ◌∷◌, ◌++◌, Option, length, drop, if◌then◌else◌}
-use Rattle.ob0_tree.specs.Tree.{Tree, block, body, declares, declares_procedure, end, forms_block, is_module, item, items, maybe, module_text, more, procedure}
-use Rattle.ob0_language_names.specs.Parts.{procedure_name}
+use Rattle.ob0_tree.specs.Tree.{Tree, block, body, declares, declares_procedure, end, forms_block, forms_module, item, items, maybe, module_text, more, procedure}
+use Rattle.ob0_language_names.specs.BlockParts.{procedure_name}
 use Rattle.ob0_language_names.specs.Scopes.{predeclared_count}
 use Rattle.ob0_scope_numbering.specs.TableWalk as tabling
 use Rattle.ob0_scope_numbering.specs.IdentifierWalk.{WalkState, state_after_heading, state_before_module, number_declaration, visit_nondeclaring_tree, with_visible_name, visit_constant_section, visit_formals, visit_type_section, visit_variable_section}
-use Rattle.ob0_scope_numbering.specs.Written.{Spellings}
+use Rattle.ob0_scope_numbering.specs.IdentifierSpellings.{Spellings}
 use Rattle.ob0_scope_table.specs.OneBody.{closing_name}
 
 -- returns the longest prefix of a list of tokens in which all tokens are before `token`
@@ -31,8 +31,8 @@ module _ {M : Type 0} {put_ordinal : ℕ → Option ℕ → M → M} where
 
   -- makes the name of the procedure that is declared at the token `x` visible with the next ordinal,
   -- without visiting the procedure
-  abbrev pub with_procedure_skipped : ℕ → WalkState put_ordinal → WalkState put_ordinal
-  with_procedure_skipped x v = with_visible_name x (predeclared_count + length v.declaration_tokens) v
+  abbrev pub with_skipped_procedure_name : ℕ → WalkState put_ordinal → WalkState put_ordinal
+  with_skipped_procedure_name x v = with_visible_name x (predeclared_count + length v.declaration_tokens) v
 
 -- In the following definitions, `all` has the declaring tokens of the whole module. The walk goes to
 -- the body that contains the token `low`.
@@ -54,7 +54,7 @@ module _ {M : Type 0} {put_ordinal : ℕ → Option ℕ → M → M} (all : List
     renumber_procedures (more p ps) statements v =
         if nat_lt (closing_name p) low
         then renumber_procedures ps statements
-        (with_procedure_skipped (procedure_name p) (with_declarations_before all (procedure_name p) v))
+        (with_skipped_procedure_name (procedure_name p) (with_declarations_before all (procedure_name p) v))
         else renumber_procedure p (with_declarations_before all (procedure_name p) v)
 
     -- visits a procedure's name, its parameters and its block, but not its closing name
@@ -65,9 +65,9 @@ module _ {M : Type 0} {put_ordinal : ℕ → Option ℕ → M → M} (all : List
 
 -- returns the state before the first identifier of a module, with this table of ordinals
 abbrev pub initial_walk_state_with_table : Spellings → List (Option ℕ) → tabling.WalkState
-initial_walk_state_with_table writing table = state_before_module writing table
+initial_walk_state_with_table spellings table = state_before_module spellings table
 
 -- Returns the state after the walk to the body that contains the token `low`, in which the ordinals
 -- are entered into a table. `all` has the declaring tokens of the whole module, in text order.
 abbrev pub renumber_module : List ℕ → ℕ → Tree ℕ module_text → tabling.WalkState → tabling.WalkState
-renumber_module all low (is_module x b closing) v = renumber_block all low b v
+renumber_module all low (forms_module x b closing) v = renumber_block all low b v

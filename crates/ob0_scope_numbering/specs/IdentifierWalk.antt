@@ -6,21 +6,21 @@
 use Rattle.std.specs.Prelude.{ℕ, ◌+◌, ◌-◌, List, [], ◌∷◌, ◌++◌, Option, Some, None, map, length, drop}
 use Rattle.ob0_tree.specs.declared.tree.Role.{Role}
 use Rattle.ob0_tree.specs.declared.tree.Role.TheVariants as role
-use Rattle.ob0_tree.specs.Tree.{Sort, Tree, block, constant, constants, declares, declares_constant, declares_constants, declares_procedure, declares_type, declares_types, declares_variable, declares_variables, end, formals, further_section, forms_block, is_module, item, items, maybe, module_text, more, no_formals, none, one, procedure, section, some_formals, then_section, type_definition, type_definitions, value_section, variable, variable_section, variables}
-use Rattle.ob0_tree.specs.Visited.{state_after_visit, state_after_identifiers}
-use Rattle.ob0_scope_numbering.specs.Written.{Spellings, spelling_at}
+use Rattle.ob0_tree.specs.Tree.{Sort, Tree, block, constant, constants, declares, declares_constant, declares_const_section, declares_procedure, declares_type, declares_type_section, declares_variable, declares_var_section, end, formals, section_after_semicolon, forms_block, forms_module, item, items, maybe, module_text, more, no_formals, none, one, procedure, section, some_formals, semicolon_then_section, type_definition, type_definitions, value_section, variable, variable_section, variables}
+use Rattle.ob0_tree.specs.VisitorStates.{state_after_visit, state_after_identifiers}
+use Rattle.ob0_scope_numbering.specs.IdentifierSpellings.{Spellings, spelling_at}
 use Rattle.ob0_language_names.specs.Names.{Name, naming_by_spelling}
-use Rattle.ob0_language_names.specs.Parts.{names_in_list}
+use Rattle.ob0_language_names.specs.BlockParts.{names_in_list}
 use Rattle.ob0_language_names.specs.Scopes.{Scope, declare_names, ordinal_in_scope, predeclared_count, predeclared_scope}
 
--- The state of the walk over a module's identifiers. `writing` has the spellings of all
+-- The state of the walk over a module's identifiers. `spellings` has the spellings of all
 -- identifiers, and `scope` the names that are visible at the next identifier. The other fields are
 -- about the identifiers visited so far. `declaration_tokens` has the tokens of declaring names, and
 -- `uses` the tokens of looked-up names. `marks` has the ordinals of all these identifiers, in a
 -- collection of the type `M`. The function `put_ordinal` adds the ordinal of the identifier at a
 -- token (None if it has no ordinal) to the collection.
 pub record WalkState {M : Type 0} (put_ordinal : ℕ → Option ℕ → M → M) : Type 0 where
-  pub writing : Spellings
+  pub spellings : Spellings
   pub scope : Scope Name
   pub declaration_tokens : List ℕ
   pub uses : List ℕ
@@ -29,9 +29,9 @@ pub record WalkState {M : Type 0} (put_ordinal : ℕ → Option ℕ → M → M)
 module _ {M : Type 0} {put_ordinal : ℕ → Option ℕ → M → M} where
   -- returns the state before the first identifier of a module, with this collection of ordinals
   abbrev pub state_before_module : Spellings → M → WalkState put_ordinal
-  state_before_module writing marks =
+  state_before_module spellings marks =
       record {
-        writing = writing;
+        spellings = spellings;
         scope = predeclared_scope naming_by_spelling;
         declaration_tokens = [];
         uses = [];
@@ -40,7 +40,7 @@ module _ {M : Type 0} {put_ordinal : ℕ → Option ℕ → M → M} where
 
   -- makes the name at the token `i` visible, bound to the declaration with this ordinal
   abbrev pub with_visible_name : ℕ → ℕ → WalkState put_ordinal → WalkState put_ordinal
-  with_visible_name i ordinal v = record v { scope = (spelling_at v.writing i, ordinal) ∷ v.scope }
+  with_visible_name i ordinal v = record v { scope = (spelling_at v.spellings i, ordinal) ∷ v.scope }
 
   -- Makes the names of the declarations so far visible, in order, except for the first `first` of these
   -- declarations. Predeclared names don't count as declarations here.
@@ -48,7 +48,7 @@ module _ {M : Type 0} {put_ordinal : ℕ → Option ℕ → M → M} where
   with_visible_names_from first v =
       record v {
         scope
-            = declare_names (predeclared_count + first) (map (spelling_at v.writing) (drop first v.declaration_tokens)) v.scope;
+            = declare_names (predeclared_count + first) (map (spelling_at v.spellings) (drop first v.declaration_tokens)) v.scope;
       }
 
   -- removes all bindings of the scope except the oldest `len`
@@ -90,7 +90,7 @@ module _ {M : Type 0} {put_ordinal : ℕ → Option ℕ → M → M} where
   visit_identifier role.LookedUp i v =
       record v {
         uses = v.uses ++ (i ∷ []);
-        marks = put_ordinal i (ordinal_in_scope naming_by_spelling v.scope (spelling_at v.writing i)) v.marks;
+        marks = put_ordinal i (ordinal_in_scope naming_by_spelling v.scope (spelling_at v.spellings i)) v.marks;
       }
   visit_identifier role.Declaring i v = with_mark i None v
   visit_identifier role.ClosingName i v = with_mark i None v
@@ -134,9 +134,9 @@ module _ {M : Type 0} {put_ordinal : ℕ → Option ℕ → M → M} where
   visit_parameter_section (variable_section ns t) v =
       with_visible_names_from (length v.declaration_tokens) (visit_nondeclaring_tree t (number_declarations (names_in_list ns) v))
 
-  abbrev pub visit_parameter_sections : Tree ℕ (items further_section) → WalkState put_ordinal → WalkState put_ordinal
+  abbrev pub visit_parameter_sections : Tree ℕ (items section_after_semicolon) → WalkState put_ordinal → WalkState put_ordinal
   visit_parameter_sections end v = v
-  visit_parameter_sections (more (then_section s) rest) v = visit_parameter_sections rest (visit_parameter_section s v)
+  visit_parameter_sections (more (semicolon_then_section s) rest) v = visit_parameter_sections rest (visit_parameter_section s v)
 
   abbrev pub visit_formals : Tree ℕ (maybe formals) → WalkState put_ordinal → WalkState put_ordinal
   visit_formals none v = v
@@ -145,15 +145,15 @@ module _ {M : Type 0} {put_ordinal : ℕ → Option ℕ → M → M} where
 
   abbrev pub visit_constant_section : Tree ℕ (maybe constants) → WalkState put_ordinal → WalkState put_ordinal
   visit_constant_section none v = v
-  visit_constant_section (one (declares_constants cs)) v = visit_constants cs v
+  visit_constant_section (one (declares_const_section cs)) v = visit_constants cs v
 
   abbrev pub visit_type_section : Tree ℕ (maybe type_definitions) → WalkState put_ordinal → WalkState put_ordinal
   visit_type_section none v = v
-  visit_type_section (one (declares_types ts)) v = visit_types ts v
+  visit_type_section (one (declares_type_section ts)) v = visit_types ts v
 
   abbrev pub visit_variable_section : Tree ℕ (maybe variables) → WalkState put_ordinal → WalkState put_ordinal
   visit_variable_section none v = v
-  visit_variable_section (one (declares_variables vs)) v = visit_variables vs v
+  visit_variable_section (one (declares_var_section vs)) v = visit_variables vs v
 
   abbrev mutual
     -- visits a block: its sections, its procedures and its statements, in text order
@@ -176,4 +176,4 @@ module _ {M : Type 0} {put_ordinal : ℕ → Option ℕ → M → M} where
         (visit_formals fs (number_declaration x v)))))
 
   abbrev pub visit_module : Tree ℕ module_text → WalkState put_ordinal → WalkState put_ordinal
-  visit_module (is_module x b closing) v = with_mark closing None (visit_block b (with_mark x None v))
+  visit_module (forms_module x b closing) v = with_mark closing None (visit_block b (with_mark x None v))

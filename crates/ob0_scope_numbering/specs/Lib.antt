@@ -1,9 +1,9 @@
-pub mod Written
+pub mod IdentifierSpellings
 pub mod BodyWalk
 pub mod IdentifierWalk
-pub mod Marks
+pub mod OrdinalMarks
 pub mod MarkWalk
 pub mod TableWalk
-pub mod Keys
+pub mod NameKeys
 pub mod NewestNames
 pub mod StoredScopes

@@ -2,9 +2,9 @@
 -- of marks. The order of the visits is defined in `IdentifierWalk`.
 -- Rule: none; used in contracts of the walk over identifiers.
 use Rattle.std.specs.Prelude.{ℕ, List, [], ◌∷◌, ◌++◌, Option}
-use Rattle.ob0_scope_numbering.specs.Marks.{OrdinalMark}
+use Rattle.ob0_scope_numbering.specs.OrdinalMarks.{OrdinalMark}
 use Rattle.ob0_scope_numbering.specs.IdentifierWalk as visit
-use Rattle.ob0_scope_numbering.specs.Written.{Spellings}
+use Rattle.ob0_scope_numbering.specs.IdentifierSpellings.{Spellings}
 
 -- appends to a list the mark that gives the token `i` this ordinal, or no ordinal (None)
 abbrev pub put_ordinal : ℕ → Option ℕ → List OrdinalMark → List OrdinalMark
@@ -16,4 +16,4 @@ WalkState = visit.WalkState put_ordinal
 
 -- returns the state before the first identifier of a module, with an empty list of marks
 abbrev pub initial_walk_state : Spellings → WalkState
-initial_walk_state writing = visit.state_before_module writing []
+initial_walk_state spellings = visit.state_before_module spellings []

@@ -4,7 +4,7 @@
 use Rattle.std.specs.Prelude.{◌≡◌, ◌<◌, ℕ, suc, List, [], ◌∷◌, Option, Some, None, if◌then◌else◌, length, option_map, slice_index_or}
 use Rattle.std.specs.BTreeMap.{BTreeMap, get_by}
 use Rattle.ob0_scope_numbering.specs.declared.newest.NameEntry.{NameEntry}
-use Rattle.ob0_scope_numbering.specs.Keys.{NameKey, compare_name_with_key}
+use Rattle.ob0_scope_numbering.specs.NameKeys.{NameKey, compare_name_with_key}
 use Rattle.ob0_language_names.specs.Names.{Name, same_name}
 
 -- Returns the index of a name's newest binding. Returns None if the name has no binding or isn't in

@@ -7,8 +7,8 @@
 
 mod newest;
 mod numbering;
+mod spellings;
 mod visible;
-mod writing;
 
 pub use numbering::{NumberingWalk, number_identifiers, renumber_body};
-pub use writing::Spellings;
+pub use spellings::Spellings;

@@ -15,7 +15,7 @@
 //! fact about the table.
 
 ghost use Rattle.std.specs.Prelude.{◌≡◌, [], IfOk, IfSome, OnErr, OnOk, None, Some};
-ghost use Rattle.ob0_scope_numbering.specs.Keys.{suffix_number, append_byte, append_bytes};
+ghost use Rattle.ob0_scope_numbering.specs.NameKeys.{suffix_number, append_byte, append_bytes};
 ghost use Rattle.ob0_scope_numbering.specs.NewestNames.{AppendsName, SetsNewestBinding, KeepsNewestBindings, KeepsNamePositions, newest_binding_in, position_of_name};
 ghost use Rattle.ob0_language_names.specs.Names.{Name};
 

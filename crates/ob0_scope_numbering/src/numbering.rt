@@ -29,17 +29,17 @@ ghost use Rattle.ob0_tree.specs.declared.tree.Role.TheVariants as roles;
 ghost use Rattle.ob0_tree.specs.ParsedModule.{tree_of};
 ghost use Rattle.ob0_tree.specs.View.{names_of, constant_of, constant_section_of, type_declaration_of, type_section_of, variable_of, variable_section_of, parameter_section_of, formals_of, procedure_of, block_of};
 ghost use Rattle.ob0_language_names.specs.Names.{naming_by_spelling};
-ghost use Rattle.ob0_language_names.specs.Parts.{names_in_list};
+ghost use Rattle.ob0_language_names.specs.BlockParts.{names_in_list};
 ghost use Rattle.ob0_scope_table.specs.Resolution.{ordinal_in};
 ghost use Rattle.ob0_language_names.specs.Scopes.{ordinal_in_scope, predeclared_count, predeclared_scope};
 ghost use Rattle.ob0_scope_numbering.specs.StoredScopes.{with_scope};
-ghost use Rattle.ob0_scope_numbering.specs.Written.{original_spellings, is_bound_to_renamed_declaration, spelling_at};
+ghost use Rattle.ob0_scope_numbering.specs.IdentifierSpellings.{original_spellings, is_bound_to_renamed_declaration, spelling_at};
 ghost use Rattle.ob0_scope_numbering.specs.TableWalk.{initial_walk_state, number_module};
 ghost use Rattle.ob0_scope_numbering.specs.IdentifierWalk.{with_mark, number_declaration, number_declarations, with_visible_name, with_visible_names_from, with_oldest_bindings, visit_identifier, visit_constant, visit_constant_section, visit_type, visit_type_section, visit_variable, visit_variable_section, visit_parameter_section, visit_formals, visit_procedure, visit_block, visit_module};
-ghost use Rattle.ob0_scope_numbering.specs.BodyWalk.{with_declarations_before, with_declaration, renumber_module, with_procedure_skipped, renumber_block, renumber_procedure, initial_walk_state_with_table};
+ghost use Rattle.ob0_scope_numbering.specs.BodyWalk.{with_declarations_before, with_declaration, renumber_module, with_skipped_procedure_name, renumber_block, renumber_procedure, initial_walk_state_with_table};
 
+use crate::spellings::{Spellings, is_bound_to_renamed_declaration};
 use crate::visible::ScopeBindings;
-use crate::writing::{Spellings, is_bound_to_renamed_declaration};
 use ob0_scan::Tokens;
 use ob0_scope_table::{OrdinalEntry, PREDECLARED_COUNT, ordinal_at};
 use ob0_tree::walk::{Visitor, walk_body, walk_expression, walk_type};
@@ -74,7 +74,7 @@ impl<'t> Model for NumberingWalk<'t> {
     ghost Value = { WalkState };
 
     ghost view = { λ n. record {
-      writing = record {
+      spellings = record {
         source = n.tokens.now;
         ordinals = n.ordinals.now;
         declaration = n.declaration;
@@ -125,12 +125,12 @@ fn scope_with_predeclared_names<'t>(
         (λ v. v ≡ record { new_name = new.entry.now; scope = predeclared_scope naming_by_spelling }) }
 {
     let mut visible = ScopeBindings::new(alloc, new)?;
-    declare_predeclared(&mut visible)?;
+    declare_predeclared_names(&mut visible)?;
     Ok(visible)
 }
 
 /// Binds the predeclared names in an empty scope, to the ordinals 0 to 6.
-fn declare_predeclared(visible: &mut ScopeBindings<'_>) -> Result<(), AllocError>
+fn declare_predeclared_names(visible: &mut ScopeBindings<'_>) -> Result<(), AllocError>
     ensures { OnOk result (visible.old.scope ≡ []
         → visible.new ≡ with_scope visible.old (predeclared_scope naming_by_spelling)) }
 {
@@ -144,21 +144,21 @@ fn declare_predeclared(visible: &mut ScopeBindings<'_>) -> Result<(), AllocError
     Ok(())
 }
 
-/// Visits a module whose identifiers have the spellings `writing`, and returns the state after the
+/// Visits a module whose identifiers have the spellings `spellings`, and returns the state after the
 /// visit.
 fn visit_module<'t>(
     alloc: Global,
     read: &'t Module<'t>,
-    writing: Spellings<'t>,
+    spellings: Spellings<'t>,
 ) -> Result<NumberingWalk<'t>, AllocError>
-    ensures { IfOk result (λ n. n ≡ visit_module (tree_of read.now) (initial_walk_state writing.entry)) }
+    ensures { IfOk result (λ n. n ≡ visit_module (tree_of read.now) (initial_walk_state spellings.entry)) }
 {
-    let table = vec![in alloc; OrdinalEntry::new(None); writing.tokens.tokens().len()]?;
+    let table = vec![in alloc; OrdinalEntry::new(None); spellings.tokens.tokens().len()]?;
     let mut numbering = NumberingWalk {
-        tokens: writing.tokens,
-        ordinals: writing.ordinals,
-        declaration: writing.declaration,
-        visible: scope_with_predeclared_names(alloc, writing.new)?,
+        tokens: spellings.tokens,
+        ordinals: spellings.ordinals,
+        declaration: spellings.declaration,
+        visible: scope_with_predeclared_names(alloc, spellings.new)?,
         declaration_tokens: Vec::new(alloc),
         occurrences: Vec::new(alloc),
         table,
@@ -192,24 +192,24 @@ pub fn renumber_body(
         occurrences: Vec::new(alloc),
         table,
     };
-    numbering.revisit_block(read.block(), all, low)?;
+    numbering.renumber_block(read.block(), all, low)?;
     let (_declarations, _occurrences, ordinals) = numbering.into_tokens_and_ordinals();
     Ok(ordinals)
 }
 
-/// Assigns to each identifier of a module, spelled as in `writing`, the ordinal of its declaration,
+/// Assigns to each identifier of a module, spelled as in `spellings`, the ordinal of its declaration,
 /// and returns the state after the visit. An entry of the table can hold every ordinal, because a
 /// text has at most 2^20 bytes and no more declarations than bytes.
 pub fn number_identifiers<'t>(
     alloc: Global,
     read: &'t Module<'t>,
-    writing: Spellings<'t>,
+    spellings: Spellings<'t>,
 ) -> Result<NumberingWalk<'t>, AllocError>
-    ensures { IfOk result (λ n. n ≡ number_module (tree_of read.now) writing.entry) }
+    ensures { IfOk result (λ n. n ≡ number_module (tree_of read.now) spellings.entry) }
 {
     // The proof needs the contracts of these calls.
     let _scanned = read.tokens().text();
-    visit_module(alloc, read, writing)
+    visit_module(alloc, read, spellings)
 }
 
 impl<'t> NumberingWalk<'t> {
@@ -257,7 +257,7 @@ impl<'t> NumberingWalk<'t> {
 
     /// Assigns the next ordinal to the declaring name at a token, and returns this ordinal. Does
     /// not make the name visible.
-    fn number_name(&mut self, token: usize) -> Result<usize, AllocError>
+    fn number_declaration(&mut self, token: usize) -> Result<usize, AllocError>
         ensures next { IfOk result (λ ordinal. ordinal ≡ predeclared_count + length self.old.declaration_tokens) }
         ensures numbered { OnOk result (self.new ≡ number_declaration token self.old) }
     {
@@ -302,7 +302,7 @@ impl<'t> NumberingWalk<'t> {
     /// has the new name instead of its spelling in the text.
     fn is_bound_to_renamed_declaration(&self, token: usize) -> bool
         ensures { result
-            ≡ is_bound_to_renamed_declaration self.now.writing.declaration (ordinal_in self.now.writing.ordinals token) }
+            ≡ is_bound_to_renamed_declaration self.now.spellings.declaration (ordinal_in self.now.spellings.ordinals token) }
     {
         is_bound_to_renamed_declaration(self.declaration, ordinal_at(self.ordinals, token))
     }
@@ -311,7 +311,7 @@ impl<'t> NumberingWalk<'t> {
     /// if the name is unbound.
     fn bound_ordinal(&mut self, token: usize) -> Option<usize>
         ensures bound { result
-            ≡ ordinal_in_scope naming_by_spelling self.old.scope (spelling_at self.old.writing token) }
+            ≡ ordinal_in_scope naming_by_spelling self.old.scope (spelling_at self.old.spellings token) }
         ensures same { self.new ≡ self.old }
     {
         if self.is_bound_to_renamed_declaration(token) {
@@ -344,12 +344,12 @@ impl<'t> NumberingWalk<'t> {
 
     /// Assigns the next ordinals to the names in a declaration's name list, in order. Does not make
     /// the names visible.
-    fn number_names(&mut self, ns: &Names) -> Result<(), AllocError>
+    fn number_declarations(&mut self, ns: &Names) -> Result<(), AllocError>
         ensures { OnOk result (self.new ≡ number_declarations (names_in_list (names_of ns.now)) self.old) }
     {
-        self.number_name(ns.first)?;
+        self.number_declaration(ns.first)?;
         for name in &ns.more {
-            self.number_name(*name)?;
+            self.number_declaration(*name)?;
         }
         Ok(())
     }
@@ -358,7 +358,7 @@ impl<'t> NumberingWalk<'t> {
         ensures { OnOk result (self.new ≡ visit_constant (constant_of c.now) self.old) }
     {
         let first = self.declaration_count();
-        self.number_name(c.name)?;
+        self.number_declaration(c.name)?;
         walk_expression(self, &c.value)?;
         self.make_names_visible_from(first)
     }
@@ -367,7 +367,7 @@ impl<'t> NumberingWalk<'t> {
         ensures { OnOk result (self.new ≡ visit_type (type_declaration_of t.now) self.old) }
     {
         let first = self.declaration_count();
-        self.number_name(t.name)?;
+        self.number_declaration(t.name)?;
         walk_type(self, &t.written)?;
         self.make_names_visible_from(first)
     }
@@ -376,7 +376,7 @@ impl<'t> NumberingWalk<'t> {
         ensures { OnOk result (self.new ≡ visit_variable (variable_of v.now) self.old) }
     {
         let first = self.declaration_count();
-        self.number_names(&v.names)?;
+        self.number_declarations(&v.names)?;
         walk_type(self, &v.written)?;
         self.make_names_visible_from(first)
     }
@@ -385,7 +385,7 @@ impl<'t> NumberingWalk<'t> {
         ensures { OnOk result (self.new ≡ visit_parameter_section (parameter_section_of s.now) self.old) }
     {
         let first = self.declaration_count();
-        self.number_names(&s.names)?;
+        self.number_declarations(&s.names)?;
         walk_type(self, &s.written)?;
         self.make_names_visible_from(first)
     }
@@ -453,7 +453,7 @@ impl<'t> NumberingWalk<'t> {
         // The parameters are bound and removed twice. In the heading, the procedure's name isn't
         // visible. In the block it is visible, so for the block the name is bound before the
         // parameters.
-        let ordinal = self.number_name(p.name)?;
+        let ordinal = self.number_declaration(p.name)?;
         self.walk_parameters(&p.formals)?;
         self.truncate_bindings(outside);
         self.make_names_visible_from(own)?;
@@ -505,17 +505,17 @@ impl<'t> NumberingWalk<'t> {
     /// Makes a procedure's name visible with the next ordinal, without visiting the procedure. The
     /// name is declared at the token `token`.
     fn skip_procedure(&mut self, token: usize) -> Result<(), AllocError>
-        ensures { OnOk result (self.new ≡ with_procedure_skipped token self.old) }
+        ensures { OnOk result (self.new ≡ with_skipped_procedure_name token self.old) }
     {
         let next = self.declaration_tokens.len();
         self.make_name_visible(token, ordinal_at_index(next))
     }
 
     /// Visits a procedure again, on the way to the body that contains the token `low`: its name,
-    /// its parameters, and the parts of its block that `revisit_block` visits. `all` has the
+    /// its parameters, and the parts of its block that `renumber_block` visits. `all` has the
     /// declaring tokens of the whole module, in text order.
     #[cycle(blocks_again)]
-    fn revisit_procedure(
+    fn renumber_procedure(
         &mut self,
         p: &Procedure,
         all: &[usize],
@@ -526,11 +526,11 @@ impl<'t> NumberingWalk<'t> {
     {
         let first = self.declaration_count();
         let outside = self.binding_count();
-        self.number_name(p.name)?;
+        self.number_declaration(p.name)?;
         self.walk_parameters(&p.formals)?;
         self.truncate_bindings(outside);
         self.make_names_visible_from(first)?;
-        self.revisit_block(&p.block, all, low)
+        self.renumber_block(&p.block, all, low)
     }
 
     /// Visits a block again, on the way to the body that contains the token `low`. Visits the
@@ -539,7 +539,7 @@ impl<'t> NumberingWalk<'t> {
     /// is no such procedure, visits the block's own statements. `all` has the declaring tokens of
     /// the whole module, in text order.
     #[cycle(blocks_again)]
-    fn revisit_block(&mut self, inner: &Block, all: &[usize], low: usize) -> Result<(), AllocError>
+    fn renumber_block(&mut self, inner: &Block, all: &[usize], low: usize) -> Result<(), AllocError>
         ensures { OnOk result
             (self.new ≡ renumber_block all.now low (block_of inner.now) self.old) }
     {
@@ -549,7 +549,7 @@ impl<'t> NumberingWalk<'t> {
         for p in &inner.procedures {
             self.append_declarations_before(all, p.name)?;
             if p.closing >= low {
-                return self.revisit_procedure(p, all, low);
+                return self.renumber_procedure(p, all, low);
             }
             self.skip_procedure(p.name)?;
         }

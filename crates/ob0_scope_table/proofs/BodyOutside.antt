@@ -6,11 +6,11 @@ use Rattle.std.proofs.lemmas.Bool.{and_parts, or_left, or_right}
 use Rattle.ob0_tree.specs.declared.tree.Role.{Role}
 use Rattle.ob0_tree.specs.declared.tree.Role.TheVariants as role
 use Rattle.ob0_tree.specs.Lexeme.{EndOfText, WordOrSymbol, Name, Number, Terminal}
-use Rattle.ob0_tree.specs.Order.{AreAscendingWithin, names_without_roles}
-use Rattle.ob0_tree.specs.Tree.{Tree, block, body, constants, declares, declares_procedure, end, forms_block, identifiers, is_module, item, items, maybe, module_text, more, procedure, spell, type_definitions, variables}
+use Rattle.ob0_tree.specs.IdentifierIndexes.{AreAscendingWithin, names_without_roles}
+use Rattle.ob0_tree.specs.Tree.{Tree, block, body, constants, declares, declares_procedure, end, forms_block, identifiers, forms_module, item, items, maybe, module_text, more, procedure, spell, type_definitions, variables}
 use Rattle.ob0_tree.proofs.Leaves.{ascending_bounds, ascending_higher, leaves_spelled, lexeme_names}
 use Rattle.ob0_scope_table.specs.TokenProperty.{EachTokenHas}
-use Rattle.ob0_scope_table.specs.BodyReplaced.{PathToBody, block_without_body, path_after_insertion_in_front, procedure_without_body, procedures_without_body, path_to_body_in_procedures, path_to_body_in_block, path_to_body_in_procedure, path_to_body_in_module, module_without_body}
+use Rattle.ob0_scope_table.specs.BodyReplacement.{PathToBody, block_without_body, path_after_insertion_in_front, procedure_without_body, procedures_without_body, path_to_body_in_procedures, path_to_body_in_block, path_to_body_in_procedure, path_to_body_in_module, module_without_body}
 use Rattle.ob0_scope_table.specs.OneBody.{first_identifier_is_at_or_before, closing_name, is_range_in_body_of_block, is_range_in_one_body, is_range_in_body_of_procedure, is_range_in_body_of_procedures, is_outside_range}
 use Rattle.ob0_scope_table.proofs.Placed.{AllOf, each_of, places, places_spelled, token_places}
 
@@ -227,7 +227,7 @@ module _ (low high : ℕ) (P : ℕ → Type 0) (out : (k : ℕ) → is_outside_r
         record { outside = (w.0.0, each_of P fs w.0.1, w.1, w.2); begins = w.3 }
 
   pub module_outside : (least top : ℕ) (m : Tree ℕ module_text) → AreAscendingWithin least (places m) top → is_range_in_one_body low high m ≡ true → EachTokenHas P (module_without_body (path_to_body_in_module low m) m)
-  module_outside least top (is_module x b closing) h is =
+  module_outside least top (forms_module x b closing) h is =
       let parts = and_parts (nat_le high closing) (is_range_in_body_of_block low high b) is in
       let reaches = leb-true high closing parts.0 in
       let w = with_block x [] b closing least top h reaches (λ start asc. block_found start closing b asc reaches parts.1) in

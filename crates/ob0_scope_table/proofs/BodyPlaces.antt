@@ -6,14 +6,14 @@ use Rattle.std.proofs.lemmas.Option.{same_Some}
 use Rattle.std.proofs.lemmas.Bool.{lt-leb, le-leb, le-ltb, lt-ltb}
 use Rattle.ob0_tree.specs.declared.tree.Role.{Role}
 use Rattle.ob0_tree.specs.declared.tree.Role.TheVariants as role
-use Rattle.ob0_tree.specs.Tree.{Tree, block, body, constants, declares, declares_procedure, end, forms_block, identifiers, is_module, item, items, maybe, module_text, more, procedure, type_definitions, variables}
+use Rattle.ob0_tree.specs.Tree.{Tree, block, body, constants, declares, declares_procedure, end, forms_block, identifiers, forms_module, item, items, maybe, module_text, more, procedure, type_definitions, variables}
 use Rattle.ob0_tree.specs.View.{block_of, body_of, constant_section_of, items_of, procedure_of, type_section_of, variable_section_of}
 use Rattle.ob0_tree.specs.declared.tree.Block.{Block, out-Block}
 use Rattle.ob0_tree.specs.declared.tree.Procedure.{Procedure, out-Procedure}
 use Rattle.ob0_tree.proofs.Viewed.{block_parts, procedure_parts}
 use Rattle.ob0_scope_table.specs.BodyPlaces.{body_bounds_of_range, body_bounds_of_statements_if, body_bounds_in_block, body_bounds_in_procedure}
 use Rattle.ob0_tree.specs.FirstIdentifier.{token_of_first_identifier}
-use Rattle.ob0_scope_table.specs.BodyReplaced.{PathToBody, body_at_path, body_at_path_in_block, body_at_path_in_procedure, closing_name_at_path, closing_name_at_path_in_block, closing_name_at_path_in_procedure, path_after_insertion_in_front, path_to_body_in_procedures, path_to_body_in_block, path_to_body_in_procedure, path_to_body_in_module}
+use Rattle.ob0_scope_table.specs.BodyReplacement.{PathToBody, body_at_path, body_at_path_in_block, body_at_path_in_procedure, closing_name_at_path, closing_name_at_path_in_block, closing_name_at_path_in_procedure, path_after_insertion_in_front, path_to_body_in_procedures, path_to_body_in_block, path_to_body_in_procedure, path_to_body_in_module}
 use Rattle.ob0_scope_table.specs.OneBody.{first_identifier_is_at_or_before, closing_name, is_range_in_body_of_block, is_range_in_one_body, is_range_in_body_of_procedure, is_range_in_body_of_procedures}
 use Rattle.ob0_scope_table.specs.declared.one_body.BodyBounds.{BodyBounds}
 
@@ -186,7 +186,7 @@ module _ (low high : ℕ) where
     procedure_placed (declares_procedure x fs b closing) = block_placed closing b
 
   pub body_placed : (t : Tree ℕ module_text) → is_some (body_bounds_of_range low high t) ≡ is_range_in_one_body low high t
-  body_placed (is_module x b closing) =
+  body_placed (forms_module x b closing) =
       elim (nat_le high closing) as (λ z. is_some (body_bounds_of_statements_if (z && is_range_in_body_of_block low high b) (body_at_path_in_block (path_to_body_in_block low b) b) (closing_name_at_path_in_block (path_to_body_in_block low b) closing b)) ≡ (z && is_range_in_body_of_block low high b)) [
         | true ↦ block_placed closing b
         | false ↦ refl

@@ -2,10 +2,10 @@
 -- ordinals count them.
 use Rattle.std.proofs.Common.{◌≡◌, ℕ, suc, ◌+◌, List, [], ◌∷◌, ◌++◌, length, refl, sym, ap, ◌∙◌, arith, append-nil}
 use Rattle.ob0_tree.specs.declared.tree.Role.TheVariants as role
-use Rattle.ob0_tree.specs.Tree.{Tree, identifiers, block, constant, constants, declares, declares_constant, declares_constants, declares_procedure, declares_type, declares_types, declares_variable, declares_variables, end, formals, further_name, further_section, forms_block, is_module, item, items, listed, maybe, module_text, more, names, none, one, procedure, section, some_formals, then_name, then_section, type_definition, type_definitions, value_section, variable, variable_section, variables, written_type}
-use Rattle.ob0_language_names.specs.Parts.{constant_names, formal_names, formal_sections, further_names, module_block, declared_type_names, names_in_list, section_constants, parameter_section_names, section_types, section_variables, variable_names}
+use Rattle.ob0_tree.specs.Tree.{Tree, identifiers, block, constant, constants, declares, declares_constant, declares_const_section, declares_procedure, declares_type, declares_type_section, declares_variable, declares_var_section, end, formals, name_after_comma, section_after_semicolon, forms_block, forms_module, item, items, listed, maybe, module_text, more, names, none, one, procedure, section, some_formals, comma_then_name, semicolon_then_section, type_definition, type_definitions, value_section, variable, variable_section, variables, written_type}
+use Rattle.ob0_language_names.specs.BlockParts.{constant_names, formal_names, formal_sections, names_after_first, module_block, declared_type_names, names_in_list, section_constants, parameter_section_names, section_types, section_variables, variable_names}
 use Rattle.ob0_scope_table.specs.Resolution.{declaring_names}
-use Rattle.ob0_language_names.specs.Scopes.{ordinal_after_block, ordinal_after_names, ordinal_after_procedure, ordinal_after_procedures}
+use Rattle.ob0_language_names.specs.Scopes.{ordinal_after_block, ordinal_after_names, ordinal_after_procedure, ordinal_after_procedure_list}
 use Rattle.ob0_language_names.proofs.Ordinals.{ordinal_after_names-append}
 use Rattle.ob0_scope_table.proofs.Plain.{declares_nothing, declaring_names-append}
 
@@ -34,7 +34,7 @@ mutual
       ∙ (ordinal_after_names-append (ordinal_after_names k xs) ys (zs ++ names_in_procedures ps)
       ∙ ordinal_after_names-append (ordinal_after_names (ordinal_after_names k xs) ys) zs (names_in_procedures ps)))
 
-  pub after_names_in_procedures : {N : Type 0} (k : ℕ) (ps : Tree N (items procedure)) → ordinal_after_procedures k ps ≡ ordinal_after_names k (names_in_procedures ps)
+  pub after_names_in_procedures : {N : Type 0} (k : ℕ) (ps : Tree N (items procedure)) → ordinal_after_procedure_list k ps ≡ ordinal_after_names k (names_in_procedures ps)
   after_names_in_procedures k end = refl
   after_names_in_procedures k (more p rest) =
       after_names_in_procedures (ordinal_after_procedure (suc k) p) rest
@@ -51,9 +51,9 @@ after_count k (x ∷ xs) = after_count (suc k) xs ∙ omega arith
 
 -- The declared names of a part are its declaring identifiers.
 
-further_declared : (ns : Tree ℕ (items further_name)) → declaring_names (identifiers role.Declaring ns) ≡ further_names ns
+further_declared : (ns : Tree ℕ (items name_after_comma)) → declaring_names (identifiers role.Declaring ns) ≡ names_after_first ns
 further_declared end = refl
-further_declared (more (then_name x) rest) = λ i. x ∷ further_declared rest i
+further_declared (more (comma_then_name x) rest) = λ i. x ∷ further_declared rest i
 
 listed_declared : (ns : Tree ℕ names) → declaring_names (identifiers role.Declaring ns) ≡ names_in_list ns
 listed_declared (listed x rest) = λ i. x ∷ further_declared rest i
@@ -67,13 +67,13 @@ section_declared : (s : Tree ℕ section) → declaring_names (identifiers role.
 section_declared (value_section ns t) = group_declared ns t
 section_declared (variable_section ns t) = group_declared ns t
 
-sections_declared : (fs : Tree ℕ (items further_section)) → declaring_names (identifiers role.Declaring fs) ≡ formal_names fs
+sections_declared : (fs : Tree ℕ (items section_after_semicolon)) → declaring_names (identifiers role.Declaring fs) ≡ formal_names fs
 sections_declared end = refl
-sections_declared (more (then_section s) fs) =
+sections_declared (more (semicolon_then_section s) fs) =
     declaring_names-append (identifiers role.Declaring s) (identifiers role.Declaring fs) ∙ (λ i. section_declared s i ++ sections_declared fs i)
 
 pub formals_declared : (fs : Tree ℕ (maybe formals)) → declaring_names (identifiers role.Declaring fs) ≡ formal_names (formal_sections fs)
-formals_declared (one (some_formals s fs)) = sections_declared (more (then_section s) fs)
+formals_declared (one (some_formals s fs)) = sections_declared (more (semicolon_then_section s) fs)
 formals_declared _ = refl
 
 constants_declared : (cs : Tree ℕ (items constant)) → declaring_names (identifiers role.Declaring cs) ≡ constant_names cs
@@ -83,7 +83,7 @@ constants_declared (more (declares_constant x e) cs) =
 
 constant_section_declared : (cs : Tree ℕ (maybe constants)) → declaring_names (identifiers role.Declaring cs) ≡ constant_names (section_constants cs)
 constant_section_declared none = refl
-constant_section_declared (one (declares_constants cs)) = constants_declared cs
+constant_section_declared (one (declares_const_section cs)) = constants_declared cs
 
 types_declared : (ts : Tree ℕ (items type_definition)) → declaring_names (identifiers role.Declaring ts) ≡ declared_type_names ts
 types_declared end = refl
@@ -92,7 +92,7 @@ types_declared (more (declares_type x t) ts) =
 
 type_section_declared : (ts : Tree ℕ (maybe type_definitions)) → declaring_names (identifiers role.Declaring ts) ≡ declared_type_names (section_types ts)
 type_section_declared none = refl
-type_section_declared (one (declares_types ts)) = types_declared ts
+type_section_declared (one (declares_type_section ts)) = types_declared ts
 
 variables_declared : (vs : Tree ℕ (items variable)) → declaring_names (identifiers role.Declaring vs) ≡ variable_names vs
 variables_declared end = refl
@@ -101,7 +101,7 @@ variables_declared (more (declares_variable ns t) vs) =
 
 variable_section_declared : (vs : Tree ℕ (maybe variables)) → declaring_names (identifiers role.Declaring vs) ≡ variable_names (section_variables vs)
 variable_section_declared none = refl
-variable_section_declared (one (declares_variables vs)) = variables_declared vs
+variable_section_declared (one (declares_var_section vs)) = variables_declared vs
 
 mutual
   pub block_declared : (b : Tree ℕ block) → declaring_names (identifiers role.Declaring b) ≡ names_in b
@@ -126,5 +126,5 @@ mutual
       ∙ (λ i. formals_declared fs i ++ (declaring_names-append (identifiers role.Declaring b) ((role.ClosingName, closing) ∷ []) ∙ ((λ j. block_declared b j ++ []) ∙ append-nil (names_in b))) i))
 
 pub module_declared : (t : Tree ℕ module_text) → declaring_names (identifiers role.Declaring t) ≡ names_in (module_block t)
-module_declared (is_module x b closing) =
+module_declared (forms_module x b closing) =
     declaring_names-append (identifiers role.Declaring b) ((role.ModuleName, closing) ∷ []) ∙ ((λ i. block_declared b i ++ []) ∙ append-nil (names_in b))

@@ -8,7 +8,7 @@ pub mod Placed
 pub mod OneBody
 pub mod MappedAlike
 pub mod BodyOutside
-pub mod BodyReplaced
+pub mod BodyReplacement
 pub mod BodyPlaces
 pub mod Moved
 pub mod FewTokens

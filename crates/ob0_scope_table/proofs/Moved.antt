@@ -2,7 +2,7 @@
 use Rattle.std.proofs.Common.{◌≡◌, ◌<◌, ◌≤◌, ◌+◌, ◌-◌, ◌||◌, ◌⊎◌, ℕ, Bool, true, false, nat_le, nat_lt, if◌then◌else◌, refl, sym, ap, ◌∙◌, arith, inl, inr, leb-true, ltb-true}
 use Rattle.std.proofs.lemmas.Bool.{le-leb, le-ltb, lt-ltb}
 use Rattle.ob0_scan.specs.declared.tokens.CommonPrefixAndSuffix.{CommonPrefixAndSuffix}
-use Rattle.ob0_scope_table.specs.BodyReplaced.{shifted_token_index}
+use Rattle.ob0_scope_table.specs.BodyReplacement.{shifted_token_index}
 use Rattle.ob0_scope_table.specs.OneBody.{is_outside_range}
 
 -- A token outside a range is before it or after it.

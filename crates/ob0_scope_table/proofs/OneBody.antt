@@ -2,11 +2,11 @@
 -- as before.
 use Rattle.std.proofs.Common.{◌≡◌, ℕ, zero, suc, slice_get, true, Option, Some, None, List, [], ◌∷◌, refl, sym, ap, ◌∙◌}
 use Rattle.ob0_scan.specs.declared.lexeme.Token.{Token}
-use Rattle.ob0_scan.specs.Reused.{words_of_tokens}
+use Rattle.ob0_scan.specs.ReusedLexemes.{words_of_tokens}
 use Rattle.ob0_scan.specs.TextWithTokens.{TextWithTokens, Word}
 use Rattle.ob0_tree.specs.ParsedModule.{ParsedModule}
 use Rattle.ob0_tree.specs.Places.{token_text_at, token_text_or_empty, token_value_or_zero, integer_value_or_zero}
-use Rattle.ob0_scope_table.specs.OneBody.{IsBodyChange, is_outside_range}
+use Rattle.ob0_scope_table.specs.OneBody.{ChangesSpellingsInOneBody, is_outside_range}
 
 -- returns the spelling of a token's word
 abbrev pub word_text : Option Word → List ℕ
@@ -27,6 +27,6 @@ value_in_word text [] i = refl
 value_in_word text (t ∷ ts) zero = refl
 value_in_word text (t ∷ ts) (suc i) = value_in_word text ts i
 
-pub text_out : (old : TextWithTokens) (m : ParsedModule) (low high : ℕ) → IsBodyChange old m low high → (i : ℕ) → is_outside_range low high i ≡ true → token_text_at m.source i ≡ token_text_at old i
+pub text_out : (old : TextWithTokens) (m : ParsedModule) (low high : ℕ) → ChangesSpellingsInOneBody old m low high → (i : ℕ) → is_outside_range low high i ≡ true → token_text_at m.source i ≡ token_text_at old i
 text_out old m low high change i e =
     text_in_word m.source.text m.source.tokens i ∙ (ap word_text (change.same_words i e) ∙ sym (text_in_word old.text old.tokens i))

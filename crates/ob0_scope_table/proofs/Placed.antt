@@ -5,10 +5,10 @@ use Rattle.ob0_scan.specs.declared.lexeme.Token.{Token}
 use Rattle.ob0_scan.specs.declared.lexeme.TokenKind.{TokenKind}
 use Rattle.ob0_scan.specs.declared.lexeme.TokenKind.TheVariants as kind
 use Rattle.ob0_tree.specs.Lexeme.{EndOfText, WordOrSymbol, Name, Number, Terminal}
-use Rattle.ob0_tree.specs.Order.{AreAscendingWithin}
+use Rattle.ob0_tree.specs.IdentifierIndexes.{AreAscendingWithin}
 use Rattle.ob0_tree.specs.ParsedModule.{IsParsed, ParsedModule, tree_of}
 use Rattle.ob0_tree.specs.Places.{indexed_terminal, indexed_terminals_from}
-use Rattle.ob0_tree.specs.Tree.{Sort, Tree, adds, array_type, assigns, begins, branches, calls, compares, declares, declares_constant, declares_constants, declares_procedure, declares_type, declares_types, declares_variable, declares_variables, designator, else_branch, elsif_branch, empty, end, field, forms_block, index, integer, is_module, listed, more, multiplies, named_type, negation, no_arguments, no_fields, no_formals, none, one, parenthesised, product, record_type, relates, repeat_loop, runs, some_arguments, some_fields, some_formals, sum, then_argument, then_fields, then_name, then_section, then_statement, value_section, variable_section, while_loop, spell}
+use Rattle.ob0_tree.specs.Tree.{Sort, Tree, adds, array_type, assigns, begins, branches, calls, compares, declares, declares_constant, declares_const_section, declares_procedure, declares_type, declares_type_section, declares_variable, declares_var_section, designator, else_branch, elsif_branch, empty, end, field, forms_block, index, integer, forms_module, listed, more, multiplies, named_type, negation, no_arguments, no_fields, no_formals, none, one, parenthesised, product, record_type, relates, repeat_loop, runs, some_arguments, some_fields, some_formals, sum, comma_then_argument, semicolon_then_fields, comma_then_name, semicolon_then_section, semicolon_then_statement, value_section, variable_section, while_loop, spell}
 use Rattle.ob0_tree.proofs.Leaves.{ascending_higher, ascending_lower}
 use Rattle.ob0_scope_table.specs.TokenProperty.{EachTokenHas}
 
@@ -38,35 +38,35 @@ places (while_loop condition s) = places condition ++ places s
 places (repeat_loop s condition) = places s ++ places condition
 places no_arguments = []
 places (some_arguments e es) = places e ++ places es
-places (then_argument e) = places e
+places (comma_then_argument e) = places e
 places (runs first statements) = places first ++ places statements
-places (then_statement s) = places s
+places (semicolon_then_statement s) = places s
 places (elsif_branch condition s) = places condition ++ places s
 places (else_branch s) = places s
 places (listed name others) = name ∷ places others
-places (then_name name) = name ∷ []
+places (comma_then_name name) = name ∷ []
 places (named_type name) = name ∷ []
 places (array_type size t) = places size ++ places t
 places (record_type first others) = places first ++ places others
 places no_fields = []
 places (some_fields ns t) = places ns ++ places t
-places (then_fields f) = places f
+places (semicolon_then_fields f) = places f
 places no_formals = []
 places (some_formals first others) = places first ++ places others
 places (value_section ns t) = places ns ++ places t
 places (variable_section ns t) = places ns ++ places t
-places (then_section s) = places s
+places (semicolon_then_section s) = places s
 places (declares_constant name e) = name ∷ places e
-places (declares_constants cs) = places cs
+places (declares_const_section cs) = places cs
 places (declares_type name t) = name ∷ places t
-places (declares_types ts) = places ts
+places (declares_type_section ts) = places ts
 places (declares_variable ns t) = places ns ++ places t
-places (declares_variables vs) = places vs
+places (declares_var_section vs) = places vs
 places (declares_procedure name fs b closing) = name ∷ (places fs ++ (places b ++ (closing ∷ [])))
 places (declares cs ts vs ps) = places cs ++ (places ts ++ (places vs ++ places ps))
 places (begins s) = places s
 places (forms_block ds b) = places ds ++ places b
-places (is_module name b closing) = name ∷ (places b ++ (closing ∷ []))
+places (forms_module name b closing) = name ∷ (places b ++ (closing ∷ []))
 
 -- returns the tokens of names and numbers among terminals
 abbrev pub token_places : List (Terminal ℕ) → List ℕ
@@ -109,35 +109,35 @@ places_spelled (while_loop condition s) = simp (token_places-append, append-nil,
 places_spelled (repeat_loop s condition) = simp (token_places-append, places_spelled s, places_spelled condition)
 places_spelled no_arguments = refl
 places_spelled (some_arguments e es) = simp (token_places-append, append-nil, places_spelled e, places_spelled es)
-places_spelled (then_argument e) = simp (places_spelled e)
+places_spelled (comma_then_argument e) = simp (places_spelled e)
 places_spelled (runs first statements) = simp (token_places-append, places_spelled first, places_spelled statements)
-places_spelled (then_statement s) = simp (places_spelled s)
+places_spelled (semicolon_then_statement s) = simp (places_spelled s)
 places_spelled (elsif_branch condition s) = simp (token_places-append, places_spelled condition, places_spelled s)
 places_spelled (else_branch s) = simp (places_spelled s)
 places_spelled (listed name others) = simp (places_spelled others)
-places_spelled (then_name name) = refl
+places_spelled (comma_then_name name) = refl
 places_spelled (named_type name) = refl
 places_spelled (array_type size t) = simp (token_places-append, places_spelled size, places_spelled t)
 places_spelled (record_type first others) = simp (token_places-append, append-nil, places_spelled first, places_spelled others)
 places_spelled no_fields = refl
 places_spelled (some_fields ns t) = simp (token_places-append, places_spelled ns, places_spelled t)
-places_spelled (then_fields f) = simp (places_spelled f)
+places_spelled (semicolon_then_fields f) = simp (places_spelled f)
 places_spelled no_formals = refl
 places_spelled (some_formals first others) = simp (token_places-append, append-nil, places_spelled first, places_spelled others)
 places_spelled (value_section ns t) = simp (token_places-append, places_spelled ns, places_spelled t)
 places_spelled (variable_section ns t) = simp (token_places-append, places_spelled ns, places_spelled t)
-places_spelled (then_section s) = simp (places_spelled s)
+places_spelled (semicolon_then_section s) = simp (places_spelled s)
 places_spelled (declares_constant name e) = simp (token_places-append, append-nil, places_spelled e)
-places_spelled (declares_constants cs) = simp (places_spelled cs)
+places_spelled (declares_const_section cs) = simp (places_spelled cs)
 places_spelled (declares_type name t) = simp (token_places-append, append-nil, places_spelled t)
-places_spelled (declares_types ts) = simp (places_spelled ts)
+places_spelled (declares_type_section ts) = simp (places_spelled ts)
 places_spelled (declares_variable ns t) = simp (token_places-append, append-nil, places_spelled ns, places_spelled t)
-places_spelled (declares_variables vs) = simp (places_spelled vs)
+places_spelled (declares_var_section vs) = simp (places_spelled vs)
 places_spelled (declares_procedure name fs b closing) = simp (token_places-append, append-nil, places_spelled fs, places_spelled b)
 places_spelled (declares cs ts vs ps) = simp (token_places-append, places_spelled cs, places_spelled ts, places_spelled vs, places_spelled ps)
 places_spelled (begins s) = simp (places_spelled s)
 places_spelled (forms_block ds b) = simp (token_places-append, places_spelled ds, places_spelled b)
-places_spelled (is_module name b closing) = simp (token_places-append, append-nil, places_spelled b)
+places_spelled (forms_module name b closing) = simp (token_places-append, append-nil, places_spelled b)
 
 -- The tokens of names and numbers in a text ascend.
 from_ascend : (ts : List Token) (i : ℕ) → AreAscendingWithin i (token_places (indexed_terminals_from i ts)) (i + length ts)
@@ -191,35 +191,35 @@ each_of P (while_loop condition s) h = let s₁ = all_parts P (places condition)
 each_of P (repeat_loop s condition) h = let s₁ = all_parts P (places s) (places condition) h in (each_of P s s₁.0, each_of P condition s₁.1)
 each_of P no_arguments h = tt
 each_of P (some_arguments e es) h = let s₁ = all_parts P (places e) (places es) h in (each_of P e s₁.0, each_of P es s₁.1)
-each_of P (then_argument e) h = each_of P e h
+each_of P (comma_then_argument e) h = each_of P e h
 each_of P (runs first statements) h = let s₁ = all_parts P (places first) (places statements) h in (each_of P first s₁.0, each_of P statements s₁.1)
-each_of P (then_statement s) h = each_of P s h
+each_of P (semicolon_then_statement s) h = each_of P s h
 each_of P (elsif_branch condition s) h = let s₁ = all_parts P (places condition) (places s) h in (each_of P condition s₁.0, each_of P s s₁.1)
 each_of P (else_branch s) h = each_of P s h
 each_of P (listed name others) h = (h.0, each_of P others h.1)
-each_of P (then_name name) h = h.0
+each_of P (comma_then_name name) h = h.0
 each_of P (named_type name) h = h.0
 each_of P (array_type size t) h = let s₁ = all_parts P (places size) (places t) h in (each_of P size s₁.0, each_of P t s₁.1)
 each_of P (record_type first others) h = let s₁ = all_parts P (places first) (places others) h in (each_of P first s₁.0, each_of P others s₁.1)
 each_of P no_fields h = tt
 each_of P (some_fields ns t) h = let s₁ = all_parts P (places ns) (places t) h in (each_of P ns s₁.0, each_of P t s₁.1)
-each_of P (then_fields f) h = each_of P f h
+each_of P (semicolon_then_fields f) h = each_of P f h
 each_of P no_formals h = tt
 each_of P (some_formals first others) h = let s₁ = all_parts P (places first) (places others) h in (each_of P first s₁.0, each_of P others s₁.1)
 each_of P (value_section ns t) h = let s₁ = all_parts P (places ns) (places t) h in (each_of P ns s₁.0, each_of P t s₁.1)
 each_of P (variable_section ns t) h = let s₁ = all_parts P (places ns) (places t) h in (each_of P ns s₁.0, each_of P t s₁.1)
-each_of P (then_section s) h = each_of P s h
+each_of P (semicolon_then_section s) h = each_of P s h
 each_of P (declares_constant name e) h = (h.0, each_of P e h.1)
-each_of P (declares_constants cs) h = each_of P cs h
+each_of P (declares_const_section cs) h = each_of P cs h
 each_of P (declares_type name t) h = (h.0, each_of P t h.1)
-each_of P (declares_types ts) h = each_of P ts h
+each_of P (declares_type_section ts) h = each_of P ts h
 each_of P (declares_variable ns t) h = let s₁ = all_parts P (places ns) (places t) h in (each_of P ns s₁.0, each_of P t s₁.1)
-each_of P (declares_variables vs) h = each_of P vs h
+each_of P (declares_var_section vs) h = each_of P vs h
 each_of P (declares_procedure name fs b closing) h = let s₁ = all_parts P (places fs) (places b ++ (closing ∷ [])) h.1 in let s₂ = all_parts P (places b) (closing ∷ []) s₁.1 in (h.0, each_of P fs s₁.0, each_of P b s₂.0, s₂.1.0)
 each_of P (declares cs ts vs ps) h = let s₁ = all_parts P (places cs) (places ts ++ (places vs ++ places ps)) h in let s₂ = all_parts P (places ts) (places vs ++ places ps) s₁.1 in let s₃ = all_parts P (places vs) (places ps) s₂.1 in (each_of P cs s₁.0, each_of P ts s₂.0, each_of P vs s₃.0, each_of P ps s₃.1)
 each_of P (begins s) h = each_of P s h
 each_of P (forms_block ds b) h = let s₁ = all_parts P (places ds) (places b) h in (each_of P ds s₁.0, each_of P b s₁.1)
-each_of P (is_module name b closing) h = let s₁ = all_parts P (places b) (closing ∷ []) h.1 in (h.0, each_of P b s₁.0, s₁.1.0)
+each_of P (forms_module name b closing) h = let s₁ = all_parts P (places b) (closing ∷ []) h.1 in (h.0, each_of P b s₁.0, s₁.1.0)
 
 -- A property of every token holds of each token of a part.
 pub each_token : {s : Sort} (P : ℕ → Type 0) → ((k : ℕ) → P k) → (t : Tree ℕ s) → EachTokenHas P t

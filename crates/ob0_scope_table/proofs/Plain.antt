@@ -2,7 +2,7 @@
 use Rattle.std.proofs.Common.{◌≡◌, ℕ, List, [], ◌∷◌, ◌++◌, refl, ◌∙◌}
 use Rattle.ob0_tree.specs.declared.tree.Role.{Role}
 use Rattle.ob0_tree.specs.declared.tree.Role.TheVariants as role
-use Rattle.ob0_tree.specs.Tree.{GrammarItem, Sort, Tree, identifiers, item, items, maybe, adds, array_type, assigns, begins, branches, calls, compares, declares, declares_constant, declares_constants, declares_procedure, declares_type, declares_types, declares_variable, declares_variables, designator, else_branch, elsif_branch, empty, end, field, forms_block, index, integer, is_module, listed, more, multiplies, named_type, negation, no_arguments, no_fields, no_formals, none, one, parenthesised, product, record_type, relates, repeat_loop, runs, some_arguments, some_fields, some_formals, sum, then_argument, then_fields, then_name, then_section, then_statement, value_section, variable_section, while_loop, selector, multiplier, addend, comparison, arguments, further_argument, further_statement, elsif_part, else_part, further_fields, body, further_name, formals, further_section, constant, constants, type_definition, type_definitions, variable, variables, procedure, expression, simple, term, factor, statement, sequence, written_type, fields, names, section, declarations, block, module_text}
+use Rattle.ob0_tree.specs.Tree.{GrammarItem, Sort, Tree, identifiers, item, items, maybe, adds, array_type, assigns, begins, branches, calls, compares, declares, declares_constant, declares_const_section, declares_procedure, declares_type, declares_type_section, declares_variable, declares_var_section, designator, else_branch, elsif_branch, empty, end, field, forms_block, index, integer, forms_module, listed, more, multiplies, named_type, negation, no_arguments, no_fields, no_formals, none, one, parenthesised, product, record_type, relates, repeat_loop, runs, some_arguments, some_fields, some_formals, sum, comma_then_argument, semicolon_then_fields, comma_then_name, semicolon_then_section, semicolon_then_statement, value_section, variable_section, while_loop, selector, multiplier, addend, comparison, arguments, argument_after_comma, statement_after_semicolon, elsif_part, else_part, fields_after_semicolon, body, name_after_comma, formals, section_after_semicolon, constant, constants, type_definition, type_definitions, variable, variables, procedure, expression, simple, term, factor, statement, sequence, written_type, fields, names, section, declarations, block, module_text}
 use Rattle.ob0_scope_table.specs.Resolution.{declaring_names}
 
 pub declaring_names-append : {N : Type 0} (xs ys : List (Role × N)) → declaring_names (xs ++ ys) ≡ declaring_names xs ++ declaring_names ys
@@ -29,9 +29,9 @@ use_first p = record { plain = p.plain }
 field_first : {x : ℕ} {xs : List (Role × ℕ)} → Plain xs → Plain ((role.FieldName, x) ∷ xs)
 field_first p = record { plain = p.plain }
 
-further_fields_plain : (ns : Tree ℕ (items further_name)) → Plain (identifiers role.FieldName ns)
+further_fields_plain : (ns : Tree ℕ (items name_after_comma)) → Plain (identifiers role.FieldName ns)
 further_fields_plain end = nothing
-further_fields_plain (more (then_name x) rest) = field_first (further_fields_plain rest)
+further_fields_plain (more (comma_then_name x) rest) = field_first (further_fields_plain rest)
 
 fields_plain : (ns : Tree ℕ names) → Plain (identifiers role.FieldName ns)
 fields_plain (listed x rest) = field_first (further_fields_plain rest)
@@ -43,15 +43,15 @@ IsPlainItem multiplier = Unit {0}
 IsPlainItem addend = Unit {0}
 IsPlainItem comparison = Unit {0}
 IsPlainItem arguments = Unit {0}
-IsPlainItem further_argument = Unit {0}
-IsPlainItem further_statement = Unit {0}
+IsPlainItem argument_after_comma = Unit {0}
+IsPlainItem statement_after_semicolon = Unit {0}
 IsPlainItem elsif_part = Unit {0}
 IsPlainItem else_part = Unit {0}
-IsPlainItem further_fields = Unit {0}
+IsPlainItem fields_after_semicolon = Unit {0}
 IsPlainItem body = Unit {0}
-IsPlainItem further_name = ⊥
+IsPlainItem name_after_comma = ⊥
 IsPlainItem formals = ⊥
-IsPlainItem further_section = ⊥
+IsPlainItem section_after_semicolon = ⊥
 IsPlainItem constant = ⊥
 IsPlainItem constants = ⊥
 IsPlainItem type_definition = ⊥
@@ -103,32 +103,32 @@ declares_nothing h (while_loop a b) = both (declares_nothing tt a) (declares_not
 declares_nothing h (repeat_loop a b) = both (declares_nothing tt a) (declares_nothing tt b)
 declares_nothing h no_arguments = nothing
 declares_nothing h (some_arguments a b) = both (declares_nothing tt a) (declares_nothing tt b)
-declares_nothing h (then_argument a) = declares_nothing tt a
+declares_nothing h (comma_then_argument a) = declares_nothing tt a
 declares_nothing h (runs a b) = both (declares_nothing tt a) (declares_nothing tt b)
-declares_nothing h (then_statement a) = declares_nothing tt a
+declares_nothing h (semicolon_then_statement a) = declares_nothing tt a
 declares_nothing h (elsif_branch a b) = both (declares_nothing tt a) (declares_nothing tt b)
 declares_nothing h (else_branch a) = declares_nothing tt a
 declares_nothing h (listed a b) = absurd h
-declares_nothing h (then_name a) = absurd h
+declares_nothing h (comma_then_name a) = absurd h
 declares_nothing h (named_type a) = use_first nothing
 declares_nothing h (array_type a b) = both (declares_nothing tt a) (declares_nothing tt b)
 declares_nothing h (record_type a b) = both (declares_nothing tt a) (declares_nothing tt b)
 declares_nothing h no_fields = nothing
 declares_nothing h (some_fields a b) = both (fields_plain a) (declares_nothing tt b)
-declares_nothing h (then_fields a) = declares_nothing tt a
+declares_nothing h (semicolon_then_fields a) = declares_nothing tt a
 declares_nothing h no_formals = absurd h
 declares_nothing h (some_formals a b) = absurd h
 declares_nothing h (value_section a b) = absurd h
 declares_nothing h (variable_section a b) = absurd h
-declares_nothing h (then_section a) = absurd h
+declares_nothing h (semicolon_then_section a) = absurd h
 declares_nothing h (declares_constant a b) = absurd h
-declares_nothing h (declares_constants a) = absurd h
+declares_nothing h (declares_const_section a) = absurd h
 declares_nothing h (declares_type a b) = absurd h
-declares_nothing h (declares_types a) = absurd h
+declares_nothing h (declares_type_section a) = absurd h
 declares_nothing h (declares_variable a b) = absurd h
-declares_nothing h (declares_variables a) = absurd h
+declares_nothing h (declares_var_section a) = absurd h
 declares_nothing h (declares_procedure a b c d) = absurd h
 declares_nothing h (declares a b c d) = absurd h
 declares_nothing h (begins a) = declares_nothing tt a
 declares_nothing h (forms_block a b) = absurd h
-declares_nothing h (is_module a b c) = absurd h
+declares_nothing h (forms_module a b c) = absurd h

@@ -2,13 +2,13 @@
 -- same kinds and spellings. So a tree has the same names and numbers over both texts.
 use Rattle.std.proofs.Common.{◌≡◌, List, length, slice_get, sym, ap, ◌∙◌}
 use Rattle.std.proofs.lemmas.List.{length-map}
-use Rattle.ob0_scan.specs.Reused.{words_of_tokens}
+use Rattle.ob0_scan.specs.ReusedLexemes.{words_of_tokens}
 use Rattle.ob0_scan.specs.TextWithTokens.{TextWithTokens, Word, word_of_token}
 use Rattle.ob0_tree.specs.declared.tree.ModuleTree.{ModuleTree}
 use Rattle.ob0_tree.specs.ParsedModule.{named_tree_of, parsed_module, tree_of}
 use Rattle.ob0_tree.specs.Places.{token_text_at, token_value_at}
 use Rattle.ob0_tree.specs.Tree.{mapped_tree}
-use Rattle.ob0_scope_table.proofs.BodyReplaced.{text_by_word, value_by_word}
+use Rattle.ob0_scope_table.proofs.BodyReplacement.{text_by_word, value_by_word}
 
 module _ (old new : TextWithTokens) (same : words_of_tokens new.text new.tokens ≡ words_of_tokens old.text old.tokens) where
   pub same_count : length new.tokens ≡ length old.tokens

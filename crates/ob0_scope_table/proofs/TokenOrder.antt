@@ -14,7 +14,7 @@ use Rattle.ob0_scan.specs.declared.lexeme.Span.{Span}
 use Rattle.ob0_scan.specs.declared.lexeme.Token.{Token}
 use Rattle.ob0_scan.specs.declared.lexeme.TokenKind.TheVariants as kind
 use Rattle.ob0_scan.proofs.AtLexemes.{Full, full}
-use Rattle.ob0_scope_table.specs.FaultsAtTokens.{token_or_last}
+use Rattle.ob0_scope_table.specs.FaultsAtTokens.{clamped_token_index}
 use Rattle.ob0_scope_table.specs.Spans.{TokensAreDisjoint, span_at, span_or_empty}
 
 -- ---- the tokens of a text
@@ -92,8 +92,8 @@ module _ (source : TextWithTokens) (scan : IsScan source) where
       let follows = tokens_follow 0 source.tokens i j no_token apart low less in
       omega (arith, a, b, bounds.1, follows)
 
-  pub start_order : (i j : ℕ) → nat_cmp (token_or_last count i) (token_or_last count j) ≡ nat_cmp (span_at source (token_or_last count i)).start (span_at source (token_or_last count j)).start
-  start_order i j = same_order (λ k. (span_at source k).start) (count - 1) start_rises (token_or_last count i) (token_or_last count j) (min-le_right i (count - 1)) (min-le_right j (count - 1))
+  pub start_order : (i j : ℕ) → nat_cmp (clamped_token_index count i) (clamped_token_index count j) ≡ nat_cmp (span_at source (clamped_token_index count i)).start (span_at source (clamped_token_index count j)).start
+  start_order i j = same_order (λ k. (span_at source k).start) (count - 1) start_rises (clamped_token_index count i) (clamped_token_index count j) (min-le_right i (count - 1)) (min-le_right j (count - 1))
 
-  pub end_order : (i j : ℕ) → nat_cmp (token_or_last count i) (token_or_last count j) ≡ nat_cmp (span_at source (token_or_last count i)).end (span_at source (token_or_last count j)).end
-  end_order i j = same_order (λ k. (span_at source k).end) (count - 1) end_rises (token_or_last count i) (token_or_last count j) (min-le_right i (count - 1)) (min-le_right j (count - 1))
+  pub end_order : (i j : ℕ) → nat_cmp (clamped_token_index count i) (clamped_token_index count j) ≡ nat_cmp (span_at source (clamped_token_index count i)).end (span_at source (clamped_token_index count j)).end
+  end_order i j = same_order (λ k. (span_at source k).end) (count - 1) end_rises (clamped_token_index count i) (clamped_token_index count j) (min-le_right i (count - 1)) (min-le_right j (count - 1))

@@ -5,8 +5,8 @@ use Rattle.ob0_scope_table.specs.Resolution.{Resolution}
 use Rattle.ob0_scope_table.specs.declared.resolved.Bindings.{Bindings}
 
 -- returns the resolved module that joins a parsed module and these bindings
-abbrev pub resolution_with : ParsedModule → Bindings → Resolution
-resolution_with m b =
+abbrev pub resolution_with_bindings : ParsedModule → Bindings → Resolution
+resolution_with_bindings m b =
     record {
       module_read = m;
       ordinals = b.ordinals.items;

@@ -2,17 +2,17 @@
 -- Rule: none; used in contracts about the body in which a range of tokens lies.
 use Rattle.std.specs.Prelude.{ℕ, Bool, Option, None, if◌then◌else◌, option_map}
 use Rattle.ob0_tree.specs.FirstIdentifier.{first_identifier}
-use Rattle.ob0_tree.specs.Tree.{Tree, block, body, is_module, item, maybe, module_text, procedure}
+use Rattle.ob0_tree.specs.Tree.{Tree, block, body, forms_module, item, maybe, module_text, procedure}
 use Rattle.ob0_tree.specs.View.{block_of}
 use Rattle.ob0_tree.specs.declared.tree.ModuleTree.{ModuleTree}
-use Rattle.ob0_scope_table.specs.BodyReplaced.{body_at_path, body_at_path_in_block, body_at_path_in_procedure, closing_name_at_path, closing_name_at_path_in_block, closing_name_at_path_in_procedure, path_to_body_in_block, path_to_body_in_procedure, path_to_body_in_module}
+use Rattle.ob0_scope_table.specs.BodyReplacement.{body_at_path, body_at_path_in_block, body_at_path_in_procedure, closing_name_at_path, closing_name_at_path_in_block, closing_name_at_path_in_procedure, path_to_body_in_block, path_to_body_in_procedure, path_to_body_in_module}
 use Rattle.ob0_scope_table.specs.OneBody.{is_range_in_body_of_block, is_range_in_one_body, is_range_in_body_of_procedure}
 use Rattle.ob0_scope_table.specs.declared.one_body.BodyBounds.{BodyBounds}
 
 -- returns the specification's `Tree` for the program's `ModuleTree`, with token indexes in place of
 -- names
 abbrev pub module_tree_of : ModuleTree → Tree ℕ module_text
-module_tree_of t = is_module t.name (block_of t.block) t.closing
+module_tree_of t = forms_module t.name (block_of t.block) t.closing
 
 -- Returns the bounds of a body with these statements, in a block with the closing name at the token
 -- `closing`. Returns None if `condition` is false, or if the statements have no identifier.

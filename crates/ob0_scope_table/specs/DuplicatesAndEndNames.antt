@@ -6,10 +6,10 @@ use Rattle.std.specs.Prelude.{ℕ, Bool, not, List, [], ◌∷◌, ◌++◌, if�
 use Rattle.ob0_scan.specs.declared.fault.FaultCode.TheVariants as code
 use Rattle.ob0_tree.specs.ParsedModule.{ParsedModule, tree_of}
 use Rattle.ob0_tree.specs.Places.{token_text_at}
-use Rattle.ob0_tree.specs.Tree.{Tree, array_type, block, declares, declares_procedure, declares_type, declares_variable, end, fields, further_fields, further_section, forms_block, is_module, item, items, module_text, more, named_type, no_fields, procedure, record_type, some_fields, then_fields, then_section, type_definition, variable, written_type}
-use Rattle.ob0_language_names.specs.ConsistentNames.{block_names, group_field_names, further_field_names, is_among}
+use Rattle.ob0_tree.specs.Tree.{Tree, array_type, block, declares, declares_procedure, declares_type, declares_variable, end, fields, fields_after_semicolon, section_after_semicolon, forms_block, forms_module, item, items, module_text, more, named_type, no_fields, procedure, record_type, some_fields, semicolon_then_fields, semicolon_then_section, type_definition, variable, written_type}
+use Rattle.ob0_language_names.specs.ConsistentNames.{names_declared_in_block, group_field_names, field_names_after_first_group, is_among}
 use Rattle.ob0_language_names.specs.Names.{Name, same_name}
-use Rattle.ob0_language_names.specs.Parts.{formal_names, formal_sections, parameter_section_type, section_types, section_variables}
+use Rattle.ob0_language_names.specs.BlockParts.{formal_names, formal_sections, parameter_section_type, section_types, section_variables}
 use Rattle.ob0_scope_table.specs.FaultsAtTokens.{fault_at_token}
 use Rattle.ob0_scope_table.specs.declared.faults.FaultAtTokens.{FaultAtTokens}
 
@@ -41,7 +41,7 @@ abbrev mutual
   duplicate_field_faults spelling (named_type x) = []
   duplicate_field_faults spelling (array_type e t) = duplicate_field_faults spelling t
   duplicate_field_faults spelling (record_type g rest) =
-      duplicate_faults spelling [] (group_field_names g ++ further_field_names rest)
+      duplicate_faults spelling [] (group_field_names g ++ field_names_after_first_group rest)
       ++ (duplicate_field_faults_in_group spelling g ++ duplicate_field_faults_in_groups spelling rest)
 
   -- returns the faults of duplicate fields in the type of a group of fields
@@ -50,9 +50,9 @@ abbrev mutual
   duplicate_field_faults_in_group spelling (some_fields ns t) = duplicate_field_faults spelling t
 
   -- returns the faults of duplicate fields in the types of further groups of fields
-  pub duplicate_field_faults_in_groups : (ℕ → Name) → Tree ℕ (items further_fields) → List FaultAtTokens
+  pub duplicate_field_faults_in_groups : (ℕ → Name) → Tree ℕ (items fields_after_semicolon) → List FaultAtTokens
   duplicate_field_faults_in_groups spelling end = []
-  duplicate_field_faults_in_groups spelling (more (then_fields g) rest) = duplicate_field_faults_in_group spelling g ++ duplicate_field_faults_in_groups spelling rest
+  duplicate_field_faults_in_groups spelling (more (semicolon_then_fields g) rest) = duplicate_field_faults_in_group spelling g ++ duplicate_field_faults_in_groups spelling rest
 
 -- returns the faults of duplicate fields in the types of a TYPE section
 abbrev pub duplicate_field_faults_in_types : (ℕ → Name) → Tree ℕ (items type_definition) → List FaultAtTokens
@@ -66,9 +66,9 @@ duplicate_field_faults_in_variables spelling (more (declares_variable ns t) gs) 
     duplicate_field_faults spelling t ++ duplicate_field_faults_in_variables spelling gs
 
 -- returns the faults of duplicate fields in the types of parameters
-abbrev pub duplicate_field_faults_in_formals : (ℕ → Name) → Tree ℕ (items further_section) → List FaultAtTokens
+abbrev pub duplicate_field_faults_in_formals : (ℕ → Name) → Tree ℕ (items section_after_semicolon) → List FaultAtTokens
 duplicate_field_faults_in_formals spelling end = []
-duplicate_field_faults_in_formals spelling (more (then_section s) fs) =
+duplicate_field_faults_in_formals spelling (more (semicolon_then_section s) fs) =
     duplicate_field_faults spelling (parameter_section_type s) ++ duplicate_field_faults_in_formals spelling fs
 
 -- Returns the faults of duplicate declarations and wrong closing names in a block, in procedures, or in
@@ -79,7 +79,7 @@ abbrev mutual
   -- names of the procedure's parameters, which count as declared in the block.
   pub block_declaration_faults : (ℕ → Name) → List ℕ → Tree ℕ block → List FaultAtTokens
   block_declaration_faults spelling own (forms_block (declares cs ts vs ps) statements) =
-      duplicate_faults spelling [] (own ++ block_names (forms_block (declares cs ts vs ps) statements))
+      duplicate_faults spelling [] (own ++ names_declared_in_block (forms_block (declares cs ts vs ps) statements))
       ++ (duplicate_field_faults_in_types spelling (section_types ts)
       ++ (duplicate_field_faults_in_variables spelling (section_variables vs) ++ procedures_declaration_faults spelling ps))
 
@@ -99,7 +99,7 @@ abbrev mutual
 -- returns the faults of all duplicate declarations (including fields) and wrong closing names in a
 -- module's tree
 abbrev pub tree_declaration_faults : (ℕ → Name) → Tree ℕ module_text → List FaultAtTokens
-tree_declaration_faults spelling (is_module x b closing) =
+tree_declaration_faults spelling (forms_module x b closing) =
     closing_name_faults spelling x closing ++ block_declaration_faults spelling [] b
 
 -- returns the faults of all duplicate declarations (including fields) and wrong closing names in a module

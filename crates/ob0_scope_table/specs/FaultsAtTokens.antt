@@ -13,8 +13,8 @@ fault_at_token c token = record { code = c; first = token; last = token }
 
 -- Returns the index of a token in a text with `count` tokens. A token that doesn't exist counts as
 -- the last token. Returns 0 if the text has no tokens.
-abbrev pub token_or_last : ℕ → ℕ → ℕ
-token_or_last count token = min token (count - 1)
+abbrev pub clamped_token_index : ℕ → ℕ → ℕ
+clamped_token_index count token = min token (count - 1)
 
 -- Returns a fault with its span in the text `source`. The span goes from the start of the fault's
 -- first token to the end of its last token.
@@ -24,7 +24,7 @@ fault_with_span source f =
       code = f.code;
       span =
           record {
-            start = (span_at source (token_or_last (length source.tokens) f.first)).start;
-            end = (span_at source (token_or_last (length source.tokens) f.last)).end;
+            start = (span_at source (clamped_token_index (length source.tokens) f.first)).start;
+            end = (span_at source (clamped_token_index (length source.tokens) f.last)).end;
           };
     }

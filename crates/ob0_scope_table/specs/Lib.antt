@@ -1,5 +1,5 @@
 pub mod Bindings
-pub mod Entries
+pub mod OrdinalEntries
 pub mod Resolution
 pub mod Spans
 pub mod DuplicatesAndEndNames
@@ -7,5 +7,5 @@ pub mod LabelledTrees
 pub mod FaultsAtTokens
 pub mod TokenProperty
 pub mod OneBody
-pub mod BodyReplaced
+pub mod BodyReplacement
 pub mod BodyPlaces

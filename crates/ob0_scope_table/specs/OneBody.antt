@@ -2,10 +2,10 @@
 -- outside the changed range keep their spellings.
 -- Rule: none; used in contracts about a change of spellings in one body.
 use Rattle.std.specs.Prelude.{◌≡◌, ℕ, Bool, true, false, ◌&&◌, ◌||◌, nat_le, nat_lt, List, [], ◌∷◌, if◌then◌else◌, slice_get}
-use Rattle.ob0_scan.specs.Reused.{kinds, words_of_tokens}
+use Rattle.ob0_scan.specs.ReusedLexemes.{kinds, words_of_tokens}
 use Rattle.ob0_scan.specs.TextWithTokens.{IsScan, TextWithTokens}
 use Rattle.ob0_tree.specs.ParsedModule.{ParsedModule, tree_of}
-use Rattle.ob0_tree.specs.Tree.{Tree, block, body, declares, declares_procedure, end, forms_block, identifiers, is_module, item, items, maybe, module_text, more, procedure}
+use Rattle.ob0_tree.specs.Tree.{Tree, block, body, declares, declares_procedure, end, forms_block, identifiers, forms_module, item, items, maybe, module_text, more, procedure}
 use Rattle.ob0_tree.specs.declared.tree.Role.{Role}
 use Rattle.ob0_tree.specs.declared.tree.Role.TheVariants as role
 
@@ -54,13 +54,13 @@ abbrev mutual
 -- returns whether one body of a module contains the tokens from `low` up to, but not including,
 -- `high`
 abbrev pub is_range_in_one_body : ℕ → ℕ → Tree ℕ module_text → Bool
-is_range_in_one_body low high (is_module x b closing) = nat_le high closing && is_range_in_body_of_block low high b
+is_range_in_one_body low high (forms_module x b closing) = nat_le high closing && is_range_in_body_of_block low high b
 
 -- States that the text of the module `m` differs from the text `old` only in the spellings of tokens
 -- in one body. The tokens of both texts have the same kinds, one by one. The tokens from `low` up
 -- to, but not including, `high` are inside one body of `m`. All other tokens also have the same
 -- spellings in both texts.
-pub record IsBodyChange (old : TextWithTokens) (m : ParsedModule) (low high : ℕ) : Type 0 where
+pub record ChangesSpellingsInOneBody (old : TextWithTokens) (m : ParsedModule) (low high : ℕ) : Type 0 where
   pub old_scan : IsScan old
   pub new_scan : IsScan m.source
   pub same_kinds : kinds m.source.tokens ≡ kinds old.tokens

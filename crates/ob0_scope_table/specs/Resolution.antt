@@ -9,7 +9,7 @@ use Rattle.ob0_scan.specs.declared.lexeme.Span.{Span}
 use Rattle.ob0_scan.specs.TextWithTokens.{TextWithTokens}
 use Rattle.ob0_tree.specs.declared.tree.Role.{Role}
 use Rattle.ob0_tree.specs.declared.tree.Role.TheVariants as role
-use Rattle.ob0_tree.specs.Order.{identifier_names}
+use Rattle.ob0_tree.specs.IdentifierIndexes.{identifier_names}
 use Rattle.ob0_tree.specs.Tree.{mapped_tree, occurrences, identifiers}
 use Rattle.ob0_tree.specs.ParsedModule.{ParsedModule, IsParsed, tree_of, named_tree_of}
 use Rattle.ob0_tree.specs.Places.{token_text_at, token_value_at}
@@ -72,11 +72,11 @@ span_at source token = spans.span_at source token
 
 -- Returns a fault `Undeclared` for each looked-up name that has no ordinal in the table `ordinals`. The
 -- looked-up names are given by their tokens.
-abbrev pub undeclared_faults_by_table : List (Option ℕ) → List ℕ → List FaultAtTokens
-undeclared_faults_by_table ordinals [] = []
-undeclared_faults_by_table ordinals (token ∷ tokens) =
-    if is_some (ordinal_in ordinals token) then undeclared_faults_by_table ordinals tokens
-    else fault_at_token code.Undeclared token ∷ undeclared_faults_by_table ordinals tokens
+abbrev pub undeclared_faults_from_table : List (Option ℕ) → List ℕ → List FaultAtTokens
+undeclared_faults_from_table ordinals [] = []
+undeclared_faults_from_table ordinals (token ∷ tokens) =
+    if is_some (ordinal_in ordinals token) then undeclared_faults_from_table ordinals tokens
+    else fault_at_token code.Undeclared token ∷ undeclared_faults_from_table ordinals tokens
 
 -- A module with its resolved names. `ordinals` has an entry for each token: the ordinal (the number)
 -- of the identifier's declaration, or None. `declaration_tokens` has the tokens of the declaring names in
@@ -117,17 +117,17 @@ IsBindingTable m ordinals =
 -- Returns a fault `Undeclared` for each looked-up name whose label says that it is unbound
 -- (`is_unbound`). The first list has the tokens of the looked-up names, and the second list has the
 -- names' labels in the same order.
-abbrev pub undeclared_faults_by_labels : List ℕ → List Label → List FaultAtTokens
-undeclared_faults_by_labels [] labels = []
-undeclared_faults_by_labels (token ∷ tokens) [] = []
-undeclared_faults_by_labels (token ∷ tokens) (label ∷ labels) =
+abbrev pub undeclared_faults_from_labels : List ℕ → List Label → List FaultAtTokens
+undeclared_faults_from_labels [] labels = []
+undeclared_faults_from_labels (token ∷ tokens) [] = []
+undeclared_faults_from_labels (token ∷ tokens) (label ∷ labels) =
     if is_unbound label
-    then fault_at_token code.Undeclared token ∷ undeclared_faults_by_labels tokens labels
-    else undeclared_faults_by_labels tokens labels
+    then fault_at_token code.Undeclared token ∷ undeclared_faults_from_labels tokens labels
+    else undeclared_faults_from_labels tokens labels
 
 -- returns a fault for each undeclared name of a module, in text order
 abbrev pub undeclared_faults : ParsedModule → List FaultAtTokens
-undeclared_faults m = undeclared_faults_by_labels (occurrences (tree_of m)) (bindings (named_tree_of m))
+undeclared_faults m = undeclared_faults_from_labels (occurrences (tree_of m)) (bindings (named_tree_of m))
 
 -- States that these are the faults of a module's names. Duplicate declarations and wrong closing
 -- names come first (`declaration_faults`). A fault for each undeclared name follows, in text order.

@@ -2,7 +2,7 @@
 -- their spellings are unchanged.
 -- Rule: none; used in contracts about changes of a tree's names and numbers.
 use Rattle.std.specs.Prelude.{ℕ}
-use Rattle.ob0_tree.specs.Tree.{Sort, Tree, adds, array_type, assigns, begins, branches, calls, compares, declares, declares_constant, declares_constants, declares_procedure, declares_type, declares_types, declares_variable, declares_variables, designator, else_branch, elsif_branch, empty, end, field, forms_block, index, integer, is_module, listed, more, multiplies, named_type, negation, no_arguments, no_fields, no_formals, none, one, parenthesised, product, record_type, relates, repeat_loop, runs, some_arguments, some_fields, some_formals, sum, then_argument, then_fields, then_name, then_section, then_statement, value_section, variable_section, while_loop}
+use Rattle.ob0_tree.specs.Tree.{Sort, Tree, adds, array_type, assigns, begins, branches, calls, compares, declares, declares_constant, declares_const_section, declares_procedure, declares_type, declares_type_section, declares_variable, declares_var_section, designator, else_branch, elsif_branch, empty, end, field, forms_block, index, integer, forms_module, listed, more, multiplies, named_type, negation, no_arguments, no_fields, no_formals, none, one, parenthesised, product, record_type, relates, repeat_loop, runs, some_arguments, some_fields, some_formals, sum, comma_then_argument, semicolon_then_fields, comma_then_name, semicolon_then_section, semicolon_then_statement, value_section, variable_section, while_loop}
 
 -- states that the token of each name and of each number in a tree has the property `P`
 abbrev pub EachTokenHas : {s : Sort} → (ℕ → Type 0) → Tree ℕ s → Type 0
@@ -31,34 +31,34 @@ EachTokenHas P (while_loop condition s) = EachTokenHas P condition × EachTokenH
 EachTokenHas P (repeat_loop s condition) = EachTokenHas P s × EachTokenHas P condition
 EachTokenHas P no_arguments = Unit {0}
 EachTokenHas P (some_arguments e es) = EachTokenHas P e × EachTokenHas P es
-EachTokenHas P (then_argument e) = EachTokenHas P e
+EachTokenHas P (comma_then_argument e) = EachTokenHas P e
 EachTokenHas P (runs first statements) = EachTokenHas P first × EachTokenHas P statements
-EachTokenHas P (then_statement s) = EachTokenHas P s
+EachTokenHas P (semicolon_then_statement s) = EachTokenHas P s
 EachTokenHas P (elsif_branch condition s) = EachTokenHas P condition × EachTokenHas P s
 EachTokenHas P (else_branch s) = EachTokenHas P s
 EachTokenHas P (listed name others) = P name × EachTokenHas P others
-EachTokenHas P (then_name name) = P name
+EachTokenHas P (comma_then_name name) = P name
 EachTokenHas P (named_type name) = P name
 EachTokenHas P (array_type size t) = EachTokenHas P size × EachTokenHas P t
 EachTokenHas P (record_type first others) = EachTokenHas P first × EachTokenHas P others
 EachTokenHas P no_fields = Unit {0}
 EachTokenHas P (some_fields ns t) = EachTokenHas P ns × EachTokenHas P t
-EachTokenHas P (then_fields fs) = EachTokenHas P fs
+EachTokenHas P (semicolon_then_fields fs) = EachTokenHas P fs
 EachTokenHas P no_formals = Unit {0}
 EachTokenHas P (some_formals first others) = EachTokenHas P first × EachTokenHas P others
 EachTokenHas P (value_section ns t) = EachTokenHas P ns × EachTokenHas P t
 EachTokenHas P (variable_section ns t) = EachTokenHas P ns × EachTokenHas P t
-EachTokenHas P (then_section s) = EachTokenHas P s
+EachTokenHas P (semicolon_then_section s) = EachTokenHas P s
 EachTokenHas P (declares_constant name e) = P name × EachTokenHas P e
-EachTokenHas P (declares_constants cs) = EachTokenHas P cs
+EachTokenHas P (declares_const_section cs) = EachTokenHas P cs
 EachTokenHas P (declares_type name t) = P name × EachTokenHas P t
-EachTokenHas P (declares_types ts) = EachTokenHas P ts
+EachTokenHas P (declares_type_section ts) = EachTokenHas P ts
 EachTokenHas P (declares_variable ns t) = EachTokenHas P ns × EachTokenHas P t
-EachTokenHas P (declares_variables vs) = EachTokenHas P vs
+EachTokenHas P (declares_var_section vs) = EachTokenHas P vs
 EachTokenHas P (declares_procedure name fs b closing) =
     P name × EachTokenHas P fs × EachTokenHas P b × P closing
 EachTokenHas P (declares cs ts vs ps) =
     EachTokenHas P cs × EachTokenHas P ts × EachTokenHas P vs × EachTokenHas P ps
 EachTokenHas P (begins s) = EachTokenHas P s
 EachTokenHas P (forms_block ds b) = EachTokenHas P ds × EachTokenHas P b
-EachTokenHas P (is_module name b closing) = P name × EachTokenHas P b × P closing
+EachTokenHas P (forms_module name b closing) = P name × EachTokenHas P b × P closing

@@ -1,7 +1,7 @@
 //! Stores an entry of a table of ordinals in 32 bits. An ordinal is a declaration's number.
 
 ghost use Rattle.std.specs.Prelude.{◌≡◌};
-ghost use Rattle.ob0_scope_table.specs.Entries.{stored_ordinal};
+ghost use Rattle.ob0_scope_table.specs.OrdinalEntries.{stored_ordinal};
 
 use std::marker::Model;
 
@@ -17,7 +17,7 @@ pub struct OrdinalEntry {
 
 impl Model for OrdinalEntry {
     ghost use Rattle.std.specs.Prelude.{ℕ, Option};
-    ghost use Rattle.ob0_scope_table.specs.Entries.{ordinal_from_entry_number, entry_number_of_ordinal};
+    ghost use Rattle.ob0_scope_table.specs.OrdinalEntries.{ordinal_from_entry_number, entry_number_of_ordinal};
 
     ghost Value = { Option ℕ };
 

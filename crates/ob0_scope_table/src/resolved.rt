@@ -41,7 +41,7 @@ pub struct Resolved<'t> {
 impl<'t> Model for Resolved<'t> {
     ghost use Rattle.std.specs.Cow.{cow_value};
     ghost use Rattle.ob0_scope_table.specs.Resolution.{Resolution, IsResolution};
-    ghost use Rattle.ob0_scope_table.specs.Bindings.{resolution_with};
+    ghost use Rattle.ob0_scope_table.specs.Bindings.{resolution_with_bindings};
 
     ghost Value = { Resolution };
 
@@ -50,19 +50,19 @@ impl<'t> Model for Resolved<'t> {
 
     ghost coded = { Prim.hlevel (codes, block_contract.the_row.coded) };
 
-    ghost view = { λ r. resolution_with r.module.now (cow_value r.bindings) };
+    ghost view = { λ r. resolution_with_bindings r.module.now (cow_value r.bindings) };
 
-    ghost invariant = { λ r. IsResolution (resolution_with r.module.now (cow_value r.bindings)) };
+    ghost invariant = { λ r. IsResolution (resolution_with_bindings r.module.now (cow_value r.bindings)) };
 }
 
 impl<'t> Resolved<'t> {
-    ghost use Rattle.ob0_scope_table.specs.Bindings.{resolution_with};
+    ghost use Rattle.ob0_scope_table.specs.Bindings.{resolution_with_bindings};
 
     /// Joins a module and its bindings. The bindings must be correct for the module
     /// (`IsResolution`). The result owns the bindings.
     pub fn new(module: &'t Module<'t>, bindings: Bindings) -> Resolved<'t>
-        requires { IsResolution (resolution_with «module».now bindings) }
-        ensures { result ≡ resolution_with «module».now bindings }
+        requires { IsResolution (resolution_with_bindings «module».now bindings) }
+        ensures { result ≡ resolution_with_bindings «module».now bindings }
     {
         Resolved {
             module,
@@ -73,8 +73,8 @@ impl<'t> Resolved<'t> {
     /// Joins a module and its bindings. The bindings must be correct for the module
     /// (`IsResolution`). The result borrows the bindings.
     pub fn from_parts(module: &'t Module<'t>, bindings: &'t Bindings) -> Resolved<'t>
-        requires { IsResolution (resolution_with «module».now bindings.now) }
-        ensures { result ≡ resolution_with «module».now bindings.now }
+        requires { IsResolution (resolution_with_bindings «module».now bindings.now) }
+        ensures { result ≡ resolution_with_bindings «module».now bindings.now }
     {
         Resolved {
             module,
@@ -84,7 +84,7 @@ impl<'t> Resolved<'t> {
 
     /// Returns the bindings, without the module.
     fn bindings(&self) -> &Bindings
-        ensures { resolution_with self.now.module_read result.now ≡ self.now }
+        ensures { resolution_with_bindings self.now.module_read result.now ≡ self.now }
     {
         match &self.bindings {
             Cow::Borrowed(bindings) => bindings,

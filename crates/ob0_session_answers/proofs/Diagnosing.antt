@@ -2,7 +2,7 @@
 use Rattle.std.proofs.Common.{◌≡◌, ℕ, List, map, refl, subst}
 use Rattle.std.specs.Str.{chars, IsUtf8}
 use Rattle.ob0_text.specs.declared.position_types.Unit.{Unit}
-use Rattle.ob0_analysis.specs.Diagnosed.{ReportedDiagnosis, ReportsErrorsOf}
+use Rattle.ob0_analysis.specs.ReportedErrors.{ReportedDiagnosis, ReportsErrorsOf}
 use Rattle.ob0_session_answers.specs.Diagnostics.{diagnostic_of, AreDiagnosticsOf}
 use Rattle.ob0_analysis.proofs.Scanning.{utf8_of}
 

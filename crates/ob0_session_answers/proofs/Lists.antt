@@ -3,7 +3,7 @@ use Rattle.std.proofs.Common.{◌≡◌, ◌∙◌, List, [], ◌∷◌, ◌++�
 use Rattle.std.proofs.lemmas.List.{map-append}
 use mathlib.Core.List.{map-map}
 use Rattle.ob0_analysis.specs.declared.diagnoses.Diagnosis.{Diagnosis}
-use Rattle.ob0_analysis.specs.Diagnosed.{ReportedDiagnosis, reported_diagnosis_of}
+use Rattle.ob0_analysis.specs.ReportedErrors.{ReportedDiagnosis, reported_diagnosis_of}
 use Rattle.ob0_session_json.specs.JsonViews.{AreSameDiagnostics, diagnostic_view}
 use Rattle.ob0_session_json.specs.Shapes as shapes
 use Rattle.ob0_session_json.specs.declared.publication.Diagnostic.{Diagnostic}

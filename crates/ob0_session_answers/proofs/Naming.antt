@@ -3,14 +3,14 @@ use Rattle.std.proofs.Common.{◌≡◌, ◌≤◌, ℕ, List, [], ◌∷◌, Op
 use Rattle.std.specs.Str.{chars, IsUtf8}
 use Rattle.serde_json.specs.Data.{null, array, items_depth}
 use Rattle.serde_json.specs.View.{items_of}
-use Rattle.ob0_rpc.specs.Writing.{FitsInMessage}
+use Rattle.ob0_rpc.specs.WrittenMessages.{FitsInMessage}
 use Rattle.ob0_scan.specs.declared.lexeme.Span.{Span}
 use Rattle.ob0_scope_table.specs.Resolution.{Resolution}
 use Rattle.ob0_text.specs.declared.position_types.Unit.{Unit}
-use Rattle.ob0_analysis.specs.Analysed.{AnswersIfWellTyped, IsResolvedWellTypedModule}
-use Rattle.ob0_analysis.specs.Diagnosed.{IsWellTypedModule}
+use Rattle.ob0_analysis.specs.AnalysisAnswers.{AnswersIfWellTyped, IsResolvedWellTypedModule}
+use Rattle.ob0_analysis.specs.ReportedErrors.{IsWellTypedModule}
 use Rattle.ob0_analysis.specs.Texts.{utf8}
-use Rattle.ob0_session_answers.specs.Questions.{span_location_value}
+use Rattle.ob0_session_answers.specs.Questions.{location_value_of_span}
 use Rattle.ob0_analysis.proofs.Scanning.{utf8_of}
 
 -- Holds if the text is a module and its names have this answer, or there is no answer (None) and
@@ -27,11 +27,11 @@ found_of bytes text is None u same h = subst (λ (t : List ℕ). IsWellTypedModu
 
 -- ---- values that can be sent
 
-shallow_locations : (unit : Unit) (uri text : List ℕ) (spans : List Span) → items_depth (items_of (map (span_location_value unit uri text) spans)) ≤ 3
+shallow_locations : (unit : Unit) (uri text : List ℕ) (spans : List Span) → items_depth (items_of (map (location_value_of_span unit uri text) spans)) ≤ 3
 shallow_locations unit uri text [] = omega arith
 shallow_locations unit uri text (s ∷ ss) = omega (arith, shallow_locations unit uri text ss)
 
-pub locations_can_be_sent : (unit : Unit) (uri text : List ℕ) (spans : List Span) → FitsInMessage (array (items_of (map (span_location_value unit uri text) spans)))
+pub locations_can_be_sent : (unit : Unit) (uri text : List ℕ) (spans : List Span) → FitsInMessage (array (items_of (map (location_value_of_span unit uri text) spans)))
 locations_can_be_sent unit uri text spans = record { shallow = omega (arith, shallow_locations unit uri text spans) }
 
 pub null_can_be_sent : FitsInMessage null

@@ -9,17 +9,17 @@ use Rattle.serde_json.specs.Data.{Data, array, no_items}
 use Rattle.serde_json.specs.View.{items_of}
 use Rattle.ob0_rpc.specs.MessageViews.{json_of_id, action_kinds_view}
 use Rattle.ob0_rpc.specs.Shapes.{result_message}
-use Rattle.ob0_rpc.specs.Writing.{Writes}
+use Rattle.ob0_rpc.specs.WrittenMessages.{Writes}
 use Rattle.ob0_rpc.specs.declared.clients.ClientFeatures.{ClientFeatures}
 use Rattle.ob0_text.specs.Texts.{offset_of}
 use Rattle.ob0_text.specs.Units.{width_of}
 use Rattle.ob0_text.specs.declared.edits.Edit.{Edit}
 use Rattle.ob0_text.specs.declared.position_types.Range.{Range}
 use Rattle.ob0_text.specs.declared.position_types.Unit.{Unit}
-use Rattle.ob0_analysis.specs.Diagnosed.{IsWellTypedModule}
+use Rattle.ob0_analysis.specs.ReportedErrors.{IsWellTypedModule}
 use Rattle.ob0_analysis.specs.Texts.{utf8}
-use Rattle.ob0_edits.specs.Inlinings.{OffersOrRefusesInlining}
-use Rattle.ob0_session_json.specs.Shapes.{action_value, workspace_edit}
+use Rattle.ob0_edits.specs.InliningEdits.{IsInlineResultInText}
+use Rattle.ob0_session_json.specs.Shapes.{code_action_value, workspace_edit}
 use Rattle.ob0_session_answers.specs.declared.actions.ActionsRequest.{ActionsRequest}
 use Rattle.ob0_edits.specs.declared.inlinings.Inlining.{Inlining}
 use Rattle.ob0_edits.specs.declared.inlinings.Inlining.TheVariants.{OneUse, Everywhere}
@@ -57,24 +57,24 @@ kind_includes_inlining kind =
 
 -- Returns whether the requested kinds of actions include inlining. If there is no list of kinds
 -- (None), all kinds are requested.
-abbrev pub kinds_include_inlining : Option (List (List ℕ)) → Bool
-kinds_include_inlining (Some kinds) = list_any kind_includes_inlining kinds
-kinds_include_inlining None = true
+abbrev pub requested_kinds_include_inlining : Option (List (List ℕ)) → Bool
+requested_kinds_include_inlining (Some kinds) = list_any kind_includes_inlining kinds
+requested_kinds_include_inlining None = true
 
 -- Returns whether the client accepts literal code actions, which aren't commands, and the requested
 -- kinds include inlining. If `only` is None, all kinds are requested.
-abbrev pub accepts_inlining : ClientFeatures → Option (List (List ℕ)) → Bool
-accepts_inlining client only = client.accepts_literal_actions && kinds_include_inlining only
+abbrev pub client_wants_inlining : ClientFeatures → Option (List (List ℕ)) → Bool
+client_wants_inlining client only = client.accepts_literal_actions && requested_kinds_include_inlining only
 
 -- Returns whether the client of this request accepts literal code actions, and the requested kinds
 -- include inlining.
 abbrev pub wants_inlining : VersionedActionsRequest → Bool
-wants_inlining requested = accepts_inlining requested.client requested.only
+wants_inlining requested = client_wants_inlining requested.client requested.only
 
 -- Returns the byte offset in the text at which actions apply: the start of the range, or its end if
 -- the end comes first.
-abbrev pub actions_offset : Unit → List ℕ → Range → ℕ
-actions_offset unit text range =
+abbrev pub first_offset_in_range : Unit → List ℕ → Range → ℕ
+first_offset_in_range unit text range =
     min (offset_of (width_of unit) text range.start) (offset_of (width_of unit) text range.end)
 
 -- ---- the message
@@ -87,15 +87,15 @@ title Everywhere = codes "Inline everywhere"
 
 -- Returns the JSON value of the code action that applies these edits, in the form that the client
 -- accepts. The action's title depends on `how`.
-abbrev pub code_action_of : VersionedActionsRequest → Inlining → List Edit → Data
-code_action_of requested how edits =
-    action_value (workspace_edit requested.client requested.uri requested.version edits) (title how)
+abbrev pub inlining_action_value : VersionedActionsRequest → Inlining → List Edit → Data
+inlining_action_value requested how edits =
+    code_action_value (workspace_edit requested.client requested.uri requested.version edits) (title how)
 
 -- Returns a list with the JSON value of the code action that applies these edits. If the inlining
 -- is refused (the edits are None), the list is empty.
-abbrev pub action_values : VersionedActionsRequest → Inlining → Option (Vec Edit Global) → List Data
-action_values requested how (Some edits) = code_action_of requested how edits.items ∷ []
-action_values requested how None = []
+abbrev pub offered_action_values : VersionedActionsRequest → Inlining → Option (Vec Edit Global) → List Data
+offered_action_values requested how (Some edits) = inlining_action_value requested how edits.items ∷ []
+offered_action_values requested how None = []
 
 -- Returns the JSON array of the offered actions: to inline a constant at one use, then to inline it
 -- everywhere. An action whose edits are None isn't offered.
@@ -105,19 +105,19 @@ abbrev pub actions_array : VersionedActionsRequest
     → Data
 actions_array requested here everywhere =
     array (items_of
-    (action_values requested OneUse here ++ action_values requested Everywhere everywhere))
+    (offered_action_values requested OneUse here ++ offered_action_values requested Everywhere everywhere))
 
 -- States that the request asks for inlining (`wants_inlining`) and that the text is a well-typed
 -- module. The JSON value lists the actions that are offered where actions apply in the request's
--- range (`actions_offset`). `here` and `everywhere` are the edits of the two actions. They are None
+-- range (`first_offset_in_range`). `here` and `everywhere` are the edits of the two actions. They are None
 -- for an action that isn't offered.
 pub record ListsInlinings (unit : Unit) (requested : VersionedActionsRequest) (text : List ℕ)
     (value : Data) : Type 0 where
   pub here : Option (Vec Edit Global)
   pub everywhere : Option (Vec Edit Global)
   pub wanted : wants_inlining requested ≡ true
-  pub offers_here : OffersOrRefusesInlining OneUse unit text (actions_offset unit text requested.range) here
-  pub offers_everywhere : OffersOrRefusesInlining Everywhere unit text (actions_offset unit text requested.range)
+  pub offers_here : IsInlineResultInText OneUse unit text (first_offset_in_range unit text requested.range) here
+  pub offers_everywhere : IsInlineResultInText Everywhere unit text (first_offset_in_range unit text requested.range)
       everywhere
   pub listed : value ≡ actions_array requested here everywhere
 
@@ -131,14 +131,14 @@ ListsActions unit requested text value =
 
 -- States that the message answers the request for code actions in a document with this text.
 -- Positions are counted in `unit`.
-abbrev pub AnswersActions : Unit → VersionedActionsRequest → List ℕ → Data → Type 0
-AnswersActions unit requested text message =
+abbrev pub AnswersActionsRequest : Unit → VersionedActionsRequest → List ℕ → Data → Type 0
+AnswersActionsRequest unit requested text message =
     (value : Data)
     × ListsActions unit requested text value
     × (message ≡ result_message requested.id value)
 
 -- States that `content` is the text, as bytes, of a message that answers the request for code
 -- actions.
-abbrev pub RepliesToActions : Unit → VersionedActionsRequest → List ℕ → List ℕ → Type 0
-RepliesToActions unit requested text content =
-    (message : Data) × AnswersActions unit requested text message × Writes message content
+abbrev pub RepliesToActionsRequest : Unit → VersionedActionsRequest → List ℕ → List ℕ → Type 0
+RepliesToActionsRequest unit requested text content =
+    (message : Data) × AnswersActionsRequest unit requested text message × Writes message content

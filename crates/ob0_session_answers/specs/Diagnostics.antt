@@ -2,11 +2,11 @@
 -- (`ReportedDiagnosis`). A `Diagnostic`, which is sent to the client, has positions instead.
 -- Rule: docs/PROTOCOL.md, Publishing 3, JSON shapes 2.
 use Rattle.std.specs.Prelude.{◌≡◌, ℕ, ℤ, List, Some, map}
-use Rattle.ob0_rpc.specs.Writing.{Writes}
+use Rattle.ob0_rpc.specs.WrittenMessages.{Writes}
 use Rattle.ob0_text.specs.Texts.{position_of}
 use Rattle.ob0_text.specs.Units.{width_of}
 use Rattle.ob0_text.specs.declared.position_types.Unit.{Unit}
-use Rattle.ob0_analysis.specs.Diagnosed.{ReportedDiagnosis, ReportsErrorsOf}
+use Rattle.ob0_analysis.specs.ReportedErrors.{ReportedDiagnosis, ReportsErrorsOf}
 use Rattle.ob0_analysis.specs.Texts.{utf8}
 use Rattle.ob0_session_json.specs.Shapes.{Diagnostic, publication}
 
@@ -30,8 +30,8 @@ AreDiagnosticsOf unit text ds =
 
 -- States that `content` is the text, as bytes, of the message that publishes the diagnostics of a
 -- document with this uri, version and text.
-abbrev pub Publishes : Unit → List ℕ → ℤ → List ℕ → List ℕ → Type 0
-Publishes unit uri version text content =
+abbrev pub PublishesDiagnostics : Unit → List ℕ → ℤ → List ℕ → List ℕ → Type 0
+PublishesDiagnostics unit uri version text content =
     (ds : List Diagnostic)
     × AreDiagnosticsOf unit text ds
     × Writes (publication uri (Some version) ds) content

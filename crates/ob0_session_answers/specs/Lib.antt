@@ -1,7 +1,7 @@
 pub mod Actions
 pub mod Diagnostics
-pub mod Formatted
-pub mod Renamed
-pub use Rattle.ob0_analysis.specs.Diagnosed
+pub mod FormattingAnswers
+pub mod RenamingAnswers
+pub use Rattle.ob0_analysis.specs.ReportedErrors
 pub use Rattle.ob0_analysis.specs.Texts
 pub mod Questions

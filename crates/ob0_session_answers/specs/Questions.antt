@@ -10,15 +10,15 @@ use Rattle.ob0_text.specs.Units.{width_of}
 use Rattle.ob0_text.specs.declared.position_types.Unit.{Unit}
 use Rattle.ob0_edits_tokens.specs.Ranges.{range_of}
 use Rattle.ob0_scope_table.specs.Resolution.{Resolution}
-use Rattle.ob0_refs.specs.NameHovers.{HoverText}
+use Rattle.ob0_refs.specs.NameHovers.{HoverTextWithSpan}
 use Rattle.ob0_refs.specs.Questions.{AreReferencesAt, hover_at_offset, definition_at, renamable_span_at}
-use Rattle.ob0_rpc.specs.Requesting.{DocumentPlace}
+use Rattle.ob0_rpc.specs.Requests.{DocumentPlace}
 use Rattle.ob0_rpc.specs.Shapes.{range_value, result_message}
-use Rattle.ob0_rpc.specs.Writing.{Writes}
-use Rattle.ob0_analysis.specs.Analysed.{IsResolvedWellTypedModule}
-use Rattle.ob0_analysis.specs.Diagnosed.{IsWellTypedModule}
+use Rattle.ob0_rpc.specs.WrittenMessages.{Writes}
+use Rattle.ob0_analysis.specs.AnalysisAnswers.{IsResolvedWellTypedModule}
+use Rattle.ob0_analysis.specs.ReportedErrors.{IsWellTypedModule}
 use Rattle.ob0_analysis.specs.Texts.{utf8}
-use Rattle.ob0_session_json.specs.Shapes.{hover_value, range_location_value}
+use Rattle.ob0_session_json.specs.Shapes.{hover_value, location_value_of_range}
 
 -- A question about the name or field at a position: hover, definition, references or prepareRename.
 pub data NameQuestion : Type 0 where
@@ -31,17 +31,17 @@ pub data NameQuestion : Type 0 where
 -- ---- JSON values (arguments: the unit of positions, the uri, and the text's characters)
 
 -- Returns the JSON value of the range that a span covers in the text.
-abbrev pub span_range_value : Unit → List ℕ → Span → Data
-span_range_value unit text span =
+abbrev pub range_value_of_span : Unit → List ℕ → Span → Data
+range_value_of_span unit text span =
     let range = range_of (width_of unit) text span in range_value range.start range.end
 
 -- Returns the JSON value of a span's location in the document with this uri.
-abbrev pub span_location_value : Unit → List ℕ → List ℕ → Span → Data
-span_location_value unit uri text span = range_location_value uri (range_of (width_of unit) text span)
+abbrev pub location_value_of_span : Unit → List ℕ → List ℕ → Span → Data
+location_value_of_span unit uri text span = location_value_of_range uri (range_of (width_of unit) text span)
 
 -- Returns the JSON value of a hover text with its range.
-abbrev pub hover_value_with_range : Unit → List ℕ → HoverText → Data
-hover_value_with_range unit text shown = hover_value shown.text (span_range_value unit text shown.span)
+abbrev pub hover_value_with_range : Unit → List ℕ → HoverTextWithSpan → Data
+hover_value_with_range unit text shown = hover_value shown.text (range_value_of_span unit text shown.span)
 
 -- Returns the JSON value if there is one, otherwise null.
 abbrev pub value_or_null : Option Data → Data
@@ -49,53 +49,53 @@ value_or_null (Some value) = value
 value_or_null None = null
 
 -- Returns the byte offset in the text of the position `at.position`, which is counted in `unit`.
-abbrev pub offset_in : Unit → List ℕ → DocumentPlace → ℕ
-offset_in unit text at = offset_of (width_of unit) text at.position
+abbrev pub offset_of_place : Unit → List ℕ → DocumentPlace → ℕ
+offset_of_place unit text at = offset_of (width_of unit) text at.position
 
 -- States that the JSON value lists, in text order, the locations of all references to the name or
 -- field at the position. The list contains the declaration if `include` is true.
-abbrev pub AnswersReferences : Unit → List ℕ → DocumentPlace → Bool → Resolution → Data → Type 0
-AnswersReferences unit text at include names value =
+abbrev pub AnswersReferencesQuestion : Unit → List ℕ → DocumentPlace → Bool → Resolution → Data → Type 0
+AnswersReferencesQuestion unit text at include names value =
     (spans : List Span)
-    × AreReferencesAt names (offset_in unit text at) include spans
-    × (value ≡ array (items_of (map (span_location_value unit at.uri text) spans)))
+    × AreReferencesAt names (offset_of_place unit text at) include spans
+    × (value ≡ array (items_of (map (location_value_of_span unit at.uri text) spans)))
 
 -- States that the JSON value answers the question about a well-typed module. `names` is the
 -- resolution of the module's names.
-abbrev pub AnswersInModule : Unit → List ℕ → DocumentPlace → NameQuestion → Resolution → Data → Type 0
-AnswersInModule unit text at hover_question names value =
+abbrev pub AnswersQuestionInModule : Unit → List ℕ → DocumentPlace → NameQuestion → Resolution → Data → Type 0
+AnswersQuestionInModule unit text at hover_question names value =
     value
     ≡ value_or_null
-    (option_map (hover_value_with_range unit text) (hover_at_offset names (offset_in unit text at)))
-AnswersInModule unit text at definition_question names value =
+    (option_map (hover_value_with_range unit text) (hover_at_offset names (offset_of_place unit text at)))
+AnswersQuestionInModule unit text at definition_question names value =
     value
     ≡ value_or_null
-    (option_map (span_location_value unit at.uri text) (definition_at names (offset_in unit text at)))
-AnswersInModule unit text at (references_question include) names value =
-    AnswersReferences unit text at include names value
-AnswersInModule unit text at prepare_rename_question names value =
+    (option_map (location_value_of_span unit at.uri text) (definition_at names (offset_of_place unit text at)))
+AnswersQuestionInModule unit text at (references_question include) names value =
+    AnswersReferencesQuestion unit text at include names value
+AnswersQuestionInModule unit text at prepare_rename_question names value =
     value
     ≡ value_or_null
-    (option_map (span_range_value unit text) (renamable_span_at names (offset_in unit text at)))
+    (option_map (range_value_of_span unit text) (renamable_span_at names (offset_of_place unit text at)))
 
 -- Returns the answer to a question about a text that isn't a well-typed module: an empty list for
 -- references, otherwise null.
-abbrev pub ill_typed_answer : NameQuestion → Data
-ill_typed_answer hover_question = null
-ill_typed_answer definition_question = null
-ill_typed_answer (references_question include) = array no_items
-ill_typed_answer prepare_rename_question = null
+abbrev pub answer_for_ill_typed_text : NameQuestion → Data
+answer_for_ill_typed_text hover_question = null
+answer_for_ill_typed_text definition_question = null
+answer_for_ill_typed_text (references_question include) = array no_items
+answer_for_ill_typed_text prepare_rename_question = null
 
 -- ---- the answer to a question about a text
 
 -- States that the JSON value answers the question about a position in this text. If the text isn't
--- a well-typed module, the value is `ill_typed_answer`.
+-- a well-typed module, the value is `answer_for_ill_typed_text`.
 abbrev pub AnswersQuestion : Unit → List ℕ → DocumentPlace → NameQuestion → Data → Type 0
 AnswersQuestion unit text at question value =
     ((names : Resolution)
     × IsResolvedWellTypedModule (utf8 text) names
-    × AnswersInModule unit text at question names value)
-    ⊎ (¬ IsWellTypedModule (utf8 text) × (value ≡ ill_typed_answer question))
+    × AnswersQuestionInModule unit text at question names value)
+    ⊎ (¬ IsWellTypedModule (utf8 text) × (value ≡ answer_for_ill_typed_text question))
 
 -- States that `content` is the text, as bytes, of a message that answers this question. The message
 -- has the id of the request that asks the question.

@@ -1,7 +1,7 @@
 //! Answers requests for code actions, which inline a constant at one use or everywhere.
 //!
 //! `inline_edits` of `ob0_edits` computes the edits. A range may end before its start, so actions
-//! apply at whichever end has the smaller byte offset (`actions_position`, `actions_offset`).
+//! apply at whichever end has the smaller byte offset (`first_position_in_range`, `first_offset_in_range`).
 //! Because offsets are compared, no law about the order of positions is needed. An action's title
 //! and edits depend on its `Inlining` (`OneUse` or `Everywhere`). To add an action, add a variant
 //! of `Inlining` and its title (`title_of` and `title`).
@@ -11,14 +11,14 @@ ghost use Rattle.std.specs.List.{list_any};
 ghost use Rattle.serde_json.specs.Data.{array, item, no_items};
 ghost use Rattle.ob0_rpc.specs.MessageViews.{json_of_id, action_kinds_view};
 ghost use Rattle.ob0_rpc.specs.Shapes.{result_message};
-ghost use Rattle.ob0_rpc.specs.Writing.{Writes};
+ghost use Rattle.ob0_rpc.specs.WrittenMessages.{Writes};
 ghost use Rattle.ob0_text.specs.Texts.{offset_of};
 ghost use Rattle.ob0_text.specs.Units.{width_of};
-ghost use Rattle.ob0_session_answers.specs.Actions.{RepliesToActions, code_action_of, actions_request_view, actions_array, kinds_include_inlining as allows, kind_includes_inlining as of_kind, actions_offset as place_in, title, accepts_inlining as wants};
+ghost use Rattle.ob0_session_answers.specs.Actions.{RepliesToActionsRequest, inlining_action_value, actions_request_view, actions_array, requested_kinds_include_inlining as allows, kind_includes_inlining as of_kind, first_offset_in_range as place_in, title, client_wants_inlining as wants};
 ghost use Rattle.ob0_session_json.specs.JsonViews.{code_action_view};
 
 use ob0_analysis::Analysis;
-use ob0_edits::{Inlining, Inlinings, inline_edits};
+use ob0_edits::{Inlining, InliningEdits, inline_edits};
 use ob0_rpc::{ClientFeatures, Id, success_response_text};
 use ob0_session_documents::DocumentRequest;
 use ob0_session_json::edits::{CodeAction, WorkspaceEdit};
@@ -27,7 +27,7 @@ use std::alloc::{AllocError, Global};
 
 /// Returns the position at which actions apply: the start of the range, or its end if the end comes
 /// first.
-fn actions_position<T: TextStore>(store: &T, range: Range) -> Position
+fn first_position_in_range<T: TextStore>(store: &T, range: Range) -> Position
     ensures { offset_of (width_of (T.unit_of store.now)) (T.content store.now) result
         ≡ place_in (T.unit_of store.now) (T.content store.now) range }
 {
@@ -51,7 +51,7 @@ pub struct ActionsRequest<'a> {
 
 impl<'a, T: TextStore> DocumentRequest<T> for ActionsRequest<'a> {
     ghost answers = { λ r version unit text content.
-        RepliesToActions unit (actions_request_view r version) text content };
+        RepliesToActionsRequest unit (actions_request_view r version) text content };
 
     fn answer(
         &self,
@@ -63,7 +63,7 @@ impl<'a, T: TextStore> DocumentRequest<T> for ActionsRequest<'a> {
         if !self.wants_inlining() {
             return answer_without_actions(alloc, self.id);
         }
-        let place = actions_position(text, self.range);
+        let place = first_position_in_range(text, self.range);
         match inline_edits(alloc, text, analysis, place)? {
             Some(found) => self.answer_with_actions(alloc, version, &found),
             None => answer_without_actions(alloc, self.id),
@@ -77,7 +77,7 @@ impl<'a> ActionsRequest<'a> {
     fn wants_inlining(&self) -> bool
         ensures { result ≡ wants self.now.client (action_kinds_view self.now.only.now) }
     {
-        self.client.accepts_literal_actions && kinds_include_inlining(self.only)
+        self.client.accepts_literal_actions && requested_kinds_include_inlining(self.only)
     }
 
     /// Returns the answer that lists the offered actions: first to inline a constant at this use,
@@ -87,7 +87,7 @@ impl<'a> ActionsRequest<'a> {
         &self,
         alloc: Global,
         version: i64,
-        found: &Inlinings,
+        found: &InliningEdits,
     ) -> Result<Vec<u8>, AllocError>
         ensures { IfOk result (λ bytes. Writes (result_message (json_of_id self.now.id.now)
             (actions_array (actions_request_view self.now version)
@@ -126,7 +126,7 @@ impl<'a> ActionsRequest<'a> {
         edits: &[Edit],
     ) -> Result<Vec<u8>, AllocError>
         ensures { IfOk result (λ bytes. Writes (result_message (json_of_id self.now.id.now)
-            (array (item (code_action_of (actions_request_view self.now version) how edits.now) no_items)))
+            (array (item (inlining_action_value (actions_request_view self.now version) how edits.now) no_items)))
             bytes.items) }
     {
         let actions = [self.action(version, how, edits)];
@@ -136,7 +136,7 @@ impl<'a> ActionsRequest<'a> {
     /// Returns the code action that applies these edits to this version of the document. The
     /// action's title depends on `how`.
     fn action<'b>(&'b self, version: i64, how: Inlining, edits: &'b [Edit]) -> CodeAction<'b>
-        ensures { code_action_view result ≡ code_action_of (actions_request_view self.now version) how edits.now }
+        ensures { code_action_view result ≡ inlining_action_value (actions_request_view self.now version) how edits.now }
     {
         let edit = WorkspaceEdit {
             client: self.client,
@@ -160,7 +160,7 @@ fn answer_without_actions(alloc: Global, id: &Id) -> Result<Vec<u8>, AllocError>
 
 /// Returns whether the requested kinds of actions include inlining. If `only` is None, all kinds
 /// are requested.
-fn kinds_include_inlining(only: &Option<Vec<String>>) -> bool
+fn requested_kinds_include_inlining(only: &Option<Vec<String>>) -> bool
     ensures { result ≡ allows (action_kinds_view only.now) }
 {
     match only {

@@ -7,9 +7,9 @@
 
 ghost use Rattle.std.specs.Prelude.{◌≡◌, List, IfOk, map};
 ghost use Rattle.std.specs.Str.{chars};
-ghost use Rattle.ob0_analysis.specs.Diagnosed.{reported_diagnosis_of};
+ghost use Rattle.ob0_analysis.specs.ReportedErrors.{reported_diagnosis_of};
 ghost use Rattle.ob0_session_json.specs.JsonViews.{AreSameDiagnostics, diagnostic_view};
-ghost use Rattle.ob0_session_answers.specs.Diagnostics.{AreDiagnosticsOf, Publishes, diagnostic_of};
+ghost use Rattle.ob0_session_answers.specs.Diagnostics.{AreDiagnosticsOf, PublishesDiagnostics, diagnostic_of};
 ghost use Rattle.ob0_session_json.specs.Shapes.{Diagnostic as Reported};
 ghost use Rattle.ob0_text.specs.Texts.{position_of};
 ghost use Rattle.ob0_text.specs.Units.{width_of};
@@ -23,13 +23,13 @@ use std::alloc::{AllocError, Global};
 /// A request to publish a document's diagnostics. The server makes such a request itself, after a
 /// document is opened or changed.
 #[derive(Drop)]
-pub struct PublishRequest<'a> {
+pub struct PublishDiagnosticsRequest<'a> {
     pub uri: &'a str,
 }
 
-impl<'a, T: TextStore> DocumentRequest<T> for PublishRequest<'a> {
+impl<'a, T: TextStore> DocumentRequest<T> for PublishDiagnosticsRequest<'a> {
     ghost answers = { λ r version unit text content.
-        Publishes unit r.uri.now version text content };
+        PublishesDiagnostics unit r.uri.now version text content };
 
     fn answer(
         &self,
@@ -55,12 +55,12 @@ pub fn diagnostics<T: TextStore>(
         × AreSameDiagnostics ds list.items) }
 {
     let reported = analysis.diagnoses(alloc)?;
-    locate_diagnostics(alloc, store, reported)
+    convert_diagnoses(alloc, store, reported)
 }
 
 /// Converts each diagnosis in `reported`, which has byte offsets, to a diagnostic with positions,
 /// in the same order. One pass over the text finds the positions of all starts and ends.
-fn locate_diagnostics<T: TextStore>(
+fn convert_diagnoses<T: TextStore>(
     alloc: Global,
     store: &T,
     reported: Vec<Diagnosis>,
@@ -71,7 +71,7 @@ fn locate_diagnostics<T: TextStore>(
 {
     let offsets = sorted_offsets_of(alloc, reported.as_slice())?;
     let positions = store.positions(alloc, offsets.as_slice())?;
-    attach_positions(
+    convert_diagnoses_with_positions(
         alloc,
         store,
         offsets.as_slice(),
@@ -94,7 +94,7 @@ fn sorted_offsets_of(alloc: Global, reported: &[Diagnosis]) -> Result<Vec<usize>
 /// Converts each diagnosis, which has byte offsets, to a diagnostic with positions, in the same
 /// order. `positions` has the position of each byte offset in `offsets`, item by item. The offsets
 /// are in ascending order.
-fn attach_positions<T: TextStore>(
+fn convert_diagnoses_with_positions<T: TextStore>(
     alloc: Global,
     store: &T,
     offsets: &[usize],

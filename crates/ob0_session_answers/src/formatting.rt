@@ -1,12 +1,12 @@
 //! Answers requests for formatting.
 ghost use Rattle.ob0_rpc.specs.MessageViews.{json_of_id};
-ghost use Rattle.ob0_session_answers.specs.Formatted.{RepliesToFormatting};
+ghost use Rattle.ob0_session_answers.specs.FormattingAnswers.{RepliesToFormattingRequest};
 
 use ob0_analysis::Analysis;
 use ob0_edits::format_edits;
 use ob0_rpc::{Id, success_response_text};
 use ob0_session_documents::DocumentRequest;
-use ob0_session_json::refusals::{ill_typed_refusal, refusal_with_reason};
+use ob0_session_json::refusals::{refusal_message_for_ill_typed_text, refusal_message_for_reason};
 use ob0_text::{Indent, TextStore};
 use std::alloc::{AllocError, Global};
 
@@ -19,7 +19,7 @@ pub struct FormattingRequest<'a> {
 
 impl<'a, T: TextStore> DocumentRequest<T> for FormattingRequest<'a> {
     ghost answers = { λ r _ unit text content.
-        RepliesToFormatting unit (json_of_id r.id.now) r.indent text content };
+        RepliesToFormattingRequest unit (json_of_id r.id.now) r.indent text content };
 
     fn answer(
         &self,
@@ -31,9 +31,9 @@ impl<'a, T: TextStore> DocumentRequest<T> for FormattingRequest<'a> {
         match format_edits(alloc, text, analysis, self.indent)? {
             Some(outcome) => match outcome {
                 Ok(edits) => success_response_text(alloc, self.id, &edits.as_slice()),
-                Err(refusal) => refusal_with_reason(alloc, self.id, refusal),
+                Err(refusal) => refusal_message_for_reason(alloc, self.id, refusal),
             },
-            None => ill_typed_refusal(alloc, self.id),
+            None => refusal_message_for_ill_typed_text(alloc, self.id),
         }
     }
 }

@@ -10,7 +10,7 @@ mod questions;
 mod renaming;
 
 pub use actions::ActionsRequest;
-pub use diagnostics::PublishRequest;
+pub use diagnostics::PublishDiagnosticsRequest;
 pub use formatting::FormattingRequest;
 pub use questions::{DefinitionRequest, HoverRequest, PrepareRenameRequest, ReferencesRequest};
 pub use renaming::RenameRequest;

@@ -9,10 +9,10 @@ ghost use Rattle.serde_json.specs.Data.{array};
 ghost use Rattle.serde_json.specs.View.{items_of};
 ghost use Rattle.ob0_rpc.specs.MessageViews.{document_place_view, json_of_id};
 ghost use Rattle.ob0_rpc.specs.Shapes.{result_message};
-ghost use Rattle.ob0_rpc.specs.Writing.{Writes};
-ghost use Rattle.ob0_refs.specs.Parts.{hover_view};
+ghost use Rattle.ob0_rpc.specs.WrittenMessages.{Writes};
+ghost use Rattle.ob0_refs.specs.AnswerViews.{hover_view};
 ghost use Rattle.ob0_refs.specs.Questions.{AreReferencesAt, hover_at_offset, definition_at, renamable_span_at};
-ghost use Rattle.ob0_session_answers.specs.Questions.{RepliesToQuestion, definition_question, hover_question, hover_value_with_range, span_location_value, span_range_value, references_question, prepare_rename_question, value_or_null};
+ghost use Rattle.ob0_session_answers.specs.Questions.{RepliesToQuestion, definition_question, hover_question, hover_value_with_range, location_value_of_span, range_value_of_span, references_question, prepare_rename_question, value_or_null};
 
 use ob0_analysis::{Analysis, Question, WellTyped, ask};
 use ob0_edits_tokens::{range_of, ranges};
@@ -20,7 +20,7 @@ use ob0_refs::{definition, hover, references, renamable_span};
 use ob0_rpc::{DocumentPosition, Id, success_response_text};
 use ob0_scan::Span;
 use ob0_session_documents::DocumentRequest;
-use ob0_session_json::places::{HoverResult, Location, Locations, MarkupContent};
+use ob0_session_json::locations_and_hovers::{HoverResult, Location, LocationList, MarkupContent};
 use ob0_text::TextStore;
 use std::alloc::{AllocError, Global};
 
@@ -145,7 +145,7 @@ impl<'a, T: TextStore> DocumentRequest<T> for DefinitionRequest<'a> {
     ) -> Result<Vec<u8>, AllocError> {
         let offset = text.offset(self.place.position);
         match ask(alloc, analysis, &DefinitionQuestion { offset })? {
-            Some(found) => location_answer(alloc, self.id, text, self.place.uri.as_str(), found),
+            Some(found) => definition_answer(alloc, self.id, text, self.place.uri.as_str(), found),
             None => success_response_text(alloc, self.id, &()),
         }
     }
@@ -177,8 +177,8 @@ impl<'a, T: TextStore> DocumentRequest<T> for ReferencesRequest<'a> {
             include_declaration: self.include_declaration,
         };
         match ask(alloc, analysis, &question)? {
-            Some(found) => locations_answer(alloc, self.id, text, uri, found.as_slice()),
-            None => locations_answer(alloc, self.id, text, uri, &[]),
+            Some(found) => references_answer(alloc, self.id, text, uri, found.as_slice()),
+            None => references_answer(alloc, self.id, text, uri, &[]),
         }
     }
 }
@@ -206,7 +206,7 @@ impl<'a, T: TextStore> DocumentRequest<T> for PrepareRenameRequest<'a> {
     ) -> Result<Vec<u8>, AllocError> {
         let offset = text.offset(self.place.position);
         match ask(alloc, analysis, &RenamableSpanQuestion { offset })? {
-            Some(found) => range_answer(alloc, self.id, text, found),
+            Some(found) => prepare_rename_answer(alloc, self.id, text, found),
             None => success_response_text(alloc, self.id, &()),
         }
     }
@@ -238,7 +238,7 @@ fn hover_answer<T: TextStore>(
 
 /// Returns the answer to a definition request: the location of the span, or null if there is no
 /// span (`found` is None).
-fn location_answer<T: TextStore>(
+fn definition_answer<T: TextStore>(
     alloc: Global,
     id: &Id,
     store: &T,
@@ -247,7 +247,7 @@ fn location_answer<T: TextStore>(
 ) -> Result<Vec<u8>, AllocError>
     ensures { IfOk result (λ bytes. Writes (result_message (json_of_id id.now)
         (value_or_null
-        (option_map (span_location_value (T.unit_of store.now) uri.now (T.content store.now)) found)))
+        (option_map (location_value_of_span (T.unit_of store.now) uri.now (T.content store.now)) found)))
         bytes.items) }
 {
     match found {
@@ -261,14 +261,14 @@ fn location_answer<T: TextStore>(
 
 /// Returns the answer to a `prepareRename` request: the range of the span, or null if there is no
 /// span (`found` is None).
-fn range_answer<T: TextStore>(
+fn prepare_rename_answer<T: TextStore>(
     alloc: Global,
     id: &Id,
     store: &T,
     found: Option<Span>,
 ) -> Result<Vec<u8>, AllocError>
     ensures { IfOk result (λ bytes. Writes (result_message (json_of_id id.now)
-        (value_or_null (option_map (span_range_value (T.unit_of store.now) (T.content store.now)) found)))
+        (value_or_null (option_map (range_value_of_span (T.unit_of store.now) (T.content store.now)) found)))
         bytes.items) }
 {
     match found {
@@ -279,7 +279,7 @@ fn range_answer<T: TextStore>(
 
 /// Returns the answer to a references request: the locations of these spans in the document with
 /// this uri. If the spans are in text order, their positions are found in one pass over the text.
-fn locations_answer<T: TextStore>(
+fn references_answer<T: TextStore>(
     alloc: Global,
     id: &Id,
     store: &T,
@@ -288,10 +288,10 @@ fn locations_answer<T: TextStore>(
 ) -> Result<Vec<u8>, AllocError>
     ensures { IfOk result (λ bytes. Writes (result_message (json_of_id id.now)
         (array (items_of
-        (map (span_location_value (T.unit_of store.now) uri.now (T.content store.now)) spans.now))))
+        (map (location_value_of_span (T.unit_of store.now) uri.now (T.content store.now)) spans.now))))
         bytes.items) }
 {
     let ranges = ranges(alloc, store, spans)?;
     let ranges = ranges.as_slice();
-    success_response_text(alloc, id, &Locations { ranges, uri })
+    success_response_text(alloc, id, &LocationList { ranges, uri })
 }

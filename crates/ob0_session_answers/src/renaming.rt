@@ -3,15 +3,15 @@
 ghost use Rattle.std.specs.Prelude.{IfOk};
 ghost use Rattle.ob0_rpc.specs.MessageViews.{json_of_id};
 ghost use Rattle.ob0_rpc.specs.Shapes.{result_message};
-ghost use Rattle.ob0_rpc.specs.Writing.{Writes};
-ghost use Rattle.ob0_session_answers.specs.Renamed.{RepliesToRename, rename_request_view, edits_for_client};
+ghost use Rattle.ob0_rpc.specs.WrittenMessages.{Writes};
+ghost use Rattle.ob0_session_answers.specs.RenamingAnswers.{RepliesToRenameRequest, rename_request_view, edits_for_client};
 
 use ob0_analysis::Analysis;
 use ob0_edits::rename_edits;
 use ob0_rpc::{ClientFeatures, DocumentPosition, Id, success_response_text};
 use ob0_session_documents::DocumentRequest;
 use ob0_session_json::edits::WorkspaceEdit;
-use ob0_session_json::refusals::{ill_typed_refusal, refusal_with_reason};
+use ob0_session_json::refusals::{refusal_message_for_ill_typed_text, refusal_message_for_reason};
 use ob0_text::{Edit, TextStore};
 use std::alloc::{AllocError, Global};
 
@@ -26,7 +26,7 @@ pub struct RenameRequest<'a> {
 
 impl<'a, T: TextStore> DocumentRequest<T> for RenameRequest<'a> {
     ghost answers = { λ r version unit text content.
-        RepliesToRename unit (rename_request_view r version) text content };
+        RepliesToRenameRequest unit (rename_request_view r version) text content };
 
     fn answer(
         &self,
@@ -38,9 +38,9 @@ impl<'a, T: TextStore> DocumentRequest<T> for RenameRequest<'a> {
         match rename_edits(alloc, text, analysis, self.place.position, self.new)? {
             Some(outcome) => match outcome {
                 Ok(edits) => self.answer_with_edits(alloc, version, edits.as_slice()),
-                Err(refusal) => refusal_with_reason(alloc, self.id, refusal),
+                Err(refusal) => refusal_message_for_reason(alloc, self.id, refusal),
             },
-            None => ill_typed_refusal(alloc, self.id),
+            None => refusal_message_for_ill_typed_text(alloc, self.id),
         }
     }
 }

@@ -10,7 +10,7 @@ use Rattle.std.proofs.lemmas.Slice.Eq.{bytes_eq-Decides}
 use Rattle.ob0_text.specs.OpenDocuments.{Documents, Document, OpenDocuments, TextChange, InStep, OutOfStep, document_at, documents_after_open, documents_after_change, changed_document, documents_after_loss, documents_after_close, with_updated_document}
 use Rattle.ob0_text.proofs.EntryLaws.{updated-some, updated-none}
 use Rattle.ob0_session_documents.specs.KeptAnalyses.{AnalysesMatchTexts, KeepsOnlyOtherAnalyses}
-use Rattle.ob0_session_documents.specs.declared.analyses.Analyses.{Analyses}
+use Rattle.ob0_session_documents.specs.declared.analyses.AnalysisCache.{AnalysisCache}
 
 unequal : (u uri : List ℕ) → (u ≡ uri → ⊥) → bytes_eq u uri ≡ false
 unequal u uri other = (elim (bytes_eq u uri) as (λ b. bytes_eq u uri ≡ b → b ≡ false) [
@@ -51,7 +51,7 @@ closed_elsewhere old new uri is u other = ap (λ d. document_at d u) is ∙ remo
 
 -- If the analysis of a document was removed and only that document changed, each kept analysis is
 -- of the current text of its document.
-pub still_theirs : (old new : OpenDocuments) (before after : Analyses) (uri : List ℕ)
+pub still_theirs : (old new : OpenDocuments) (before after : AnalysisCache) (uri : List ℕ)
     → AnalysesMatchTexts old before → KeepsOnlyOtherAnalyses before uri after → AgreesElsewhere old uri new → AnalysesMatchTexts new after
 still_theirs old new before after uri theirs others agrees u text kept =
     let was = others u text kept in

@@ -5,7 +5,7 @@ use Rattle.std.specs.Str.{chars}
 use Rattle.std.specs.declared.alloc.Global.{Global}
 use Rattle.lru.specs.LruCache.{LruCache}
 use Rattle.ob0_text.specs.OpenDocuments.{OpenDocuments, InStep, document_at}
-use Rattle.ob0_session_documents.specs.declared.analyses.Analyses.{Analyses}
+use Rattle.ob0_session_documents.specs.declared.analyses.AnalysisCache.{AnalysisCache}
 
 -- States that the cache contains an analysis of the text `text` under this uri. In the specs, an
 -- analysis is represented by the text that it analyses. If there is no cache yet (None), this never
@@ -17,16 +17,16 @@ CacheContains (Some cache) uri text =
 
 -- States that the cache of `analyses` contains an analysis of this text for the document with this
 -- uri.
-abbrev pub KeepsAnalysis : Analyses → List ℕ → List ℕ → Type 0
+abbrev pub KeepsAnalysis : AnalysisCache → List ℕ → List ℕ → Type 0
 KeepsAnalysis analyses = CacheContains analyses.by_uri
 
 -- States that every analysis in `new` was already in `old`.
-abbrev pub AddsNoAnalysis : Analyses → Analyses → Type 0
+abbrev pub AddsNoAnalysis : AnalysisCache → AnalysisCache → Type 0
 AddsNoAnalysis old new = (uri text : List ℕ) → KeepsAnalysis new uri text → KeepsAnalysis old uri text
 
 -- States that every analysis in `new` was already in `old`, and that no analysis in `new` belongs
 -- to this document.
-abbrev pub KeepsOnlyOtherAnalyses : Analyses → List ℕ → Analyses → Type 0
+abbrev pub KeepsOnlyOtherAnalyses : AnalysisCache → List ℕ → AnalysisCache → Type 0
 KeepsOnlyOtherAnalyses old document new =
     (uri text : List ℕ)
     → KeepsAnalysis new uri text
@@ -34,8 +34,8 @@ KeepsOnlyOtherAnalyses old document new =
 
 -- States that every analysis in `new` either was already in `old` or is the analysis of this
 -- document with this text.
-abbrev pub AddsOnlyAnalysis : Analyses → List ℕ → List ℕ → Analyses → Type 0
-AddsOnlyAnalysis old document its_text new =
+abbrev pub AddsOnlyThisAnalysis : AnalysisCache → List ℕ → List ℕ → AnalysisCache → Type 0
+AddsOnlyThisAnalysis old document its_text new =
     (uri text : List ℕ) → KeepsAnalysis new uri text
     → KeepsAnalysis old uri text ⊎ ((uri ≡ document) × (text ≡ its_text))
 
@@ -46,6 +46,6 @@ HasDocumentText documents uri text =
     (version : ℤ) × (document_at documents uri ≡ Some (InStep version (chars text)))
 
 -- States that each analysis in the cache is the analysis of its document's current text.
-abbrev pub AnalysesMatchTexts : OpenDocuments → Analyses → Type 0
+abbrev pub AnalysesMatchTexts : OpenDocuments → AnalysisCache → Type 0
 AnalysesMatchTexts documents analyses =
     (uri text : List ℕ) → KeepsAnalysis analyses uri text → HasDocumentText documents uri text

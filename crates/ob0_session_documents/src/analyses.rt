@@ -3,13 +3,13 @@
 //! The contracts only limit which analyses may be kept after a call:
 //! - `AddsNoAnalysis`: only analyses that were kept before the call;
 //! - `KeepsOnlyOtherAnalyses`: only analyses of other documents that were kept before the call;
-//! - `AddsOnlyAnalysis`: only the added analysis, and analyses that were kept before the call.
+//! - `AddsOnlyThisAnalysis`: only the added analysis, and analyses that were kept before the call.
 //!
 //! So a call may drop any number of analyses. `put` drops the least recently used analyses if the
 //! total size is too large.
 
 ghost use Rattle.std.specs.Prelude.{◌≡◌, ◌∷◌, ◌≤◌, [], IfSome, IfOk};
-ghost use Rattle.ob0_session_documents.specs.KeptAnalyses.{KeepsAnalysis, AddsOnlyAnalysis, AddsNoAnalysis, KeepsOnlyOtherAnalyses};
+ghost use Rattle.ob0_session_documents.specs.KeptAnalyses.{KeepsAnalysis, AddsOnlyThisAnalysis, AddsNoAnalysis, KeepsOnlyOtherAnalyses};
 
 use lru::LruCache;
 use ob0_analysis::Analysis;
@@ -26,21 +26,21 @@ const OVERHEAD_BYTES_PER_ANALYSIS: usize = 1_024;
 /// A cache of analyses, which are found by the uris of their documents. Adding an analysis may drop
 /// others.
 #[derive(Drop)]
-pub struct Analyses {
+pub struct AnalysisCache {
     alloc: Global,
     /// The cache, or None until the first analysis is kept, because making a cache allocates.
     by_uri: Option<LruCache<String, Analysis>>,
-    /// The sum of `counted_bytes_of` over all analyses in the cache. After a failed allocation it
+    /// The sum of `size_in_cache` over all analyses in the cache. After a failed allocation it
     /// may be larger than that sum.
     size_in_bytes: usize,
 }
 
-impl Analyses {
+impl AnalysisCache {
     /// Returns an empty cache.
-    pub fn new(alloc: Global) -> Analyses
+    pub fn new(alloc: Global) -> AnalysisCache
         ensures { (uri : _) (text : _) → KeepsAnalysis result uri text → ⊥ }
     {
-        Analyses {
+        AnalysisCache {
             alloc,
             by_uri: None,
             size_in_bytes: 0,
@@ -59,7 +59,7 @@ impl Analyses {
         let analysis = by_uri.pop(uri)?;
         self.size_in_bytes = self
             .size_in_bytes
-            .saturating_sub(counted_bytes_of(uri, &analysis));
+            .saturating_sub(size_in_cache(uri, &analysis));
         Some(analysis)
     }
 
@@ -85,15 +85,15 @@ impl Analyses {
     /// analyses are dropped. If `analysis` by itself is larger than [`MAX_TOTAL_ANALYSIS_BYTES`],
     /// it is kept, and all others are dropped.
     pub fn put(&mut self, uri: &str, analysis: Analysis) -> Result<(), AllocError>
-        ensures { AddsOnlyAnalysis self.old uri.now analysis self.new }
+        ensures { AddsOnlyThisAnalysis self.old uri.now analysis self.new }
     {
-        self.add_bytes_and_evict(counted_bytes_of(uri, &analysis));
-        self.insert(uri, analysis)
+        self.add_bytes_and_evict(size_in_cache(uri, &analysis));
+        self.insert_without_evicting(uri, analysis)
     }
 
     /// Adds the analysis of a document to the cache. If there is no cache yet, makes one.
-    fn insert(&mut self, uri: &str, analysis: Analysis) -> Result<(), AllocError>
-        ensures { AddsOnlyAnalysis self.old uri.now analysis self.new }
+    fn insert_without_evicting(&mut self, uri: &str, analysis: Analysis) -> Result<(), AllocError>
+        ensures { AddsOnlyThisAnalysis self.old uri.now analysis self.new }
     {
         let key = String::from_str(self.alloc, uri)?;
         match &mut self.by_uri {
@@ -115,7 +115,7 @@ impl Analyses {
             let Some((oldest, analysis)) = self.remove_least_recently_used() else {
                 break;
             };
-            counted = counted.saturating_sub(counted_bytes_of(oldest.as_str(), &analysis));
+            counted = counted.saturating_sub(size_in_cache(oldest.as_str(), &analysis));
         }
         self.size_in_bytes = counted;
     }
@@ -132,7 +132,7 @@ impl Analyses {
 
 /// Returns the number of bytes that are counted for an analysis. The bytes of the uri are included,
 /// because the cache stores a copy of the uri.
-fn counted_bytes_of(uri: &str, analysis: &Analysis) -> usize
+fn size_in_cache(uri: &str, analysis: &Analysis) -> usize
     ensures { OVERHEAD_BYTES_PER_ANALYSIS ≤ result }
 {
     analysis

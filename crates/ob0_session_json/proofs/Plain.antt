@@ -2,11 +2,11 @@
 use Rattle.std.proofs.Common.{◌≡◌, ◌≤◌, ℕ, ℤ, pos, negsuc, List, [], ◌∷◌, Bool, true, false, Option, Some, None, map, arith, refl}
 use Rattle.serde_json.specs.Data.{Data, array, depth, items_depth}
 use Rattle.serde_json.specs.View.{items_of}
-use Rattle.ob0_rpc.specs.Writing.{FitsInMessage}
+use Rattle.ob0_rpc.specs.WrittenMessages.{FitsInMessage}
 use Rattle.ob0_rpc.specs.Shapes.{whole_number_value}
 use Rattle.ob0_text.specs.declared.edits.Edit.{Edit}
 use Rattle.ob0_rpc.specs.declared.clients.ClientFeatures.{ClientFeatures}
-use Rattle.ob0_session_json.specs.Shapes.{Diagnostic, action_value, diagnostic_value, edit_value, edits_value, publication_params, workspace_edit}
+use Rattle.ob0_session_json.specs.Shapes.{Diagnostic, code_action_value, diagnostic_value, edit_value, edit_list_value, publication_params, workspace_edit}
 
 flat_whole : (z : ℤ) → depth (whole_number_value z) ≡ 0
 flat_whole (pos n) = refl
@@ -24,7 +24,7 @@ shallow_edits : (es : List Edit) → items_depth (items_of (map edit_value es)) 
 shallow_edits [] = omega arith
 shallow_edits (e ∷ es) = omega (arith, shallow_edits es)
 
-pub edits_can_be_sent : (es : List Edit) → FitsInMessage (edits_value es)
+pub edits_can_be_sent : (es : List Edit) → FitsInMessage (edit_list_value es)
 edits_can_be_sent es = record { shallow = omega (arith, shallow_edits es) }
 
 edits_of_can : (document_changes : Bool) (client : ClientFeatures) (uri : List ℕ) (version : ℤ) (es : List Edit) → client.accepts_document_changes ≡ document_changes → FitsInMessage (workspace_edit client uri version es)
@@ -46,5 +46,5 @@ shallow_edit : (document_changes : Bool) (client : ClientFeatures) (uri : List �
 shallow_edit true client uri version es is = rw (is, flat_whole version) (omega (arith, shallow_edits es))
 shallow_edit false client uri version es is = rw is (omega (arith, shallow_edits es))
 
-pub shallow_action : (client : ClientFeatures) (uri : List ℕ) (version : ℤ) (es : List Edit) (said : List ℕ) → depth (action_value (workspace_edit client uri version es) said) ≤ 8
+pub shallow_action : (client : ClientFeatures) (uri : List ℕ) (version : ℤ) (es : List Edit) (said : List ℕ) → depth (code_action_value (workspace_edit client uri version es) said) ≤ 8
 shallow_action client uri version es said = omega (arith, shallow_edit client.accepts_document_changes client uri version es refl)

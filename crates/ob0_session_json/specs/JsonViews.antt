@@ -13,7 +13,7 @@ workspace_edit_view e = shapes.workspace_edit e.client e.uri.now e.version e.edi
 
 -- Returns the JSON value of the code's `CodeAction`.
 abbrev pub code_action_view : CodeAction → Data
-code_action_view a = shapes.action_value (workspace_edit_view a.edit) a.title.now
+code_action_view a = shapes.code_action_value (workspace_edit_view a.edit) a.title.now
 
 -- Converts the code's diagnostic to a `Diagnostic` of the specs.
 abbrev pub diagnostic_view : Diagnostic → shapes.Diagnostic

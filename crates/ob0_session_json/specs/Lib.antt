@@ -1,3 +1,3 @@
 pub mod JsonViews
-pub mod Places
+pub mod LocationBuffer
 pub mod Shapes

@@ -35,22 +35,22 @@ code_action_options =
 
 -- Returns the last members of the capabilities:
 -- "referencesProvider":true,"renameProvider":R,"textDocumentSync":{..}.
-abbrev pub members_from_references_provider : ClientFeatures → Members
-members_from_references_provider client =
+abbrev pub members_after_position_encoding : ClientFeatures → Members
+members_after_position_encoding client =
     member (codes "referencesProvider") (boolean true) (member (codes "renameProvider")
     (rename_provider client.prepares_renames)
     (member (codes "textDocumentSync") document_sync_options no_members))
 
 -- Returns the members of the capabilities after "definitionProvider":
 -- "documentFormattingProvider":true,"hoverProvider":true, then "positionEncoding":"utf-8" if the
--- client offers that, then `members_from_references_provider`.
+-- client offers that, then `members_after_position_encoding`.
 abbrev pub members_after_definition_provider : ClientFeatures → Members
 members_after_definition_provider client =
     member (codes "documentFormattingProvider") (boolean true)
     (member (codes "hoverProvider") (boolean true)
     (if client.offers_utf8
-    then member (codes "positionEncoding") (text (codes "utf-8")) (members_from_references_provider client)
-    else members_from_references_provider client))
+    then member (codes "positionEncoding") (text (codes "utf-8")) (members_after_position_encoding client)
+    else members_after_position_encoding client))
 
 -- Returns the server's capabilities: "codeActionProvider":{..} if the client accepts literal code
 -- actions, then "definitionProvider":true, then `members_after_definition_provider`.
@@ -83,8 +83,8 @@ location_value uri range =
     object (member (codes "range") range (member (codes "uri") (text uri) no_members))
 
 -- Returns the JSON value of the location with this uri and this range.
-abbrev pub range_location_value : List ℕ → Range → Data
-range_location_value uri range = location_value uri (range_value range.start range.end)
+abbrev pub location_value_of_range : List ℕ → Range → Data
+location_value_of_range uri range = location_value uri (range_value range.start range.end)
 
 -- Returns the JSON value of a plain text, {"kind":"plaintext","value":h}. The client displays it
 -- unchanged.
@@ -100,12 +100,12 @@ hover_value said range =
     object (member (codes "contents") (plain_text_value said) (member (codes "range") range no_members))
 
 -- Returns the JSON value of a list of edits, `[E,..]`.
-abbrev pub edits_value : List Edit → Data
-edits_value es = array (items_of (map edit_value es))
+abbrev pub edit_list_value : List Edit → Data
+edit_list_value es = array (items_of (map edit_value es))
 
 -- Returns the JSON value that identifies a version of a document, {"uri":u,"version":v}.
-abbrev pub versioned_document : List ℕ → ℤ → Data
-versioned_document uri version =
+abbrev pub versioned_document_value : List ℕ → ℤ → Data
+versioned_document_value uri version =
     object
     (member (codes "uri") (text uri) (member (codes "version") (whole_number_value version) no_members))
 
@@ -113,8 +113,8 @@ versioned_document uri version =
 -- {"edits":[E,..],"textDocument":{..}}.
 abbrev pub document_edit_value : List ℕ → ℤ → List Edit → Data
 document_edit_value uri version es =
-    object (member (codes "edits") (edits_value es)
-    (member (codes "textDocument") (versioned_document uri version) no_members))
+    object (member (codes "edits") (edit_list_value es)
+    (member (codes "textDocument") (versioned_document_value uri version) no_members))
 
 -- Returns the JSON value of the edits of one document: {"documentChanges":[..]} if the client
 -- accepts that form, otherwise {"changes":{u:[E,..]}}, which has no version.
@@ -124,18 +124,18 @@ workspace_edit client uri version es =
     then object (member (codes "documentChanges")
     (array (item (document_edit_value uri version es) no_items)) no_members)
     else object
-    (member (codes "changes") (object (member uri (edits_value es) no_members)) no_members)
+    (member (codes "changes") (object (member uri (edit_list_value es) no_members)) no_members)
 
 -- Returns the JSON value of a code action, {"edit":W,"kind":"refactor.inline","title":t}. `edit` is
 -- the JSON value of its edits.
-abbrev pub action_value : Data → List ℕ → Data
-action_value edit title =
+abbrev pub code_action_value : Data → List ℕ → Data
+code_action_value edit title =
     object (member (codes "edit") edit (member (codes "kind") (text (codes "refactor.inline"))
     (member (codes "title") (text title) no_members)))
 
 -- Returns the message that refuses a request for edits. `said` is the error text in that message.
-abbrev pub edit_refusal : Data → List ℕ → Data
-edit_refusal id said = error_response_message id (negative_of 32803) said
+abbrev pub edit_refusal_message : Data → List ℕ → Data
+edit_refusal_message id said = error_response_message id (negative_of 32803) said
 
 -- Returns the JSON value of a diagnostic, {"code":name,"message":m,"range":R,"severity":1}.
 abbrev pub diagnostic_value : Diagnostic → Data
@@ -146,17 +146,17 @@ diagnostic_value d =
     (member (codes "severity") (number (unsigned 1)) no_members))))
 
 -- Returns the JSON value of a list of diagnostics, `[D,..]`.
-abbrev pub diagnostics_value : List Diagnostic → Data
-diagnostics_value ds = array (items_of (map diagnostic_value ds))
+abbrev pub diagnostic_list_value : List Diagnostic → Data
+diagnostic_list_value ds = array (items_of (map diagnostic_value ds))
 
 -- Returns the params of a publication, {"diagnostics":[D,..],"uri":u,"version":v}. If the version
 -- is None (after a close), there is no member `version`.
 abbrev pub publication_params : List ℕ → Option ℤ → List Diagnostic → Data
 publication_params uri (Some version) ds =
-    object (member (codes "diagnostics") (diagnostics_value ds) (member (codes "uri") (text uri)
+    object (member (codes "diagnostics") (diagnostic_list_value ds) (member (codes "uri") (text uri)
     (member (codes "version") (whole_number_value version) no_members)))
 publication_params uri None ds =
-    object (member (codes "diagnostics") (diagnostics_value ds)
+    object (member (codes "diagnostics") (diagnostic_list_value ds)
     (member (codes "uri") (text uri) no_members))
 
 -- Returns the notification `textDocument/publishDiagnostics`, which publishes the diagnostics `ds`

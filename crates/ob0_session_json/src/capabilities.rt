@@ -1,10 +1,10 @@
 //! Writes the server's capabilities into the answer to `initialize`.
 ghost use Rattle.std.specs.Prelude.{IfOk, OnOk};
-ghost use Rattle.ob0_rpc.specs.Appending.{AppendsMembers};
+ghost use Rattle.ob0_rpc.specs.Appending.{AppendsMembersAndBrace};
 ghost use Rattle.ob0_rpc.specs.MessageViews.{json_of_id};
 ghost use Rattle.ob0_rpc.specs.Shapes.{result_message};
-ghost use Rattle.ob0_rpc.specs.Writing.{Writes};
-ghost use Rattle.ob0_session_json.specs.Shapes.{code_action_options, capabilities, members_after_definition_provider, members_from_references_provider, rename_provider, server_capabilities, document_sync_options};
+ghost use Rattle.ob0_rpc.specs.WrittenMessages.{Writes};
+ghost use Rattle.ob0_session_json.specs.Shapes.{code_action_options, capabilities, members_after_definition_provider, members_after_position_encoding, rename_provider, server_capabilities, document_sync_options};
 
 use ob0_rpc::{
     ClientFeatures, Id, WriteJson, end_object, success_response_text, write_first_member,
@@ -66,23 +66,23 @@ impl ServerCapabilities {
     /// Writes the members of the capabilities after `definitionProvider`, and the closing brace.
     fn write_members_after_definition_provider(&self, out: &mut Vec<u8>) -> Result<(), AllocError>
         ensures { OnOk result
-            (AppendsMembers 44 (members_after_definition_provider self.now.client) out.old.items out.new.items) }
+            (AppendsMembersAndBrace 44 (members_after_definition_provider self.now.client) out.old.items out.new.items) }
     {
         write_next_member(out, "documentFormattingProvider", &true)?;
         write_next_member(out, "hoverProvider", &true)?;
         if self.client.offers_utf8 {
             write_next_member(out, "positionEncoding", &"utf-8")?;
-            self.write_members_from_references_provider(out)
+            self.write_members_after_position_encoding(out)
         } else {
-            self.write_members_from_references_provider(out)
+            self.write_members_after_position_encoding(out)
         }
     }
 
     /// Writes the last members of the capabilities, starting with `referencesProvider`, and the
     /// closing brace.
-    fn write_members_from_references_provider(&self, out: &mut Vec<u8>) -> Result<(), AllocError>
+    fn write_members_after_position_encoding(&self, out: &mut Vec<u8>) -> Result<(), AllocError>
         ensures { OnOk result
-            (AppendsMembers 44 (members_from_references_provider self.now.client) out.old.items out.new.items) }
+            (AppendsMembersAndBrace 44 (members_after_position_encoding self.now.client) out.old.items out.new.items) }
     {
         let announces_prepare_rename = self.client.prepares_renames;
         write_next_member(out, "referencesProvider", &true)?;

@@ -4,6 +4,6 @@
 
 pub mod capabilities;
 pub mod edits;
-pub mod places;
+pub mod locations_and_hovers;
 pub mod publication;
 pub mod refusals;

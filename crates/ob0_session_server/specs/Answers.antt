@@ -8,22 +8,22 @@ use Rattle.ob0_text.specs.declared.position_types.Unit.{Unit}
 use Rattle.ob0_text.specs.declared.position_types.Unit.TheVariants.{Utf16}
 use Rattle.ob0_text.specs.declared.edits.Indent.{Indent}
 use Rattle.ob0_text.specs.declared.position_types.Range.{Range}
-use Rattle.ob0_rpc.specs.Requesting.{DocumentPlace, ClientRequest, initialize, shutdown, hover, definition, references, prepare_rename, rename, code_action, formatting, request_by_method}
+use Rattle.ob0_rpc.specs.Requests.{DocumentPlace, ClientRequest, initialize, shutdown, hover, definition, references, prepare_rename, rename, code_action, formatting, request_by_method}
 use Rattle.ob0_rpc.specs.Faults.{negative_of, error_code, error_text}
 use Rattle.ob0_rpc.specs.Messages.{ReadsContent, MessageMeaning, not_json, not_a_message, response, request, notice, meaning_of_content}
 use Rattle.ob0_rpc.specs.Notifications.{NotificationMeaning, exits, opens, changes, closes, unreadable, other, notification_by_method}
 use Rattle.ob0_rpc.specs.Shapes.{result_message, error_response_message}
-use Rattle.ob0_rpc.specs.Writing.{Writes}
+use Rattle.ob0_rpc.specs.WrittenMessages.{Writes}
 use Rattle.ob0_rpc.specs.declared.clients.ClientFeatures.{ClientFeatures}
 use Rattle.ob0_rpc.specs.declared.incoming.RpcFault.{RpcFault}
 use Rattle.ob0_rpc.specs.declared.incoming.RpcFault.TheVariants.{NotJson, NotAMessage}
-use Rattle.ob0_session_answers.specs.Actions.{VersionedActionsRequest, AnswersActions}
-use Rattle.ob0_session_server.specs.Units.{unit_for}
+use Rattle.ob0_session_answers.specs.Actions.{VersionedActionsRequest, AnswersActionsRequest}
+use Rattle.ob0_session_server.specs.Units.{unit_for_client}
 use Rattle.ob0_session_answers.specs.Diagnostics.{AreDiagnosticsOf}
-use Rattle.ob0_session_answers.specs.Formatted.{AnswersFormatting}
+use Rattle.ob0_session_answers.specs.FormattingAnswers.{AnswersFormattingRequest}
 use Rattle.ob0_session_answers.specs.Questions.{AnswersQuestion, NameQuestion, hover_question, definition_question, references_question, prepare_rename_question}
-use Rattle.ob0_session_answers.specs.Renamed.{VersionedRenameRequest, AnswersRenaming}
-use Rattle.ob0_session_json.specs.Shapes.{Diagnostic, capabilities, edit_refusal, publication}
+use Rattle.ob0_session_answers.specs.RenamingAnswers.{VersionedRenameRequest, AnswersRenameRequest}
+use Rattle.ob0_session_json.specs.Shapes.{Diagnostic, capabilities, edit_refusal_message, publication}
 use Rattle.ob0_session_server.specs.declared.session.Phase.{Phase}
 use Rattle.ob0_session_server.specs.declared.session.Phase.TheVariants.{Starting, Running, ShutDown, Ended, Failed}
 
@@ -73,7 +73,7 @@ pub data Reply : Type 0 where
   question_reply : Unit → Data → DocumentPlace → NameQuestion → List ℕ → Reply
   -- The edits that rename a declaration or field, or a refusal to rename it. Arguments: the unit of
   -- positions, the request, and the characters of the text.
-  renames : Unit → VersionedRenameRequest → List ℕ → Reply
+  rename_reply : Unit → VersionedRenameRequest → List ℕ → Reply
   -- The offered code actions. Arguments: the unit of positions, the request, and the characters of
   -- the text.
   actions_reply : Unit → VersionedActionsRequest → List ℕ → Reply
@@ -91,13 +91,13 @@ AreContentsOfReply (says message) sent = SendsMessage message sent
 AreContentsOfReply (diagnoses unit uri version text) sent =
     (ds : List Diagnostic) × AreDiagnosticsOf unit text ds × SendsMessage (publication uri (Some version) ds) sent
 AreContentsOfReply (formatting_reply unit id indent text) sent =
-    (message : Data) × AnswersFormatting unit id indent text message × SendsMessage message sent
+    (message : Data) × AnswersFormattingRequest unit id indent text message × SendsMessage message sent
 AreContentsOfReply (question_reply unit id at question text) sent =
     (value : Data) × AnswersQuestion unit text at question value × SendsMessage (result_message id value) sent
-AreContentsOfReply (renames unit requested text) sent =
-    (message : Data) × AnswersRenaming unit requested text message × SendsMessage message sent
+AreContentsOfReply (rename_reply unit requested text) sent =
+    (message : Data) × AnswersRenameRequest unit requested text message × SendsMessage message sent
 AreContentsOfReply (actions_reply unit requested text) sent =
-    (message : Data) × AnswersActions unit requested text message × SendsMessage message sent
+    (message : Data) × AnswersActionsRequest unit requested text message × SendsMessage message sent
 
 -- The reaction to a message: the state of the session after the message, and the reply.
 pub record Reaction : Type 0 where
@@ -129,27 +129,27 @@ react_with_fault s id fault = react_with_error s id (error_code fault) (error_te
 -- Returns the state right after a client with these capabilities has sent `initialize`. No document
 -- is open.
 abbrev pub state_after_initialize : ClientFeatures → ServerState
-state_after_initialize client = record { phase = Running; client = client; held = no_open_documents (unit_for client) }
+state_after_initialize client = record { phase = Running; client = client; held = no_open_documents (unit_for_client client) }
 
 -- Returns the reaction to a request about a document. If the document is open and in step, the
 -- function `say` makes the reply from the document's version and text. Otherwise the reply is a
 -- refusal.
-abbrev pub react_about_document : ServerState → Data → Option Document → (ℤ → List ℕ → Reply) → Reaction
-react_about_document s id (Some (InStep version text)) say = reaction_without_change s (say version text)
-react_about_document s id (Some OutOfStep) say = reaction_without_change s (says (edit_refusal id (codes "out of step")))
-react_about_document s id None say = reaction_without_change s (says (edit_refusal id (codes "unopened")))
+abbrev pub react_to_document_request : ServerState → Data → Option Document → (ℤ → List ℕ → Reply) → Reaction
+react_to_document_request s id (Some (InStep version text)) say = reaction_without_change s (say version text)
+react_to_document_request s id (Some OutOfStep) say = reaction_without_change s (says (edit_refusal_message id (codes "out of step")))
+react_to_document_request s id None say = reaction_without_change s (says (edit_refusal_message id (codes "unopened")))
 
 -- Returns the reaction to hover, definition, references or prepareRename: a question about the name
 -- or field at a position.
 abbrev pub react_to_question : ServerState → Data → DocumentPlace → NameQuestion → Reaction
 react_to_question s id at question =
-    react_about_document s id (document_at s.held at.uri)
+    react_to_document_request s id (document_at s.held at.uri)
     (λ version. question_reply s.held.unit id at question)
 
 -- Returns the reaction to a request to rename the name or field at a position.
 abbrev pub react_to_rename : ServerState → Data → DocumentPlace → List ℕ → Reaction
 react_to_rename s id at new =
-    react_about_document s id (document_at s.held at.uri) (λ version. renames s.held.unit
+    react_to_document_request s id (document_at s.held at.uri) (λ version. rename_reply s.held.unit
     (record { id = id; client = s.client; at = at; version = version; new = new }))
 
 -- Returns the reaction to a request for code actions in a range.
@@ -160,45 +160,45 @@ abbrev pub react_to_actions : ServerState
     → Option (List (List ℕ))
     → Reaction
 react_to_actions s id uri range only =
-    react_about_document s id (document_at s.held uri)
+    react_to_document_request s id (document_at s.held uri)
     (λ version. actions_reply s.held.unit (record
     { id = id; client = s.client; uri = uri; version = version; range = range; only = only }))
 
 -- Returns the reaction to a request to format a document.
 abbrev pub react_to_formatting : ServerState → Data → List ℕ → Indent → Reaction
 react_to_formatting s id uri indent =
-    react_about_document s id (document_at s.held uri) (λ version. formatting_reply s.held.unit id indent)
+    react_to_document_request s id (document_at s.held uri) (λ version. formatting_reply s.held.unit id indent)
 
 -- Returns the reaction to a request that has been read (`Ok`), or to a request that couldn't be
 -- read because of a fault (`Err`).
-abbrev pub react_to_known_request : ServerState → Data → Result ClientRequest RpcFault → Reaction
-react_to_known_request s id (Ok (initialize client)) =
+abbrev pub react_to_parsed_request : ServerState → Data → Result ClientRequest RpcFault → Reaction
+react_to_parsed_request s id (Ok (initialize client)) =
     record { after = state_after_initialize client; reply = says (result_message id (capabilities client)) }
-react_to_known_request s id (Ok shutdown) = reaction_with_phase ShutDown s (says (result_message id null))
-react_to_known_request s id (Ok (hover at)) = react_to_question s id at hover_question
-react_to_known_request s id (Ok (definition at)) = react_to_question s id at definition_question
-react_to_known_request s id (Ok (references at include)) = react_to_question s id at (references_question include)
-react_to_known_request s id (Ok (prepare_rename at)) = react_to_question s id at prepare_rename_question
-react_to_known_request s id (Ok (rename at new)) = react_to_rename s id at new
-react_to_known_request s id (Ok (code_action uri range only)) = react_to_actions s id uri range only
-react_to_known_request s id (Ok (formatting uri indent)) = react_to_formatting s id uri indent
-react_to_known_request s id (Err fault) = react_with_fault s id fault
+react_to_parsed_request s id (Ok shutdown) = reaction_with_phase ShutDown s (says (result_message id null))
+react_to_parsed_request s id (Ok (hover at)) = react_to_question s id at hover_question
+react_to_parsed_request s id (Ok (definition at)) = react_to_question s id at definition_question
+react_to_parsed_request s id (Ok (references at include)) = react_to_question s id at (references_question include)
+react_to_parsed_request s id (Ok (prepare_rename at)) = react_to_question s id at prepare_rename_question
+react_to_parsed_request s id (Ok (rename at new)) = react_to_rename s id at new
+react_to_parsed_request s id (Ok (code_action uri range only)) = react_to_actions s id uri range only
+react_to_parsed_request s id (Ok (formatting uri indent)) = react_to_formatting s id uri indent
+react_to_parsed_request s id (Err fault) = react_with_fault s id fault
 
 -- Returns the reaction to a request with this method and these params, in a phase that allows the
 -- request.
-abbrev pub react_to_method : ServerState → Data → List ℕ → Data → Reaction
-react_to_method s id method params = react_to_known_request s id (request_by_method method params)
+abbrev pub react_to_allowed_request : ServerState → Data → List ℕ → Data → Reaction
+react_to_allowed_request s id method params = react_to_parsed_request s id (request_by_method method params)
 
 -- Returns the reaction to a request in this phase of the lifecycle. Once the session has ended or
 -- an allocation has failed, there is no reply.
 abbrev pub react_to_request : Phase → ServerState → Data → List ℕ → Data → Reaction
 react_to_request Starting s id method params =
-    if bytes_eq method (codes "initialize") then react_to_method s id method params
+    if bytes_eq method (codes "initialize") then react_to_allowed_request s id method params
     else react_with_error s id (negative_of 32002) (codes "not initialized")
 react_to_request Running s id method params =
     if bytes_eq method (codes "initialize")
     then react_with_error s id (negative_of 32600) (codes "already initialized")
-    else react_to_method s id method params
+    else react_to_allowed_request s id method params
 react_to_request ShutDown s id method params = react_with_error s id (negative_of 32600) (codes "shut down")
 react_to_request phase s id method params = reaction_without_change s nothing
 
@@ -253,12 +253,12 @@ react_to_notification phase s method params =
 
 -- Returns the reaction of a server in the state `s` to received bytes with this meaning: a message,
 -- or the reason why they aren't a message.
-abbrev pub react : ServerState → MessageMeaning → Reaction
-react s not_json = react_with_fault s null NotJson
-react s not_a_message = react_with_fault s null NotAMessage
-react s response = reaction_without_change s nothing
-react s (request id method params) = react_to_request s.phase s id method params
-react s (notice method params) = react_to_notification s.phase s method params
+abbrev pub react_to_message : ServerState → MessageMeaning → Reaction
+react_to_message s not_json = react_with_fault s null NotJson
+react_to_message s not_a_message = react_with_fault s null NotAMessage
+react_to_message s response = reaction_without_change s nothing
+react_to_message s (request id method params) = react_to_request s.phase s id method params
+react_to_message s (notice method params) = react_to_notification s.phase s method params
 
 -- States that a server in the state `before` may reply to this content (the bytes of one message)
 -- with the messages `sent`. It is then in the state `after`. This is the case of `AnswersInPhase`
@@ -266,7 +266,7 @@ react s (notice method params) = react_to_notification s.phase s method params
 abbrev pub AnswersBeforeEnd : ServerState → List ℕ → List (List ℕ) → ServerState → Type 0
 AnswersBeforeEnd before content sent after =
     (json : Option Data) × ReadsContent content json
-    × (let r = react before (meaning_of_content json) in (after ≡ r.after) × AreContentsOfReply r.reply sent)
+    × (let r = react_to_message before (meaning_of_content json) in (after ≡ r.after) × AreContentsOfReply r.reply sent)
 
 -- States that a server in this phase and in the state `before` may reply to this content with the
 -- messages `sent`. `after` is the server's state after the reply. If the session has ended, nothing

@@ -8,7 +8,7 @@ use Rattle.ob0_text.specs.declared.position_types.Unit.{Unit}
 use Rattle.ob0_session_documents.specs.DocumentRequests.{IsOutcomeOfRequest}
 use Rattle.ob0_session_documents.specs.declared.document_requests.RequestOutcome.{RequestOutcome}
 use Rattle.ob0_session_documents.specs.declared.document_requests.RequestOutcome.TheVariants.{Answered, OutOfStep, Unopened}
-use Rattle.ob0_session_json.specs.Shapes.{edit_refusal}
+use Rattle.ob0_session_json.specs.Shapes.{edit_refusal_message}
 use Rattle.ob0_session_server.specs.Answers.{ServerState, Reaction, Reply, AreContentsOfReply, says}
 
 -- States that the code's message `sent` is one that this reply allows. If `sent` is None, states
@@ -18,15 +18,15 @@ SendsReply reply sent = AreContentsOfReply reply (option_to_list (option_map (λ
 
 -- States that the code's message `sent` is the reply of the reaction `r`, and that `new` is the
 -- session's state after the reaction. If there is no message (None), the reply is `nothing`.
-abbrev pub Reacts : Reaction → Option (Vec ℕ Global) → ServerState → Type 0
-Reacts r sent new = (new ≡ r.after) × SendsReply r.reply sent
+abbrev pub MatchesReaction : Reaction → Option (Vec ℕ Global) → ServerState → Type 0
+MatchesReaction r sent new = (new ≡ r.after) × SendsReply r.reply sent
 
 -- States that the message is the reply to a request that has this outcome. The reply is the
 -- outcome's message, or a refusal if the document is out of step or isn't open.
 abbrev pub RepliesForOutcome : Data → RequestOutcome → Option (Vec ℕ Global) → Type 0
 RepliesForOutcome id (Answered message) sent = sent ≡ Some message
-RepliesForOutcome id OutOfStep sent = SendsReply (says (edit_refusal id (codes "out of step"))) sent
-RepliesForOutcome id Unopened sent = SendsReply (says (edit_refusal id (codes "unopened"))) sent
+RepliesForOutcome id OutOfStep sent = SendsReply (says (edit_refusal_message id (codes "out of step"))) sent
+RepliesForOutcome id Unopened sent = SendsReply (says (edit_refusal_message id (codes "unopened"))) sent
 
 -- Returns the message in an outcome, or None if the document is out of step or isn't open.
 abbrev pub message_of_outcome : RequestOutcome → Option (Vec ℕ Global)
@@ -36,14 +36,14 @@ message_of_outcome Unopened = None
 
 -- States that this message answers or refuses the request about the document with this uri, and
 -- that the state is unchanged. `answers` states which bytes answer the request.
-abbrev pub RepliesAboutDocument : (ℤ → Unit → List ℕ → List ℕ → Type 0)
+abbrev pub RepliesToDocumentRequest : (ℤ → Unit → List ℕ → List ℕ → Type 0)
     → ServerState
     → Data
     → List ℕ
     → Option (Vec ℕ Global)
     → ServerState
     → Type 0
-RepliesAboutDocument answers s id uri sent new =
+RepliesToDocumentRequest answers s id uri sent new =
     (new ≡ s)
     × ((outcome : RequestOutcome)
     × IsOutcomeOfRequest answers s.held uri outcome

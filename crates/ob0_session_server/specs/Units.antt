@@ -7,5 +7,5 @@ use Rattle.ob0_rpc.specs.declared.clients.ClientFeatures.{ClientFeatures}
 
 -- Returns the unit in which positions are counted for a client. The unit is a byte of UTF-8 if the
 -- client offers that, otherwise a UTF-16 unit.
-abbrev pub unit_for : ClientFeatures → Unit
-unit_for client = if client.offers_utf8 then Utf8 else Utf16
+abbrev pub unit_for_client : ClientFeatures → Unit
+unit_for_client client = if client.offers_utf8 then Utf8 else Utf16

@@ -4,7 +4,7 @@ ghost use Rattle.std.specs.Prelude.{◌≡◌, ◌≢◌, Ok, IfOk, IfErr, map, 
 ghost use Rattle.ob0_rpc.specs.MessageViews.{json_of_id};
 ghost use Rattle.ob0_text.specs.OpenDocuments.{no_open_documents};
 ghost use Rattle.ob0_session_server.specs.ReplyViews.{RepliesForOutcome, message_of_outcome as spec_message_of};
-ghost use Rattle.ob0_session_server.specs.Units.{unit_for};
+ghost use Rattle.ob0_session_server.specs.Units.{unit_for_client};
 
 use ob0_rpc::{
     ClientFeatures, ClientNotification, ClientRequest, DocumentPosition, Id, Incoming, RpcFault,
@@ -12,7 +12,7 @@ use ob0_rpc::{
 };
 use ob0_session_answers::{
     ActionsRequest, DefinitionRequest, FormattingRequest, HoverRequest, PrepareRenameRequest,
-    PublishRequest, ReferencesRequest, RenameRequest,
+    PublishDiagnosticsRequest, ReferencesRequest, RenameRequest,
 };
 use ob0_session_documents::{AnalysedDocuments, DocumentRequest, RequestOutcome};
 use ob0_session_json::capabilities::initialize_answer;
@@ -86,11 +86,11 @@ impl<T: TextStore> Model for Session<T> {
 impl<T: TextStore> Session<T> {
     ghost use Rattle.serde_json.specs.View.{view};
     ghost use Rattle.std.specs.Option.{option_to_list};
-    ghost use Rattle.ob0_session_server.specs.Answers.{start, state_after_initialize, AnswersBeforeEnd, AreContentsOfReply, react_to_request, react_to_actions, react_to_question, react_to_rename, react_to_method, react_to_known_request, react_to_exit, react_to_notification, publication_reply, react_with_error, react_with_fault, apply_notification};
+    ghost use Rattle.ob0_session_server.specs.Answers.{start, state_after_initialize, AnswersBeforeEnd, AreContentsOfReply, react_to_request, react_to_actions, react_to_question, react_to_rename, react_to_allowed_request, react_to_parsed_request, react_to_exit, react_to_notification, publication_reply, react_with_error, react_with_fault, apply_notification};
     ghost use Rattle.ob0_rpc.specs.Notifications.{opens, changes, closes, notification_by_method};
     ghost use Rattle.ob0_rpc.specs.MessageViews.{document_place_view, id_or_null, action_kinds_view, request_view, notification_view};
     ghost use Rattle.ob0_session_answers.specs.Questions.{references_question};
-    ghost use Rattle.ob0_session_server.specs.ReplyViews.{Reacts, RepliesAboutDocument};
+    ghost use Rattle.ob0_session_server.specs.ReplyViews.{MatchesReaction, RepliesToDocumentRequest};
     ghost use Rattle.ob0_session_server.specs.Steps.{SessionSteps, SessionFails, next_in_phase};
     ghost use Rattle.std.specs.Str.{chars};
     ghost use Rattle.ob0_text.specs.OpenDocuments.{text_change_of, document_at};
@@ -141,7 +141,7 @@ impl<T: TextStore> Session<T> {
                 });
             }
         }
-        match self.answer_content(content) {
+        match self.reply_to_content_as_list(content) {
             Ok(send) => Ok(Step {
                 send,
                 next: self.next(),
@@ -166,7 +166,7 @@ impl<T: TextStore> Session<T> {
 
     /// Processes the content of one message, and returns the messages to send in reply: at most
     /// one.
-    fn answer_content(&mut self, content: &[u8]) -> Result<Vec<Vec<u8>>, AllocError>
+    fn reply_to_content_as_list(&mut self, content: &[u8]) -> Result<Vec<Vec<u8>>, AllocError>
         ensures { IfOk result
             (λ sent. AnswersBeforeEnd self.old content.now (map (λ v. v.items) sent.items) self.new) }
     {
@@ -205,7 +205,7 @@ impl<T: TextStore> Session<T> {
         code: i32,
         said: &str,
     ) -> Result<Option<Vec<u8>>, AllocError>
-        ensures { IfOk result (λ sent. Reacts
+        ensures { IfOk result (λ sent. MatchesReaction
             (react_with_error self.now (id_or_null (option_map (λ i. i.now) id.entry)) code said.now) sent
             self.now) }
     {
@@ -216,7 +216,7 @@ impl<T: TextStore> Session<T> {
     /// None, the fault is that the received bytes aren't a message. If the fault is `Memory`,
     /// returns the error `AllocError` instead. The result is never None.
     fn fault_message(&self, id: Option<&Id>, fault: RpcFault) -> Result<Option<Vec<u8>>, AllocError>
-        ensures { IfOk result (λ sent. (fault ≢ RpcFault.Memory) × Reacts
+        ensures { IfOk result (λ sent. (fault ≢ RpcFault.Memory) × MatchesReaction
             (react_with_fault self.now (id_or_null (option_map (λ i. i.now) id.entry)) fault) sent
             self.now) }
     {
@@ -234,7 +234,7 @@ impl<T: TextStore> Session<T> {
         method: &str,
         params: &Value,
     ) -> Result<Option<Vec<u8>>, AllocError>
-        ensures { IfOk result (λ sent. Reacts (react_to_request self.old.phase self.old
+        ensures { IfOk result (λ sent. MatchesReaction (react_to_request self.old.phase self.old
             (json_of_id id.now) method.now (view params.now)) sent self.new) }
     {
         let is_initialize = method == "initialize";
@@ -249,7 +249,7 @@ impl<T: TextStore> Session<T> {
                 -32600,
                 "already initialized",
             ),
-            Phase::Starting | Phase::Running => self.reply_by_method(id, method, params),
+            Phase::Starting | Phase::Running => self.reply_to_allowed_request(id, method, params),
             Phase::ShutDown => self.refusal_message(Some(id), -32600, "shut down"),
             Phase::Ended(_) => Ok(None),
             Phase::Failed => Ok(None),
@@ -258,30 +258,30 @@ impl<T: TextStore> Session<T> {
 
     /// Answers a request that the phase allows. If the method is unknown or the params can't be
     /// read, the answer is an error.
-    fn reply_by_method(
+    fn reply_to_allowed_request(
         &mut self,
         id: &Id,
         method: &str,
         params: &Value,
     ) -> Result<Option<Vec<u8>>, AllocError>
-        ensures { IfOk result (λ sent. Reacts
-            (react_to_method self.old (json_of_id id.now) method.now (view params.now))
+        ensures { IfOk result (λ sent. MatchesReaction
+            (react_to_allowed_request self.old (json_of_id id.now) method.now (view params.now))
             sent self.new) }
     {
         match request(self.alloc, method, params) {
-            Ok(call) => self.reply_to_known_request(id, call),
+            Ok(call) => self.reply_to_parsed_request(id, call),
             Err(fault) => self.fault_message(Some(id), fault),
         }
     }
 
     /// Answers a request whose method and params have been read.
-    fn reply_to_known_request(
+    fn reply_to_parsed_request(
         &mut self,
         id: &Id,
         call: ClientRequest,
     ) -> Result<Option<Vec<u8>>, AllocError>
-        ensures { IfOk result (λ sent. Reacts
-            (react_to_known_request self.old (json_of_id id.now) (Ok (request_view call))) sent self.new) }
+        ensures { IfOk result (λ sent. MatchesReaction
+            (react_to_parsed_request self.old (json_of_id id.now) (Ok (request_view call))) sent self.new) }
     {
         match call {
             ClientRequest::Initialize(client) => {
@@ -294,11 +294,11 @@ impl<T: TextStore> Session<T> {
             }
             ClientRequest::Hover(place) => {
                 let request = HoverRequest { id, place: &place };
-                self.reply_about_document(id, place.uri.as_str(), &request)
+                self.reply_to_document_request(id, place.uri.as_str(), &request)
             }
             ClientRequest::Definition(place) => {
                 let request = DefinitionRequest { id, place: &place };
-                self.reply_about_document(id, place.uri.as_str(), &request)
+                self.reply_to_document_request(id, place.uri.as_str(), &request)
             }
             ClientRequest::References {
                 place,
@@ -306,7 +306,7 @@ impl<T: TextStore> Session<T> {
             } => self.reply_to_references(id, &place, include_declaration),
             ClientRequest::PrepareRename(place) => {
                 let request = PrepareRenameRequest { id, place: &place };
-                self.reply_about_document(id, place.uri.as_str(), &request)
+                self.reply_to_document_request(id, place.uri.as_str(), &request)
             }
             ClientRequest::Rename { place, new_name } => self.reply_to_rename(
                 id,
@@ -320,7 +320,7 @@ impl<T: TextStore> Session<T> {
                 &only,
             ),
             ClientRequest::Formatting { uri, indent } => {
-                self.reply_about_document(id, uri.as_str(), &FormattingRequest { id, indent })
+                self.reply_to_document_request(id, uri.as_str(), &FormattingRequest { id, indent })
             }
         }
     }
@@ -333,7 +333,7 @@ impl<T: TextStore> Session<T> {
         place: &DocumentPosition,
         include_declaration: bool,
     ) -> Result<Option<Vec<u8>>, AllocError>
-        ensures { IfOk result (λ sent. Reacts
+        ensures { IfOk result (λ sent. MatchesReaction
             (react_to_question self.old (json_of_id id.now) (document_place_view place.now)
             (references_question include_declaration)) sent self.new) }
     {
@@ -342,7 +342,7 @@ impl<T: TextStore> Session<T> {
             place,
             include_declaration,
         };
-        self.reply_about_document(id, place.uri.as_str(), &request)
+        self.reply_to_document_request(id, place.uri.as_str(), &request)
     }
 
     /// Answers a request to rename the name or field at this position in a document (`place`) to
@@ -353,7 +353,7 @@ impl<T: TextStore> Session<T> {
         place: &DocumentPosition,
         new: &str,
     ) -> Result<Option<Vec<u8>>, AllocError>
-        ensures { IfOk result (λ sent. Reacts
+        ensures { IfOk result (λ sent. MatchesReaction
             (react_to_rename self.old (json_of_id id.now) (document_place_view place.now) new.now) sent self.new) }
     {
         let request = RenameRequest {
@@ -362,7 +362,7 @@ impl<T: TextStore> Session<T> {
             place,
             new,
         };
-        self.reply_about_document(id, place.uri.as_str(), &request)
+        self.reply_to_document_request(id, place.uri.as_str(), &request)
     }
 
     /// Answers a request for the code actions in a range of a document.
@@ -373,7 +373,7 @@ impl<T: TextStore> Session<T> {
         range: Range,
         only: &Option<Vec<String>>,
     ) -> Result<Option<Vec<u8>>, AllocError>
-        ensures { IfOk result (λ sent. Reacts
+        ensures { IfOk result (λ sent. MatchesReaction
             (react_to_actions self.old (json_of_id id.now) uri.now range (action_kinds_view only.now)) sent
             self.new) }
     {
@@ -384,18 +384,18 @@ impl<T: TextStore> Session<T> {
             range,
             only,
         };
-        self.reply_about_document(id, uri, &request)
+        self.reply_to_document_request(id, uri, &request)
     }
 
     /// Returns the answer to a request about the document with this uri. If the document isn't
     /// open, or its text isn't known (out of step), returns a refusal.
-    fn reply_about_document<Q: DocumentRequest<T>>(
+    fn reply_to_document_request<Q: DocumentRequest<T>>(
         &mut self,
         id: &Id,
         uri: &str,
         request: &Q,
     ) -> Result<Option<Vec<u8>>, AllocError>
-        ensures { IfOk result (λ sent. RepliesAboutDocument (Q.answers request.now) self.old
+        ensures { IfOk result (λ sent. RepliesToDocumentRequest (Q.answers request.now) self.old
             (json_of_id id.now) uri.now sent self.new) }
     {
         let outcome = self.documents.answer_request(uri, request)?;
@@ -408,7 +408,10 @@ impl<T: TextStore> Session<T> {
     {
         self.phase = Phase::Running;
         self.client = client;
-        self.documents = AnalysedDocuments::new(self.alloc, empty_documents(self.alloc, client));
+        self.documents = AnalysedDocuments::new(
+            self.alloc,
+            empty_document_collection(self.alloc, client),
+        );
     }
 
     /// Applies a notification if the session is running. In any other phase, `exit` ends the
@@ -419,12 +422,12 @@ impl<T: TextStore> Session<T> {
         method: &str,
         params: Value,
     ) -> Result<Option<Vec<u8>>, AllocError>
-        ensures { IfOk result (λ sent. Reacts
+        ensures { IfOk result (λ sent. MatchesReaction
             (react_to_notification self.old.phase self.old method.now (view params)) sent
             self.new) }
     {
         if let Phase::Running = self.phase {
-            return self.apply_by_method(method, params);
+            return self.parse_and_apply_notification(method, params);
         }
         if method == "exit" {
             self.end_session();
@@ -434,12 +437,12 @@ impl<T: TextStore> Session<T> {
 
     /// Reads a notification from its method and params, and applies it while the session runs.
     /// Returns the message to send, or None if there is none.
-    fn apply_by_method(
+    fn parse_and_apply_notification(
         &mut self,
         method: &str,
         params: Value,
     ) -> Result<Option<Vec<u8>>, AllocError>
-        ensures { IfOk result (λ sent. Reacts
+        ensures { IfOk result (λ sent. MatchesReaction
             (apply_notification self.old (notification_by_method method.now (view params))) sent self.new) }
     {
         let Ok(note) = notice(self.alloc, method, params) else {
@@ -465,7 +468,7 @@ impl<T: TextStore> Session<T> {
         note: ClientNotification,
     ) -> Result<Option<Vec<u8>>, AllocError>
         ensures { IfOk result
-            (λ sent. Reacts (apply_notification self.old (notification_view note)) sent self.new) }
+            (λ sent. MatchesReaction (apply_notification self.old (notification_view note)) sent self.new) }
     {
         match note {
             ClientNotification::Exit => {
@@ -501,7 +504,7 @@ impl<T: TextStore> Session<T> {
         version: i64,
         text: String,
     ) -> Result<Option<Vec<u8>>, AllocError>
-        ensures { IfOk result (λ sent. Reacts
+        ensures { IfOk result (λ sent. MatchesReaction
             (apply_notification self.old (opens uri.now version (chars (string_bytes text)))) sent
             self.new) }
     {
@@ -517,7 +520,7 @@ impl<T: TextStore> Session<T> {
         version: i64,
         all: Vec<Change>,
     ) -> Result<Option<Vec<u8>>, AllocError>
-        ensures { IfOk result (λ sent. Reacts (apply_notification self.old
+        ensures { IfOk result (λ sent. MatchesReaction (apply_notification self.old
             (changes (string_bytes uri) version (map text_change_of all.items))) sent self.new) }
     {
         self.documents.did_change(uri.as_str(), version, all)?;
@@ -528,7 +531,7 @@ impl<T: TextStore> Session<T> {
     /// document wasn't open.
     fn close_and_clear_diagnostics(&mut self, uri: &str) -> Result<Option<Vec<u8>>, AllocError>
         ensures { IfOk result
-            (λ sent. Reacts (apply_notification self.old (closes uri.now)) sent self.new) }
+            (λ sent. MatchesReaction (apply_notification self.old (closes uri.now)) sent self.new) }
     {
         if !self.documents.did_close(uri) {
             return Ok(None);
@@ -545,7 +548,9 @@ impl<T: TextStore> Session<T> {
             (publication_reply self.old.held.unit uri.now (document_at self.old.held uri.now))
             (option_to_list (option_map (λ v. v.items) sent))) }
     {
-        let outcome = self.documents.answer_request(uri, &PublishRequest { uri })?;
+        let outcome = self
+            .documents
+            .answer_request(uri, &PublishDiagnosticsRequest { uri })?;
         Ok(message_of_outcome(outcome))
     }
 }
@@ -579,8 +584,8 @@ fn message_of_outcome(outcome: RequestOutcome) -> Option<Vec<u8>>
 
 /// Returns a collection without open documents. Positions are counted in bytes of UTF-8 if the
 /// client offers that, otherwise in UTF-16 units.
-fn empty_documents<T: TextStore>(alloc: Global, client: ClientFeatures) -> Documents<T>
-    ensures { result ≡ no_open_documents (unit_for client) }
+fn empty_document_collection<T: TextStore>(alloc: Global, client: ClientFeatures) -> Documents<T>
+    ensures { result ≡ no_open_documents (unit_for_client client) }
 {
     let mut documents = Documents::new(alloc);
     if client.offers_utf8 {

@@ -2,8 +2,8 @@
 //! same effect, so no contract distinguishes them. Without fused nodes, programs would only be
 //! slower.
 
-use crate::asking::TestQuestion::Code;
-use crate::asking::{CheckMode, QuestionCase, first_failing_row, rows};
+use crate::test_questions::TestQuestion::NodeNames;
+use crate::test_questions::{CheckMode, QuestionCase, first_failing_row, rows};
 use ob0_run::lower;
 use ob0_run_machine::code::{Instruction, Number, Truth};
 use ob0_types::WellTyped;
@@ -12,7 +12,7 @@ use std::process::Abort;
 
 /// Appends the names of nodes in the lowered body of a module, each preceded by a blank. These are
 /// the node of each statement, and the outermost node of a value that is stored by a `StoreNumber`,
-/// `StoreVariable` or `StoreTruth`. An `If` or a `While` is followed by the outermost node of its
+/// `StoreNumberInVariable` or `StoreTruth`. An `If` or a `While` is followed by the outermost node of its
 /// condition, and the nodes of the statements directly in it.
 pub fn push_names_of_nodes(
     alloc: Global,
@@ -21,7 +21,7 @@ pub fn push_names_of_nodes(
 ) -> Result<(), AllocError> {
     let program = lower(alloc, module)?;
     for s in &program.code.body {
-        push_names_in_statement(out, s)?;
+        push_names_of_statement_nodes(out, s)?;
     }
     Ok(())
 }
@@ -31,25 +31,31 @@ fn push_blank_and_name(out: &mut String, name: &str) -> Result<(), AllocError> {
     out.push_str(name)
 }
 
-fn push_names_in_statement(out: &mut String, s: &Instruction) -> Result<(), AllocError> {
+fn push_names_of_statement_nodes(out: &mut String, s: &Instruction) -> Result<(), AllocError> {
     push_blank_and_name(out, name_of_statement(s))?;
     match s {
         Instruction::StoreNumber(_, n) => push_blank_and_name(out, name_of_number_node(n)),
-        Instruction::StoreVariable(_, n) => push_blank_and_name(out, name_of_number_node(n)),
+        Instruction::StoreNumberInVariable(_, n) => push_blank_and_name(
+            out,
+            name_of_number_node(n),
+        ),
         Instruction::StoreTruth(_, t) => push_blank_and_name(out, name_of_truth_node(t)),
         Instruction::If(i) => {
             push_blank_and_name(out, name_of_truth_node(&i.condition))?;
-            push_statement_names(out, i.body.as_slice())
+            push_names_of_inner_statements(out, i.body.as_slice())
         }
         Instruction::While(w) => {
             push_blank_and_name(out, name_of_truth_node(&w.condition))?;
-            push_statement_names(out, w.body.as_slice())
+            push_names_of_inner_statements(out, w.body.as_slice())
         }
         _ => Ok(()),
     }
 }
 
-fn push_statement_names(out: &mut String, statements: &[Instruction]) -> Result<(), AllocError> {
+fn push_names_of_inner_statements(
+    out: &mut String,
+    statements: &[Instruction],
+) -> Result<(), AllocError> {
     for s in statements {
         push_blank_and_name(out, name_of_statement(s))?;
     }
@@ -59,12 +65,12 @@ fn push_statement_names(out: &mut String, statements: &[Instruction]) -> Result<
 fn name_of_statement(s: &Instruction) -> &'static str {
     match s {
         Instruction::StoreNumber(_, _) => "StoreNumber",
-        Instruction::StoreVariable(_, _) => "StoreVariable",
+        Instruction::StoreNumberInVariable(_, _) => "StoreNumberInVariable",
         Instruction::StoreChain(_, _) => "StoreChain",
         Instruction::Update(_, _) => "Update",
         Instruction::Increase(_, _) => "Increase",
         Instruction::StoreTruth(_, _) => "StoreTruth",
-        Instruction::StoreConstant(_, _) => "StoreConstant",
+        Instruction::StoreConstantInElement(_, _) => "StoreConstantInElement",
         Instruction::If(_) => "If",
         Instruction::While(_) => "While",
         _ => "other",
@@ -84,13 +90,13 @@ fn name_of_number_node(n: &Number) -> &'static str {
 
 fn name_of_truth_node(t: &Truth) -> &'static str {
     match t {
-        Truth::Unset(_) => "Unset",
+        Truth::NegatedFlag(_) => "NegatedFlag",
         Truth::All(_) => "All",
         Truth::Any(_) => "Any",
-        Truth::LessThanLiteral(_, _) => "LessThanLiteral",
-        Truth::ComparedToLiteral(_, _, _) => "ComparedToLiteral",
-        Truth::ComparedToVariable(_, _, _) => "ComparedToVariable",
-        Truth::ElementToVariable(_, _, _) => "ElementToVariable",
+        Truth::VariableLessThanLiteral(_, _) => "VariableLessThanLiteral",
+        Truth::VariableComparedToLiteral(_, _, _) => "VariableComparedToLiteral",
+        Truth::VariableComparedToVariable(_, _, _) => "VariableComparedToVariable",
+        Truth::ElementComparedToVariable(_, _, _) => "ElementComparedToVariable",
         _ => "other",
     }
 }
@@ -109,11 +115,11 @@ const AND_OR_CHAINS: &str = "MODULE M;\nVAR a, b, c: BOOLEAN;\n\
     BEGIN IF a & b & c THEN a := b END; IF a OR b OR c THEN WriteLn END; a := a & ~b & c END M.";
 
 static NODE_NAME_CASES: &[QuestionCase] = rows![
-    WHILE_LOOPS, Code => " While LessThanLiteral Increase While ComparedToVariable StoreVariable Increase \
-        While ComparedToLiteral Increase";
-    ARRAY_ELEMENTS, Code => " StoreConstant If ElementToVariable StoreVariable If Unset StoreNumber";
-    FIELD_ASSIGNMENTS, Code => " Update StoreVariable Variable StoreChain StoreVariable Operation";
-    AND_OR_CHAINS, Code => " If All StoreTruth If Any other StoreTruth All";
+    WHILE_LOOPS, NodeNames => " While VariableLessThanLiteral Increase While VariableComparedToVariable StoreNumberInVariable Increase \
+        While VariableComparedToLiteral Increase";
+    ARRAY_ELEMENTS, NodeNames => " StoreConstantInElement If ElementComparedToVariable StoreNumberInVariable If NegatedFlag StoreNumber";
+    FIELD_ASSIGNMENTS, NodeNames => " Update StoreNumberInVariable Variable StoreChain StoreNumberInVariable Operation";
+    AND_OR_CHAINS, NodeNames => " If All StoreTruth If Any other StoreTruth All";
 ];
 
 fn node_name_cases() -> &'static [QuestionCase] {
@@ -122,6 +128,10 @@ fn node_name_cases() -> &'static [QuestionCase] {
 
 #[test]
 fn statements_are_lowered_to_fused_nodes(rt: HostRuntime) {
-    let (text, wanted) = first_failing_row(rt.alloc(), node_name_cases(), CheckMode::Asking);
+    let (text, wanted) = first_failing_row(
+        rt.alloc(),
+        node_name_cases(),
+        CheckMode::AskingQuestions,
+    );
     assert!(rt; text.is_empty(), "{wanted} of {text}");
 }

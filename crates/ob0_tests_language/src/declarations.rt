@@ -2,8 +2,10 @@
 //! declaration is given by its ordinal: predeclared names have the ordinals 0 to 6, and the text's
 //! declarations follow.
 
-use crate::asking::TestQuestion::{BoundOrdinals, ConflictOf, TypeOf};
-use crate::asking::{CheckMode, QuestionCase, first_failing_row, push_number, push_span, rows};
+use crate::test_questions::TestQuestion::{BoundOrdinals, ConflictOf, TypeOf};
+use crate::test_questions::{
+    CheckMode, QuestionCase, first_failing_row, push_number, push_span, rows,
+};
 use ob0_refs::{NameConflict, captures};
 use ob0_scope::resolve_renamed;
 use ob0_types::{ArrayShape, RecordShape, Shape, TypeWithParts, WellTyped};
@@ -126,6 +128,10 @@ static DECLARATION_CASES: &[QuestionCase] = rows![
 
 #[test]
 fn types_and_conflicts_are_as_expected(rt: HostRuntime) {
-    let (text, wanted) = first_failing_row(rt.alloc(), DECLARATION_CASES, CheckMode::Asking);
+    let (text, wanted) = first_failing_row(
+        rt.alloc(),
+        DECLARATION_CASES,
+        CheckMode::AskingQuestions,
+    );
     assert!(rt; text.is_empty(), "{wanted} in {text}");
 }

@@ -3,10 +3,10 @@
 ghost use Rattle.std.specs.Prelude.{◌≡◌};
 ghost use Rattle.std.specs.Str.{chars};
 
-use crate::asking::TestQuestion::{self, FormatWith, InlineAll, InlineHere, Rename};
-use crate::asking::{
+use crate::test_questions::TestQuestion::{self, FormatWith, InlineAll, InlineHere, Rename};
+use crate::test_questions::{
     CheckMode, FIELDS_OF_TWO_RECORDS, NESTED_PROCEDURES, QuestionCase, RECURSIVE_PROCEDURE,
-    REPEAT_COUNTDOWN, at, faults_of, first_failing_row, rows,
+    REPEAT_COUNTDOWN, faults_of, first_failing_row, position_at, rows,
 };
 use ob0_analysis::Analysis;
 use ob0_edits::rename_edits;
@@ -26,13 +26,13 @@ pub fn push_edited_text(
     asked: TestQuestion,
 ) -> Result<(), AllocError> {
     let store = Whole::from_str(alloc, module.resolved().tokens().text())?;
-    let edits = edits_of(alloc, &store, module, asked);
+    let edits = edits_for_question(alloc, &store, module, asked);
     out.push_str(edited_text_or_refusal(alloc, &store, edits)?.as_str())
 }
 
 /// Returns the edits for the question `asked`, or the refusal. If the question isn't about edits,
 /// the list is empty.
-fn edits_of<T: TextStore>(
+fn edits_for_question<T: TextStore>(
     alloc: Global,
     store: &T,
     module: &WellTyped<'_>,
@@ -41,9 +41,25 @@ fn edits_of<T: TextStore>(
     requires { T.content store.now ≡ chars «module».now.module_read.source.text }
 {
     match asked {
-        Rename(line, character, new) => rename(alloc, store, module, at(line, character), new),
-        InlineHere(line, character) => inline_here(alloc, store, module, at(line, character)),
-        InlineAll(line, character) => inline_all(alloc, store, module, at(line, character)),
+        Rename(line, character, new) => rename(
+            alloc,
+            store,
+            module,
+            position_at(line, character),
+            new,
+        ),
+        InlineHere(line, character) => inline_here(
+            alloc,
+            store,
+            module,
+            position_at(line, character),
+        ),
+        InlineAll(line, character) => inline_all(
+            alloc,
+            store,
+            module,
+            position_at(line, character),
+        ),
         FormatWith(indent) => format(alloc, store, module.resolved().module(), indent),
         _ => Ok(Vec::new(alloc)),
     }
@@ -76,7 +92,7 @@ pub fn renamed_text_or_faults(
         return Ok(String::new(alloc));
     };
     let store = Whole::from_str(alloc, analysis.text())?;
-    match rename_edits(alloc, &store, analysis, at(line, character), new)? {
+    match rename_edits(alloc, &store, analysis, position_at(line, character), new)? {
         Some(edits) => edited_text_or_refusal(alloc, &store, edits),
         None => faults_of(alloc, analysis),
     }
@@ -148,7 +164,7 @@ fn rename_cases() -> &'static [QuestionCase] {
 
 #[test]
 fn names_are_renamed_in_well_typed_modules(rt: HostRuntime) {
-    let (text, wanted) = first_failing_row(rt.alloc(), rename_cases(), CheckMode::Asking);
+    let (text, wanted) = first_failing_row(rt.alloc(), rename_cases(), CheckMode::AskingQuestions);
     assert!(rt; text.is_empty(), "{wanted} in {text}");
 }
 
@@ -216,7 +232,7 @@ static INLINING_CASES: &[QuestionCase] = rows![
 
 #[test]
 fn constants_are_inlined(rt: HostRuntime) {
-    let (text, wanted) = first_failing_row(rt.alloc(), INLINING_CASES, CheckMode::Asking);
+    let (text, wanted) = first_failing_row(rt.alloc(), INLINING_CASES, CheckMode::AskingQuestions);
     assert!(rt; text.is_empty(), "{wanted} in {text}");
 }
 
@@ -224,13 +240,13 @@ const TWO_SPACES: Indent = Indent::Spaces(2);
 
 /// Builds two rows from each line `TEXT, INDENT => FORMATTED;`. The second row states that
 /// formatting the formatted text changes nothing.
-macro_rules! layouts {
+macro_rules! formatting_rows {
     ($($text:expr, $indent:expr => $wanted:expr;)*) => {
         &[$(($text, FormatWith($indent), $wanted), ($wanted, FormatWith($indent), $wanted)),*]
     };
 }
 
-static FORMATTING_CASES: &[QuestionCase] = layouts![
+static FORMATTING_CASES: &[QuestionCase] = formatting_rows![
     "MODULE M;VAR x:INTEGER;BEGIN x:=-1;IF x<0 THEN Write(x)(* a (* b *) c *)END;WriteLn END M.(* end *)", TWO_SPACES =>
         "MODULE M;\nVAR\n  x: INTEGER;\nBEGIN\n  x := -1;\n  IF x < 0 THEN\n    Write(x) (* a (* b *) c *)\n  END;\
         \n  WriteLn\nEND M. (* end *)\n";
@@ -257,6 +273,10 @@ static FORMATTING_CASES: &[QuestionCase] = layouts![
 
 #[test]
 fn texts_are_formatted_idempotently(rt: HostRuntime) {
-    let (text, wanted) = first_failing_row(rt.alloc(), FORMATTING_CASES, CheckMode::Asking);
+    let (text, wanted) = first_failing_row(
+        rt.alloc(),
+        FORMATTING_CASES,
+        CheckMode::AskingQuestions,
+    );
     assert!(rt; text.is_empty(), "{wanted} of {text}");
 }

@@ -1,8 +1,10 @@
 //! Tests the faults of example texts: the code, start and end of each, in text order. Also tests
 //! that reanalysis of a changed text finds the same faults as an analysis from scratch.
 
-use crate::asking::TestQuestion::Faults;
-use crate::asking::{CheckMode, QuestionCase, at, faults_of, first_failing_row, rows};
+use crate::test_questions::TestQuestion::Faults;
+use crate::test_questions::{
+    CheckMode, QuestionCase, faults_of, first_failing_row, position_at, rows,
+};
 use ob0_analysis::Analysis;
 use ob0_text::{Range, TextStore, Whole};
 use std::alloc::{AllocError, Global};
@@ -80,7 +82,7 @@ static FAULT_CASES: &[QuestionCase] = rows![
 
 #[test]
 fn faults_of_example_texts_are_reported(rt: HostRuntime) {
-    let (text, wanted) = first_failing_row(rt.alloc(), FAULT_CASES, CheckMode::Asking);
+    let (text, wanted) = first_failing_row(rt.alloc(), FAULT_CASES, CheckMode::AskingQuestions);
     assert!(rt; text.is_empty(), "{wanted} of {text}");
 }
 
@@ -173,7 +175,7 @@ fn change_and_undo_agree_with_scratch(
 ) -> Result<bool, AllocError> {
     let (text, start, end, new) = *row;
     let mut store = Whole::from_str(alloc, text)?;
-    let (start, end) = (at(0, start), at(0, end));
+    let (start, end) = (position_at(0, start), position_at(0, end));
     store.replace(Range { start, end }, new)?;
     Ok(
         reanalysis_agrees_with_scratch(alloc, text, store.as_str())?

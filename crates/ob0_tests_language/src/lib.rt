@@ -3,20 +3,20 @@
 #![tactic(auto)]
 
 #[cfg(test)]
-mod asking;
-#[cfg(test)]
 mod code;
 #[cfg(test)]
 mod declarations;
 #[cfg(test)]
 mod edits;
 #[cfg(test)]
-mod faults;
+mod expression_forms;
 #[cfg(test)]
-mod forms;
+mod faults;
 #[cfg(test)]
 mod layers;
 #[cfg(test)]
 mod names;
 #[cfg(test)]
 mod runs;
+#[cfg(test)]
+mod test_questions;

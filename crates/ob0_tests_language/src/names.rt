@@ -1,7 +1,7 @@
 //! Tests the answers about names in example modules: referents, uses and hover texts.
 
-use crate::asking::TestQuestion::{AllHovers, NameAt};
-use crate::asking::{
+use crate::test_questions::TestQuestion::{AllHovers, NameAt};
+use crate::test_questions::{
     CheckMode, FIELDS_OF_TWO_RECORDS, QuestionCase, RECURSIVE_PROCEDURE, first_failing_row,
     push_number, push_span, rows,
 };
@@ -106,7 +106,7 @@ static NAME_CASES: &[QuestionCase] = rows![
 
 #[test]
 fn names_and_fields_are_found(rt: HostRuntime) {
-    let (text, wanted) = first_failing_row(rt.alloc(), NAME_CASES, CheckMode::Asking);
+    let (text, wanted) = first_failing_row(rt.alloc(), NAME_CASES, CheckMode::AskingQuestions);
     assert!(rt; text.is_empty(), "{wanted} in {text}");
 }
 
@@ -193,7 +193,7 @@ fn hover_cases() -> &'static [QuestionCase] {
 
 #[test]
 fn each_kind_of_name_has_its_hover_text(rt: HostRuntime) {
-    let (text, _) = first_failing_row(rt.alloc(), hover_cases(), CheckMode::Asking);
+    let (text, _) = first_failing_row(rt.alloc(), hover_cases(), CheckMode::AskingQuestions);
     assert!(rt; text.is_empty(), "{text}");
 }
 

@@ -1,7 +1,7 @@
 //! Tests the output of example modules, and how their runs end.
 
-use crate::asking::TestQuestion::Run;
-use crate::asking::{
+use crate::test_questions::TestQuestion::Run;
+use crate::test_questions::{
     CheckMode, NESTED_PROCEDURES, QuestionCase, RECURSIVE_PROCEDURE, REPEAT_COUNTDOWN,
     first_failing_row, rows,
 };
@@ -165,7 +165,7 @@ fn run_cases() -> &'static [QuestionCase] {
 
 #[test]
 fn modules_run_as_expected(rt: HostRuntime) {
-    let (text, wanted) = first_failing_row(rt.alloc(), run_cases(), CheckMode::Asking);
+    let (text, wanted) = first_failing_row(rt.alloc(), run_cases(), CheckMode::AskingQuestions);
     assert!(rt; text.is_empty(), "{wanted} of {text}");
 }
 

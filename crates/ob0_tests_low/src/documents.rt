@@ -2,7 +2,7 @@
 //! closed, with both text stores. Also tests documents and a text after an allocation has failed.
 
 use crate::cases::{Case, first_failing_row};
-use crate::documents::DocumentAction::{Close, Lose, Note, Open};
+use crate::documents::DocumentAction::{ApplyChanges, Close, Lose, Open};
 use crate::documents::ExpectedState::{Closed, InStep, OutOfStep};
 use crate::text::{ASSIGNMENT_AFTER_EMOJI, range_of};
 use ob0_text::{Change, Documents, Held, Lines, TextStore, Unit, Whole};
@@ -16,7 +16,7 @@ type ChangeRow = ((u64, u64), (u64, u64), &'static str);
 enum DocumentAction {
     Open(i64, &'static str),
     /// The document gets a notification with this version and these changes.
-    Note(i64, &'static [ChangeRow]),
+    ApplyChanges(i64, &'static [ChangeRow]),
     Lose,
     /// The document is closed. The Bool says whether it is expected to be open before.
     Close(bool),
@@ -47,11 +47,11 @@ struct DocumentCase(Unit, &'static [(DocumentAction, ExpectedState)]);
 static DOCUMENT_CASES: &[DocumentCase] = rows![
     DocumentCase(Unit::Utf16, rows![
         Open(1, ASSIGNMENT_AFTER_EMOJI) => InStep(1, ASSIGNMENT_AFTER_EMOJI);
-        Note(2, TWO_CHANGES_NEAR_EMOJI) => InStep(2, "(* !😀 *) yz := 1;");
+        ApplyChanges(2, TWO_CHANGES_NEAR_EMOJI) => InStep(2, "(* !😀 *) yz := 1;");
     ]);
     DocumentCase(Unit::Utf16, rows![
         Open(1, OPENED_TEXT) => InStep(1, OPENED_TEXT);
-        Note(2, THREE_CHANGES) => InStep(2, TEXT_AFTER_THREE_CHANGES);
+        ApplyChanges(2, THREE_CHANGES) => InStep(2, TEXT_AFTER_THREE_CHANGES);
     ]);
     DocumentCase(Unit::Utf8, rows![
         Open(1, "a") => InStep(1, "a");
@@ -59,13 +59,13 @@ static DOCUMENT_CASES: &[DocumentCase] = rows![
         Close(false) => Closed;
         Open(1, "a") => InStep(1, "a");
         Lose => OutOfStep;
-        Note(2, &[]) => OutOfStep;
+        ApplyChanges(2, &[]) => OutOfStep;
         Open(3, "b") => InStep(3, "b");
     ]);
 ];
 
 /// Returns the change that a row describes.
-fn change_of(alloc: Global, row: &ChangeRow) -> Result<Change, AllocError> {
+fn change_of_row(alloc: Global, row: &ChangeRow) -> Result<Change, AllocError> {
     let (start, end, text) = *row;
     let text = String::from_str(alloc, text)?;
     let range = Some(range_of(start, end));
@@ -73,10 +73,10 @@ fn change_of(alloc: Global, row: &ChangeRow) -> Result<Change, AllocError> {
 }
 
 /// Returns the changes that these rows describe.
-fn changes_of(alloc: Global, rows: &[ChangeRow]) -> Result<Vec<Change>, AllocError> {
+fn changes_of_rows(alloc: Global, rows: &[ChangeRow]) -> Result<Vec<Change>, AllocError> {
     let mut changes = Vec::new(alloc);
     for row in rows {
-        changes.push(change_of(alloc, row)?)?;
+        changes.push(change_of_row(alloc, row)?)?;
     }
     Ok(changes)
 }
@@ -103,8 +103,8 @@ fn perform_action<T: TextStore>(
         Open(version, text) => {
             documents.did_open("u", *version, text)?;
         }
-        Note(version, rows) => {
-            let changes = changes_of(alloc, rows)?;
+        ApplyChanges(version, rows) => {
+            let changes = changes_of_rows(alloc, rows)?;
             documents.did_change("u", *version, changes.as_slice())?;
         }
         Lose => documents.lose("u"),
@@ -115,7 +115,7 @@ fn perform_action<T: TextStore>(
 
 /// Performs the actions one after another. Returns whether each action has its expected result and
 /// leaves the document in the expected state.
-fn perform_actions<T: TextStore>(
+fn perform_all_actions<T: TextStore>(
     alloc: Global,
     documents: &mut Documents<T>,
     acts: &[(DocumentAction, ExpectedState)],
@@ -138,7 +138,7 @@ fn performs_as_expected<T: TextStore>(
     if row.0 == Unit::Utf8 {
         documents.set_unit(Unit::Utf8);
     }
-    Ok(perform_actions(alloc, &mut documents, row.1)? && documents.unit() == row.0)
+    Ok(perform_all_actions(alloc, &mut documents, row.1)? && documents.unit() == row.0)
 }
 
 impl Case for DocumentCase {
@@ -178,7 +178,7 @@ fn changes_or_is_out_of_step(documents: &mut Documents<Lines>, uri: &str, note: 
 
 /// Opens two documents and changes one of them. Returns whether both have their expected states.
 fn change_one_of_two_documents(alloc: Global) -> Result<bool, AllocError> {
-    let note = changes_of(alloc, THREE_CHANGES)?;
+    let note = changes_of_rows(alloc, THREE_CHANGES)?;
     let mut documents: Documents<Lines> = Documents::new(alloc);
     Ok(
         open_with_retry(&mut documents, "u")

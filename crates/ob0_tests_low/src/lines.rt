@@ -2,7 +2,7 @@
 //! after many changes of short texts, and in long lines. Also tests which lines it has.
 
 use crate::cases::{Case, first_failing_row};
-use crate::lines::LinesCase::{Changed, CutIntoLines, Long};
+use crate::lines::LinesCase::{CutIntoLines, LongLines, ShortText};
 use crate::text::{at, range_of};
 use ob0_text::{Lines, Range, TextStore, Unit, Whole};
 use std::alloc::{AllocError, Global};
@@ -11,30 +11,30 @@ use std::process::Abort;
 /// A text on which the store of lines is tested.
 enum LinesCase {
     /// A short text. Many changes are tried on it.
-    Changed(&'static str),
+    ShortText(&'static str),
     /// A text with long lines, in which both stores are compared.
-    Long(&'static str),
+    LongLines(&'static str),
     /// A text, and its lines with their endings.
     CutIntoLines(&'static str, &'static [&'static str]),
 }
 
 static TEXTS_TO_CHANGE: &[LinesCase] = rows![
-    Changed("");
-    Changed("\r");
-    Changed("\r\n");
-    Changed("a\r\nb\rc\nd");
-    Changed("\r\r\n\n\r");
-    Changed("x\n\né\r\n😀y\n");
-    Changed("one line alone");
-    Changed("\r\n\r\n");
+    ShortText("");
+    ShortText("\r");
+    ShortText("\r\n");
+    ShortText("a\r\nb\rc\nd");
+    ShortText("\r\r\n\n\r");
+    ShortText("x\n\né\r\n😀y\n");
+    ShortText("one line alone");
+    ShortText("\r\n\r\n");
 ];
 
 static LONG_AND_CUT_TEXTS: &[LinesCase] = rows![
-    Long("x := 0123456789 + 0123456789 + 0123456789 + 0123456789 + 0123456789 + 0123456789 + 0123456789 \
+    LongLines("x := 0123456789 + 0123456789 + 0123456789 + 0123456789 + 0123456789 + 0123456789 + 0123456789 \
         + 0123456789 + 0123456789;\r\ny");
-    Long("(* 0123456789 0123456789 0123456789 0123456789 0123456789 0123456789 0123456789 😀 0123456789 \
+    LongLines("(* 0123456789 0123456789 0123456789 0123456789 0123456789 0123456789 0123456789 😀 0123456789 \
         0123456789 é 0123456789 *)\ry\n");
-    Long("\n\t0123456789 0123456789 0123456789 0123456789 0123456789 012345678\n\
+    LongLines("\n\t0123456789 0123456789 0123456789 0123456789 0123456789 012345678\n\
         0123456789 0123456789 0123456789 0123456789 0123456789");
     CutIntoLines("a\r\nb\nd", &["a\r\n", "b\n", "d"]);
     CutIntoLines("a\r\n😀b\rc\n", &["a\r\n", "😀b\r", "c\n", ""]);
@@ -92,7 +92,7 @@ impl BothStores {
 
     /// Changes each of the first three lines at these columns, one after another. Returns whether
     /// both stores have the same text and report the same replaced bytes after each change.
-    fn change_first_lines_at(&mut self, columns: &[u64]) -> Result<bool, AllocError> {
+    fn change_first_lines_at_columns(&mut self, columns: &[u64]) -> Result<bool, AllocError> {
         for line in 0..3 {
             for column in columns {
                 if !self.change_two_units(line, *column)? {
@@ -198,7 +198,7 @@ fn stores_agree_in_long_lines(alloc: Global, text: &str, unit: Unit) -> Result<b
         return Ok(false);
     }
     for columns in COLUMN_SEQUENCES {
-        if !both_stores_of(alloc, text, unit)?.change_first_lines_at(columns)? {
+        if !both_stores_of(alloc, text, unit)?.change_first_lines_at_columns(columns)? {
             return Ok(false);
         }
     }
@@ -218,8 +218,8 @@ fn has_lines(lines: &Lines, wanted: &[&str]) -> bool {
 impl Case for LinesCase {
     fn has_expected_outcome(&self, alloc: Global) -> Result<bool, AllocError> {
         match self {
-            Changed(text) => stores_agree_after_each_replacement(alloc, text),
-            Long(text) => Ok(
+            ShortText(text) => stores_agree_after_each_replacement(alloc, text),
+            LongLines(text) => Ok(
                 stores_agree_in_long_lines(alloc, text, Unit::Utf16)?
                     && stores_agree_in_long_lines(alloc, text, Unit::Utf8)?,
             ),

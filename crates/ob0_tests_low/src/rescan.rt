@@ -2,7 +2,7 @@
 //! a scan from scratch.
 
 ghost use Rattle.std.specs.Prelude.{◌≡◌, ◌++◌, IfOk, string_bytes};
-ghost use Rattle.ob0_scan.specs.Reused.{ReplacesRange};
+ghost use Rattle.ob0_scan.specs.ReusedLexemes.{ReplacesRange};
 
 use crate::cases::{Case, first_failing_row};
 use crate::rescan::RescanCase::{Long, Short};
@@ -286,7 +286,7 @@ fn random_text(
 }
 
 /// Returns one random text for each number in `most`, as `random_text` does.
-fn random_texts(
+fn random_text_for_each_limit(
     alloc: Global,
     numbers: &mut RandomNumbers,
     most: &[usize],
@@ -303,7 +303,7 @@ fn outcome_of_random_change(
     alloc: Global,
     numbers: &mut RandomNumbers,
 ) -> Result<RescanOutcome, AllocError> {
-    let texts = random_texts(alloc, numbers, &[6, 3, 3, 6])?;
+    let texts = random_text_for_each_limit(alloc, numbers, &[6, 3, 3, 6])?;
     match texts.as_slice() {
         [front, middle, other, following] => outcome_of_change(
             alloc,

@@ -25,23 +25,23 @@ enum TestedMessage {
     Sent(SentMessage),
 }
 
-/// A message that is sent. `Refusal` is an answer with an error. `NoteOfNothing` and
-/// `NoteOfEachKind` are notifications. Each other name describes the result of an answer.
+/// A message that is sent. `Refusal` is an answer with an error. `NullNotification` and
+/// `NotificationOfEachJsonKind` are notifications. Each other name describes the result of an answer.
 #[derive(Clone, Copy)]
 enum SentMessage {
-    Nothing,
+    NullResult,
     Refusal(RpcFault),
-    NoteOfNothing,
+    NullNotification,
     LargestRange,
     OneRange,
     LargestNumber,
     LeastNumber,
     Text,
-    Truths,
-    Member,
+    TruthValues,
+    OneMember,
     /// A JSON value that contains values of each kind, except fractions.
-    EachKind,
-    NoteOfEachKind,
+    EachJsonKind,
+    NotificationOfEachJsonKind,
 }
 
 /// A tested message, and its expected meaning in words or its expected content.
@@ -118,7 +118,7 @@ static MESSAGE_CASES: &[MessageCase] = rows![
     Notification("textDocument/didChange", r#"{"textDocument":{"uri":"u"}}"#) => "unreadable, of a document";
     Notification("textDocument/didOpen", "{}") => "unreadable";
     Notification("$/cancelRequest", "null") => "other";
-    Sent(Nothing) => r#"{"id":-7,"jsonrpc":"2.0","result":null}"#;
+    Sent(NullResult) => r#"{"id":-7,"jsonrpc":"2.0","result":null}"#;
     Sent(Refusal(RpcFault::NotJson)) => r#"{"error":{"code":-32700,"message":"not JSON"},"id":null,"jsonrpc":"2.0"}"#;
     Sent(Refusal(RpcFault::NotAMessage)) =>
         r#"{"error":{"code":-32600,"message":"not a message"},"id":null,"jsonrpc":"2.0"}"#;
@@ -126,7 +126,7 @@ static MESSAGE_CASES: &[MessageCase] = rows![
         r#"{"error":{"code":-32601,"message":"unknown method"},"id":null,"jsonrpc":"2.0"}"#;
     Sent(Refusal(RpcFault::BadParams)) => r#"{"error":{"code":-32602,"message":"bad params"},"id":null,"jsonrpc":"2.0"}"#;
     Sent(Refusal(RpcFault::Memory)) => r#"{"error":{"code":-32603,"message":"out of memory"},"id":null,"jsonrpc":"2.0"}"#;
-    Sent(NoteOfNothing) => r#"{"jsonrpc":"2.0","method":"m","params":null}"#;
+    Sent(NullNotification) => r#"{"jsonrpc":"2.0","method":"m","params":null}"#;
     Sent(LargestRange) =>
         "{\"id\":1,\"jsonrpc\":\"2.0\",\"result\":{\"end\":{\"character\":18446744073709551615,\
         \"line\":18446744073709551615},\"start\":{\"character\":18446744073709551615,\"line\":18446744073709551615}}}";
@@ -135,10 +135,10 @@ static MESSAGE_CASES: &[MessageCase] = rows![
     Sent(LargestNumber) => r#"{"id":0,"jsonrpc":"2.0","result":18446744073709551615}"#;
     Sent(LeastNumber) => r#"{"id":18446744073709551615,"jsonrpc":"2.0","result":-9223372036854775808}"#;
     Sent(Text) => r#"{"id":-7,"jsonrpc":"2.0","result":"a\"\n\u0001"}"#;
-    Sent(Truths) => r#"{"id":0,"jsonrpc":"2.0","result":[true,false]}"#;
-    Sent(Member) => r#"{"id":0,"jsonrpc":"2.0","result":{"a b":{"character":2,"line":1}}}"#;
-    Sent(EachKind) => r#"{"id":5,"jsonrpc":"2.0","result":{"a":{"c":"\"\n"},"b":[true,null,-1]}}"#;
-    Sent(NoteOfEachKind) => r#"{"jsonrpc":"2.0","method":"m","params":{"a":{"c":"\"\n"},"b":[true,null,-1]}}"#;
+    Sent(TruthValues) => r#"{"id":0,"jsonrpc":"2.0","result":[true,false]}"#;
+    Sent(OneMember) => r#"{"id":0,"jsonrpc":"2.0","result":{"a b":{"character":2,"line":1}}}"#;
+    Sent(EachJsonKind) => r#"{"id":5,"jsonrpc":"2.0","result":{"a":{"c":"\"\n"},"b":[true,null,-1]}}"#;
+    Sent(NotificationOfEachJsonKind) => r#"{"jsonrpc":"2.0","method":"m","params":{"a":{"c":"\"\n"},"b":[true,null,-1]}}"#;
 ];
 
 /// Returns in words which kind of message a content is, or the fault of reading it.
@@ -214,7 +214,7 @@ fn call_in_words(call: &Call) -> &'static str {
 }
 
 /// Returns the meaning of a request with this method and these params, or its fault, in words.
-fn request_in_words(alloc: Global, method: &str, params: &Value) -> &'static str {
+fn parsed_request_in_words(alloc: Global, method: &str, params: &Value) -> &'static str {
     match request(alloc, method, params) {
         Ok(call) => call_in_words(&call),
         Err(fault) => fault.text(),
@@ -235,7 +235,7 @@ fn note_in_words(note: &Note) -> &'static str {
 }
 
 /// Returns the meaning of a notification with this method and these params, or its fault, in words.
-fn notification_in_words(alloc: Global, method: &str, params: Value) -> &'static str {
+fn parsed_notification_in_words(alloc: Global, method: &str, params: Value) -> &'static str {
     match notice(alloc, method, params) {
         Ok(note) => note_in_words(&note),
         Err(fault) => fault.text(),
@@ -246,7 +246,7 @@ fn notification_in_words(alloc: Global, method: &str, params: Value) -> &'static
 /// the expected meaning.
 fn notification_has_meaning(alloc: Global, method: &str, params: &str, wanted: &str) -> bool {
     match Value::from_str(alloc, params) {
-        Ok(params) => notification_in_words(alloc, method, params) == wanted,
+        Ok(params) => parsed_notification_in_words(alloc, method, params) == wanted,
         Err(_fault) => false,
     }
 }
@@ -255,7 +255,7 @@ fn notification_has_meaning(alloc: Global, method: &str, params: &str, wanted: &
 /// expected meaning.
 fn request_has_meaning(alloc: Global, method: &str, params: &str, wanted: &str) -> bool {
     match Value::from_str(alloc, params) {
-        Ok(params) => request_in_words(alloc, method, &params) == wanted,
+        Ok(params) => parsed_request_in_words(alloc, method, &params) == wanted,
         Err(_fault) => false,
     }
 }
@@ -285,18 +285,18 @@ fn answer_with_member(alloc: Global) -> Result<Vec<u8>, AllocError> {
 fn content_of_sent_message(alloc: Global, message: SentMessage) -> Result<Vec<u8>, AllocError> {
     const LARGEST_POSITION: (u64, u64) = (u64::MAX, u64::MAX);
     match message {
-        Nothing => success_response_text(alloc, &Id::Signed(-7), &()),
+        NullResult => success_response_text(alloc, &Id::Signed(-7), &()),
         Refusal(fault) => error(alloc, None, fault.code(), fault.text()),
-        NoteOfNothing => notification_text(alloc, "m", &()),
+        NullNotification => notification_text(alloc, "m", &()),
         LargestRange => answer_with_range(alloc, LARGEST_POSITION, LARGEST_POSITION),
         OneRange => answer_with_range(alloc, (0, 9), (10, 12345)),
         LargestNumber => success_response_text(alloc, &Id::Unsigned(0), &u64::MAX),
         LeastNumber => success_response_text(alloc, &Id::Unsigned(u64::MAX), &i64::MIN),
         Text => success_response_text(alloc, &Id::Signed(-7), &"a\"\n\u{1}"),
-        Truths => success_response_text(alloc, &Id::Signed(0), &[true, false].as_slice()),
-        Member => answer_with_member(alloc),
-        EachKind => result(alloc, &Id::Unsigned(5), value_with_each_kind(alloc)?),
-        NoteOfEachKind => notification(alloc, "m", value_with_each_kind(alloc)?),
+        TruthValues => success_response_text(alloc, &Id::Signed(0), &[true, false].as_slice()),
+        OneMember => answer_with_member(alloc),
+        EachJsonKind => result(alloc, &Id::Unsigned(5), value_with_each_kind(alloc)?),
+        NotificationOfEachJsonKind => notification(alloc, "m", value_with_each_kind(alloc)?),
     }
 }
 

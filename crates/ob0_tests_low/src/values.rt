@@ -1,7 +1,7 @@
 //! Tests calculations with numbers and truth values.
 
 use crate::cases::{Case, first_failing_row};
-use crate::values::Computation::{Add, Multiply, Negate, Relate, SignOf};
+use crate::values::Computation::{Add, ApplyRelation, ApplySign, Multiply, Negate};
 use ob0_language_values::Scalar::{Number, Truth};
 use ob0_language_values::scalar::{add, apply_relation, apply_sign, multiply, negate};
 use ob0_language_values::{OperatorFault, Scalar};
@@ -16,8 +16,8 @@ use std::process::Abort;
 enum Computation {
     Multiply(MultiplyOperator, i32, i32),
     Add(AddOperator, Scalar, Scalar),
-    Relate(Relation, Scalar, Scalar),
-    SignOf(Sign, i32),
+    ApplyRelation(Relation, Scalar, Scalar),
+    ApplySign(Sign, i32),
     Negate(Scalar),
 }
 
@@ -33,10 +33,10 @@ static COMPUTATION_CASES: &[ComputationCase] = rows![
     Add(Subtract, Number(i32::MIN), Number(1)) => Err(OperatorFault::Overflow);
     Add(Subtract, Number(-2147483647), Number(1)) => Ok(Number(i32::MIN));
     Add(Or, Truth(false), Truth(true)) => Ok(Truth(true));
-    SignOf(Sign::Minus, i32::MIN) => Err(OperatorFault::Overflow);
+    ApplySign(Sign::Minus, i32::MIN) => Err(OperatorFault::Overflow);
     Negate(Truth(true)) => Ok(Truth(false));
-    Relate(Relation::NotEqual, Truth(true), Truth(false)) => Ok(Truth(true));
-    Relate(Relation::Less, Truth(true), Truth(false)) => Err(OperatorFault::Operand);
+    ApplyRelation(Relation::NotEqual, Truth(true), Truth(false)) => Ok(Truth(true));
+    ApplyRelation(Relation::Less, Truth(true), Truth(false)) => Err(OperatorFault::Operand);
 ];
 
 /// Applies an operator to its operands, and returns the result or the operator's fault.
@@ -44,8 +44,8 @@ fn compute(computation: Computation) -> Result<Scalar, OperatorFault> {
     match computation {
         Multiply(operator, left, right) => multiply(operator, Number(left), Number(right)),
         Add(operator, left, right) => add(operator, left, right),
-        Relate(relation, left, right) => apply_relation(relation, left, right),
-        SignOf(sign, number) => apply_sign(Some(sign), Number(number)),
+        ApplyRelation(relation, left, right) => apply_relation(relation, left, right),
+        ApplySign(sign, number) => apply_sign(Some(sign), Number(number)),
         Negate(truth) => negate(truth),
     }
 }

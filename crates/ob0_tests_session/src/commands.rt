@@ -3,7 +3,7 @@
 
 use crate::devices::{CountingWriter, FailingReader, WriterCounts};
 use ob0_cli::{CommandFault, CommandLine, command};
-use ob0_commands::{TrackedReader, TrackedWriter, perform};
+use ob0_commands::{TrackedReader, TrackedWriter, perform_command};
 use ob0_text::Position;
 use std::alloc::Global;
 use std::process::Abort;
@@ -61,7 +61,7 @@ fn status_and_passed_on_bytes(alloc: Global, call: CommandWithInput, flushes: u3
         most: 1,
         calls_left: 16,
     });
-    let status = perform(alloc, line, file, &mut input, &mut out, &mut err);
+    let status = perform_command(alloc, line, file, &mut input, &mut out, &mut err);
     (status, printed.passed_on)
 }
 

@@ -3,9 +3,9 @@
 #![tactic(auto)]
 
 #[cfg(test)]
-mod acts;
-#[cfg(test)]
 mod session;
+#[cfg(test)]
+mod short_events;
 #[cfg(test)]
 mod stories;
 #[cfg(test)]

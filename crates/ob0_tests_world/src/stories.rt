@@ -2,9 +2,9 @@
 //! reports and results. Among the events are renames, inlinings of constants, formattings and
 //! discarded answers.
 
-use crate::acts::ShortEvent::*;
-use crate::acts::ShortReport::*;
-use crate::acts::{ShortEvent, ShortReport, Story};
+use crate::short_events::ShortEvent::*;
+use crate::short_events::ShortReport::*;
+use crate::short_events::{ShortEvent, ShortReport, Story};
 use ob0_text::Unit::{Utf8, Utf16};
 
 const COUNTDOWN_MODULE: &str = "MODULE M;\nVAR n: INTEGER;\nPROCEDURE P; BEGIN Write(n) END P;\n\
@@ -129,10 +129,10 @@ static STORIES: &[Story] = stories![
             Serve => Served(1), Take => Published(true)],
         [], [1, COUNTDOWN_MODULE => true];
     "of two documents each has its own text, version and diagnostics", Utf16,
-        moments![Open(COUNTDOWN_MODULE) => Sent, Other(&Open(FAULTY_TEXT)) => Sent, RENAME_N_TO_K => Sent, Other(&RENAME_N_TO_K) => Sent,
+        moments![Open(COUNTDOWN_MODULE) => Sent, AboutOtherDocument(&Open(FAULTY_TEXT)) => Sent, RENAME_N_TO_K => Sent, AboutOtherDocument(&RENAME_N_TO_K) => Sent,
             Serve => Served(1), Serve => Served(1), Serve => Served(1), Serve => Served(1),
             Take => Published(true), Take => PublishedOther(false), Take => Answered(1, true),
-            Take => Answered(2, false), Other(&Close) => Sent, Apply(1) => Applied(1), Serve => Served(1),
+            Take => Answered(2, false), AboutOtherDocument(&Close) => Sent, Apply(1) => Applied(1), Serve => Served(1),
             Serve => Served(1), Take => PublishedOther(true), Take => Published(true)],
         [COUNTDOWN_MODULE => COUNTDOWN_RENAMED], [1, COUNTDOWN_MODULE => true; 1, FAULTY_TEXT => false; 2, COUNTDOWN_RENAMED => true];
     "a constant is inlined at one use", Utf16,

@@ -1,7 +1,7 @@
 //! Tests whole lists of events, both step by step and by `play`, with positions in UTF-16 units and
 //! in bytes, and over both text stores.
 
-use crate::acts::{StepsResult, Story, events_with_retry, join_results, make_event_happen};
+use crate::short_events::{StepsResult, Story, events_with_retry, join_results, make_event_happen};
 use crate::stories::stories;
 use ob0_text::{Lines, TextStore, Unit, Whole};
 use ob0_world::{Applied, Event, Made, PlayFault, Played, World, WorldFault};
@@ -74,7 +74,7 @@ fn outcome_of_first_events(
 }
 
 /// Returns a world in which nothing has happened and positions are counted in this unit.
-fn begin_world<T: TextStore>(alloc: Global, unit: Unit) -> Result<World<T>, WorldFault> {
+fn new_world<T: TextStore>(alloc: Global, unit: Unit) -> Result<World<T>, WorldFault> {
     match unit {
         Unit::Utf16 => World::new(alloc),
         Unit::Utf8 => World::new_in(alloc, unit),
@@ -83,7 +83,7 @@ fn begin_world<T: TextStore>(alloc: Global, unit: Unit) -> Result<World<T>, Worl
 
 /// Makes the events of a story happen in a world, and returns the common result of all steps
 /// (`join_results`).
-fn make_events_happen<T: TextStore>(
+fn make_story_events_happen<T: TextStore>(
     world: &mut World<T>,
     story: &Story,
     events: &[Event],
@@ -99,11 +99,15 @@ fn make_events_happen<T: TextStore>(
 }
 
 /// Makes a story's events happen one by one over a store of type `T`, and returns the outcome.
-fn step_through<T: TextStore>(alloc: Global, story: &Story, events: &[Event]) -> StoryOutcome {
-    let Ok(mut world) = begin_world::<T>(alloc, story.unit) else {
-        return StoryOutcome(StepsResult::Refused, 0, 0, 0);
+fn step_through_story<T: TextStore>(
+    alloc: Global,
+    story: &Story,
+    events: &[Event],
+) -> StoryOutcome {
+    let Ok(mut world) = new_world::<T>(alloc, story.unit) else {
+        return StoryOutcome(StepsResult::OutOfMemory, 0, 0, 0);
     };
-    let result = make_events_happen(&mut world, story, events);
+    let result = make_story_events_happen(&mut world, story, events);
     let steps = world.steps();
     outcome_of_first_events(story, result, steps, &world.into_played())
 }
@@ -117,7 +121,7 @@ fn play(alloc: Global, unit: Unit, events: &[Event]) -> Result<Played, PlayFault
 }
 
 /// Plays a story's events by `play`, and returns the outcome.
-fn play_through(alloc: Global, story: &Story, events: &[Event]) -> StoryOutcome {
+fn play_story(alloc: Global, story: &Story, events: &[Event]) -> StoryOutcome {
     match play(alloc, story.unit, events) {
         Ok(played) => outcome_of_first_events(
             story,
@@ -127,7 +131,7 @@ fn play_through(alloc: Global, story: &Story, events: &[Event]) -> StoryOutcome 
         ),
         Err(fault) => outcome_of_first_events(
             story,
-            StepsResult::Refused,
+            StepsResult::OutOfMemory,
             fault.steps,
             &fault.played,
         ),
@@ -139,9 +143,9 @@ fn play_through(alloc: Global, story: &Story, events: &[Event]) -> StoryOutcome 
 fn run_story(alloc: Global, story: &Story, manner: StoryMode) -> StoryOutcome {
     match events_with_retry(alloc, story) {
         Ok(events) => match manner {
-            StoryMode::OverLines => step_through::<Lines>(alloc, story, events.as_slice()),
-            StoryMode::OverWhole => step_through::<Whole>(alloc, story, events.as_slice()),
-            StoryMode::Played => play_through(alloc, story, events.as_slice()),
+            StoryMode::OverLines => step_through_story::<Lines>(alloc, story, events.as_slice()),
+            StoryMode::OverWhole => step_through_story::<Whole>(alloc, story, events.as_slice()),
+            StoryMode::Played => play_story(alloc, story, events.as_slice()),
         },
         Err(AllocError) => UNEXPECTED_OUTCOME,
     }
@@ -202,14 +206,14 @@ fn run_first_story(alloc: Global, manner: StoryMode) -> StoryOutcome {
 // test` compares the two outputs, because the tests don't know at which event the allocation
 // failed.
 #[test]
-fn a_refused_event_leaves_what_was_played_before(rt: HostRuntime) {
+fn a_refused_event_keeps_earlier_results(rt: HostRuntime) {
     let StoryOutcome(result, steps, applied, made) = run_first_story(rt.alloc(), StoryMode::Played);
     assert!(rt; result != StepsResult::Unexpected);
     let _ = println!(rt; "played {steps} {applied} {made}");
 }
 
 #[test]
-fn a_refused_step_ends_what_was_played(rt: HostRuntime) {
+fn a_refused_step_keeps_earlier_results(rt: HostRuntime) {
     let StoryOutcome(result, steps, applied, made) = run_first_story(
         rt.alloc(),
         StoryMode::OverLines,

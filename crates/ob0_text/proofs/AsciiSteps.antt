@@ -10,7 +10,7 @@ use Rattle.ob0_text.specs.declared.position_types.Unit.{Unit}
 use Rattle.ob0_text.specs.declared.position_types.Unit.TheVariants.{Utf16, Utf8}
 use Rattle.ob0_text.specs.Texts.{LF, CR, utf16_width}
 use Rattle.ob0_text.specs.Units.{width_of}
-use Rattle.ob0_text.specs.Places.{CanCountPositions}
+use Rattle.ob0_text.specs.PassInvariants.{CanCountPositions}
 use Rattle.ob0_text.proofs.Widths.{narrow}
 use Rattle.ob0_text.proofs.LineLaws.{lf_ends, no_line_end}
 use Rattle.ob0_text.proofs.PositionSteps.{counted_past_end, counted_past_char}

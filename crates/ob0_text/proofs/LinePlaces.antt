@@ -11,7 +11,7 @@ use Rattle.std.proofs.Math.Seq.{take-append_seam, drop-append_seam}
 use Rattle.ob0_text.specs.Texts.{LF, CR, ends_line}
 use Rattle.ob0_text.specs.declared.passes.PlaceInText.{PlaceInText}
 use Rattle.ob0_text.specs.declared.position_types.Position.{Position}
-use Rattle.ob0_text.specs.Places.{CanCountPositions, CanFindOffsets, CanCountPositionsFrom, CanFindOffsetsFrom}
+use Rattle.ob0_text.specs.PassInvariants.{CanCountPositions, CanFindOffsets, CanCountPositionsFrom, CanFindOffsetsFrom}
 use Rattle.ob0_text.specs.LineStarts.{line_starts, line_starts_after_bytes, AreAllBelow, AreAllAtLeast}
 use Rattle.ob0_text.proofs.Prefixes.{halves}
 use Rattle.ob0_text.proofs.PositionSteps.{counted_at_start, counted_here_dropped, counted_past_end, counted_past_cr, counted_past_char}

@@ -2,7 +2,7 @@
 use Rattle.std.proofs.Common.{◌≡◌, ℕ, List, ◌++◌, take, drop, min, max, sym, ap, ◌∙◌, subst, Some}
 use Rattle.std.specs.Str.{IsUtf8, IsCharBoundary, chars}
 use Rattle.ob0_text.specs.Texts.{text_before, byte_len, offset_of}
-use Rattle.ob0_text.specs.Patches.{char_count_before, cut_at, text_with_range_replaced}
+use Rattle.ob0_text.specs.Patches.{char_count_before, cut_of_range, text_with_range_replaced}
 use Rattle.ob0_text.specs.declared.position_types.Range.{Range}
 use Rattle.ob0_text.proofs.Prefixes.{patched_text-one, range_start, range_end, border_at, replaced_at}
 
@@ -24,7 +24,7 @@ module _ (width : ℕ → ℕ) (text bs : List ℕ) (u : IsUtf8 bs) (is : chars 
   to_border = subst (IsCharBoundary bs) (sym at_to) (border_at bs u (max (char_count_before width (chars bs) r.start) (char_count_before width (chars bs) r.end)))
 
   pub replaced_is : (new bytes : List ℕ) → IsUtf8 new → bytes ≡ (take from bs ++ new) ++ drop to bs → text_with_range_replaced width text r (chars new) ≡ Some (chars bytes)
-  unfolding cut_at
+  unfolding cut_of_range
   replaced_is new bytes v bytes_is =
       ap (λ t. text_with_range_replaced width t r (chars new)) (sym is)
       ∙ patched_text-one (chars bs) (min (char_count_before width (chars bs) r.start) (char_count_before width (chars bs) r.end)) (max (char_count_before width (chars bs) r.start) (char_count_before width (chars bs) r.end)) (chars new)

@@ -14,7 +14,7 @@ use Rattle.ob0_text.specs.declared.passes.PlaceInText.{PlaceInText}
 use Rattle.ob0_text.specs.declared.stretches.Stretch.{Stretch}
 use Rattle.ob0_text.specs.Texts.{CR, byte_len}
 use Rattle.ob0_text.specs.Stretches.{IsNotLineBreak, IsPieceOfLine}
-use Rattle.ob0_text.specs.Places.{CanFindOffsets, CanFindOffsetsFrom, CanCountPositions, CanCountPositionsFrom}
+use Rattle.ob0_text.specs.PassInvariants.{CanFindOffsets, CanFindOffsetsFrom, CanCountPositions, CanCountPositionsFrom}
 use Rattle.ob0_text.proofs.LineLaws.{no_line_end}
 use Rattle.ob0_text.proofs.PositionSteps.{counted_past_char}
 use Rattle.ob0_text.proofs.PlaceSteps.{byte_len-cons, sought_past_char}

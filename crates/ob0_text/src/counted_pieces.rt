@@ -6,7 +6,7 @@
 //! part. Short runs of characters (`stretches.rt`) are removed from the end of the part or added to
 //! it (`shorten_to_units`, `extend_to_units`). So if an editor replaces all occurrences of a word
 //! in one long line, forwards or backwards, only the text between two changes is passed over. The
-//! part contains only text before the change (`piece_if_ends_before`). So it remains a piece of a
+//! part contains only text before the change (`piece_or_empty_before`). So it remains a piece of a
 //! line (`IsPieceOfLine`), even if the change adds or removes lines. `place_from_counted_piece`
 //! tests whether a line still starts at the part's start. If changes alternate between two places
 //! of one long line, each change passes over the text between these places.
@@ -44,7 +44,7 @@ impl CountedPiece {
     /// piece. The result remains correct if the text after `offset` changes. More precisely: if
     /// this piece is a piece of a line of some text, the result is a piece of a line of every text
     /// with the same first `offset` bytes.
-    pub fn piece_if_ends_before(self, offset: usize) -> CountedPiece
+    pub fn piece_or_empty_before(self, offset: usize) -> CountedPiece
         ensures { (width : ℕ → ℕ) (text rest : List ℕ)
             → IsPieceOfLine width text self.start self.end_and_units
             → offset ≤ length text

@@ -38,7 +38,7 @@ pub struct Lines {
 impl Model for Lines {
     ghost use Rattle.std.specs.Prelude.{string_bytes};
     ghost use Rattle.std.specs.Str.{chars};
-    ghost use Rattle.ob0_text.specs.CountedLines.{TableAndPieceMatchText};
+    ghost use Rattle.ob0_text.specs.LinesInvariant.{TableAndPieceMatchText};
     ghost use Rattle.ob0_text.specs.LineStarts.{TextWithUnit, coded_text_with_unit};
 
     ghost Value = { TextWithUnit };
@@ -112,7 +112,7 @@ impl TextStore for Lines {
         );
         let (from, to) = (found.start.min(found.end), found.start.max(found.end));
         self.table.replace(&mut self.text, from, to, text)?;
-        self.counted_piece = found.counted_piece.piece_if_ends_before(from);
+        self.counted_piece = found.counted_piece.piece_or_empty_before(from);
         Ok(())
     }
 

@@ -15,7 +15,7 @@ ghost use Rattle.std.specs.Str.{IsCharBoundary, chars};
 ghost use Rattle.ob0_text.specs.Texts.{LF, CR, ends_line, offset_of, position_of};
 ghost use Rattle.ob0_text.specs.Units.{width_of};
 ghost use Rattle.ob0_text.specs.Stretches.{IsStretch};
-ghost use Rattle.ob0_text.specs.Places.{at, PositionIsAtOrBefore, CanCountPositionsFrom, CanFindOffsetsFrom};
+ghost use Rattle.ob0_text.specs.PassInvariants.{at, PositionIsAtOrBefore, CanCountPositionsFrom, CanFindOffsetsFrom};
 
 use crate::position_types::{Position, Unit};
 use crate::stretches::{Stretch, next_stretch};

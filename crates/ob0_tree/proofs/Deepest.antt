@@ -1,7 +1,7 @@
 -- Proves facts about a loop over a list that keeps the greatest nesting.
 use Rattle.std.proofs.Common.{◌≡◌, ℕ, ◌+◌, ◌<◌, ◌≤◌, max, List, ◌∷◌, length, drop, get_or, sym, ap, ◌∙◌, arith}
 use Rattle.std.proofs.lemmas.List.{drop_all, drop_more}
-use Rattle.ob0_tree.specs.Depth.{capped_to_u32}
+use Rattle.ob0_tree.specs.CappedDepth.{capped_to_u32}
 use Rattle.ob0_tree.specs.Tree.{Tree, GrammarItem, item, nesting}
 use Rattle.ob0_tree.specs.View.{items_of}
 

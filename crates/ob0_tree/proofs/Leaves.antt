@@ -10,10 +10,10 @@ use Rattle.ob0_tree.specs.Lexeme.{Terminal, Name, Number, WordOrSymbol, EndOfTex
 use Rattle.ob0_tree.specs.Places.{indexed_terminal, indexed_terminals_from}
 use Rattle.ob0_tree.specs.ParsedModule.{ParsedModule, IsParsed, tree_of}
 use Rattle.ob0_tree.proofs.Occurring.{looked_up_only, looked_up-occurrences}
-use Rattle.ob0_tree.specs.Order.{AreAscendingWithin, names_without_roles, identifier_names, index_if_identifier, identifier_indexes_from, AreIdentifierTokens}
+use Rattle.ob0_tree.specs.IdentifierIndexes.{AreAscendingWithin, names_without_roles, identifier_names, index_if_identifier, identifier_indexes_from, AreIdentifierTokens}
 use Rattle.ob0_tree.specs.declared.tree.Role.{Role}
 use Rattle.ob0_tree.specs.declared.tree.Role.TheVariants as role
-use Rattle.ob0_tree.specs.Tree.{occurrences, Sort, Tree, spell, identifiers, none, one, end, more, compares, relates, sum, adds, product, multiplies, designator, integer, parenthesised, negation, field, index, empty, assigns, calls, branches, while_loop, repeat_loop, no_arguments, some_arguments, then_argument, runs, then_statement, elsif_branch, else_branch, listed, then_name, named_type, array_type, record_type, no_fields, some_fields, then_fields, no_formals, some_formals, value_section, variable_section, then_section, declares_constant, declares_constants, declares_type, declares_types, declares_variable, declares_variables, declares_procedure, declares, begins, forms_block, is_module}
+use Rattle.ob0_tree.specs.Tree.{occurrences, Sort, Tree, spell, identifiers, none, one, end, more, compares, relates, sum, adds, product, multiplies, designator, integer, parenthesised, negation, field, index, empty, assigns, calls, branches, while_loop, repeat_loop, no_arguments, some_arguments, comma_then_argument, runs, semicolon_then_statement, elsif_branch, else_branch, listed, comma_then_name, named_type, array_type, record_type, no_fields, some_fields, semicolon_then_fields, no_formals, some_formals, value_section, variable_section, semicolon_then_section, declares_constant, declares_const_section, declares_type, declares_type_section, declares_variable, declares_var_section, declares_procedure, declares, begins, forms_block, forms_module}
 
 -- Returns the names among tokens, in order.
 abbrev pub lexeme_names : {N : Type 0} → List (Terminal N) → List N
@@ -58,35 +58,35 @@ leaves_spelled r (while_loop condition s) = simp (lexeme_names-append, map-appen
 leaves_spelled r (repeat_loop s condition) = simp (lexeme_names-append, map-append, leaves_spelled r s, leaves_spelled r condition)
 leaves_spelled r no_arguments = refl
 leaves_spelled r (some_arguments e es) = simp (lexeme_names-append, map-append, append-nil, leaves_spelled r e, leaves_spelled r es)
-leaves_spelled r (then_argument e) = simp (leaves_spelled r e)
+leaves_spelled r (comma_then_argument e) = simp (leaves_spelled r e)
 leaves_spelled r (runs first statements) = simp (lexeme_names-append, map-append, leaves_spelled r first, leaves_spelled r statements)
-leaves_spelled r (then_statement s) = simp (leaves_spelled r s)
+leaves_spelled r (semicolon_then_statement s) = simp (leaves_spelled r s)
 leaves_spelled r (elsif_branch condition s) = simp (lexeme_names-append, map-append, leaves_spelled r condition, leaves_spelled r s)
 leaves_spelled r (else_branch s) = simp (leaves_spelled r s)
 leaves_spelled r (listed name others) = simp (leaves_spelled r others)
-leaves_spelled r (then_name name) = refl
+leaves_spelled r (comma_then_name name) = refl
 leaves_spelled r (named_type name) = refl
 leaves_spelled r (array_type size t) = simp (lexeme_names-append, map-append, leaves_spelled r size, leaves_spelled r t)
 leaves_spelled r (record_type first others) = simp (lexeme_names-append, map-append, append-nil, leaves_spelled r first, leaves_spelled r others)
 leaves_spelled r no_fields = refl
 leaves_spelled r (some_fields ns t) = simp (lexeme_names-append, map-append, leaves_spelled role.FieldName ns, leaves_spelled r t)
-leaves_spelled r (then_fields f) = simp (leaves_spelled r f)
+leaves_spelled r (semicolon_then_fields f) = simp (leaves_spelled r f)
 leaves_spelled r no_formals = refl
 leaves_spelled r (some_formals first others) = simp (lexeme_names-append, map-append, append-nil, leaves_spelled r first, leaves_spelled r others)
 leaves_spelled r (value_section ns t) = simp (lexeme_names-append, map-append, leaves_spelled role.Declaring ns, leaves_spelled r t)
 leaves_spelled r (variable_section ns t) = simp (lexeme_names-append, map-append, leaves_spelled role.Declaring ns, leaves_spelled r t)
-leaves_spelled r (then_section s) = simp (leaves_spelled r s)
+leaves_spelled r (semicolon_then_section s) = simp (leaves_spelled r s)
 leaves_spelled r (declares_constant name e) = simp (lexeme_names-append, append-nil, leaves_spelled r e)
-leaves_spelled r (declares_constants cs) = simp (leaves_spelled r cs)
+leaves_spelled r (declares_const_section cs) = simp (leaves_spelled r cs)
 leaves_spelled r (declares_type name t) = simp (lexeme_names-append, append-nil, leaves_spelled r t)
-leaves_spelled r (declares_types ts) = simp (leaves_spelled r ts)
+leaves_spelled r (declares_type_section ts) = simp (leaves_spelled r ts)
 leaves_spelled r (declares_variable ns t) = simp (lexeme_names-append, map-append, append-nil, leaves_spelled role.Declaring ns, leaves_spelled r t)
-leaves_spelled r (declares_variables vs) = simp (leaves_spelled r vs)
+leaves_spelled r (declares_var_section vs) = simp (leaves_spelled r vs)
 leaves_spelled r (declares_procedure name fs b closing) = simp (lexeme_names-append, map-append, leaves_spelled r fs, leaves_spelled r b)
 leaves_spelled r (declares cs ts vs ps) = simp (lexeme_names-append, map-append, leaves_spelled r cs, leaves_spelled r ts, leaves_spelled r vs, leaves_spelled r ps)
 leaves_spelled r (begins s) = simp (leaves_spelled r s)
 leaves_spelled r (forms_block ds b) = simp (lexeme_names-append, map-append, leaves_spelled r ds, leaves_spelled r b)
-leaves_spelled r (is_module name b closing) = simp (lexeme_names-append, map-append, leaves_spelled r b)
+leaves_spelled r (forms_module name b closing) = simp (lexeme_names-append, map-append, leaves_spelled r b)
 
 names_from : (ts : List Token) (i : ℕ) → lexeme_names (indexed_terminals_from i ts) ≡ identifier_indexes_from i ts
 names_from [] i = refl

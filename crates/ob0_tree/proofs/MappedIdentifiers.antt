@@ -4,8 +4,8 @@ use Rattle.std.proofs.lemmas.List.{map-append}
 use Rattle.ob0_tree.specs.declared.tree.Role.{Role}
 use Rattle.ob0_tree.specs.declared.tree.Role.TheVariants as role
 use Rattle.ob0_tree.specs.Lexeme.{EndOfText, WordOrSymbol, Name, Number, Terminal, mapped_terminal}
-use Rattle.ob0_tree.specs.Order.{identifier_names}
-use Rattle.ob0_tree.specs.Tree.{Sort, Tree, identifiers, mapped_tree, spell, adds, array_type, assigns, begins, branches, calls, compares, declares, declares_constant, declares_constants, declares_procedure, declares_type, declares_types, declares_variable, declares_variables, designator, else_branch, elsif_branch, empty, end, field, forms_block, index, integer, is_module, listed, more, multiplies, named_type, negation, no_arguments, no_fields, no_formals, none, one, parenthesised, product, record_type, relates, repeat_loop, runs, some_arguments, some_fields, some_formals, sum, then_argument, then_fields, then_name, then_section, then_statement, value_section, variable_section, while_loop}
+use Rattle.ob0_tree.specs.IdentifierIndexes.{identifier_names}
+use Rattle.ob0_tree.specs.Tree.{Sort, Tree, identifiers, mapped_tree, spell, adds, array_type, assigns, begins, branches, calls, compares, declares, declares_constant, declares_const_section, declares_procedure, declares_type, declares_type_section, declares_variable, declares_var_section, designator, else_branch, elsif_branch, empty, end, field, forms_block, index, integer, forms_module, listed, more, multiplies, named_type, negation, no_arguments, no_fields, no_formals, none, one, parenthesised, product, record_type, relates, repeat_loop, runs, some_arguments, some_fields, some_formals, sum, comma_then_argument, semicolon_then_fields, comma_then_name, semicolon_then_section, semicolon_then_statement, value_section, variable_section, while_loop}
 use Rattle.ob0_tree.proofs.Leaves.{leaves_spelled, lexeme_names}
 use Rattle.ob0_tree.proofs.Mapped.{spell_mapped}
 
@@ -41,35 +41,35 @@ identifiers-mapped_tree f g r (while_loop a b) = both (beside_role f) (identifie
 identifiers-mapped_tree f g r (repeat_loop a b) = both (beside_role f) (identifiers r a) (identifiers r b) (identifiers-mapped_tree f g r a) (identifiers-mapped_tree f g r b)
 identifiers-mapped_tree f g r no_arguments = refl
 identifiers-mapped_tree f g r (some_arguments a b) = both (beside_role f) (identifiers r a) (identifiers r b) (identifiers-mapped_tree f g r a) (identifiers-mapped_tree f g r b)
-identifiers-mapped_tree f g r (then_argument a) = identifiers-mapped_tree f g r a
+identifiers-mapped_tree f g r (comma_then_argument a) = identifiers-mapped_tree f g r a
 identifiers-mapped_tree f g r (runs a b) = both (beside_role f) (identifiers r a) (identifiers r b) (identifiers-mapped_tree f g r a) (identifiers-mapped_tree f g r b)
-identifiers-mapped_tree f g r (then_statement a) = identifiers-mapped_tree f g r a
+identifiers-mapped_tree f g r (semicolon_then_statement a) = identifiers-mapped_tree f g r a
 identifiers-mapped_tree f g r (elsif_branch a b) = both (beside_role f) (identifiers r a) (identifiers r b) (identifiers-mapped_tree f g r a) (identifiers-mapped_tree f g r b)
 identifiers-mapped_tree f g r (else_branch a) = identifiers-mapped_tree f g r a
 identifiers-mapped_tree f g r (listed x b) = ap (λ z. (r, f x) ∷ z) (identifiers-mapped_tree f g r b)
-identifiers-mapped_tree f g r (then_name x) = refl
+identifiers-mapped_tree f g r (comma_then_name x) = refl
 identifiers-mapped_tree f g r (named_type x) = refl
 identifiers-mapped_tree f g r (array_type a b) = both (beside_role f) (identifiers r a) (identifiers r b) (identifiers-mapped_tree f g r a) (identifiers-mapped_tree f g r b)
 identifiers-mapped_tree f g r (record_type a b) = both (beside_role f) (identifiers r a) (identifiers r b) (identifiers-mapped_tree f g r a) (identifiers-mapped_tree f g r b)
 identifiers-mapped_tree f g r no_fields = refl
 identifiers-mapped_tree f g r (some_fields a b) = both (beside_role f) (identifiers role.FieldName a) (identifiers r b) (identifiers-mapped_tree f g role.FieldName a) (identifiers-mapped_tree f g r b)
-identifiers-mapped_tree f g r (then_fields a) = identifiers-mapped_tree f g r a
+identifiers-mapped_tree f g r (semicolon_then_fields a) = identifiers-mapped_tree f g r a
 identifiers-mapped_tree f g r no_formals = refl
 identifiers-mapped_tree f g r (some_formals a b) = both (beside_role f) (identifiers r a) (identifiers r b) (identifiers-mapped_tree f g r a) (identifiers-mapped_tree f g r b)
 identifiers-mapped_tree f g r (value_section a b) = both (beside_role f) (identifiers role.Declaring a) (identifiers r b) (identifiers-mapped_tree f g role.Declaring a) (identifiers-mapped_tree f g r b)
 identifiers-mapped_tree f g r (variable_section a b) = both (beside_role f) (identifiers role.Declaring a) (identifiers r b) (identifiers-mapped_tree f g role.Declaring a) (identifiers-mapped_tree f g r b)
-identifiers-mapped_tree f g r (then_section a) = identifiers-mapped_tree f g r a
+identifiers-mapped_tree f g r (semicolon_then_section a) = identifiers-mapped_tree f g r a
 identifiers-mapped_tree f g r (declares_constant x b) = ap (λ z. (role.Declaring, f x) ∷ z) (identifiers-mapped_tree f g r b)
-identifiers-mapped_tree f g r (declares_constants a) = identifiers-mapped_tree f g r a
+identifiers-mapped_tree f g r (declares_const_section a) = identifiers-mapped_tree f g r a
 identifiers-mapped_tree f g r (declares_type x b) = ap (λ z. (role.Declaring, f x) ∷ z) (identifiers-mapped_tree f g r b)
-identifiers-mapped_tree f g r (declares_types a) = identifiers-mapped_tree f g r a
+identifiers-mapped_tree f g r (declares_type_section a) = identifiers-mapped_tree f g r a
 identifiers-mapped_tree f g r (declares_variable a b) = both (beside_role f) (identifiers role.Declaring a) (identifiers r b) (identifiers-mapped_tree f g role.Declaring a) (identifiers-mapped_tree f g r b)
-identifiers-mapped_tree f g r (declares_variables a) = identifiers-mapped_tree f g r a
+identifiers-mapped_tree f g r (declares_var_section a) = identifiers-mapped_tree f g r a
 identifiers-mapped_tree f g r (declares_procedure x a b c) = ap (λ z. (role.Declaring, f x) ∷ z) (both (beside_role f) (identifiers r a) (identifiers r b ++ ((role.ClosingName, c) ∷ [])) (identifiers-mapped_tree f g r a) (both (beside_role f) (identifiers r b) ((role.ClosingName, c) ∷ []) (identifiers-mapped_tree f g r b) refl))
 identifiers-mapped_tree f g r (declares a b c d) = both (beside_role f) (identifiers r a) (identifiers r b ++ (identifiers r c ++ (identifiers r d))) (identifiers-mapped_tree f g r a) (both (beside_role f) (identifiers r b) (identifiers r c ++ (identifiers r d)) (identifiers-mapped_tree f g r b) (both (beside_role f) (identifiers r c) (identifiers r d) (identifiers-mapped_tree f g r c) (identifiers-mapped_tree f g r d)))
 identifiers-mapped_tree f g r (begins a) = identifiers-mapped_tree f g r a
 identifiers-mapped_tree f g r (forms_block a b) = both (beside_role f) (identifiers r a) (identifiers r b) (identifiers-mapped_tree f g r a) (identifiers-mapped_tree f g r b)
-identifiers-mapped_tree f g r (is_module x b c) = ap (λ z. (role.ModuleName, f x) ∷ z) (both (beside_role f) (identifiers r b) ((role.ModuleName, c) ∷ []) (identifiers-mapped_tree f g r b) refl)
+identifiers-mapped_tree f g r (forms_module x b c) = ap (λ z. (role.ModuleName, f x) ∷ z) (both (beside_role f) (identifiers r b) ((role.ModuleName, c) ∷ []) (identifiers-mapped_tree f g r b) refl)
 
 names_mapped : {N M : Type 0} (f : N → M) (g : ℕ → ℕ) (xs : List (Terminal N)) → lexeme_names (map (mapped_terminal f g) xs) ≡ map f (lexeme_names xs)
 names_mapped f g [] = refl

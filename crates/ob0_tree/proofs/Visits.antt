@@ -5,7 +5,7 @@ use Rattle.std.proofs.lemmas.List.{drop_all, drop_more}
 use Rattle.ob0_tree.specs.declared.tree.Role.{Role}
 use Rattle.ob0_tree.specs.Tree.{Tree, GrammarItem, item, identifiers}
 use Rattle.ob0_tree.specs.View.{items_of}
-use Rattle.ob0_tree.specs.Visited.{state_after_identifiers}
+use Rattle.ob0_tree.specs.VisitorStates.{state_after_identifiers}
 
 -- Holds if visiting the remaining items in the present state gives the same state as visiting all
 -- items in the initial state.

@@ -6,7 +6,7 @@ use Rattle.ob0_scan.specs.TextWithTokens.{TextWithTokens}
 use Rattle.ob0_tree.specs.declared.tree.Block.{Block}
 use Rattle.ob0_tree.specs.declared.tree.ModuleTree.{ModuleTree}
 use Rattle.ob0_tree.specs.Lexeme.{EndOfText}
-use Rattle.ob0_tree.specs.Tree.{Tree, module_text, is_module, spell}
+use Rattle.ob0_tree.specs.Tree.{Tree, module_text, forms_module, spell}
 use Rattle.ob0_tree.specs.View.{block_of}
 use Rattle.ob0_tree.specs.Module.{IsModuleWithTree}
 use Rattle.ob0_tree.specs.Places.{indexed_terminals, tree_with_names}
@@ -25,7 +25,7 @@ parsed_module s t = record { source = s; name = t.name; block = t.block; closing
 
 -- Returns the module's `Tree`, in which each identifier and integer is the index of its token.
 abbrev pub tree_of : ParsedModule → Tree ℕ module_text
-tree_of m = is_module m.name (block_of m.block) m.closing
+tree_of m = forms_module m.name (block_of m.block) m.closing
 
 -- Returns the module's `Tree`, with the text of each name and the value of each integer.
 abbrev pub named_tree_of : ParsedModule → Tree (List ℕ) module_text

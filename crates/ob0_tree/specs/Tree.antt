@@ -22,14 +22,14 @@ pub data GrammarItem : Type 0 where
   addend : GrammarItem
   comparison : GrammarItem
   arguments : GrammarItem
-  further_argument : GrammarItem
-  further_statement : GrammarItem
+  argument_after_comma : GrammarItem
+  statement_after_semicolon : GrammarItem
   elsif_part : GrammarItem
   else_part : GrammarItem
-  further_name : GrammarItem
-  further_fields : GrammarItem
+  name_after_comma : GrammarItem
+  fields_after_semicolon : GrammarItem
   formals : GrammarItem
-  further_section : GrammarItem
+  section_after_semicolon : GrammarItem
   constant : GrammarItem
   constants : GrammarItem
   type_definition : GrammarItem
@@ -89,31 +89,31 @@ pub data Tree (N : Type 0) : Sort → Type 0 where
   while_loop : Tree N expression → Tree N sequence → Tree N statement
   repeat_loop : Tree N sequence → Tree N expression → Tree N statement
   no_arguments : Tree N (item arguments)
-  some_arguments : Tree N expression → Tree N (items further_argument) → Tree N (item arguments)
-  then_argument : Tree N expression → Tree N (item further_argument)
-  runs : Tree N statement → Tree N (items further_statement) → Tree N sequence
-  then_statement : Tree N statement → Tree N (item further_statement)
+  some_arguments : Tree N expression → Tree N (items argument_after_comma) → Tree N (item arguments)
+  comma_then_argument : Tree N expression → Tree N (item argument_after_comma)
+  runs : Tree N statement → Tree N (items statement_after_semicolon) → Tree N sequence
+  semicolon_then_statement : Tree N statement → Tree N (item statement_after_semicolon)
   elsif_branch : Tree N expression → Tree N sequence → Tree N (item elsif_part)
   else_branch : Tree N sequence → Tree N (item else_part)
-  listed : N → Tree N (items further_name) → Tree N names
-  then_name : N → Tree N (item further_name)
+  listed : N → Tree N (items name_after_comma) → Tree N names
+  comma_then_name : N → Tree N (item name_after_comma)
   named_type : N → Tree N written_type
   array_type : Tree N expression → Tree N written_type → Tree N written_type
-  record_type : Tree N fields → Tree N (items further_fields) → Tree N written_type
+  record_type : Tree N fields → Tree N (items fields_after_semicolon) → Tree N written_type
   no_fields : Tree N fields
   some_fields : Tree N names → Tree N written_type → Tree N fields
-  then_fields : Tree N fields → Tree N (item further_fields)
+  semicolon_then_fields : Tree N fields → Tree N (item fields_after_semicolon)
   no_formals : Tree N (item formals)
-  some_formals : Tree N section → Tree N (items further_section) → Tree N (item formals)
+  some_formals : Tree N section → Tree N (items section_after_semicolon) → Tree N (item formals)
   value_section : Tree N names → Tree N written_type → Tree N section
   variable_section : Tree N names → Tree N written_type → Tree N section
-  then_section : Tree N section → Tree N (item further_section)
+  semicolon_then_section : Tree N section → Tree N (item section_after_semicolon)
   declares_constant : N → Tree N expression → Tree N (item constant)
-  declares_constants : Tree N (items constant) → Tree N (item constants)
+  declares_const_section : Tree N (items constant) → Tree N (item constants)
   declares_type : N → Tree N written_type → Tree N (item type_definition)
-  declares_types : Tree N (items type_definition) → Tree N (item type_definitions)
+  declares_type_section : Tree N (items type_definition) → Tree N (item type_definitions)
   declares_variable : Tree N names → Tree N written_type → Tree N (item variable)
-  declares_variables : Tree N (items variable) → Tree N (item variables)
+  declares_var_section : Tree N (items variable) → Tree N (item variables)
   declares_procedure : N → Tree N (maybe formals) → Tree N block → N → Tree N (item procedure)
   declares : Tree N (maybe constants)
       → Tree N (maybe type_definitions)
@@ -122,7 +122,7 @@ pub data Tree (N : Type 0) : Sort → Type 0 where
       → Tree N declarations
   begins : Tree N sequence → Tree N (item body)
   forms_block : Tree N declarations → Tree N (maybe body) → Tree N block
-  is_module : N → Tree N block → N → Tree N module_text
+  forms_module : N → Tree N block → N → Tree N module_text
 
 -- Returns a list of one token: the reserved word or symbol of the kind `k`.
 abbrev pub single_token_list : {N : Type 0} → TokenKind → List (Terminal N)
@@ -169,15 +169,15 @@ spell no_arguments = WordOrSymbol (kind.Symbol symbol.LeftParen) ∷ single_toke
 spell (some_arguments e es) =
     WordOrSymbol (kind.Symbol symbol.LeftParen)
     ∷ (spell e ++ (spell es ++ single_token_list (kind.Symbol symbol.RightParen)))
-spell (then_argument e) = WordOrSymbol (kind.Symbol symbol.Comma) ∷ spell e
+spell (comma_then_argument e) = WordOrSymbol (kind.Symbol symbol.Comma) ∷ spell e
 spell (runs first statements) = spell first ++ spell statements
-spell (then_statement s) = WordOrSymbol (kind.Symbol symbol.Semicolon) ∷ spell s
+spell (semicolon_then_statement s) = WordOrSymbol (kind.Symbol symbol.Semicolon) ∷ spell s
 spell (elsif_branch condition s) =
     WordOrSymbol (kind.ReservedWord reserved.Elsif)
     ∷ (spell condition ++ (WordOrSymbol (kind.ReservedWord reserved.Then) ∷ spell s))
 spell (else_branch s) = WordOrSymbol (kind.ReservedWord reserved.Else) ∷ spell s
 spell (listed name others) = Name name ∷ spell others
-spell (then_name name) = WordOrSymbol (kind.Symbol symbol.Comma) ∷ Name name ∷ []
+spell (comma_then_name name) = WordOrSymbol (kind.Symbol symbol.Comma) ∷ Name name ∷ []
 spell (named_type name) = Name name ∷ []
 spell (array_type size t) =
     WordOrSymbol (kind.ReservedWord reserved.Array)
@@ -187,7 +187,7 @@ spell (record_type first others) =
     ∷ (spell first ++ (spell others ++ single_token_list (kind.ReservedWord reserved.End)))
 spell no_fields = []
 spell (some_fields ns t) = spell ns ++ (WordOrSymbol (kind.Symbol symbol.Colon) ∷ spell t)
-spell (then_fields f) = WordOrSymbol (kind.Symbol symbol.Semicolon) ∷ spell f
+spell (semicolon_then_fields f) = WordOrSymbol (kind.Symbol symbol.Semicolon) ∷ spell f
 spell no_formals = WordOrSymbol (kind.Symbol symbol.LeftParen) ∷ single_token_list (kind.Symbol symbol.RightParen)
 spell (some_formals first others) =
     WordOrSymbol (kind.Symbol symbol.LeftParen)
@@ -195,16 +195,16 @@ spell (some_formals first others) =
 spell (value_section ns t) = spell ns ++ (WordOrSymbol (kind.Symbol symbol.Colon) ∷ spell t)
 spell (variable_section ns t) =
     WordOrSymbol (kind.ReservedWord reserved.Var) ∷ (spell ns ++ (WordOrSymbol (kind.Symbol symbol.Colon) ∷ spell t))
-spell (then_section s) = WordOrSymbol (kind.Symbol symbol.Semicolon) ∷ spell s
+spell (semicolon_then_section s) = WordOrSymbol (kind.Symbol symbol.Semicolon) ∷ spell s
 spell (declares_constant name e) =
     Name name ∷ WordOrSymbol (kind.Symbol symbol.Equal) ∷ (spell e ++ single_token_list (kind.Symbol symbol.Semicolon))
-spell (declares_constants cs) = WordOrSymbol (kind.ReservedWord reserved.Const) ∷ spell cs
+spell (declares_const_section cs) = WordOrSymbol (kind.ReservedWord reserved.Const) ∷ spell cs
 spell (declares_type name t) =
     Name name ∷ WordOrSymbol (kind.Symbol symbol.Equal) ∷ (spell t ++ single_token_list (kind.Symbol symbol.Semicolon))
-spell (declares_types ts) = WordOrSymbol (kind.ReservedWord reserved.Type) ∷ spell ts
+spell (declares_type_section ts) = WordOrSymbol (kind.ReservedWord reserved.Type) ∷ spell ts
 spell (declares_variable ns t) =
     spell ns ++ (WordOrSymbol (kind.Symbol symbol.Colon) ∷ (spell t ++ single_token_list (kind.Symbol symbol.Semicolon)))
-spell (declares_variables vs) = WordOrSymbol (kind.ReservedWord reserved.Var) ∷ spell vs
+spell (declares_var_section vs) = WordOrSymbol (kind.ReservedWord reserved.Var) ∷ spell vs
 spell (declares_procedure name fs b closing) =
     WordOrSymbol (kind.ReservedWord reserved.Procedure)
     ∷ Name name
@@ -217,7 +217,7 @@ spell (declares_procedure name fs b closing) =
 spell (declares cs ts vs ps) = spell cs ++ (spell ts ++ (spell vs ++ spell ps))
 spell (begins s) = WordOrSymbol (kind.ReservedWord reserved.Begin) ∷ spell s
 spell (forms_block ds b) = spell ds ++ spell b
-spell (is_module name b closing) =
+spell (forms_module name b closing) =
     WordOrSymbol (kind.ReservedWord reserved.Module)
     ∷ Name name
     ∷ WordOrSymbol (kind.Symbol symbol.Semicolon)
@@ -253,35 +253,35 @@ nesting (while_loop condition s) = max (nesting condition) (nesting s) + 1
 nesting (repeat_loop s condition) = max (nesting s) (nesting condition) + 1
 nesting no_arguments = 0
 nesting (some_arguments e es) = max (nesting e) (nesting es)
-nesting (then_argument e) = nesting e
+nesting (comma_then_argument e) = nesting e
 nesting (runs first statements) = max (nesting first) (nesting statements)
-nesting (then_statement s) = nesting s
+nesting (semicolon_then_statement s) = nesting s
 nesting (elsif_branch condition s) = max (nesting condition) (nesting s)
 nesting (else_branch s) = nesting s
 nesting (listed name others) = 0
-nesting (then_name name) = 0
+nesting (comma_then_name name) = 0
 nesting (named_type name) = 0
 nesting (array_type size t) = max (nesting size) (nesting t) + 1
 nesting (record_type first others) = max (nesting first) (nesting others) + 1
 nesting no_fields = 0
 nesting (some_fields ns t) = nesting t
-nesting (then_fields f) = nesting f
+nesting (semicolon_then_fields f) = nesting f
 nesting no_formals = 0
 nesting (some_formals first others) = max (nesting first) (nesting others)
 nesting (value_section ns t) = nesting t
 nesting (variable_section ns t) = nesting t
-nesting (then_section s) = nesting s
+nesting (semicolon_then_section s) = nesting s
 nesting (declares_constant name e) = nesting e
-nesting (declares_constants cs) = nesting cs
+nesting (declares_const_section cs) = nesting cs
 nesting (declares_type name t) = nesting t
-nesting (declares_types ts) = nesting ts
+nesting (declares_type_section ts) = nesting ts
 nesting (declares_variable ns t) = nesting t
-nesting (declares_variables vs) = nesting vs
+nesting (declares_var_section vs) = nesting vs
 nesting (declares_procedure name fs b closing) = max (nesting fs) (nesting b) + 1
 nesting (declares cs ts vs ps) = max (max (nesting cs) (nesting ts)) (max (nesting vs) (nesting ps))
 nesting (begins s) = nesting s
 nesting (forms_block ds b) = max (nesting ds) (nesting b)
-nesting (is_module name b closing) = nesting b
+nesting (forms_module name b closing) = nesting b
 
 -- Returns the tree with `f` applied to each looked-up name, `h` to each other name, and `g` to each
 -- number. Declaring names, closing names, names of fields and the module's name aren't looked up.
@@ -311,37 +311,37 @@ mapped_leaves f h g (while_loop condition s) = while_loop (mapped_leaves f h g c
 mapped_leaves f h g (repeat_loop s condition) = repeat_loop (mapped_leaves f h g s) (mapped_leaves f h g condition)
 mapped_leaves f h g no_arguments = no_arguments
 mapped_leaves f h g (some_arguments e es) = some_arguments (mapped_leaves f h g e) (mapped_leaves f h g es)
-mapped_leaves f h g (then_argument e) = then_argument (mapped_leaves f h g e)
+mapped_leaves f h g (comma_then_argument e) = comma_then_argument (mapped_leaves f h g e)
 mapped_leaves f h g (runs first statements) = runs (mapped_leaves f h g first) (mapped_leaves f h g statements)
-mapped_leaves f h g (then_statement s) = then_statement (mapped_leaves f h g s)
+mapped_leaves f h g (semicolon_then_statement s) = semicolon_then_statement (mapped_leaves f h g s)
 mapped_leaves f h g (elsif_branch condition s) = elsif_branch (mapped_leaves f h g condition) (mapped_leaves f h g s)
 mapped_leaves f h g (else_branch s) = else_branch (mapped_leaves f h g s)
 mapped_leaves f h g (listed name others) = listed (h name) (mapped_leaves f h g others)
-mapped_leaves f h g (then_name name) = then_name (h name)
+mapped_leaves f h g (comma_then_name name) = comma_then_name (h name)
 mapped_leaves f h g (named_type name) = named_type (f name)
 mapped_leaves f h g (array_type size t) = array_type (mapped_leaves f h g size) (mapped_leaves f h g t)
 mapped_leaves f h g (record_type first others) = record_type (mapped_leaves f h g first) (mapped_leaves f h g others)
 mapped_leaves f h g no_fields = no_fields
 mapped_leaves f h g (some_fields ns t) = some_fields (mapped_leaves f h g ns) (mapped_leaves f h g t)
-mapped_leaves f h g (then_fields fs) = then_fields (mapped_leaves f h g fs)
+mapped_leaves f h g (semicolon_then_fields fs) = semicolon_then_fields (mapped_leaves f h g fs)
 mapped_leaves f h g no_formals = no_formals
 mapped_leaves f h g (some_formals first others) = some_formals (mapped_leaves f h g first) (mapped_leaves f h g others)
 mapped_leaves f h g (value_section ns t) = value_section (mapped_leaves f h g ns) (mapped_leaves f h g t)
 mapped_leaves f h g (variable_section ns t) = variable_section (mapped_leaves f h g ns) (mapped_leaves f h g t)
-mapped_leaves f h g (then_section s) = then_section (mapped_leaves f h g s)
+mapped_leaves f h g (semicolon_then_section s) = semicolon_then_section (mapped_leaves f h g s)
 mapped_leaves f h g (declares_constant name e) = declares_constant (h name) (mapped_leaves f h g e)
-mapped_leaves f h g (declares_constants cs) = declares_constants (mapped_leaves f h g cs)
+mapped_leaves f h g (declares_const_section cs) = declares_const_section (mapped_leaves f h g cs)
 mapped_leaves f h g (declares_type name t) = declares_type (h name) (mapped_leaves f h g t)
-mapped_leaves f h g (declares_types ts) = declares_types (mapped_leaves f h g ts)
+mapped_leaves f h g (declares_type_section ts) = declares_type_section (mapped_leaves f h g ts)
 mapped_leaves f h g (declares_variable ns t) = declares_variable (mapped_leaves f h g ns) (mapped_leaves f h g t)
-mapped_leaves f h g (declares_variables vs) = declares_variables (mapped_leaves f h g vs)
+mapped_leaves f h g (declares_var_section vs) = declares_var_section (mapped_leaves f h g vs)
 mapped_leaves f h g (declares_procedure name fs b closing) =
     declares_procedure (h name) (mapped_leaves f h g fs) (mapped_leaves f h g b) (h closing)
 mapped_leaves f h g (declares cs ts vs ps) =
     declares (mapped_leaves f h g cs) (mapped_leaves f h g ts) (mapped_leaves f h g vs) (mapped_leaves f h g ps)
 mapped_leaves f h g (begins s) = begins (mapped_leaves f h g s)
 mapped_leaves f h g (forms_block ds b) = forms_block (mapped_leaves f h g ds) (mapped_leaves f h g b)
-mapped_leaves f h g (is_module name b closing) = is_module (h name) (mapped_leaves f h g b) (h closing)
+mapped_leaves f h g (forms_module name b closing) = forms_module (h name) (mapped_leaves f h g b) (h closing)
 
 -- Returns the tree with `f` applied to each name and `g` applied to each number.
 abbrev pub mapped_tree : {N M : Type 0} {s : Sort} → (N → M) → (ℕ → ℕ) → Tree N s → Tree M s
@@ -377,30 +377,30 @@ identifiers r (while_loop condition s) = identifiers r condition ++ identifiers 
 identifiers r (repeat_loop s condition) = identifiers r s ++ identifiers r condition
 identifiers r no_arguments = []
 identifiers r (some_arguments e es) = identifiers r e ++ identifiers r es
-identifiers r (then_argument e) = identifiers r e
+identifiers r (comma_then_argument e) = identifiers r e
 identifiers r (runs first statements) = identifiers r first ++ identifiers r statements
-identifiers r (then_statement s) = identifiers r s
+identifiers r (semicolon_then_statement s) = identifiers r s
 identifiers r (elsif_branch condition s) = identifiers r condition ++ identifiers r s
 identifiers r (else_branch s) = identifiers r s
 identifiers r (listed name others) = (r, name) ∷ identifiers r others
-identifiers r (then_name name) = (r, name) ∷ []
+identifiers r (comma_then_name name) = (r, name) ∷ []
 identifiers r (named_type name) = (role.LookedUp, name) ∷ []
 identifiers r (array_type size t) = identifiers r size ++ identifiers r t
 identifiers r (record_type first others) = identifiers r first ++ identifiers r others
 identifiers r no_fields = []
 identifiers r (some_fields ns t) = identifiers role.FieldName ns ++ identifiers r t
-identifiers r (then_fields f) = identifiers r f
+identifiers r (semicolon_then_fields f) = identifiers r f
 identifiers r no_formals = []
 identifiers r (some_formals first others) = identifiers r first ++ identifiers r others
 identifiers r (value_section ns t) = identifiers role.Declaring ns ++ identifiers r t
 identifiers r (variable_section ns t) = identifiers role.Declaring ns ++ identifiers r t
-identifiers r (then_section s) = identifiers r s
+identifiers r (semicolon_then_section s) = identifiers r s
 identifiers r (declares_constant name e) = (role.Declaring, name) ∷ identifiers r e
-identifiers r (declares_constants cs) = identifiers r cs
+identifiers r (declares_const_section cs) = identifiers r cs
 identifiers r (declares_type name t) = (role.Declaring, name) ∷ identifiers r t
-identifiers r (declares_types ts) = identifiers r ts
+identifiers r (declares_type_section ts) = identifiers r ts
 identifiers r (declares_variable ns t) = identifiers role.Declaring ns ++ identifiers r t
-identifiers r (declares_variables vs) = identifiers r vs
+identifiers r (declares_var_section vs) = identifiers r vs
 identifiers r (declares_procedure name fs b closing) =
     (role.Declaring, name)
     ∷ (identifiers r fs ++ (identifiers r b ++ ((role.ClosingName, closing) ∷ [])))
@@ -408,7 +408,7 @@ identifiers r (declares cs ts vs ps) =
     identifiers r cs ++ (identifiers r ts ++ (identifiers r vs ++ identifiers r ps))
 identifiers r (begins s) = identifiers r s
 identifiers r (forms_block ds b) = identifiers r ds ++ identifiers r b
-identifiers r (is_module name b closing) =
+identifiers r (forms_module name b closing) =
     (role.ModuleName, name) ∷ (identifiers r b ++ ((role.ModuleName, closing) ∷ []))
 
 -- Returns the occurrences in a tree, in text order: the names that are looked up. Declaring names,
@@ -439,33 +439,33 @@ occurrences (while_loop condition s) = occurrences condition ++ occurrences s
 occurrences (repeat_loop s condition) = occurrences s ++ occurrences condition
 occurrences no_arguments = []
 occurrences (some_arguments e es) = occurrences e ++ occurrences es
-occurrences (then_argument e) = occurrences e
+occurrences (comma_then_argument e) = occurrences e
 occurrences (runs first statements) = occurrences first ++ occurrences statements
-occurrences (then_statement s) = occurrences s
+occurrences (semicolon_then_statement s) = occurrences s
 occurrences (elsif_branch condition s) = occurrences condition ++ occurrences s
 occurrences (else_branch s) = occurrences s
 occurrences (listed name others) = []
-occurrences (then_name name) = []
+occurrences (comma_then_name name) = []
 occurrences (named_type name) = name ∷ []
 occurrences (array_type size t) = occurrences size ++ occurrences t
 occurrences (record_type first others) = occurrences first ++ occurrences others
 occurrences no_fields = []
 occurrences (some_fields ns t) = occurrences t
-occurrences (then_fields f) = occurrences f
+occurrences (semicolon_then_fields f) = occurrences f
 occurrences no_formals = []
 occurrences (some_formals first others) = occurrences first ++ occurrences others
 occurrences (value_section ns t) = occurrences t
 occurrences (variable_section ns t) = occurrences t
-occurrences (then_section s) = occurrences s
+occurrences (semicolon_then_section s) = occurrences s
 occurrences (declares_constant name e) = occurrences e
-occurrences (declares_constants cs) = occurrences cs
+occurrences (declares_const_section cs) = occurrences cs
 occurrences (declares_type name t) = occurrences t
-occurrences (declares_types ts) = occurrences ts
+occurrences (declares_type_section ts) = occurrences ts
 occurrences (declares_variable ns t) = occurrences t
-occurrences (declares_variables vs) = occurrences vs
+occurrences (declares_var_section vs) = occurrences vs
 occurrences (declares_procedure name fs b closing) = occurrences fs ++ occurrences b
 occurrences (declares cs ts vs ps) =
     occurrences cs ++ (occurrences ts ++ (occurrences vs ++ occurrences ps))
 occurrences (begins s) = occurrences s
 occurrences (forms_block ds b) = occurrences ds ++ occurrences b
-occurrences (is_module name b closing) = occurrences b
+occurrences (forms_module name b closing) = occurrences b

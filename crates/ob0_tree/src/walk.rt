@@ -15,7 +15,7 @@ ghost use Rattle.ob0_tree.specs.declared.tree.Role.{Role};
 ghost use Rattle.ob0_tree.specs.declared.tree.Role.TheVariants as roles;
 ghost use Rattle.ob0_tree.specs.ParsedModule.{tree_of};
 ghost use Rattle.ob0_tree.specs.Tree.{identifiers};
-ghost use Rattle.ob0_tree.specs.Visited.{state_after_visit, state_after_identifiers};
+ghost use Rattle.ob0_tree.specs.VisitorStates.{state_after_visit, state_after_identifiers};
 ghost use Rattle.ob0_tree.specs.View.{expression_of, compound_expression_of, simple_expression_of, term_of, factor_of, designator_of, selector_of, assignment_of, call_of, arguments_of_vec, statement_of, if_of, elsifs_of_vec, sequence_of_vec, names_of, type_of, record_type_of, optional_field_group_of, parameter_section_of, formals_of, constant_section_of, type_section_of, variable_section_of, body_of, procedure_of, block_of};
 
 use crate::tree::{

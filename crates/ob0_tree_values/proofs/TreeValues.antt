@@ -28,11 +28,11 @@ use Rattle.ob0_tree.specs.declared.tree.VariableDeclaration.{VariableDeclaration
 use Rattle.ob0_tree.specs.declared.tree.Procedure.{Procedure, roll-Procedure}
 use Rattle.ob0_tree.specs.declared.tree.Block.{Block, roll-Block}
 use Rattle.ob0_tree.specs.declared.tree.ModuleTree.{ModuleTree}
-use Rattle.ob0_tree.specs.Tree.{GrammarItem, selector, multiplier, addend, comparison, arguments, further_argument, further_statement, elsif_part, else_part, further_name, further_fields, formals, further_section, constant, constants, type_definition, type_definitions, variable, variables, procedure, body, Sort, item, items, maybe, expression, simple, term, factor, statement, sequence, names, written_type, fields, section, declarations, block, module_text, Tree, spell, single_token_list, none, one, end, more, compares, relates, sum, adds, product, multiplies, designator, integer, parenthesised, negation, field, index, empty, assigns, calls, branches, while_loop, repeat_loop, no_arguments, some_arguments, then_argument, runs, then_statement, elsif_branch, else_branch, listed, then_name, named_type, array_type, record_type, no_fields, some_fields, then_fields, no_formals, some_formals, value_section, variable_section, then_section, declares_constant, declares_constants, declares_type, declares_types, declares_variable, declares_variables, declares_procedure, declares, begins, forms_block, is_module}
+use Rattle.ob0_tree.specs.Tree.{GrammarItem, selector, multiplier, addend, comparison, arguments, argument_after_comma, statement_after_semicolon, elsif_part, else_part, name_after_comma, fields_after_semicolon, formals, section_after_semicolon, constant, constants, type_definition, type_definitions, variable, variables, procedure, body, Sort, item, items, maybe, expression, simple, term, factor, statement, sequence, names, written_type, fields, section, declarations, block, module_text, Tree, spell, single_token_list, none, one, end, more, compares, relates, sum, adds, product, multiplies, designator, integer, parenthesised, negation, field, index, empty, assigns, calls, branches, while_loop, repeat_loop, no_arguments, some_arguments, comma_then_argument, runs, semicolon_then_statement, elsif_branch, else_branch, listed, comma_then_name, named_type, array_type, record_type, no_fields, some_fields, semicolon_then_fields, no_formals, some_formals, value_section, variable_section, semicolon_then_section, declares_constant, declares_const_section, declares_type, declares_type_section, declares_variable, declares_var_section, declares_procedure, declares, begins, forms_block, forms_module}
 use Rattle.ob0_scan.specs.declared.lexeme.TokenKind.TheVariants as kind
 use Rattle.ob0_scan.specs.declared.lexeme.Symbol.TheVariants as symbol
 use Rattle.ob0_tree.specs.Lexeme.{WordOrSymbol}
-use Rattle.ob0_tree.specs.View.{expression_of, maybe_comparison_of, comparison_of, simple_expression_of, addend_of, term_of, multiplier_of, factor_of, selector_of, items_of, names_of, further_argument_of, arguments_of_list, arguments_of, statement_of, further_statement_of, sequence_of_list, elsif_of, else_part_of, type_of, optional_field_group_of, further_field_group_of, record_type_of_list, parameter_section_of, further_parameter_section_of, formals_of_list, formals_of, constant_of, constant_section_of, type_declaration_of, type_section_of, variable_of, variable_section_of, body_of, block_of, procedure_of}
+use Rattle.ob0_tree.specs.View.{expression_of, maybe_comparison_of, comparison_of, simple_expression_of, addend_of, term_of, multiplier_of, factor_of, selector_of, items_of, names_of, argument_after_comma_of, arguments_of_list, arguments_of, statement_of, statement_after_semicolon_of, sequence_of_list, elsif_of, else_part_of, type_of, optional_field_group_of, field_group_after_semicolon_of, record_type_of_list, parameter_section_of, parameter_section_after_semicolon_of, formals_of_list, formals_of, constant_of, constant_section_of, type_declaration_of, type_section_of, variable_of, variable_section_of, body_of, block_of, procedure_of}
 use Rattle.ob0_tree.proofs.Viewed.{simple_made, term_made, designator_made, compound_made, comparison_made, addend_made, made_record_type, while_made, repeat_made, block_made, procedure_made, if_made}
 
 -- ---- vectors and boxes
@@ -54,14 +54,14 @@ Part multiplier = Multiplier
 Part addend = Addend
 Part comparison = Comparison
 Part arguments = Vec Expression Global
-Part further_argument = Expression
-Part further_statement = Statement
+Part argument_after_comma = Expression
+Part statement_after_semicolon = Statement
 Part elsif_part = Elsif
 Part else_part = Vec Statement Global
-Part further_name = ℕ
-Part further_fields = fields_module.OptionalFieldGroup
+Part name_after_comma = ℕ
+Part fields_after_semicolon = fields_module.OptionalFieldGroup
 Part formals = Vec ParameterSection Global
-Part further_section = ParameterSection
+Part section_after_semicolon = ParameterSection
 Part constant = Constant
 Part constants = Vec Constant Global
 Part type_definition = TypeDeclaration
@@ -77,20 +77,20 @@ part_of multiplier x = multiplier_of x
 part_of addend x = addend_of x
 part_of comparison x = comparison_of x
 part_of arguments xs = arguments_of_list xs.items
-part_of further_argument x = further_argument_of x
-part_of further_statement x = further_statement_of x
+part_of argument_after_comma x = argument_after_comma_of x
+part_of statement_after_semicolon x = statement_after_semicolon_of x
 part_of elsif_part x = elsif_of x
 part_of else_part xs = else_branch (sequence_of_list xs.items)
-part_of further_name x = then_name x
-part_of further_fields x = further_field_group_of x
+part_of name_after_comma x = comma_then_name x
+part_of fields_after_semicolon x = field_group_after_semicolon_of x
 part_of formals xs = formals_of_list xs.items
-part_of further_section x = further_parameter_section_of x
+part_of section_after_semicolon x = parameter_section_after_semicolon_of x
 part_of constant x = constant_of x
-part_of constants xs = declares_constants (items_of constant_of xs.items)
+part_of constants xs = declares_const_section (items_of constant_of xs.items)
 part_of type_definition x = type_declaration_of x
-part_of type_definitions xs = declares_types (items_of type_declaration_of xs.items)
+part_of type_definitions xs = declares_type_section (items_of type_declaration_of xs.items)
 part_of variable x = variable_of x
-part_of variables xs = declares_variables (items_of variable_of xs.items)
+part_of variables xs = declares_var_section (items_of variable_of xs.items)
 part_of procedure x = procedure_of x
 part_of body xs = begins (sequence_of_list xs.items)
 
@@ -138,7 +138,7 @@ tree_at fields x = optional_field_group_of x
 tree_at section x = parameter_section_of x
 tree_at declarations x = declares (constant_section_of x.constants_read) (type_section_of x.types_read) (variable_section_of x.variables_read) (items_of procedure_of x.procedures_read)
 tree_at block x = block_of x
-tree_at module_text x = is_module x.name (block_of x.block) x.closing
+tree_at module_text x = forms_module x.name (block_of x.block) x.closing
 
 abbrev pub Made : {s : Sort} → Tree ℕ s → Type 0
 Made {s} t = (x : Value s) × (tree_at s x ≡ t)
@@ -168,21 +168,21 @@ some_tokens (field n) = omega (arith)
 some_tokens (index e) = omega (arith)
 some_tokens no_arguments = omega (arith)
 some_tokens (some_arguments e es) = omega (arith)
-some_tokens (then_argument e) = omega (arith)
-some_tokens (then_statement s) = omega (arith)
+some_tokens (comma_then_argument e) = omega (arith)
+some_tokens (semicolon_then_statement s) = omega (arith)
 some_tokens (elsif_branch e s) = omega (arith)
 some_tokens (else_branch s) = omega (arith)
-some_tokens (then_name n) = omega (arith)
-some_tokens (then_fields f) = omega (arith)
+some_tokens (comma_then_name n) = omega (arith)
+some_tokens (semicolon_then_fields f) = omega (arith)
 some_tokens no_formals = omega (arith)
 some_tokens (some_formals f fs) = omega (arith)
-some_tokens (then_section s) = omega (arith)
+some_tokens (semicolon_then_section s) = omega (arith)
 some_tokens (declares_constant n e) = omega (arith)
-some_tokens (declares_constants cs) = omega (arith)
+some_tokens (declares_const_section cs) = omega (arith)
 some_tokens (declares_type n t) = omega (arith)
-some_tokens (declares_types ts) = omega (arith)
+some_tokens (declares_type_section ts) = omega (arith)
 some_tokens (declares_variable ns t) = omega (arith, length-append (spell ns) (WordOrSymbol (kind.Symbol symbol.Colon) ∷ (spell t ++ single_token_list (kind.Symbol symbol.Semicolon))))
-some_tokens (declares_variables vs) = omega (arith)
+some_tokens (declares_var_section vs) = omega (arith)
 some_tokens (declares_procedure n fs b c) = omega (arith)
 some_tokens (begins s) = omega (arith)
 
@@ -331,13 +331,13 @@ tree_made (some_arguments e es) short =
     let a = tree_made e (front (spell e) _ all) in
     let b = tree_made es low in
     (nonempty_of a.0 es b low, (λ i. some_arguments (a.1 i) (b.1 i)))
-tree_made (then_argument e) short = let a = tree_made e (rest (spell e) short) in (a.0, ap then_argument a.1)
+tree_made (comma_then_argument e) short = let a = tree_made e (rest (spell e) short) in (a.0, ap comma_then_argument a.1)
 tree_made (runs s ss) short =
     let low = back (spell s) (spell ss) short in
     let a = tree_made s (front (spell s) (spell ss) short) in
     let b = tree_made ss low in
     (nonempty_of a.0 ss b low, (λ i. runs (a.1 i) (b.1 i)))
-tree_made (then_statement s) short = let a = tree_made s (rest (spell s) short) in (a.0, ap then_statement a.1)
+tree_made (semicolon_then_statement s) short = let a = tree_made s (rest (spell s) short) in (a.0, ap semicolon_then_statement a.1)
 tree_made (elsif_branch e s) short =
     let all = rest (spell e ++ _) short in
     let a = tree_made e (front (spell e) _ all) in
@@ -348,7 +348,7 @@ tree_made (listed n ns) short =
     let low = rest (spell ns) short in
     let b = tree_made ns low in
     (record { first = n; more = list_of ns b low }, ap (listed n) b.1)
-tree_made (then_name n) short = (n, refl)
+tree_made (comma_then_name n) short = (n, refl)
 tree_made (named_type n) short = (Named n, refl)
 tree_made (array_type e t) short =
     let all = rest (spell e ++ _) short in
@@ -366,7 +366,7 @@ tree_made (some_fields ns t) short =
     let a = tree_made ns (front (spell ns) _ short) in
     let b = tree_made t (rest (spell t) (back (spell ns) _ short)) in
     (fields_module.Listed (boxed record { names = a.0; written = b.0 }), (λ i. some_fields (a.1 i) (b.1 i)))
-tree_made (then_fields f) short = let a = tree_made f (rest (spell f) short) in (a.0, ap then_fields a.1)
+tree_made (semicolon_then_fields f) short = let a = tree_made f (rest (spell f) short) in (a.0, ap semicolon_then_fields a.1)
 tree_made no_formals short = (vec_of [] (omega (arith)), refl)
 tree_made (some_formals s ss) short =
     let all = rest (spell s ++ _) short in
@@ -383,29 +383,29 @@ tree_made (variable_section ns t) short =
     let a = tree_made ns (front (spell ns) _ all) in
     let b = tree_made t (rest (spell t) (back (spell ns) _ all)) in
     (record { by_reference = true; names = a.0; written = b.0 }, (λ i. variable_section (a.1 i) (b.1 i)))
-tree_made (then_section s) short = let a = tree_made s (rest (spell s) short) in (a.0, ap then_section a.1)
+tree_made (semicolon_then_section s) short = let a = tree_made s (rest (spell s) short) in (a.0, ap semicolon_then_section a.1)
 tree_made (declares_constant n e) short =
     let a = tree_made e (front (spell e) _ (rest2 _ short)) in
     (record { name = n; value = a.0 }, ap (declares_constant n) a.1)
-tree_made (declares_constants cs) short =
+tree_made (declares_const_section cs) short =
     let low = rest (spell cs) short in
     let a = tree_made cs low in
-    (list_of cs a low, ap declares_constants a.1)
+    (list_of cs a low, ap declares_const_section a.1)
 tree_made (declares_type n t) short =
     let a = tree_made t (front (spell t) _ (rest2 _ short)) in
     (record { name = n; written = a.0 }, ap (declares_type n) a.1)
-tree_made (declares_types ts) short =
+tree_made (declares_type_section ts) short =
     let low = rest (spell ts) short in
     let a = tree_made ts low in
-    (list_of ts a low, ap declares_types a.1)
+    (list_of ts a low, ap declares_type_section a.1)
 tree_made (declares_variable ns t) short =
     let a = tree_made ns (front (spell ns) _ short) in
     let b = tree_made t (front (spell t) _ (rest _ (back (spell ns) _ short))) in
     (record { names = a.0; written = b.0 }, (λ i. declares_variable (a.1 i) (b.1 i)))
-tree_made (declares_variables vs) short =
+tree_made (declares_var_section vs) short =
     let low = rest (spell vs) short in
     let a = tree_made vs low in
-    (list_of vs a low, ap declares_variables a.1)
+    (list_of vs a low, ap declares_var_section a.1)
 tree_made (declares_procedure n fs b c) short =
     let all = rest2 (spell fs ++ _) short in
     let a = tree_made fs (front (spell fs) _ all) in
@@ -431,6 +431,6 @@ tree_made (forms_block ds b) short =
       roll-Block record { constants = a.0.constants_read; types = a.0.types_read; variables = a.0.variables_read; procedures = vec_of a.0.procedures_read (declared_few ds a low); body = c.0 },
       block_made _ ∙ (λ i. forms_block (a.1 i) ((body_so c.0 ∙ c.1) i)),
     )
-tree_made (is_module n b c) short =
+tree_made (forms_module n b c) short =
     let a = tree_made b (front (spell b) _ (rest3 _ short)) in
-    (record { name = n; block = a.0; closing = c }, ap (λ x. is_module n x c) a.1)
+    (record { name = n; block = a.0; closing = c }, ap (λ x. forms_module n x c) a.1)

@@ -14,7 +14,7 @@ use Rattle.ob0_types_check.specs.WellTypedLaws.{TypedModulesHaveNoFault}
 use Rattle.ob0_types_check.specs.declared.reporting.Report.{Report}
 use Rattle.ob0_types.specs.FaultOrder.{all_faults_of}
 use Rattle.ob0_types.specs.CheckedModules.{HasTableIfWellTyped}
-use Rattle.ob0_types_table.specs.KnownTables.{DeclarationTableView}
+use Rattle.ob0_types_table.specs.DeclarationTables.{DeclarationTableView}
 use Rattle.ob0_language_types.specs.WellTyped.{WellTyped, passes_type_check}
 
 -- holds if the list of faults is empty exactly if the test is true

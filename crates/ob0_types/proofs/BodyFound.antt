@@ -1,18 +1,18 @@
 -- A property holds for the tokens of a module's names and numbers outside one body. The proofs follow the parts of the
 -- module.
 use Rattle.std.proofs.Common.{◌≡◌, ℕ, zero, Bool, true, false, nat_lt, if◌then◌else◌, [], ◌∷◌, sym, subst}
-use Rattle.ob0_tree.specs.Tree.{Tree, block, body, constants, declares, declares_procedure, end, forms_block, is_module, item, items, maybe, module_text, more, procedure, type_definitions, variables}
+use Rattle.ob0_tree.specs.Tree.{Tree, block, body, constants, declares, declares_procedure, end, forms_block, forms_module, item, items, maybe, module_text, more, procedure, type_definitions, variables}
 use Rattle.ob0_scope_table.specs.TokenProperty.{EachTokenHas}
-use Rattle.ob0_scope_table.specs.BodyReplaced.{PathToBody, block_without_body, path_after_insertion_in_front, procedure_without_body, path_to_body_in_procedures, path_to_body_in_block, path_to_body_in_procedure, path_to_body_in_module, module_without_body}
+use Rattle.ob0_scope_table.specs.BodyReplacement.{PathToBody, block_without_body, path_after_insertion_in_front, procedure_without_body, path_to_body_in_procedures, path_to_body_in_block, path_to_body_in_procedure, path_to_body_in_module, module_without_body}
 use Rattle.ob0_scope_table.specs.OneBody.{closing_name}
 use Rattle.ob0_scope_table.proofs.BodyOutside.{Among}
-use Rattle.ob0_types_check.specs.EqualExceptBodies.{EachTokenOfBlockHasExceptInBodies, EachTokenOfModuleHasExceptInBodies, EachTokenOfProcedureHasExceptInBodies, EachTokenOfProceduresHasExceptInBodies, Unless}
+use Rattle.ob0_types_check.specs.EqualExceptBodies.{EachTokenOfBlockHasExceptInBodies, EachTokenOfModuleHasExceptInBodies, EachTokenOfProcedureHasExceptInBodies, EachTokenOfProceduresHasExceptInBodies, HoldsUnless}
 use Rattle.ob0_types.specs.OneBody.{body_with_token_in_procedures, body_with_token_in_block, body_with_token_in_module, body_with_token_in_procedure}
 
 -- ---- if all tokens have the property
 
 module _ (P : ℕ → Type 0) (wanted : ℕ → Bool) where
-  unless_any : {A : Type 0} (b : Bool) → A → Unless b A
+  unless_any : {A : Type 0} (b : Bool) → A → HoldsUnless b A
   unless_any true a = tt
   unless_any false a = a
 
@@ -29,7 +29,7 @@ module _ (P : ℕ → Type 0) (wanted : ℕ → Bool) where
 
 -- If all tokens of a module have a property, all tokens outside the wanted bodies have it.
 pub module_any : (P : ℕ → Type 0) (wanted : ℕ → Bool) (m : Tree ℕ module_text) → EachTokenHas P m → EachTokenOfModuleHasExceptInBodies P wanted m
-module_any P wanted (is_module x b closing) h = (h.0, block_any P wanted closing b h.1, h.2)
+module_any P wanted (forms_module x b closing) h = (h.0, block_any P wanted closing b h.1, h.2)
 
 -- ---- all tokens except those in one body
 
@@ -57,7 +57,7 @@ abbrev mutual
 
 -- holds for a module if `P` holds for each of its tokens outside the body that contains index `low`
 abbrev pub ModuleOutside : (ℕ → Type 0) → ℕ → Tree ℕ module_text → Type 0
-ModuleOutside P low (is_module x b closing) = P x × BlockOutside P low b × P closing
+ModuleOutside P low (forms_module x b closing) = P x × BlockOutside P low b × P closing
 
 -- If the body that contains index `low` is wanted, and all tokens outside it have a property, all tokens outside the
 -- wanted bodies have this property.
@@ -67,11 +67,11 @@ module _ (P : ℕ → Type 0) (low : ℕ) (wanted : ℕ → Bool) where
     block_but own (forms_block (declares cs ts vs ps) statements) h is_wanted = let f = among_but own ps statements h.3 is_wanted in (h.0, h.1, h.2, f.0, f.1)
 
     among_but : (own : ℕ) (ps : Tree ℕ (items procedure)) (statements : Tree ℕ (maybe body)) → AmongOutside P low ps statements → wanted (body_with_token_in_procedures low own ps statements).closing ≡ true
-        → EachTokenOfProceduresHasExceptInBodies P wanted ps × Unless (wanted own) (EachTokenHas P statements)
-    among_but own end statements h is_wanted = (tt, subst (λ b. Unless b (EachTokenHas P statements)) (sym is_wanted) tt)
+        → EachTokenOfProceduresHasExceptInBodies P wanted ps × HoldsUnless (wanted own) (EachTokenHas P statements)
+    among_but own end statements h is_wanted = (tt, subst (λ b. HoldsUnless b (EachTokenHas P statements)) (sym is_wanted) tt)
     among_but own (more p rest) statements h is_wanted =
         (elim (nat_lt (closing_name p) low) as (λ z. Chosen z (EachTokenHas P p × AmongOutside P low rest statements) (ProcedureOutside P low p × EachTokenHas P rest × EachTokenHas P statements)
-        → wanted (if z then body_with_token_in_procedures low own rest statements else body_with_token_in_procedure low p).closing ≡ true → EachTokenOfProceduresHasExceptInBodies P wanted (more p rest) × Unless (wanted own) (EachTokenHas P statements)) [
+        → wanted (if z then body_with_token_in_procedures low own rest statements else body_with_token_in_procedure low p).closing ≡ true → EachTokenOfProceduresHasExceptInBodies P wanted (more p rest) × HoldsUnless (wanted own) (EachTokenHas P statements)) [
           | true ↦ λ h is_wanted. let f = among_but own rest statements h.1 is_wanted in ((procedure_any P wanted p h.0, f.0), f.1)
           | false ↦ λ h is_wanted. ((procedure_but p h.0 is_wanted, procedures_any P wanted rest h.1), unless_any P wanted (wanted own) h.2)
         ]) h is_wanted
@@ -80,7 +80,7 @@ module _ (P : ℕ → Type 0) (low : ℕ) (wanted : ℕ → Bool) where
     procedure_but (declares_procedure x fs b closing) h is_wanted = (h.0, h.1, block_but closing b h.2 is_wanted, h.3)
 
   pub module_but : (m : Tree ℕ module_text) → ModuleOutside P low m → wanted (body_with_token_in_module low m).closing ≡ true → EachTokenOfModuleHasExceptInBodies P wanted m
-  module_but (is_module x b closing) h is_wanted = (h.0, block_but closing b h.1 is_wanted, h.2)
+  module_but (forms_module x b closing) h is_wanted = (h.0, block_but closing b h.1 is_wanted, h.2)
 
 -- ---- from each token of the module without that body
 
@@ -113,4 +113,4 @@ module _ (P : ℕ → Type 0) (low : ℕ) where
     procedure_found (declares_procedure x fs b closing) h = (h.0, h.1, block_found b h.2, h.3)
 
   pub module_found : (m : Tree ℕ module_text) → EachTokenHas P (module_without_body (path_to_body_in_module low m) m) → ModuleOutside P low m
-  module_found (is_module x b closing) h = (h.0, block_found b h.1, h.2)
+  module_found (forms_module x b closing) h = (h.0, block_found b h.1, h.2)

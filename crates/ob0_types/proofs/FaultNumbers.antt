@@ -11,9 +11,9 @@ use Rattle.std.specs.declared.cmp.Ordering.TheVariants.{Less, Equal, Greater}
 use Rattle.ob0_scan.specs.declared.fault.FaultCode.{FaultCode}
 use Rattle.ob0_scan.specs.declared.fault.FaultCode.TheVariants as code
 use Rattle.ob0_scan.specs.contracts.fault.FaultCode.{the_type}
-use Rattle.ob0_scope_table.specs.FaultsAtTokens.{token_or_last}
+use Rattle.ob0_scope_table.specs.FaultsAtTokens.{clamped_token_index}
 use Rattle.ob0_scope_table.specs.declared.faults.FaultAtTokens.{FaultAtTokens}
-use Rattle.ob0_types.specs.FaultOrder.{fault_code_number, fault_cmp_by_tokens}
+use Rattle.ob0_types.specs.FaultOrder.{fault_code_number, compare_faults_by_tokens}
 
 abbrev pub declared_number : FaultCode → ℤ
 declared_number x = slice_index_or (pos 1 ∷ pos 2 ∷ pos 3 ∷ pos 4 ∷ pos 5 ∷ pos 10 ∷ pos 11 ∷ pos 12 ∷ pos 13 ∷ pos 14 ∷ pos 15 ∷ pos 16 ∷ pos 17 ∷ pos 18 ∷ pos 19 ∷ pos 20 ∷ pos 21 ∷ pos 22 ∷ pos 23 ∷ []) (tag_of the_type x) (pos 0)
@@ -55,9 +55,9 @@ pos_cmp a b = one (nat_lt a b) refl (nat_lt b a) refl (a == b) refl
 -- A list that is sorted by the key of tokens and code is sorted in the order of faults.
 pub sorted_by_key : (cmp : ℕ × ℕ × FaultCode → ℕ × ℕ × FaultCode → Ordering) (count : ℕ) (xs : List FaultAtTokens)
     → ((f l : ℕ) (x : FaultCode) (f₂ l₂ : ℕ) (y : FaultCode) → cmp (f, l, x) (f₂, l₂, y) ≡ ordering_then (ordering_then (nat_cmp f f₂) (nat_cmp l l₂)) (int_cmp (declared_number x) (declared_number y)))
-    → IsSortedByKey (λ (f : FaultAtTokens). (token_or_last count f.first, token_or_last count f.last, f.code)) cmp xs → IsSorted (fault_cmp_by_tokens count) xs
+    → IsSortedByKey (λ (f : FaultAtTokens). (clamped_token_index count f.first, clamped_token_index count f.last, f.code)) cmp xs → IsSorted (compare_faults_by_tokens count) xs
 sorted_by_key cmp count xs lexical sorted k d low high =
-    let at : ℕ → ℕ = token_or_last count in
+    let at : ℕ → ℕ = clamped_token_index count in
     let x = slice_index_or xs (k + 1) d in
     let y = slice_index_or xs k d in
     let by_code : int_cmp (declared_number x.code) (declared_number y.code) ≡ nat_cmp (fault_code_number x.code) (fault_code_number y.code) =

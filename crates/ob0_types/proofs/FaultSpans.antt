@@ -14,30 +14,30 @@ use Rattle.ob0_scope_table.specs.FaultsAtTokens.{fault_at_token, fault_with_span
 use Rattle.ob0_scope_table.specs.Resolution.{Resolution}
 use Rattle.ob0_scope_table.specs.declared.faults.FaultAtTokens.{FaultAtTokens}
 use Rattle.ob0_scope_table.proofs.TokenOrder.{end_order, start_order}
-use Rattle.ob0_types.specs.CheckedModules.{IsCheckResultOf, IsChecked, checked_module}
-use Rattle.ob0_types.specs.FaultOrder.{AreFirstFaultsWhenSorted, all_faults_of, fault_code_number, fault_cmp, fault_cmp_by_tokens}
+use Rattle.ob0_types.specs.CheckedModules.{IsCheckResultOf, IsCorrectlyChecked, checked_module}
+use Rattle.ob0_types.specs.FaultOrder.{AreFirstFaultsWhenSorted, all_faults_of, fault_code_number, compare_faults, compare_faults_by_tokens}
 use Rattle.ob0_types.specs.declared.checked.CheckResult.{CheckResult}
 
 module _ (source : TextWithTokens) (scan : IsScan source) where
   abbrev by_tokens : FaultAtTokens → FaultAtTokens → Ordering
-  by_tokens = fault_cmp_by_tokens (length source.tokens)
+  by_tokens = compare_faults_by_tokens (length source.tokens)
 
   abbrev with_span : FaultAtTokens → Fault
   with_span = fault_with_span source
 
-  same_cmp : (x y : FaultAtTokens) → by_tokens x y ≡ fault_cmp (with_span x) (with_span y)
+  same_cmp : (x y : FaultAtTokens) → by_tokens x y ≡ compare_faults (with_span x) (with_span y)
   same_cmp x y = λ i. ordering_then (ordering_then (start_order source scan x.first y.first i) (end_order source scan x.last y.last i)) (nat_cmp (fault_code_number x.code) (fault_code_number y.code))
 
-  sorted_by_spans : (xs : List FaultAtTokens) → IsSorted by_tokens xs → IsSorted fault_cmp (map with_span xs)
+  sorted_by_spans : (xs : List FaultAtTokens) → IsSorted by_tokens xs → IsSorted compare_faults (map with_span xs)
   sorted_by_spans xs sorted k d low high =
       let long = length-map xs with_span in
       let further : k + 1 < length xs = omega (arith, high, long) in
       let here : k < length xs = omega (arith, further) in
       let e = fault_at_token code.TooLong 0 in
-      (λ i. is_lt (fault_cmp (get_or-map with_span xs (k + 1) e d further i) (get_or-map with_span xs k e d here i)))
+      (λ i. is_lt (compare_faults (get_or-map with_span xs (k + 1) e d further i) (get_or-map with_span xs k e d here i)))
       ∙ (ap is_lt (sym (same_cmp (get_or xs (k + 1) e) (get_or xs k e))) ∙ sorted k e low further)
 
-  first_by_spans : (found faults : List FaultAtTokens) → AreFirstFaultsWhenSorted by_tokens found faults → AreFirstFaultsWhenSorted fault_cmp (map with_span found) (map with_span faults)
+  first_by_spans : (found faults : List FaultAtTokens) → AreFirstFaultsWhenSorted by_tokens found faults → AreFirstFaultsWhenSorted compare_faults (map with_span found) (map with_span faults)
   first_by_spans found faults first = record {
     all = map with_span first.all;
     joined = IsPermutation-map with_span found first.all first.joined;
@@ -45,7 +45,7 @@ module _ (source : TextWithTokens) (scan : IsScan source) where
     first = ap (map with_span) first.first ∙ sym (take-map with_span max_faults first.all);
   }
 
-pub types_checked : (names : Resolution) (types : CheckResult) → IsScan names.module_read.source → IsCheckResultOf names types → IsChecked (checked_module names types)
+pub types_checked : (names : Resolution) (types : CheckResult) → IsScan names.module_read.source → IsCheckResultOf names types → IsCorrectlyChecked (checked_module names types)
 types_checked names types scan t =
     let kept : List FaultAtTokens = types.faults.items in
     let with_spans = map (fault_with_span names.module_read.source) kept in

@@ -6,7 +6,7 @@ use Rattle.ob0_language_types.specs.Expressions.{Meanings}
 use Rattle.ob0_language_types.specs.WellTyped.{Signature, WellTyped}
 use Rattle.ob0_language_values.specs.Values.{Shape}
 use Rattle.ob0_scope_table.specs.Resolution.{IsResolution, Resolution}
-use Rattle.ob0_tree.specs.Order.{AreAscendingWithin}
+use Rattle.ob0_tree.specs.IdentifierIndexes.{AreAscendingWithin}
 use Rattle.ob0_tree.specs.ParsedModule.{named_tree_of, tree_of}
 use Rattle.ob0_tree.specs.Tree.{Tree, body, maybe}
 use Rattle.ob0_types_check.specs.EqualExceptBodies.{IsSameTokenAt}
@@ -16,19 +16,19 @@ use Rattle.ob0_types_check.proofs.DeclarationsStay.{declarations_stay}
 use Rattle.ob0_types_fields.specs.declared.field_name.FieldName.{FieldName}
 use Rattle.ob0_types_fields.specs.Identifiers.{field_identifiers, token_indexes}
 use Rattle.ob0_types_fields.specs.FieldLists.{AreFieldListsOf, HasSameTokensIfReplaced, FieldLists}
-use Rattle.ob0_types_fields.specs.Owned.{fields_in_module, fields_in_tree, meanings_by_token}
-use Rattle.ob0_types_table.specs.KnownTables.{DeclarationTableView, declared_object_in}
+use Rattle.ob0_types_fields.specs.IdentifierOwners.{fields_in_module, fields_in_tree, meanings_by_token}
+use Rattle.ob0_types_table.specs.DeclarationTables.{DeclarationTableView, declared_object_in}
 use Rattle.ob0_types_fields.proofs.FieldNameList.{fields_ascend}
 use Rattle.ob0_types_fields.proofs.FieldsMatchGrammar.{fields_match_grammar-holds}
 use Rattle.ob0_types_fields.proofs.WalkFindsAllFields.{module-fields}
 use Rattle.ob0_types_fields.proofs.SameSelectedFields.{MeansSame}
-use Rattle.ob0_types.specs.OneBody.{WasCheckResultBeforeBodyChange, body_with_token_in_module}
+use Rattle.ob0_types.specs.OneBody.{IsCheckResultBeforeBodyChange, body_with_token_in_module}
 use Rattle.ob0_types.specs.declared.checked.CheckResult.{CheckResult}
 use Rattle.ob0_types.proofs.AllReported.{none_reported}
 use Rattle.ob0_types.proofs.FieldsOutside.{AreAround, module_around}
 use Rattle.ob0_types.proofs.OneBody.{alike_outside, before, last_body, were_faulty}
 
-module _ (r : Resolution) (types : CheckResult) (low : ℕ) (w : WasCheckResultBeforeBodyChange r types low) (law : TypedModulesHaveNoFault) (is : IsResolution r) (typed : WellTyped (named_tree_of r.module_read)) (none : types.faults.items ≡ []) where
+module _ (r : Resolution) (types : CheckResult) (low : ℕ) (w : IsCheckResultBeforeBodyChange r types low) (law : TypedModulesHaveNoFault) (is : IsResolution r) (typed : WellTyped (named_tree_of r.module_read)) (none : types.faults.items ≡ []) where
   abbrev old : Resolution
   old = before r types low w
 

@@ -7,7 +7,7 @@ use Rattle.ob0_types.specs.CheckedModules.{HasTableIfWellTyped}
 use Rattle.ob0_types_check.specs.ModuleLaws.{HasDeclarations}
 use Rattle.ob0_types_fields.specs.FieldLists.{AreFieldListsOf, FieldLists, field_lists_of}
 use Rattle.ob0_types_fields.proofs.ListedFields.{listed_fields}
-use Rattle.ob0_types_table.specs.KnownTables.{DeclarationTableView}
+use Rattle.ob0_types_table.specs.DeclarationTables.{DeclarationTableView}
 
 module _ (r : Resolution) (known : Option DeclarationTableView) (is : IsResolution r) (h : HasTableIfWellTyped r known) where
   -- A module without a table of declarations isn't well-typed.

@@ -1,8 +1,8 @@
 -- If the tokens of one body changed, the fields before and after the body stay the same. Between them are the fields of
 -- the body's statements.
 use Rattle.std.proofs.Common.{◌≡◌, ℕ, ◌+◌, true, false, if◌then◌else◌, nat_lt, List, [], ◌++◌, sym, ap, ◌∙◌, append_assoc, append-nil}
-use Rattle.ob0_tree.specs.Tree.{Tree, block, body, declares, declares_procedure, end, forms_block, is_module, item, items, maybe, module_text, more, procedure}
-use Rattle.ob0_language_names.specs.Parts.{formal_sections, section_types, section_variables}
+use Rattle.ob0_tree.specs.Tree.{Tree, block, body, declares, declares_procedure, end, forms_block, forms_module, item, items, maybe, module_text, more, procedure}
+use Rattle.ob0_language_names.specs.BlockParts.{formal_sections, section_types, section_variables}
 use Rattle.ob0_language_types.specs.Declarations.{constructors_before_procedure_block, constructors_before_variables, constructors_before_procedures, procedure_constructor_count}
 use Rattle.ob0_language_types.specs.Expressions.{Meanings}
 use Rattle.ob0_language_values.specs.Values.{Shape}
@@ -11,7 +11,7 @@ use Rattle.ob0_scope_table.specs.OneBody.{closing_name}
 use Rattle.ob0_types.proofs.BodyFound.{AmongOutside, BlockOutside, Chosen, ModuleOutside, ProcedureOutside}
 use Rattle.ob0_types.specs.OneBody.{body_with_token_in_procedures, body_with_token_in_block, body_with_token_in_module, body_with_token_in_procedure}
 use Rattle.ob0_types_fields.specs.declared.field_name.FieldName.{FieldName}
-use Rattle.ob0_types_fields.specs.Owned.{fields_in_block, fields_in_module, fields_in_procedure, fields_in_procedures, fields_in_parameter_sections, fields_in_tree, fields_in_types, fields_in_variables}
+use Rattle.ob0_types_fields.specs.IdentifierOwners.{fields_in_block, fields_in_module, fields_in_procedure, fields_in_procedures, fields_in_parameter_sections, fields_in_tree, fields_in_types, fields_in_variables}
 use Rattle.ob0_types_fields.proofs.SameSelectedFields.{MeansSame, procedure_same, procedures_same, tree_same}
 
 module _ {Q : Type 0} (m n : Meanings ℕ Shape Q) where
@@ -101,4 +101,4 @@ module _ {Q : Type 0} (m n : Meanings ℕ Shape Q) where
           in_front (fields_in_block m j b) (fields_in_block n j b) (fields_in_parameter_sections k (formal_sections fs)) (body_with_token_in_block low closing b).statements (block_around j closing b h.2)
 
     pub module_around : (t : Tree ℕ module_text) → ModuleOutside Same low t → AreAround (fields_in_module m t) (fields_in_module n t) (body_with_token_in_module low t).statements
-    module_around (is_module x b closing) h = block_around 0 closing b h.1
+    module_around (forms_module x b closing) h = block_around 0 closing b h.1

@@ -1,22 +1,22 @@
 -- If a module was well-typed before the statements of one body were replaced, the new module fits without the new
 -- statements. A module that fits also fits without the statements of a body, and everything else has the same spelling.
 use Rattle.std.proofs.Common.{◌≡◌, ℕ, zero, suc, ◌+◌, Bool, true, false, ◌&&◌, nat_lt, if◌then◌else◌, List, [], ◌∷◌, ◌++◌, Option, Some, None, refl, sym, ap, ◌∙◌, subst}
-use Rattle.ob0_language_names.specs.ConsistentNames.{are_distinct, block_names, block_has_consistent_names, has_consistent_names, formals_have_distinct_fields, procedure_names, procedure_has_consistent_names, procedures_have_consistent_names, types_have_distinct_fields, variables_have_distinct_fields}
+use Rattle.ob0_language_names.specs.ConsistentNames.{are_distinct, names_declared_in_block, block_has_consistent_names, has_consistent_names, formals_have_distinct_fields, procedure_names, procedure_has_consistent_names, procedure_list_has_consistent_names, types_have_distinct_fields, variables_have_distinct_fields}
 use Rattle.ob0_language_names.specs.Names.{Name, Naming, naming_by_spelling, same_name}
-use Rattle.ob0_language_names.specs.Parts.{constant_names, formal_names, formal_sections, declared_type_names, procedure_formals, procedure_name, section_constants, section_types, section_variables, variable_names}
+use Rattle.ob0_language_names.specs.BlockParts.{constant_names, formal_names, formal_sections, declared_type_names, procedure_formals, procedure_name, section_constants, section_types, section_variables, variable_names}
 use Rattle.ob0_language_types.specs.Declarations.{constructors_before_procedures, block_constructor_count, declare_constants_and_types, formals_constructor_count, procedure_constructor_count, procedures_constructor_count, types_constructor_count, variables_constructor_count}
 use Rattle.ob0_language_types.specs.WellTyped.{TypeEnvironment, WellTyped, bind_typed_parameters, block_is_well_typed, passes_type_check, bind_procedure, procedure_is_well_typed, procedures_are_well_typed, option_satisfies, typed_parameters}
-use Rattle.ob0_tree.specs.Tree.{Tree, block, body, constants, declares, declares_procedure, end, forms_block, is_module, item, items, maybe, module_text, more, none, procedure, type_definitions, variables}
+use Rattle.ob0_tree.specs.Tree.{Tree, block, body, constants, declares, declares_procedure, end, forms_block, forms_module, item, items, maybe, module_text, more, none, procedure, type_definitions, variables}
 use Rattle.ob0_tree.specs.ParsedModule.{named_tree_of, tree_of}
 use Rattle.ob0_tree.specs.Places.{tree_with_names, token_text_at, token_value_at}
 use Rattle.ob0_scan.specs.declared.tokens.CommonPrefixAndSuffix.{CommonPrefixAndSuffix}
-use Rattle.ob0_scope_table.specs.BodyReplaced.{PathToBody, block_without_body, body_at_path, body_at_path_in_block, body_at_path_in_procedure, closing_name_at_path, closing_name_at_path_in_block, closing_name_at_path_in_procedure, path_after_insertion_in_front, procedure_without_body, procedures_without_body, path_to_body_in_procedures, path_to_body_in_block, path_to_body_in_procedure, path_to_body_in_module, module_without_body}
+use Rattle.ob0_scope_table.specs.BodyReplacement.{PathToBody, block_without_body, body_at_path, body_at_path_in_block, body_at_path_in_procedure, closing_name_at_path, closing_name_at_path_in_block, closing_name_at_path_in_procedure, path_after_insertion_in_front, procedure_without_body, procedures_without_body, path_to_body_in_procedures, path_to_body_in_block, path_to_body_in_procedure, path_to_body_in_module, module_without_body}
 use Rattle.ob0_scope_table.specs.OneBody.{closing_name}
 use Rattle.ob0_scope_table.specs.Resolution.{Resolution}
-use Rattle.ob0_scope_table.proofs.BodyReplaced.{names_outside, without_mapped}
+use Rattle.ob0_scope_table.proofs.BodyReplacement.{names_outside, without_mapped}
 use Rattle.ob0_types_check.specs.NewBody.{PassesTypeCheckWithoutBody}
 use Rattle.ob0_types_check.proofs.WithoutNames.{procedure_name-module_without_body}
-use Rattle.ob0_types.specs.NewBody.{WasCheckResultBeforeNewBody}
+use Rattle.ob0_types.specs.NewBody.{IsCheckResultBeforeBodyReplacement}
 use Rattle.ob0_types.specs.OneBody.{OneBody, body_with_token_in_procedures, body_with_token_in_block, body_with_token_in_module, body_with_token_in_procedure}
 use Rattle.ob0_types.specs.declared.checked.CheckResult.{CheckResult}
 
@@ -105,7 +105,7 @@ module _ {N : Type 0} (naming : Naming N) where
 
   pub fits_left_out : (path : PathToBody) (m : Tree N module_text) → passes_type_check naming m ≡ true → passes_type_check naming (module_without_body path m) ≡ true
   unfolding passes_type_check
-  fits_left_out path (is_module x b closing) h = block_left_out path _ 0 b h
+  fits_left_out path (forms_module x b closing) h = block_left_out path _ 0 b h
 
 -- ---- each name is also declared once without the statements of a body
 
@@ -115,20 +115,20 @@ mutual
   block_once_alike (k ∷ path) own (forms_block (declares cs ts vs ps) statements) =
       λ i. are_distinct (own ++ block_names_alike i) && (types_have_distinct_fields (section_types ts) && (variables_have_distinct_fields (section_variables vs) && procedures_once_alike k path ps i))
     where
-      block_names_alike : block_names (block_without_body (k ∷ path) (forms_block (declares cs ts vs ps) statements)) ≡ block_names (forms_block (declares cs ts vs ps) statements)
+      block_names_alike : names_declared_in_block (block_without_body (k ∷ path) (forms_block (declares cs ts vs ps) statements)) ≡ names_declared_in_block (forms_block (declares cs ts vs ps) statements)
       block_names_alike = λ i. constant_names (section_constants cs) ++ (declared_type_names (section_types ts) ++ (variable_names (section_variables vs) ++ same_names k path ps i))
 
-  procedures_once_alike : (k : ℕ) (path : PathToBody) (ps : Tree Name (items procedure)) → procedures_have_consistent_names (procedures_without_body k path ps) ≡ procedures_have_consistent_names ps
+  procedures_once_alike : (k : ℕ) (path : PathToBody) (ps : Tree Name (items procedure)) → procedure_list_has_consistent_names (procedures_without_body k path ps) ≡ procedure_list_has_consistent_names ps
   procedures_once_alike zero path end = refl
   procedures_once_alike (suc k) path end = refl
-  procedures_once_alike zero path (more p rest) = ap (λ b. b && procedures_have_consistent_names rest) (procedure_once_alike path p)
+  procedures_once_alike zero path (more p rest) = ap (λ b. b && procedure_list_has_consistent_names rest) (procedure_once_alike path p)
   procedures_once_alike (suc k) path (more p rest) = ap (λ b. procedure_has_consistent_names p && b) (procedures_once_alike k path rest)
 
   procedure_once_alike : (path : PathToBody) (p : Tree Name (item procedure)) → procedure_has_consistent_names (procedure_without_body path p) ≡ procedure_has_consistent_names p
   procedure_once_alike path (declares_procedure x fs b closing) = ap (λ o. same_name x closing && (formals_have_distinct_fields (formal_sections fs) && o)) (block_once_alike path (formal_names (formal_sections fs)) b)
 
 pub once_left_out : (path : PathToBody) (m : Tree Name module_text) → has_consistent_names (module_without_body path m) ≡ has_consistent_names m
-once_left_out path (is_module x b closing) = ap (λ o. same_name x closing && o) (block_once_alike path [] b)
+once_left_out path (forms_module x b closing) = ap (λ o. same_name x closing && o) (block_once_alike path [] b)
 
 -- ---- the body that contains a range of tokens is the one to which the way leads
 
@@ -162,11 +162,11 @@ module _ (low : ℕ) where
     procedure_leads (declares_procedure x fs b closing) = block_leads closing b
 
   pub body_leads : (t : Tree ℕ module_text) → Leads (body_with_token_in_module low t) (closing_name_at_path (path_to_body_in_module low t) t) (body_at_path (path_to_body_in_module low t) t)
-  body_leads (is_module x b closing) = block_leads closing b
+  body_leads (forms_module x b closing) = block_leads closing b
 
 -- ---- the module
 
-module _ (r : Resolution) (types : CheckResult) (s : CommonPrefixAndSuffix) (w : WasCheckResultBeforeNewBody r types s) where
+module _ (r : Resolution) (types : CheckResult) (s : CommonPrefixAndSuffix) (w : IsCheckResultBeforeBodyReplacement r types s) where
   -- The body that the code finds is the one whose statements were replaced.
   pub found_there : Leads (body_with_token_in_module s.prefix (tree_of r.module_read)) (closing_name_at_path w.path (tree_of r.module_read)) (body_at_path w.path (tree_of r.module_read))
   found_there = subst (λ path. Leads (body_with_token_in_module s.prefix (tree_of r.module_read)) (closing_name_at_path path (tree_of r.module_read)) (body_at_path path (tree_of r.module_read))) w.replaced.new_path (body_leads s.prefix (tree_of r.module_read))

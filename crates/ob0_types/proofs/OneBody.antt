@@ -2,26 +2,26 @@
 -- in the list of faulty bodies had faults.
 use Rattle.std.proofs.Common.{◌≡◌, ℕ, Bool, true, [], ◌∷◌, ◌++◌, length, refl, sym, ap, ◌∙◌}
 use Rattle.std.proofs.lemmas.List.{length-map}
-use Rattle.ob0_scan.specs.Reused.{kind_without_value}
+use Rattle.ob0_scan.specs.ReusedLexemes.{kind_without_value}
 use Rattle.ob0_scan.specs.declared.lexeme.Token.{Token}
 use Rattle.ob0_scan.specs.declared.lexeme.TokenKind.{TokenKind}
 use Rattle.ob0_tree.specs.ParsedModule.{tree_of}
-use Rattle.ob0_scope_table.specs.Bindings.{resolution_with}
+use Rattle.ob0_scope_table.specs.Bindings.{resolution_with_bindings}
 use Rattle.ob0_scope_table.specs.OneBody.{is_outside_range}
 use Rattle.ob0_scope_table.specs.Resolution.{IsResolution, Resolution}
 use Rattle.ob0_scope_table.proofs.BodyOutside.{module_outside}
-use Rattle.ob0_scope_table.proofs.BodyReplaced.{text_by_word, value_by_word}
+use Rattle.ob0_scope_table.proofs.BodyReplacement.{text_by_word, value_by_word}
 use Rattle.ob0_scope_table.proofs.Placed.{places_ascend}
 use Rattle.ob0_types_check.specs.EqualExceptBodies.{AreEqualExceptInBodies, IsSameTokenAt}
 use Rattle.ob0_types_check.specs.SomeBodies.{IncludesChangedAndFaultyBodies, faulty_bodies, is_among}
-use Rattle.ob0_types.specs.OneBody.{WasCheckResultBeforeBodyChange, body_with_token_in_module, with_source}
+use Rattle.ob0_types.specs.OneBody.{IsCheckResultBeforeBodyChange, body_with_token_in_module, with_source}
 use Rattle.ob0_types.specs.declared.checked.CheckResult.{CheckResult}
 use Rattle.ob0_types.proofs.Among.{all_weaker, among_further, among_last}
 use Rattle.ob0_types.proofs.BodyFound.{ModuleOutside, module_but, module_found}
 
-module _ (r : Resolution) (types : CheckResult) (low : ℕ) (w : WasCheckResultBeforeBodyChange r types low) where
+module _ (r : Resolution) (types : CheckResult) (low : ℕ) (w : IsCheckResultBeforeBodyChange r types low) where
   abbrev pub before : Resolution
-  before = resolution_with (with_source w.old r.module_read) w.bindings
+  before = resolution_with_bindings (with_source w.old r.module_read) w.bindings
 
   abbrev kind_of : Token → TokenKind
   kind_of t = kind_without_value t.kind

@@ -8,7 +8,7 @@ use Rattle.ob0_scope_table.specs.Resolution.{Resolution, IsResolution}
 use Rattle.ob0_tree.specs.ParsedModule.{named_tree_of}
 use Rattle.ob0_types_check.specs.ModuleLaws.{HasDeclarations}
 use Rattle.ob0_types_check.specs.SomeBodies.{AllClosingNamesPass, faulty_bodies, is_among}
-use Rattle.ob0_types_table.specs.KnownTables.{DeclarationTableView}
+use Rattle.ob0_types_table.specs.DeclarationTables.{DeclarationTableView}
 use Rattle.ob0_language_types.specs.WellTyped.{WellTyped}
 use Rattle.ob0_types.specs.FaultOrder.{AreFirstFaultsOfModule, AreFirstFaultsByTokens}
 use Rattle.ob0_types.specs.declared.checked.CheckResult.{CheckResult}
@@ -22,7 +22,7 @@ pub record CheckedModule : Type 0 where
 
 -- States that `c.faults` has the module's first 100 faults, in order, and is empty exactly if the module is well-typed.
 -- If there is a table, it has the module's declarations. If there are no faults, there is a table.
-pub record IsChecked (c : CheckedModule) : Type 0 where
+pub record IsCorrectlyChecked (c : CheckedModule) : Type 0 where
   pub resolved : IsResolution c.names
   pub reported : (c.faults ≡ []) ↔ WellTyped (named_tree_of c.names.module_read)
   pub holds : IfSome c.known (HasDeclarations (named_tree_of c.names.module_read))

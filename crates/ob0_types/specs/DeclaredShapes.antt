@@ -1,6 +1,6 @@
 -- The type of a declaration, as a shape of the definitions.
 -- Rule: docs/LANGUAGE.md, Types 1.
-use Rattle.ob0_types_table.specs.KnownTables.{shapes_of}
+use Rattle.ob0_types_table.specs.DeclarationTables.{shapes_of}
 use Rattle.ob0_types_table.specs.DeclarationTableView.{type_shape}
 use Rattle.ob0_types.specs.declared.checked.Shape as declared
 use Rattle.ob0_language_values.specs.Values.{Shape}

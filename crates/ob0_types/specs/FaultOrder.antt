@@ -9,7 +9,7 @@ use Rattle.ob0_scan.specs.TextWithTokens.{max_faults}
 use Rattle.ob0_scan.specs.declared.fault.FaultCode.{FaultCode}
 use Rattle.ob0_scan.specs.declared.fault.FaultCode.TheVariants as code
 use Rattle.ob0_scan.specs.declared.fault.Fault.{Fault}
-use Rattle.ob0_scope_table.specs.FaultsAtTokens.{fault_with_span, token_or_last}
+use Rattle.ob0_scope_table.specs.FaultsAtTokens.{fault_with_span, clamped_token_index}
 use Rattle.ob0_scope_table.specs.Resolution.{Resolution, is_duplicate_or_end_name}
 use Rattle.ob0_scope_table.specs.declared.faults.FaultAtTokens.{FaultAtTokens}
 use Rattle.ob0_types_check.specs.DeclarationFaults.{undeclared_name_and_type_faults}
@@ -38,20 +38,20 @@ fault_code_number code.NotArray = 22
 fault_code_number code.NotRecord = 23
 
 -- compares two faults by the start and then by the end of their spans
-abbrev pub span_cmp : Fault → Fault → Ordering
-span_cmp x y = ordering_then (nat_cmp x.span.start y.span.start) (nat_cmp x.span.end y.span.end)
+abbrev pub compare_spans : Fault → Fault → Ordering
+compare_spans x y = ordering_then (nat_cmp x.span.start y.span.start) (nat_cmp x.span.end y.span.end)
 
 -- compares two faults by their spans and then by the numbers of their codes
-abbrev pub fault_cmp : Fault → Fault → Ordering
-fault_cmp x y = ordering_then (span_cmp x y) (nat_cmp (fault_code_number x.code) (fault_code_number y.code))
+abbrev pub compare_faults : Fault → Fault → Ordering
+compare_faults x y = ordering_then (compare_spans x y) (nat_cmp (fault_code_number x.code) (fault_code_number y.code))
 
 -- Compares two faults by their first tokens, then by their last tokens, and then by the numbers of their codes. `count`
 -- is the number of the text's tokens. A token that doesn't exist counts as the last token.
-abbrev pub fault_cmp_by_tokens : ℕ → FaultAtTokens → FaultAtTokens → Ordering
-fault_cmp_by_tokens count x y =
+abbrev pub compare_faults_by_tokens : ℕ → FaultAtTokens → FaultAtTokens → Ordering
+compare_faults_by_tokens count x y =
     ordering_then
-    (ordering_then (nat_cmp (token_or_last count x.first) (token_or_last count y.first))
-    (nat_cmp (token_or_last count x.last) (token_or_last count y.last)))
+    (ordering_then (nat_cmp (clamped_token_index count x.first) (clamped_token_index count y.first))
+    (nat_cmp (clamped_token_index count x.last) (clamped_token_index count y.last)))
     (nat_cmp (fault_code_number x.code) (fault_code_number y.code))
 
 -- states that `faults` has the first 100 faults of the list `all`, which has the faults of the list `found` sorted by
@@ -64,17 +64,17 @@ pub record AreFirstFaultsWhenSorted {F : Type 0} (cmp : F → F → Ordering) (f
 
 -- Returns all faults of a module, according to LANGUAGE.md, Faults of scopes and types. The undeclared names and the
 -- faults of types come first, then the duplicate declarations and wrong closing names. Only the first 100 faults in the
--- order of `fault_cmp` are reported.
+-- order of `compare_faults` are reported.
 abbrev pub all_faults_of : Resolution → List FaultAtTokens
 all_faults_of r = undeclared_name_and_type_faults r ++ filter is_duplicate_or_end_name r.faults
 
--- states that the list `faults` has the first 100 faults of the module, with their spans, in the order of `fault_cmp`
+-- states that the list `faults` has the first 100 faults of the module, with their spans, in the order of `compare_faults`
 abbrev pub AreFirstFaultsOfModule : Resolution → List Fault → Type 0
 AreFirstFaultsOfModule r faults =
-    AreFirstFaultsWhenSorted fault_cmp (map (fault_with_span r.module_read.source) (all_faults_of r)) faults
+    AreFirstFaultsWhenSorted compare_faults (map (fault_with_span r.module_read.source) (all_faults_of r)) faults
 
--- States that the list `faults` has the first 100 faults of the module. They are in the order of `fault_cmp_by_tokens`,
+-- States that the list `faults` has the first 100 faults of the module. They are in the order of `compare_faults_by_tokens`,
 -- which is also the order of their spans.
 abbrev pub AreFirstFaultsByTokens : Resolution → List FaultAtTokens → Type 0
 AreFirstFaultsByTokens r faults =
-    AreFirstFaultsWhenSorted (fault_cmp_by_tokens (length r.module_read.source.tokens)) (all_faults_of r) faults
+    AreFirstFaultsWhenSorted (compare_faults_by_tokens (length r.module_read.source.tokens)) (all_faults_of r) faults

@@ -2,7 +2,7 @@
 -- different number of tokens.
 -- Rule: docs/LANGUAGE.md, Types 8, Faults of scopes and types 1.
 use Rattle.ob0_scan.specs.declared.tokens.CommonPrefixAndSuffix.{CommonPrefixAndSuffix}
-use Rattle.ob0_scope_table.specs.BodyReplaced.{IsBodyReplaced, PathToBody}
+use Rattle.ob0_scope_table.specs.BodyReplacement.{ReplacesStatementsOfOneBody, PathToBody}
 use Rattle.ob0_scope_table.specs.Resolution.{Resolution}
 use Rattle.ob0_types.specs.CheckedModules.{IsCheckResultOf}
 use Rattle.ob0_types.specs.declared.checked.CheckResult.{CheckResult}
@@ -10,8 +10,8 @@ use Rattle.ob0_types.specs.declared.checked.CheckResult.{CheckResult}
 -- States that `types` is the result of checking an older module, and that `r` is that module with the statements of one
 -- body replaced. All other tokens have the same spellings in both modules. `s` gives the ranges of these unchanged
 -- tokens in both modules.
-pub record WasCheckResultBeforeNewBody (r : Resolution) (types : CheckResult) (s : CommonPrefixAndSuffix) : Type 0 where
+pub record IsCheckResultBeforeBodyReplacement (r : Resolution) (types : CheckResult) (s : CommonPrefixAndSuffix) : Type 0 where
   pub old : Resolution
   pub path : PathToBody
-  pub replaced : IsBodyReplaced old.module_read r.module_read path s
+  pub replaced : ReplacesStatementsOfOneBody old.module_read r.module_read path s
   pub types_are : IsCheckResultOf old types

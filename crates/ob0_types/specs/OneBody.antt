@@ -1,11 +1,11 @@
 -- The result of checking a module before its tokens changed in the statements of one body.
 -- Rule: docs/LANGUAGE.md, Types 8, Faults of scopes and types 1.
 use Rattle.std.specs.Prelude.{◌≡◌, ℕ, true, nat_lt, if◌then◌else◌}
-use Rattle.ob0_tree.specs.Tree.{Tree, block, body, declares, declares_procedure, end, forms_block, is_module, item, items, maybe, module_text, more, procedure}
+use Rattle.ob0_tree.specs.Tree.{Tree, block, body, declares, declares_procedure, end, forms_block, forms_module, item, items, maybe, module_text, more, procedure}
 use Rattle.ob0_tree.specs.View.{body_of}
 use Rattle.ob0_scan.specs.TextWithTokens.{TextWithTokens}
-use Rattle.ob0_scope_table.specs.Bindings.{resolution_with}
-use Rattle.ob0_scope_table.specs.OneBody.{IsBodyChange, closing_name, is_outside_range}
+use Rattle.ob0_scope_table.specs.Bindings.{resolution_with_bindings}
+use Rattle.ob0_scope_table.specs.OneBody.{ChangesSpellingsInOneBody, closing_name, is_outside_range}
 use Rattle.ob0_scope_table.specs.Resolution.{Resolution, ordinal_in}
 use Rattle.ob0_scope_table.specs.declared.resolved.Bindings.{Bindings}
 use Rattle.ob0_tree.specs.ParsedModule.{ParsedModule}
@@ -47,7 +47,7 @@ abbrev mutual
 
 -- returns the body of the module, or of a procedure inside it: the one that contains the token `low`, if one does
 abbrev pub body_with_token_in_module : ℕ → Tree ℕ module_text → OneBody
-body_with_token_in_module low (is_module x b closing) = body_with_token_in_block low closing b
+body_with_token_in_module low (forms_module x b closing) = body_with_token_in_block low closing b
 
 -- replaces the tokens of a module by the tokens of another text; the tree is unchanged
 abbrev pub with_source : TextWithTokens → ParsedModule → ParsedModule
@@ -56,11 +56,11 @@ with_source source m =
 
 -- States that `types` is the result of checking the module before a change. The changed tokens have indexes of at least
 -- `low` and are in one body. All other tokens have the same spellings and bindings as before the change.
-pub record WasCheckResultBeforeBodyChange (r : Resolution) (types : CheckResult) (low : ℕ) : Type 0 where
+pub record IsCheckResultBeforeBodyChange (r : Resolution) (types : CheckResult) (low : ℕ) : Type 0 where
   pub high : ℕ
   pub old : TextWithTokens
   pub bindings : Bindings
-  pub change : IsBodyChange old r.module_read low high
+  pub change : ChangesSpellingsInOneBody old r.module_read low high
   pub bound : (token : ℕ) → is_outside_range low high token ≡ true
       → ordinal_in r.ordinals token ≡ ordinal_in bindings.ordinals.items token
-  pub types_are : IsCheckResultOf (resolution_with (with_source old r.module_read) bindings) types
+  pub types_are : IsCheckResultOf (resolution_with_bindings (with_source old r.module_read) bindings) types

@@ -15,16 +15,16 @@
 //! has no fault.
 
 ghost use Rattle.ob0_scope_table.specs.Resolution.{is_duplicate_or_end_name};
-ghost use Rattle.ob0_types.specs.CheckedModules.{AreFieldListsIfWellTyped, IsCheckResultOf, IsChecked, HasTableIfWellTyped};
-ghost use Rattle.ob0_types.specs.FaultOrder.{AreFirstFaultsWhenSorted, fault_cmp_by_tokens};
-ghost use Rattle.ob0_types.specs.NewBody.{WasCheckResultBeforeNewBody};
-ghost use Rattle.ob0_types.specs.OneBody.{WasCheckResultBeforeBodyChange};
+ghost use Rattle.ob0_types.specs.CheckedModules.{AreFieldListsIfWellTyped, IsCheckResultOf, IsCorrectlyChecked, HasTableIfWellTyped};
+ghost use Rattle.ob0_types.specs.FaultOrder.{AreFirstFaultsWhenSorted, compare_faults_by_tokens};
+ghost use Rattle.ob0_types.specs.NewBody.{IsCheckResultBeforeBodyReplacement};
+ghost use Rattle.ob0_types.specs.OneBody.{IsCheckResultBeforeBodyChange};
 ghost use Rattle.ob0_types_check.specs.SomeBodies.{IsReportOf};
 ghost use Rattle.std.specs.List.{filter};
 ghost use Rattle.std.specs.Cow.{cow_value};
 ghost use Rattle.std.specs.Prelude.{◌≡◌, ◌↔◌, ◌++◌, [], length, IfOk, OnOk, MatchOption};
 
-use crate::one_body::body_containing;
+use crate::one_body::body_with_token_in_module;
 use ob0_language_values::Scalar;
 use ob0_scan::{CommonPrefixAndSuffix, Fault, MAX_FAULTS};
 use ob0_scope_table::{
@@ -72,7 +72,7 @@ pub struct Checked<'t> {
 impl<'t> Model for Checked<'t> {
     ghost use Rattle.std.specs.Prelude.{◌≡◌};
     ghost use Rattle.std.specs.Cow.{cow_value};
-    ghost use Rattle.ob0_types.specs.CheckedModules.{IsCheckResultOf, CheckedModule, IsChecked, checked_module};
+    ghost use Rattle.ob0_types.specs.CheckedModules.{IsCheckResultOf, CheckedModule, IsCorrectlyChecked, checked_module};
 
     ghost Value = { CheckedModule };
 
@@ -85,7 +85,7 @@ impl<'t> Model for Checked<'t> {
 
     ghost invariant = { λ c. let checked = checked_module c.resolved.now (cow_value c.types) in
         IsCheckResultOf c.resolved.now (cow_value c.types)
-        × (IsChecked checked × (c.faults.items ≡ checked.faults)) };
+        × (IsCorrectlyChecked checked × (c.faults.items ≡ checked.faults)) };
 }
 
 /// A well-typed module with its table of declarations and its fields.
@@ -124,7 +124,7 @@ pub struct Shape<'t> {
 /// only if an allocation fails.
 pub fn check<'t>(alloc: Global, resolved: &'t Resolved<'t>) -> Result<Checked<'t>, AllocError>
     ensures names { IfOk result (λ c. c.names ≡ resolved.now) }
-    ensures checked { IfOk result IsChecked }
+    ensures checked { IfOk result IsCorrectlyChecked }
 {
     let types = check_result_of(alloc, resolved)?;
     Checked::new(alloc, resolved, Cow::Owned(types))
@@ -156,14 +156,14 @@ pub fn check_result_after_body_change<'t>(
     before: CheckResult,
     low: usize,
 ) -> Result<CheckResult, AllocError>
-    requires { WasCheckResultBeforeBodyChange resolved.now before low }
+    requires { IsCheckResultBeforeBodyChange resolved.now before low }
     ensures { IfOk result (IsCheckResultOf resolved.now) }
 {
     if before.bodies_with_faults.len() > MAX_FAULTY_BODIES_FOR_PARTIAL_CHECK {
         return check_result_of(alloc, resolved);
     }
     typed_modules_have_no_fault();
-    let body = body_containing(resolved.module(), low);
+    let body = body_with_token_in_module(resolved.module(), low);
     let mut bodies = before.bodies_with_faults.clone()?;
     bodies.push(body.closing)?;
     let report = module_report_walking_some_bodies(alloc, resolved, bodies.as_slice())?;
@@ -176,13 +176,13 @@ pub fn check_result_after_body_change<'t>(
 /// the tokens that are the same before and after it. If the module was valid before, only its
 /// declarations and the new body are checked again. If possible, only the new body is then searched
 /// for fields. Otherwise the whole module is checked again.
-pub fn check_result_with_new_body<'t>(
+pub fn check_result_after_body_replacement<'t>(
     alloc: Global,
     resolved: &'t Resolved<'t>,
     before: CheckResult,
     same: CommonPrefixAndSuffix,
 ) -> Result<CheckResult, AllocError>
-    requires { WasCheckResultBeforeNewBody resolved.now before same }
+    requires { IsCheckResultBeforeBodyReplacement resolved.now before same }
     ensures { IfOk result (IsCheckResultOf resolved.now) }
 {
     if before.faults.is_empty() {
@@ -199,14 +199,14 @@ fn check_result_by_walking_new_body<'t>(
     before: CheckResult,
     same: CommonPrefixAndSuffix,
 ) -> Result<CheckResult, AllocError>
-    requires before { WasCheckResultBeforeNewBody resolved.now before same }
+    requires before { IsCheckResultBeforeBodyReplacement resolved.now before same }
     requires none { before.faults.items ≡ [] }
     ensures { IfOk result (IsCheckResultOf resolved.now) }
 {
     typed_modules_have_no_fault();
-    let body = body_containing(resolved.module(), same.prefix);
+    let body = body_with_token_in_module(resolved.module(), same.prefix);
     let report = module_report_walking_one_body(alloc, resolved, body.closing)?;
-    let fields = fields_with_new_body(alloc, resolved, &report.known, before, same)?;
+    let fields = fields_after_body_replacement(alloc, resolved, &report.known, before, same)?;
     check_result_from_report(resolved, report, fields)
 }
 
@@ -270,12 +270,12 @@ fn fields_after_body_change<'t>(
     before: CheckResult,
     low: usize,
 ) -> Result<ModuleFields, AllocError>
-    requires before { WasCheckResultBeforeBodyChange resolved.now before low }
+    requires before { IsCheckResultBeforeBodyChange resolved.now before low }
     requires known { HasTableIfWellTyped resolved.now known.now }
     ensures { IfOk result (AreFieldListsIfWellTyped resolved.now) }
 {
     typed_modules_have_no_fault();
-    let body = body_containing(resolved.module(), low);
+    let body = body_with_token_in_module(resolved.module(), low);
     let CheckResult {
         known: _,
         fields,
@@ -295,14 +295,14 @@ fn fields_after_body_change<'t>(
 /// Returns the lists of a module's fields after the statements of one body were replaced. The
 /// module must have been valid before. Its old lists of fields (`before.fields`) are reused if
 /// possible. If the module isn't well-typed after the replacement, the result may be any lists.
-fn fields_with_new_body<'t>(
+fn fields_after_body_replacement<'t>(
     alloc: Global,
     resolved: &'t Resolved<'t>,
     known: &Option<DeclarationTable>,
     before: CheckResult,
     same: CommonPrefixAndSuffix,
 ) -> Result<ModuleFields, AllocError>
-    requires before { WasCheckResultBeforeNewBody resolved.now before same }
+    requires before { IsCheckResultBeforeBodyReplacement resolved.now before same }
     requires none { before.faults.items ≡ [] }
     requires known { HasTableIfWellTyped resolved.now known.now }
     ensures { IfOk result (AreFieldListsIfWellTyped resolved.now) }
@@ -313,7 +313,7 @@ fn fields_with_new_body<'t>(
         faults: _,
         bodies_with_faults: _,
     } = before;
-    let body = body_containing(resolved.module(), same.prefix);
+    let body = body_with_token_in_module(resolved.module(), same.prefix);
     let found = body_bounds_in_module(resolved.module(), same.prefix, same.new_suffix);
     let Some(place) = found else {
         return fields_from_table(alloc, resolved, known);
@@ -336,7 +336,7 @@ fn first_sorted_faults<'t>(
     ensures none { IfOk result (λ faults. (faults.items ≡ [])
         ↔ (of_types.items ++ filter is_duplicate_or_end_name resolved.now.faults ≡ [])) }
     ensures first { IfOk result (λ faults. AreFirstFaultsWhenSorted
-        (fault_cmp_by_tokens (length resolved.now.module_read.source.tokens))
+        (compare_faults_by_tokens (length resolved.now.module_read.source.tokens))
         (of_types.items ++ filter is_duplicate_or_end_name resolved.now.faults) faults.items) }
 {
     let mut faults = of_types;
@@ -365,7 +365,7 @@ fn add_duplicates_and_end_names(
 }
 
 /// Returns the result of checking, owned or borrowed.
-fn types_in<'c, 't>(types: &'c Cow<'t, CheckResult>) -> &'c CheckResult
+fn borrowed_check_result<'c, 't>(types: &'c Cow<'t, CheckResult>) -> &'c CheckResult
     ensures { result.now ≡ cow_value types.now }
 {
     match types {
@@ -375,7 +375,7 @@ fn types_in<'c, 't>(types: &'c Cow<'t, CheckResult>) -> &'c CheckResult
 }
 
 impl<'t> Checked<'t> {
-    ghost use Rattle.ob0_types.specs.CheckedModules.{IsCheckResultOf, IsChecked, checked_module};
+    ghost use Rattle.ob0_types.specs.CheckedModules.{IsCheckResultOf, IsCorrectlyChecked, checked_module};
 
     /// Joins a module to the result of checking it, and gives the faults their spans.
     fn new(
@@ -385,12 +385,16 @@ impl<'t> Checked<'t> {
     ) -> Result<Checked<'t>, AllocError>
         requires { IsCheckResultOf resolved.now (cow_value types) }
         ensures joined { IfOk result (λ c. c ≡ checked_module resolved.now (cow_value types)) }
-        ensures checked { IfOk result IsChecked }
+        ensures checked { IfOk result IsCorrectlyChecked }
     {
         let tokens = resolved.tokens();
         // The proof needs this call: its contract states that the tokens are a scan (`IsScan`).
         let _text = tokens.text();
-        let faults = faults_with_spans(alloc, tokens, types_in(&types).faults.as_slice())?;
+        let faults = faults_with_spans(
+            alloc,
+            tokens,
+            borrowed_check_result(&types).faults.as_slice(),
+        )?;
         Ok(Checked {
             resolved,
             types,
@@ -407,7 +411,7 @@ impl<'t> Checked<'t> {
     ) -> Result<Checked<'t>, AllocError>
         requires { IsCheckResultOf resolved.now types.now }
         ensures joined { IfOk result (λ c. c ≡ checked_module resolved.now types.now) }
-        ensures checked { IfOk result IsChecked }
+        ensures checked { IfOk result IsCorrectlyChecked }
     {
         Checked::new(alloc, resolved, Cow::Borrowed(types))
     }
@@ -417,7 +421,7 @@ impl<'t> Checked<'t> {
         ensures found { checked_module self.now.names result.now ≡ self.now }
         ensures types { IsCheckResultOf self.now.names result.now }
     {
-        types_in(&self.types)
+        borrowed_check_result(&self.types)
     }
 
     /// Returns the module with its bindings.
@@ -430,7 +434,7 @@ impl<'t> Checked<'t> {
     /// Returns the first 100 faults of scopes and types, sorted by start, end and code.
     pub fn faults(&self) -> &[Fault]
         ensures value { result.now ≡ self.now.faults }
-        ensures checked { IsChecked self.now }
+        ensures checked { IsCorrectlyChecked self.now }
     {
         self.faults.as_slice()
     }
@@ -530,7 +534,7 @@ impl<'t> WellTyped<'t> {
 }
 
 impl<'t> Shape<'t> {
-    ghost use Rattle.ob0_types_table.specs.KnownTables.{shapes_of};
+    ghost use Rattle.ob0_types_table.specs.DeclarationTables.{shapes_of};
     ghost use Rattle.ob0_types_table.specs.TypeWithParts.{PartsHaveSizesOfShape, is_not_faulty, is_known_type, shape_of_type_with_parts};
     ghost use Rattle.ob0_types.specs.DeclaredShapes.{shape_of};
 

@@ -2,7 +2,7 @@
 //! field, and the identifier that declares a field.
 
 ghost use Rattle.std.specs.Prelude.{◌≡◌, IfOk, IfSome, length};
-ghost use Rattle.ob0_tree.specs.Order.{AreIdentifierTokens, AreAscendingWithin, IsIdentifierToken};
+ghost use Rattle.ob0_tree.specs.IdentifierIndexes.{AreIdentifierTokens, AreAscendingWithin, IsIdentifierToken};
 ghost use Rattle.ob0_types_fields.specs.Identifiers.{field_declaring_token, field_at, field_index_in_record, field_tokens};
 
 use crate::checked::WellTyped;
@@ -17,7 +17,9 @@ pub fn field_at(well_typed: &WellTyped<'_>, offset: usize) -> Option<FieldName>
         (λ x. IsIdentifierToken well_typed.now.module_read.source.tokens x.token) }
 {
     let names = well_typed.resolved();
-    well_typed.fields().identifier_at(names.tokens(), offset)
+    well_typed
+        .fields()
+        .field_identifier_at_offset(names.tokens(), offset)
 }
 
 /// Returns the tokens of the field with this name in a record, in text order. These are the
@@ -51,7 +53,7 @@ pub fn field_declaring_token(well_typed: &WellTyped<'_>, owner: usize, name: &st
     let names = well_typed.resolved();
     well_typed
         .fields()
-        .declaring_token_of(names.tokens(), owner, name)
+        .field_declaring_token(names.tokens(), owner, name)
 }
 
 /// Returns the position of the field with this name among the fields of a record, counted from 0.
@@ -62,5 +64,5 @@ pub fn field_index_in_record(well_typed: &WellTyped<'_>, owner: usize, name: &st
     let names = well_typed.resolved();
     well_typed
         .fields()
-        .index_in_record(names.tokens(), owner, name)
+        .field_index_in_record(names.tokens(), owner, name)
 }

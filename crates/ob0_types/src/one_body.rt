@@ -16,7 +16,7 @@ pub(crate) struct Body<'t> {
 
 /// Returns the body that contains a range of tokens, given the index `low` of the range's first
 /// token. If the range isn't in one body, the result may be any body of the module.
-pub(crate) fn body_containing<'t>(read: &'t Module<'t>, low: usize) -> Body<'t>
+pub(crate) fn body_with_token_in_module<'t>(read: &'t Module<'t>, low: usize) -> Body<'t>
     ensures { body_view result ≡ body_with_token_in_module low (tree_of read.now) }
 {
     body_with_token_in_block(read.block(), read.closing_name(), low)

@@ -3,14 +3,14 @@
 use Rattle.std.proofs.Common.{◌≡◌, ℕ, suc, ◌+◌, true, ◌&&◌, List, [], ◌∷◌, ◌++◌, length, map, take, Option, Some, None, option_map, option_and_then, if◌then◌else◌, refl, sym, ap, ◌∙◌, subst, subst₂, le_refl, le_of_lt, append_assoc, arith, length-append}
 use Rattle.std.proofs.lemmas.Bool.{and_parts}
 use Rattle.std.proofs.Math.Seq.{take-append_seam}
-use Rattle.ob0_tree.specs.Tree.{Tree, block, body, declares, declares_procedure, end, formals, forms_block, is_module, item, items, maybe, module_text, more, procedure}
+use Rattle.ob0_tree.specs.Tree.{Tree, block, body, declares, declares_procedure, end, formals, forms_block, forms_module, item, items, maybe, module_text, more, procedure}
 use Rattle.ob0_language_names.specs.Names.{Label, Name, Naming, naming_by_label, naming_by_spelling, declared}
-use Rattle.ob0_language_names.specs.Parts.{constant_names, formal_names, formal_sections, module_block, declared_type_names, section_constants, section_types, section_variables, variable_names}
-use Rattle.ob0_language_names.specs.Scopes.{Scope, ordinal_after_block, ordinal_after_names, ordinal_after_procedure, ordinal_after_procedures, label_from_ordinal, declare_names, first_procedure_ordinal, first_type_ordinal, first_variable_ordinal, numbered, scope_before_procedures, relabel_block, relabel_formals, relabel_procedures, relabel_parameter_sections, scope_before_types, scope_before_variables}
+use Rattle.ob0_language_names.specs.BlockParts.{constant_names, formal_names, formal_sections, module_block, declared_type_names, section_constants, section_types, section_variables, variable_names}
+use Rattle.ob0_language_names.specs.Scopes.{Scope, ordinal_after_block, ordinal_after_names, ordinal_after_procedure, ordinal_after_procedure_list, label_from_ordinal, declare_names, first_procedure_ordinal, first_type_ordinal, first_variable_ordinal, numbered, scope_before_procedures, relabel_block, relabel_formals, relabel_procedure_list, relabel_parameter_section_list, scope_before_types, scope_before_variables}
 use Rattle.ob0_language_names.proofs.Ordinals.{le-ordinal_after_procedure}
 use Rattle.ob0_language_names.proofs.Relabelled.{formals-section, types-section, variables-section}
 use Rattle.ob0_language_types.specs.Bindings.{block_bindings, list_if_some, module_bindings, procedure_bindings, procedures_bindings, bindings_since}
-use Rattle.ob0_language_types.specs.Declaring.{declare_block, declare_procedure}
+use Rattle.ob0_language_types.specs.BlockDeclarations.{declare_block, declare_procedure}
 use Rattle.ob0_language_types.specs.Declarations.{constructors_before_procedures, formals_constructor_count, procedure_constructor_count, types_constructor_count, variables_constructor_count}
 use Rattle.ob0_language_types.specs.Environments.{outermost_environment}
 use Rattle.ob0_language_types.specs.Expressions.{a_procedure, a_variable}
@@ -234,14 +234,14 @@ mutual
       let own = bindings_since-ordered k kp noted all (opened noted all k b o.1.0) in
       let names : block_bindings naming_by_spelling (typed_by_name noted) j b ≡ procedures_bindings naming_by_spelling (typed_by_name all) (constructors_before_procedures j b) ps ++ bindings_since (typed_by_name noted) (typed_by_name all) =
       block-listed naming_by_spelling (typed_by_name noted) j cs ts vs ps statements (typed_by_name all) (parts.1 ∙ ap Some (sym o.2)) in
-      let labels : block_bindings naming_by_label (typed_by_ordinal noted) j b' ≡ procedures_bindings naming_by_label (typed_by_ordinal all) (constructors_before_procedures j b) (relabel_procedures naming_by_spelling (label_from_ordinal naming_by_spelling) (typed_scope all) kp ps) ++ bindings_since (typed_by_ordinal noted) (typed_by_ordinal all) =
-      block-listed naming_by_label (typed_by_ordinal noted) j _ _ _ (relabel_procedures naming_by_spelling (label_from_ordinal naming_by_spelling) (scope_before_procedures k b scope) kp ps) _ (typed_by_ordinal all) o.3
-      ∙ (λ i. procedures_bindings naming_by_label (typed_by_ordinal all) (variables-same noted j k b i) (relabel_procedures naming_by_spelling (label_from_ordinal naming_by_spelling) (sym o.1.0 i) kp ps) ++ bindings_since (typed_by_ordinal noted) (typed_by_ordinal all)) in
+      let labels : block_bindings naming_by_label (typed_by_ordinal noted) j b' ≡ procedures_bindings naming_by_label (typed_by_ordinal all) (constructors_before_procedures j b) (relabel_procedure_list naming_by_spelling (label_from_ordinal naming_by_spelling) (typed_scope all) kp ps) ++ bindings_since (typed_by_ordinal noted) (typed_by_ordinal all) =
+      block-listed naming_by_label (typed_by_ordinal noted) j _ _ _ (relabel_procedure_list naming_by_spelling (label_from_ordinal naming_by_spelling) (scope_before_procedures k b scope) kp ps) _ (typed_by_ordinal all) o.3
+      ∙ (λ i. procedures_bindings naming_by_label (typed_by_ordinal all) (variables-same noted j k b i) (relabel_procedure_list naming_by_spelling (label_from_ordinal naming_by_spelling) (sym o.1.0 i) kp ps) ++ bindings_since (typed_by_ordinal noted) (typed_by_ordinal all)) in
       subst₂ (Ordered k (ordinal_after_block k b)) (sym names) (sym labels)
-      (ordered-append k kp (ordinal_after_block k b) (procedures_bindings naming_by_spelling (typed_by_name all) (constructors_before_procedures j b) ps) (bindings_since (typed_by_name noted) (typed_by_name all)) (procedures_bindings naming_by_label (typed_by_ordinal all) (constructors_before_procedures j b) (relabel_procedures naming_by_spelling (label_from_ordinal naming_by_spelling) (typed_scope all) kp ps)) (bindings_since (typed_by_ordinal noted) (typed_by_ordinal all)) p own)
+      (ordered-append k kp (ordinal_after_block k b) (procedures_bindings naming_by_spelling (typed_by_name all) (constructors_before_procedures j b) ps) (bindings_since (typed_by_name noted) (typed_by_name all)) (procedures_bindings naming_by_label (typed_by_ordinal all) (constructors_before_procedures j b) (relabel_procedure_list naming_by_spelling (label_from_ordinal naming_by_spelling) (typed_scope all) kp ps)) (bindings_since (typed_by_ordinal noted) (typed_by_ordinal all)) p own)
 
   pub procedures-ordered : (noted : TypeNoted Name) (j k : ℕ) → TypedBelow k noted → (statements : Tree Name (maybe body)) (ps : Tree Name (items procedure)) → procedures_are_well_typed naming_by_spelling (typed_by_name noted) j statements ps ≡ true
-      → Ordered k (ordinal_after_procedures k ps) (procedures_bindings naming_by_spelling (typed_by_name noted) j ps) (procedures_bindings naming_by_label (typed_by_ordinal noted) j (relabel_procedures naming_by_spelling (label_from_ordinal naming_by_spelling) (typed_scope noted) k ps))
+      → Ordered k (ordinal_after_procedure_list k ps) (procedures_bindings naming_by_spelling (typed_by_name noted) j ps) (procedures_bindings naming_by_label (typed_by_ordinal noted) j (relabel_procedure_list naming_by_spelling (label_from_ordinal naming_by_spelling) (typed_scope noted) k ps))
   procedures-ordered noted j k below statements end h = none-listed noted j k
   procedures-ordered noted j k below statements (more (declares_procedure x fs b closing) rest) h =
       let p : Tree Name (item procedure) = declares_procedure x fs b closing in
@@ -257,13 +257,13 @@ mutual
       let inner : TypeNoted Name = noted_parameters (suc k) listed own in
       let jb : ℕ = j + formals_constructor_count (formal_sections fs) in
       let jr : ℕ = j + procedure_constructor_count p in
-      let g = given-both (λ ps. ps) (label_typed (suc k)) (λ ps. typed_names ps ≡ xs) (typed_parameters naming_by_spelling env j (formal_sections fs)) (typed_parameters naming_by_label labels j (relabel_parameter_sections naming_by_spelling (label_from_ordinal naming_by_spelling) scope (suc k) (formal_sections fs)))
+      let g = given-both (λ ps. ps) (label_typed (suc k)) (λ ps. typed_names ps ≡ xs) (typed_parameters naming_by_spelling env j (formal_sections fs)) (typed_parameters naming_by_label labels j (relabel_parameter_section_list naming_by_spelling (label_from_ordinal naming_by_spelling) scope (suc k) (formal_sections fs)))
       (parameters_typed naming_by_spelling j (suc k) noted (TypedBelow-weaken k (suc k) noted (le_of_lt (le_refl (suc k))) below) (formal_sections fs)) listed f.typed in
       let names_are : typed_names listed ≡ xs = ap typed_names (sym g.2) ∙ g.1 in
       let fs' : Tree Label (maybe formals) = relabel_formals naming_by_spelling (label_from_ordinal naming_by_spelling) scope (suc k) fs in
       let b' : Tree Label block = relabel_block naming_by_spelling (label_from_ordinal naming_by_spelling) (declare_names (suc k) xs ((x, k) ∷ scope)) m b in
-      let rest' : Tree Label (items procedure) = relabel_procedures naming_by_spelling (label_from_ordinal naming_by_spelling) ((x, k) ∷ scope) q rest in
-      let sections : formal_sections fs' ≡ relabel_parameter_sections naming_by_spelling (label_from_ordinal naming_by_spelling) scope (suc k) (formal_sections fs) = formals-section naming_by_spelling (label_from_ordinal naming_by_spelling) scope (suc k) fs in
+      let rest' : Tree Label (items procedure) = relabel_procedure_list naming_by_spelling (label_from_ordinal naming_by_spelling) ((x, k) ∷ scope) q rest in
+      let sections : formal_sections fs' ≡ relabel_parameter_section_list naming_by_spelling (label_from_ordinal naming_by_spelling) scope (suc k) (formal_sections fs) = formals-section naming_by_spelling (label_from_ordinal naming_by_spelling) scope (suc k) fs in
       let typed' : typed_parameters naming_by_label labels j (formal_sections fs') ≡ Some (label_typed (suc k) listed) = ap (typed_parameters naming_by_label labels j) sections ∙ (g.3 ∙ ap (λ ps. Some (label_typed (suc k) ps)) g.2) in
       let jb_same : j + formals_constructor_count (formal_sections fs') ≡ jb = ap (λ n. j + n) (ap formals_constructor_count sections ∙ formals_constructor_count-relabel naming_by_spelling (label_from_ordinal naming_by_spelling) scope (suc k) (formal_sections fs)) in
       let jr_same : j + procedure_constructor_count (declares_procedure (declared k) fs' b' (declared k)) ≡ jr = ap (λ n. j + n) (procedure_constructor_count-relabel naming_by_spelling (label_from_ordinal naming_by_spelling) scope k p) in
@@ -281,27 +281,27 @@ mutual
       procedures-listed naming_by_spelling env j x fs b closing rest listed f.typed f.right
       ∙ ap (λ z. procedures_bindings naming_by_spelling (typed_by_name own) jr rest ++ z) (procedure-listed naming_by_spelling env j x fs b closing listed f.typed ∙ (λ i. block_bindings naming_by_spelling (bind_typed_parameters-by_name (suc k) listed own i) jb b ++ bind_typed_parameters listed (bind_procedure x listed []))) in
       let by_label : procedures_bindings naming_by_label labels j (more (declares_procedure (declared k) fs' b' (declared k)) rest')
-      ≡ procedures_bindings naming_by_label (typed_by_ordinal own) jr (relabel_procedures naming_by_spelling (label_from_ordinal naming_by_spelling) (typed_scope own) q rest)
+      ≡ procedures_bindings naming_by_label (typed_by_ordinal own) jr (relabel_procedure_list naming_by_spelling (label_from_ordinal naming_by_spelling) (typed_scope own) q rest)
       ++ (block_bindings naming_by_label (typed_by_ordinal inner) jb (relabel_block naming_by_spelling (label_from_ordinal naming_by_spelling) (typed_scope inner) m b) ++ bind_typed_parameters (label_typed (suc k) listed) (bind_procedure (declared k) (label_typed (suc k) listed) [])) =
       procedures-listed naming_by_label labels j (declared k) fs' b' (declared k) rest' (label_typed (suc k) listed) typed' right'
       ∙ (ap (λ z. procedures_bindings naming_by_label (bind_procedure (declared k) (label_typed (suc k) listed) labels) (j + procedure_constructor_count (declares_procedure (declared k) fs' b' (declared k))) rest' ++ z) (procedure-listed naming_by_label labels j (declared k) fs' b' (declared k) (label_typed (suc k) listed) typed')
       ∙ (λ i. procedures_bindings naming_by_label (bind_procedure-labels k x listed noted i) (jr_same i) rest'
       ++ (block_bindings naming_by_label (inside-labels k x listed noted i) (jb_same i) (relabel_block naming_by_spelling (label_from_ordinal naming_by_spelling) (sym inner_scope i) m b) ++ bind_typed_parameters (label_typed (suc k) listed) (bind_procedure (declared k) (label_typed (suc k) listed) [])))) in
-      subst₂ (Ordered k (ordinal_after_procedures q rest)) (sym names) (sym by_label)
-      (ordered-append k q (ordinal_after_procedures q rest) (procedures_bindings naming_by_spelling (typed_by_name own) jr rest) (block_bindings naming_by_spelling (typed_by_name inner) jb b ++ bind_typed_parameters listed (bind_procedure x listed []))
-      (procedures_bindings naming_by_label (typed_by_ordinal own) jr (relabel_procedures naming_by_spelling (label_from_ordinal naming_by_spelling) (typed_scope own) q rest)) (block_bindings naming_by_label (typed_by_ordinal inner) jb (relabel_block naming_by_spelling (label_from_ordinal naming_by_spelling) (typed_scope inner) m b) ++ bind_typed_parameters (label_typed (suc k) listed) (bind_procedure (declared k) (label_typed (suc k) listed) [])) later
+      subst₂ (Ordered k (ordinal_after_procedure_list q rest)) (sym names) (sym by_label)
+      (ordered-append k q (ordinal_after_procedure_list q rest) (procedures_bindings naming_by_spelling (typed_by_name own) jr rest) (block_bindings naming_by_spelling (typed_by_name inner) jb b ++ bind_typed_parameters listed (bind_procedure x listed []))
+      (procedures_bindings naming_by_label (typed_by_ordinal own) jr (relabel_procedure_list naming_by_spelling (label_from_ordinal naming_by_spelling) (typed_scope own) q rest)) (block_bindings naming_by_label (typed_by_ordinal inner) jb (relabel_block naming_by_spelling (label_from_ordinal naming_by_spelling) (typed_scope inner) m b) ++ bind_typed_parameters (label_typed (suc k) listed) (bind_procedure (declared k) (label_typed (suc k) listed) [])) later
       (ordered-append k m q (block_bindings naming_by_spelling (typed_by_name inner) jb b) (bind_typed_parameters listed (bind_procedure x listed [])) (block_bindings naming_by_label (typed_by_ordinal inner) jb (relabel_block naming_by_spelling (label_from_ordinal naming_by_spelling) (typed_scope inner) m b))
       (bind_typed_parameters (label_typed (suc k) listed) (bind_procedure (declared k) (label_typed (suc k) listed) [])) block_part heading_part))
 
 -- The bindings of the names and of the labels in the block of a module that fits are in the order of their ordinals.
-pub module-block : (x : Name) (b : Tree Name block) (closing : Name) → passes_type_check naming_by_spelling (is_module x b closing) ≡ true
+pub module-block : (x : Name) (b : Tree Name block) (closing : Name) → passes_type_check naming_by_spelling (forms_module x b closing) ≡ true
     → Ordered 7 (ordinal_after_block 7 b) (block_bindings naming_by_spelling (outermost_environment naming_by_spelling) 0 b) (block_bindings naming_by_label (outermost_environment naming_by_label) 0 (relabel_block naming_by_spelling (label_from_ordinal naming_by_spelling) (typed_scope (typed_outermost naming_by_spelling)) 7 b))
 unfolding passes_type_check
 module-block x b closing h = block-ordered (typed_outermost naming_by_spelling) 0 7 predeclared-below b h
 
 -- All bindings of a module that fits, including the predeclared names, are in the order of their ordinals.
 pub module-ordered : (m : Tree Name module_text) → passes_type_check naming_by_spelling m ≡ true → Ordered 0 (ordinal_after_block 7 (module_block m)) (module_bindings naming_by_spelling m) (module_bindings naming_by_label (numbered m))
-module-ordered (is_module x b closing) h =
+module-ordered (forms_module x b closing) h =
     ordered-append 0 7 (ordinal_after_block 7 b) (block_bindings naming_by_spelling (outermost_environment naming_by_spelling) 0 b) (outermost_environment naming_by_spelling) (block_bindings naming_by_label (outermost_environment naming_by_label) 0 (relabel_block naming_by_spelling (label_from_ordinal naming_by_spelling) (typed_scope (typed_outermost naming_by_spelling)) 7 b)) (outermost_environment naming_by_label)
     (module-block x b closing h)
     (record { noted = typed_outermost naming_by_spelling; by_name = refl; by_label = refl; in_order = (refl, (refl, (refl, (refl, (refl, (refl, (refl, refl))))))) })

@@ -10,7 +10,7 @@ use Rattle.ob0_language_types.specs.WellTyped.{TypeEnvironment, TypedParameter, 
 use Rattle.ob0_types_table.specs.declared.types.TypeId.{TypeId}
 use Rattle.ob0_language_values.specs.Values.{Shape}
 use Rattle.ob0_types_check.specs.Agreement.{IsKnownAndAgreesWithObject, is_standard_procedure, shape_of_type_in}
-use Rattle.ob0_types_check.specs.Known.{Meaning}
+use Rattle.ob0_types_check.specs.TypesAndMeanings.{Meaning}
 use Rattle.ob0_types_check.proofs.BindingsByOrdinal.{bindings_since-front}
 use Rattle.ob0_types_check.proofs.DeclaredShapes.{Longer}
 use Rattle.ob0_types_check.proofs.DeclaredKnown.{NamesKnown, holds_kept}

@@ -4,7 +4,7 @@ use Rattle.std.proofs.lemmas.List.{map-append}
 use Rattle.ob0_tree.specs.Places.{tree_with_names, token_text_at, token_value_at}
 use Rattle.ob0_tree.specs.Tree.{Tree, constant, declares_constant, declares_type, declares_variable, end, items, mapped_tree, more, type_definition, variable}
 use Rattle.ob0_language_names.specs.Names.{Name, naming_by_spelling}
-use Rattle.ob0_language_names.specs.Parts.{constant_names, declared_type_names, names_in_list, variable_names}
+use Rattle.ob0_language_names.specs.BlockParts.{constant_names, declared_type_names, names_in_list, variable_names}
 use Rattle.ob0_language_names.specs.Scopes.{Scope, ordinal_after_names, declare_names}
 use Rattle.ob0_language_names.proofs.Ordinals.{ordinal_after_names-append, declare_names-append, le-ordinal_after_names}
 use Rattle.ob0_language_types.specs.Declarations.{declare_constants, declare_types, types_constructor_count, variables_constructor_count}
@@ -14,8 +14,8 @@ use Rattle.ob0_language_types.specs.Typing.{constant_value, constructor_count, d
 use Rattle.ob0_language_types.specs.WellTyped.{TypeEnvironment, bind_names, declare_typed_variables}
 use Rattle.ob0_language_values.specs.Values.{Shape, Value}
 use Rattle.ob0_types_check.specs.DeclarationFaults.{report_on_constant_declaration, report_on_constant_declarations, report_on_type_declarations, report_on_variable_declarations, report_on_type_declaration, report_on_variable_group}
-use Rattle.ob0_types_check.specs.Known.{ResultWithFaults, a_constant, a_type, a_variable}
-use Rattle.ob0_types_check.specs.KnownDeclarations.{KnownDeclarations, TypeWithFollowingDeclarations, define_name_at_token, define_names_at_tokens, facts_at}
+use Rattle.ob0_types_check.specs.TypesAndMeanings.{ResultWithFaults, a_constant, a_type, a_variable}
+use Rattle.ob0_types_check.specs.KnownDeclarations.{KnownDeclarations, TypeWithFollowingDeclarations, define_name_at_token, define_names_at_tokens, facts_from_declarations}
 use Rattle.ob0_types_check.specs.TypeFaults.{report_on_constant_expression}
 use Rattle.ob0_types_check.specs.WrittenTypeFaults.{report_on_written_type}
 use Rattle.ob0_types_check.proofs.MadeOnce.{Apart, apart_same, apart_then}
@@ -62,7 +62,7 @@ module _ (w : Numbering) (fit : PartsFit) where
   unfolding report_on_constant_declarations report_on_constant_declaration declare_constants
   constants_declare end k n p before scope env st placed h = nothing_declared w n k k refl p before scope env st
   constants_declare (more (declares_constant x e) cs) k n p before scope env st placed h =
-      let v : ResultWithFaults (Option Value) = report_on_constant_expression (facts_at p true) e in
+      let v : ResultWithFaults (Option Value) = report_on_constant_expression (facts_from_declarations p true) e in
       let q : KnownDeclarations = define_name_at_token p (a_constant v.known) x in
       let a = none-reported (v.faults ++ []) (report_on_constant_declarations q cs).faults h in
       let c = fit.constants p before (token_text_at w.source) (meanings naming_by_spelling env) e (agrees_where_seen w p true before n scope env st fit e placed.1) (none-reported v.faults [] a.0).0 in

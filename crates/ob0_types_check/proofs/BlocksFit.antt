@@ -8,9 +8,9 @@ use Rattle.ob0_tree.specs.ParsedModule.{tree_of}
 use Rattle.ob0_tree.specs.Places.{tree_with_names, token_text_at, token_value_at}
 use Rattle.ob0_tree.specs.Tree.{Tree, begins, block, body, constants, declares, declares_procedure, end, formals, forms_block, item, items, mapped_tree, maybe, more, none, one, procedure, type_definitions, variables}
 use Rattle.ob0_language_names.specs.Names.{Name, naming_by_spelling}
-use Rattle.ob0_language_names.specs.Parts.{constant_names, formal_names, formal_sections, module_block, declared_type_names, procedure_formals, procedure_name, section_constants, section_types, section_variables, variable_names}
+use Rattle.ob0_language_names.specs.BlockParts.{constant_names, formal_names, formal_sections, module_block, declared_type_names, procedure_formals, procedure_name, section_constants, section_types, section_variables, variable_names}
 use Rattle.ob0_scope_table.specs.Resolution.{Resolution, is_undeclared_fault}
-use Rattle.ob0_language_names.specs.Scopes.{Scope, ordinal_after_block, ordinal_after_names, ordinal_after_procedure, ordinal_after_procedures, first_procedure_ordinal, first_type_ordinal, first_variable_ordinal, predeclared_scope}
+use Rattle.ob0_language_names.specs.Scopes.{Scope, ordinal_after_block, ordinal_after_names, ordinal_after_procedure, ordinal_after_procedure_list, first_procedure_ordinal, first_type_ordinal, first_variable_ordinal, predeclared_scope}
 use Rattle.ob0_language_names.proofs.Ordinals.{le-ordinal_after_names, le-ordinal_after_procedure}
 use Rattle.ob0_language_types.specs.Bindings.{block_bindings, list_if_some, procedure_bindings, procedures_bindings, bindings_since}
 use Rattle.ob0_language_types.specs.Declarations.{constructors_before_variables, constructors_before_procedures, block_constructor_count, declare_constants, declare_constants_and_types, declare_types, formals_constructor_count, procedure_constructor_count, procedures_constructor_count, types_constructor_count, variables_constructor_count}
@@ -18,8 +18,8 @@ use Rattle.ob0_language_types.specs.Environments.{meanings, outermost_environmen
 use Rattle.ob0_language_types.specs.Expressions as meant
 use Rattle.ob0_language_types.specs.WellTyped.{Signature, TypeEnvironment, TypedParameter, bind_typed_parameters, block_is_well_typed, body_is_well_typed, by_place, by_value, declare_typed_variables, passes_type_check, bind_procedure, option_satisfies, procedure_is_well_typed, procedures_are_well_typed, sequence_is_well_typed, typed_parameters}
 use Rattle.ob0_language_values.specs.Values.{Shape, boolean_shape, integer_shape, truth}
-use Rattle.ob0_types_check.specs.DeclarationFaults.{KnownHeading, WalkProgress, body_faults, every_body, undeclared_name_and_type_faults, report_on_block, report_on_constant_declarations, reported_module, report_on_procedure, report_on_procedures, report_on_parameter_sections, report_on_type_declarations, report_on_variable_declarations, declarations_after_heading, walk_at_start, with_declarations}
-use Rattle.ob0_types_check.specs.Known.{Meaning, ResultWithFaults, a_procedure}
+use Rattle.ob0_types_check.specs.DeclarationFaults.{KnownHeading, WalkProgress, body_faults, every_body, undeclared_name_and_type_faults, report_on_block, report_on_constant_declarations, report_on_module, report_on_procedure, report_on_procedures, report_on_parameter_sections, report_on_type_declarations, report_on_variable_declarations, declarations_after_heading, walk_at_start, with_declarations}
+use Rattle.ob0_types_check.specs.TypesAndMeanings.{Meaning, ResultWithFaults, a_procedure}
 use Rattle.ob0_types_table.specs.declared.types.TypeId.{TypeId}
 use Rattle.ob0_types_check.specs.KnownDeclarations.{KnownDeclarations, known_declarations_at_start, predeclared_meanings}
 use Rattle.ob0_types_check.proofs.PartsFitting.{PartsFit, parts_fit}
@@ -213,7 +213,7 @@ module _ (w : Numbering) (fit : PartsFit) where
         (λ inner. procedures_are_well_typed naming_by_spelling inner (constructors_before_procedures k nb) (tree_with_names w.source statements) (tree_with_names w.source ps)) (λ inner. procedures_bindings naming_by_spelling inner (constructors_before_procedures k nb) (tree_with_names w.source ps)) le d own rest)
 
     procedures_reported : (ps : Tree ℕ (items procedure)) (statements : Tree ℕ (maybe body)) (k n : ℕ) (v : WalkProgress) (before : List Shape) (scope : Scope Name) (env : TypeEnvironment Name) → length before ≡ k → IsKnownAt w v.so_far before n scope env → ProceduresPlaced w scope n statements ps → (report_on_procedures every_body v ps).faults ≡ []
-        → body_faults (report_on_procedures every_body v ps).known.so_far statements ≡ [] → FitsLater n (ordinal_after_procedures n ps) k (k + procedures_constructor_count (tree_with_names w.source ps)) v.so_far (report_on_procedures every_body v ps).known.so_far before (procedures_are_well_typed naming_by_spelling env k (tree_with_names w.source statements) (tree_with_names w.source ps)) (procedures_bindings naming_by_spelling env k (tree_with_names w.source ps))
+        → body_faults (report_on_procedures every_body v ps).known.so_far statements ≡ [] → FitsLater n (ordinal_after_procedure_list n ps) k (k + procedures_constructor_count (tree_with_names w.source ps)) v.so_far (report_on_procedures every_body v ps).known.so_far before (procedures_are_well_typed naming_by_spelling env k (tree_with_names w.source statements) (tree_with_names w.source ps)) (procedures_bindings naming_by_spelling env k (tree_with_names w.source ps))
     procedures_reported end statements k n v before scope env at st placed h last = record { right = body_reported statements n v.so_far before scope env st placed last; after = before; apart = apart_same k (k + 0) before (omega arith); later = later_same n v.so_far before st.table; bound = refl }
     procedures_reported (more d rest) statements k n v before scope env at st placed h last =
         let nd : Tree Name (item procedure) = tree_with_names w.source d in
@@ -231,8 +231,8 @@ module _ (w : Numbering) (fit : PartsFit) where
           apart = apart_to k (k + procedure_constructor_count nd + procedures_constructor_count (tree_with_names w.source rest)) (k + (procedure_constructor_count nd + procedures_constructor_count (tree_with_names w.source rest))) before others.after (more_constructors k (procedure_constructor_count nd) (procedures_constructor_count (tree_with_names w.source rest)))
               (apart_then k (k + procedure_constructor_count nd) (k + procedure_constructor_count nd + procedures_constructor_count (tree_with_names w.source rest)) before f.after others.after f.apart others.apart);
           later = later_then n (ordinal_after_procedure (suc n) d) p q r before f.after others.after (le_trans (next_le n) (le-ordinal_after_procedure (suc n) d)) f.later others.later;
-          bound = subst (BindingsKnown others.after r.declared n (ordinal_after_procedures n (more d rest))) (sym (procedures_bound d rest k env f.parameters f.typed f.right))
-              (bindings_both others.after r.declared n (ordinal_after_procedure (suc n) d) (ordinal_after_procedures n (more d rest)) (procedures_bindings naming_by_spelling (bind_procedure (procedure_name nd) f.parameters env) (k + procedure_constructor_count nd) (tree_with_names w.source rest)) (procedure_bindings naming_by_spelling env k nd) others.bound
+          bound = subst (BindingsKnown others.after r.declared n (ordinal_after_procedure_list n (more d rest))) (sym (procedures_bound d rest k env f.parameters f.typed f.right))
+              (bindings_both others.after r.declared n (ordinal_after_procedure (suc n) d) (ordinal_after_procedure_list n (more d rest)) (procedures_bindings naming_by_spelling (bind_procedure (procedure_name nd) f.parameters env) (k + procedure_constructor_count nd) (tree_with_names w.source rest)) (procedure_bindings naming_by_spelling env k nd) others.bound
               (bindings_later f.after others.after q.declared r.declared n (ordinal_after_procedure (suc n) d) (ordinal_after_procedure (suc n) d) others.later.longer others.later.kept (le_refl (ordinal_after_procedure (suc n) d)) (procedure_bindings naming_by_spelling env k nd) f.bound));
         }
 
@@ -322,5 +322,5 @@ pub modules_without_fault_pass_type_check-holds : ModulesWithoutFaultPassTypeChe
 unfolding undeclared_name_and_type_faults passes_type_check
 modules_without_fault_pass_type_check-holds r is h =
     let m = r.module_read in
-    let a = none-reported (filter is_undeclared_fault r.faults) (reported_module every_body r).faults h in
+    let a = none-reported (filter is_undeclared_fault r.faults) (report_on_module every_body r).faults h in
     (block_reported (numbering_of r) parts_fit (module_block (tree_of m)) m.closing 0 7 (walk_at_start r) [] (predeclared_scope naming_by_spelling) (outermost_environment naming_by_spelling) refl (first_holds r) (module_placed r is a.0) a.1).right

@@ -5,9 +5,9 @@ use Rattle.std.proofs.lemmas.List.{get_or_past}
 use Rattle.std.specs.List.{filter}
 use Rattle.ob0_tree.specs.ParsedModule.{named_tree_of, tree_of}
 use Rattle.ob0_tree.specs.Places.{token_text_at, token_value_at}
-use Rattle.ob0_tree.specs.Tree.{Tree, block, is_module, module_text}
+use Rattle.ob0_tree.specs.Tree.{Tree, block, forms_module, module_text}
 use Rattle.ob0_language_names.specs.Names.{Label, Name, naming_by_label, naming_by_spelling, declared}
-use Rattle.ob0_language_names.specs.Parts.{module_block}
+use Rattle.ob0_language_names.specs.BlockParts.{module_block}
 use Rattle.ob0_scope_table.specs.Resolution.{is_undeclared_fault}
 use Rattle.ob0_language_names.specs.Scopes.{ordinal_after_block, label_from_ordinal, numbered, predeclared_scope, relabel_block}
 use Rattle.ob0_language_types.specs.Bindings.{block_bindings, declared_object, module_bindings, object_of_ordinal}
@@ -19,8 +19,8 @@ use Rattle.ob0_language_types.proofs.TypesByOrdinal.{TypeNoted, typed_by_name, t
 use Rattle.ob0_types_table.specs.declared.types.TypeId.{TypeId}
 use Rattle.ob0_language_values.specs.Values.{Shape}
 use Rattle.ob0_types_check.specs.Agreement.{DeclarationAgreesWithObject, IsKnownAndAgreesWithObject, is_standard_procedure, shape_of_type_in}
-use Rattle.ob0_types_check.specs.DeclarationFaults.{every_body, undeclared_name_and_type_faults, reported_module, walk_at_start}
-use Rattle.ob0_types_check.specs.Known.{Meaning}
+use Rattle.ob0_types_check.specs.DeclarationFaults.{every_body, undeclared_name_and_type_faults, report_on_module, walk_at_start}
+use Rattle.ob0_types_check.specs.TypesAndMeanings.{Meaning}
 use Rattle.ob0_types_check.specs.ModuleLaws.{WalkWithoutFaultFindsCorrectMeanings}
 use Rattle.ob0_types_check.specs.KnownDeclarations.{KnownDeclarations, known_declarations_at_start}
 use Rattle.ob0_types_check.proofs.BindingsByOrdinal.{InOrder, Ordered, module-block, module-ordered}
@@ -97,7 +97,7 @@ first_bound : (n m : ℕ) (names : TypeEnvironment Name) (labels env : TypeEnvir
 first_bound n m names labels env all k less = ap (λ z. object_of_ordinal (z ++ env) k) all.by_label ∙ bound_before n m all.noted all.in_order env k less
 
 predeclared_bound : (m : Tree Name module_text) → passes_type_check naming_by_spelling m ≡ true → (k : ℕ) → k < 7 → declared_object m k ≡ object_of_ordinal (outermost_environment naming_by_label) k
-predeclared_bound (is_module x b closing) h k less =
+predeclared_bound (forms_module x b closing) h k less =
     first_bound 7 (ordinal_after_block 7 b) (block_bindings naming_by_spelling (outermost_environment naming_by_spelling) 0 b) (block_bindings naming_by_label (outermost_environment naming_by_label) 0 (relabel_block naming_by_spelling (label_from_ordinal naming_by_spelling) (typed_scope (typed_outermost naming_by_spelling)) 7 b)) (outermost_environment naming_by_label) (module-block x b closing h) k less
 
 pub walk_without_fault_finds_correct_meanings-holds : WalkWithoutFaultFindsCorrectMeanings
@@ -106,8 +106,8 @@ walk_without_fault_finds_correct_meanings-holds r is h =
     let m = r.module_read in
     let b : Tree ℕ block = module_block (tree_of m) in
     let last : ℕ = ordinal_after_block 7 b in
-    let q : KnownDeclarations = (reported_module every_body r).known.so_far in
-    let a = none-reported (filter is_undeclared_fault r.faults) (reported_module every_body r).faults h in
+    let q : KnownDeclarations = (report_on_module every_body r).known.so_far in
+    let a = none-reported (filter is_undeclared_fault r.faults) (report_on_module every_body r).faults h in
     let st = first_holds r in
     let f = block_reported (numbering_of r) parts_fit b m.closing 0 7 (walk_at_start r) [] (predeclared_scope naming_by_spelling) (outermost_environment naming_by_spelling) refl st (module_placed r is a.0) a.1 in
     let first : BindingsKnown f.after q.declared 0 7 (outermost_environment naming_by_spelling) =

@@ -4,9 +4,9 @@
 use Rattle.std.proofs.Common.{◌≡◌, ℕ, suc, ◌+◌, ◌<◌, ◌≤◌, Bool, true, false, List, [], ◌∷◌, ◌++◌, length, map, Option, Some, None, option_and_then, slice_index_or, refl, sym, ap, ◌∙◌, subst, subst₂, le_refl, le_of_lt, le_trans, append_assoc, append-nil, arith}
 use Rattle.std.proofs.lemmas.List.{map-append}
 use Rattle.ob0_tree.specs.Places.{tree_with_names, token_text_at, token_value_at}
-use Rattle.ob0_tree.specs.Tree.{Tree, end, further_section, items, more, then_section, value_section, variable_section, written_type}
+use Rattle.ob0_tree.specs.Tree.{Tree, end, section_after_semicolon, items, more, semicolon_then_section, value_section, variable_section, written_type}
 use Rattle.ob0_language_names.specs.Names.{Name, naming_by_spelling}
-use Rattle.ob0_language_names.specs.Parts.{formal_names, names_in_list}
+use Rattle.ob0_language_names.specs.BlockParts.{formal_names, names_in_list}
 use Rattle.ob0_language_names.specs.Scopes.{Scope, ordinal_after_names, declare_names}
 use Rattle.ob0_language_names.proofs.Ordinals.{le-ordinal_after_names}
 use Rattle.ob0_types_table.specs.DeclarationTableView.{mode_from_flag}
@@ -15,10 +15,10 @@ use Rattle.ob0_language_types.specs.Declarations.{formals_constructor_count}
 use Rattle.ob0_language_types.specs.Environments.{meanings}
 use Rattle.ob0_language_types.specs.Expressions as meant
 use Rattle.ob0_language_types.specs.Typing.{constructor_count, denoted_type}
-use Rattle.ob0_language_types.specs.WellTyped.{Mode, Signature, TypeEnvironment, TypedParameter, bind_names, bind_typed_parameters, by_place, by_value, typed_parameters}
+use Rattle.ob0_language_types.specs.WellTyped.{ParameterMode, Signature, TypeEnvironment, TypedParameter, bind_names, bind_typed_parameters, by_place, by_value, typed_parameters}
 use Rattle.ob0_language_values.specs.Values.{Shape}
 use Rattle.ob0_types_check.specs.DeclarationFaults.{KnownHeading, report_on_parameters, report_on_parameter_section, report_on_parameter_sections, with_parameters}
-use Rattle.ob0_types_check.specs.Known.{KnownParameter, Meaning, ResultWithFaults, a_variable}
+use Rattle.ob0_types_check.specs.TypesAndMeanings.{KnownParameter, Meaning, ResultWithFaults, a_variable}
 use Rattle.ob0_types_check.specs.KnownDeclarations.{KnownDeclarations, TypeWithFollowingDeclarations, define_name_at_token, define_names_at_tokens}
 use Rattle.ob0_types_check.specs.WrittenTypeFaults.{report_on_written_type}
 use Rattle.ob0_types_check.specs.Agreement.{FormalsAgreeWithSignature, IsKnownAndAgreesWithObject, shape_of_type_in}
@@ -73,7 +73,7 @@ formals_both shape (f ∷ fs) gs [] t h next = absurd h
 formals_both shape (f ∷ fs) gs (a ∷ s) t h next = (h.0, h.1, formals_both shape fs gs s t h.2 next)
 
 -- returns a parameter of this mode and type with this name
-abbrev pub typed_as : Mode → Shape → Name → TypedParameter Name
+abbrev pub typed_as : ParameterMode → Shape → Name → TypedParameter Name
 typed_as mode s x = record { name = x; formal = record { mode = mode; shape = s } }
 
 abbrev pub formals_of : List (TypedParameter Name) → Signature
@@ -83,7 +83,7 @@ formals_same : (shape : TypeId → Option Shape) (text : ℕ → Name) (by : Boo
 formals_same shape text by t s e [] = tt
 formals_same shape text by t s e (x ∷ xs) = (refl, e, formals_same shape text by t s e xs)
 
-own_known : (w : Numbering) (p : KnownDeclarations) (shapes : List Shape) (n : ℕ) (scope : Scope Name) (env : TypeEnvironment Name) (mode : Mode) (t : TypeId) (s : Shape) (xs : List ℕ) → shape_of_type_in shapes t ≡ Some s → IsKnownAt w p shapes n scope env → NamesPlaced w n xs
+own_known : (w : Numbering) (p : KnownDeclarations) (shapes : List Shape) (n : ℕ) (scope : Scope Name) (env : TypeEnvironment Name) (mode : ParameterMode) (t : TypeId) (s : Shape) (xs : List ℕ) → shape_of_type_in shapes t ≡ Some s → IsKnownAt w p shapes n scope env → NamesPlaced w n xs
     → ParametersKnown shapes (define_names_at_tokens p (a_variable t) xs).declared n (map (token_text_at w.source) xs) (map (typed_as mode s) (map (token_text_at w.source) xs))
 own_known w p shapes n scope env mode t s [] is st placed = tt
 own_known w p shapes n scope env mode t s (x ∷ xs) is st placed =
@@ -110,7 +110,7 @@ pub record Parameters (n k l : ℕ) (h g : KnownHeading) (before : List Shape) (
   pub formals : (signature : Signature) → FormalsAgreeWithSignature (shape_of_type_in before) h.formals signature → FormalsAgreeWithSignature (shape_of_type_in after) g.formals (signature ++ formals_of parameters)
 
 -- holds if a section of parameters has a type and its parameters agree with the state after it
-pub record OneType (w : Numbering) (n m k l : ℕ) (h g : KnownHeading) (before : List Shape) (scope : Scope Name) (env : TypeEnvironment Name) (mode : Mode) (xs : List Name) (given : Option Shape) : Type 0 where
+pub record OneType (w : Numbering) (n m k l : ℕ) (h g : KnownHeading) (before : List Shape) (scope : Scope Name) (env : TypeEnvironment Name) (mode : ParameterMode) (xs : List Name) (given : Option Shape) : Type 0 where
   pub shape : Shape
   pub given_is : given ≡ Some shape
   pub after : List Shape
@@ -141,7 +141,7 @@ module _ (w : Numbering) (fit : PartsFit) where
       }
 
   -- If a section's parameters and the further sections' parameters have types, all of them together do.
-  parameters_then : (mode : Mode) (xs : List ℕ) (ns ys : List Name) (n k j m : ℕ) (h g l : KnownHeading) (before : List Shape) (scope : Scope Name) (env : TypeEnvironment Name) (given : Option Shape) (next : TypeEnvironment Name → Option (List (TypedParameter Name))) → ns ≡ map (token_text_at w.source) xs
+  parameters_then : (mode : ParameterMode) (xs : List ℕ) (ns ys : List Name) (n k j m : ℕ) (h g l : KnownHeading) (before : List Shape) (scope : Scope Name) (env : TypeEnvironment Name) (given : Option Shape) (next : TypeEnvironment Name → Option (List (TypedParameter Name))) → ns ≡ map (token_text_at w.source) xs
       → (one : OneType w n (ordinal_after_names n xs) k j h g before (scope_following w n xs scope) env mode (map (token_text_at w.source) xs) given) → Parameters (ordinal_after_names n xs) j m g l one.after ys (next (bind_names (map (token_text_at w.source) xs) (meant.a_variable one.shape) env))
       → Parameters n k m h l before (map (token_text_at w.source) xs ++ ys) (option_and_then (λ s. option_and_then (λ rest. Some (map (typed_as mode s) ns ++ rest)) (next (bind_names ns (meant.a_variable s) env))) given)
   parameters_then mode xs ns ys n k j m h g l before scope env given next e one rest =
@@ -163,7 +163,7 @@ module _ (w : Numbering) (fit : PartsFit) where
             (rest.formals (signature ++ formals_of own) (one.formals signature agree));
       }
 
-  pub sections_declare : (fs : Tree ℕ (items further_section)) (k n : ℕ) (h : KnownHeading) (before : List Shape) (scope : Scope Name) (env : TypeEnvironment Name) → length before ≡ k → IsKnownAt w h.following before n scope env → SectionsPlaced w scope n fs → (report_on_parameter_sections h fs).faults ≡ []
+  pub sections_declare : (fs : Tree ℕ (items section_after_semicolon)) (k n : ℕ) (h : KnownHeading) (before : List Shape) (scope : Scope Name) (env : TypeEnvironment Name) → length before ≡ k → IsKnownAt w h.following before n scope env → SectionsPlaced w scope n fs → (report_on_parameter_sections h fs).faults ≡ []
       → Parameters n k (k + formals_constructor_count (tree_with_names w.source fs)) h (report_on_parameter_sections h fs).known before (map (token_text_at w.source) (formal_names fs)) (typed_parameters naming_by_spelling env k (tree_with_names w.source fs))
   unfolding report_on_parameter_sections report_on_parameter_section report_on_parameters typed_parameters
   sections_declare end k n h before scope env at st placed none = record {
@@ -175,7 +175,7 @@ module _ (w : Numbering) (fit : PartsFit) where
     own = tt;
     formals = λ signature agree. subst (FormalsAgreeWithSignature (shape_of_type_in before) h.formals) (sym (append-nil signature)) agree;
   }
-  sections_declare (more (then_section (value_section ns t)) fs) k n h before scope env at st placed none =
+  sections_declare (more (semicolon_then_section (value_section ns t)) fs) k n h before scope env at st placed none =
       let xs : List ℕ = names_in_list ns in
       let u : ResultWithFaults TypeWithFollowingDeclarations = report_on_written_type 0 h.following t in
       let g : KnownHeading = with_parameters h false xs u.known in
@@ -184,10 +184,10 @@ module _ (w : Numbering) (fit : PartsFit) where
       let rest = sections_declare fs (k + constructor_count (tree_with_names w.source t)) (ordinal_after_names n xs) g one.after (scope_following w n xs scope) (bind_names (map (token_text_at w.source) xs) (meant.a_variable one.shape) env) (omega (arith, at, one.apart.counted)) one.holds placed.2 a.1 in
       let own : ℕ = constructor_count (tree_with_names w.source t) in
       let others : ℕ = formals_constructor_count (tree_with_names w.source fs) in
-      subst₂ (λ l ys. Parameters n k l h (report_on_parameter_sections g fs).known before ys (typed_parameters naming_by_spelling env k (tree_with_names w.source (more (then_section (value_section ns t)) fs)))) (more_constructors k own others) (sym (map-append (token_text_at w.source) xs (formal_names fs)))
+      subst₂ (λ l ys. Parameters n k l h (report_on_parameter_sections g fs).known before ys (typed_parameters naming_by_spelling env k (tree_with_names w.source (more (semicolon_then_section (value_section ns t)) fs)))) (more_constructors k own others) (sym (map-append (token_text_at w.source) xs (formal_names fs)))
       (parameters_then by_value xs (names_in_list (tree_with_names w.source ns)) (map (token_text_at w.source) (formal_names fs)) n k (k + own) (k + own + others) h g (report_on_parameter_sections g fs).known before scope env (denoted_type (meanings naming_by_spelling env) k (tree_with_names w.source t))
       (λ e. typed_parameters naming_by_spelling e (k + constructor_count (tree_with_names w.source t)) (tree_with_names w.source fs)) (names_in_list-mapped_tree (token_text_at w.source) (token_value_at w.source) ns) one rest)
-  sections_declare (more (then_section (variable_section ns t)) fs) k n h before scope env at st placed none =
+  sections_declare (more (semicolon_then_section (variable_section ns t)) fs) k n h before scope env at st placed none =
       let xs : List ℕ = names_in_list ns in
       let u : ResultWithFaults TypeWithFollowingDeclarations = report_on_written_type 0 h.following t in
       let g : KnownHeading = with_parameters h true xs u.known in
@@ -196,6 +196,6 @@ module _ (w : Numbering) (fit : PartsFit) where
       let rest = sections_declare fs (k + constructor_count (tree_with_names w.source t)) (ordinal_after_names n xs) g one.after (scope_following w n xs scope) (bind_names (map (token_text_at w.source) xs) (meant.a_variable one.shape) env) (omega (arith, at, one.apart.counted)) one.holds placed.2 a.1 in
       let own : ℕ = constructor_count (tree_with_names w.source t) in
       let others : ℕ = formals_constructor_count (tree_with_names w.source fs) in
-      subst₂ (λ l ys. Parameters n k l h (report_on_parameter_sections g fs).known before ys (typed_parameters naming_by_spelling env k (tree_with_names w.source (more (then_section (variable_section ns t)) fs)))) (more_constructors k own others) (sym (map-append (token_text_at w.source) xs (formal_names fs)))
+      subst₂ (λ l ys. Parameters n k l h (report_on_parameter_sections g fs).known before ys (typed_parameters naming_by_spelling env k (tree_with_names w.source (more (semicolon_then_section (variable_section ns t)) fs)))) (more_constructors k own others) (sym (map-append (token_text_at w.source) xs (formal_names fs)))
       (parameters_then by_place xs (names_in_list (tree_with_names w.source ns)) (map (token_text_at w.source) (formal_names fs)) n k (k + own) (k + own + others) h g (report_on_parameter_sections g fs).known before scope env (denoted_type (meanings naming_by_spelling env) k (tree_with_names w.source t))
       (λ e. typed_parameters naming_by_spelling e (k + constructor_count (tree_with_names w.source t)) (tree_with_names w.source fs)) (names_in_list-mapped_tree (token_text_at w.source) (token_value_at w.source) ns) one rest)

@@ -5,11 +5,11 @@ use Rattle.std.proofs.lemmas.Bool.{and_parts}
 use Rattle.ob0_scan.specs.declared.fault.FaultCode.TheVariants as code
 use Rattle.ob0_scan.specs.TextWithTokens.{TextWithTokens}
 use Rattle.ob0_tree.specs.ParsedModule.{named_tree_of, tree_of}
-use Rattle.ob0_tree.specs.Tree.{Tree, begins, block, body, constant, constants, declares, declares_constant, declares_constants, declares_procedure, declares_type, declares_types, declares_variable, declares_variables, end, formals, further_section, forms_block, is_module, item, items, maybe, module_text, more, no_formals, none, occurrences, one, procedure, section, some_formals, then_section, type_definition, type_definitions, value_section, variable, variable_section, variables}
+use Rattle.ob0_tree.specs.Tree.{Tree, begins, block, body, constant, constants, declares, declares_constant, declares_const_section, declares_procedure, declares_type, declares_type_section, declares_variable, declares_var_section, end, formals, section_after_semicolon, forms_block, forms_module, item, items, maybe, module_text, more, no_formals, none, occurrences, one, procedure, section, some_formals, semicolon_then_section, type_definition, type_definitions, value_section, variable, variable_section, variables}
 use Rattle.ob0_language_names.specs.Names.{Label, Naming, naming_by_label, as_written, declared}
 use Rattle.ob0_language_names.specs.Occurrences.{bindings}
-use Rattle.ob0_language_names.specs.Parts.{formal_sections, names_in_list, procedure_formals, procedure_name, section_constants, parameter_section_names, parameter_section_type, section_types, section_variables}
-use Rattle.ob0_scope_table.specs.Resolution.{is_unbound, span_at, undeclared_faults_by_labels}
+use Rattle.ob0_language_names.specs.BlockParts.{formal_sections, names_in_list, procedure_formals, procedure_name, section_constants, parameter_section_names, parameter_section_type, section_types, section_variables}
+use Rattle.ob0_scope_table.specs.Resolution.{is_unbound, span_at, undeclared_faults_from_labels}
 use Rattle.ob0_language_names.specs.Scopes.{numbered}
 use Rattle.ob0_language_types.specs.Declarations.{constructors_before_variables, constructors_before_procedures, declare_constants, declare_constants_and_types, declare_types, formals_constructor_count, procedure_constructor_count}
 use Rattle.ob0_language_types.specs.Environments.{environment_from_binding, meanings, newest_object, outermost_environment}
@@ -51,10 +51,10 @@ module _ {N : Type 0} (P : N → Type 0) (naming : Naming N) (bound : (env : Typ
   section-bound (value_section ns t) h = h
   section-bound (variable_section ns t) h = h
 
-  sections-bound : (fs : Tree N (items further_section)) (k : ℕ) (env : TypeEnvironment N) (ps : List (TypedParameter N)) → typed_parameters naming env k fs ≡ Some ps → Each P (occurrences fs)
+  sections-bound : (fs : Tree N (items section_after_semicolon)) (k : ℕ) (env : TypeEnvironment N) (ps : List (TypedParameter N)) → typed_parameters naming env k fs ≡ Some ps → Each P (occurrences fs)
   unfolding typed_parameters
   sections-bound end k env ps h = tt
-  sections-bound (more (then_section f) fs) k env ps h =
+  sections-bound (more (semicolon_then_section f) fs) k env ps h =
       let inner : Shape → TypeEnvironment N = λ s. bind_names (parameter_section_names f) (a_variable s) env in
       let own : Shape → List (TypedParameter N) = λ s. map (λ x. record { name = x; formal = record { mode = parameter_section_mode f; shape = s } }) (parameter_section_names f) in
       let (s, hs, later) = and-then (λ s. option_and_then (λ rest. Some (own s ++ rest)) (typed_parameters naming (inner s) (k + constructor_count (parameter_section_type f)) fs)) (denoted_type (meanings naming env) k (parameter_section_type f)) ps h in
@@ -65,15 +65,15 @@ module _ {N : Type 0} (P : N → Type 0) (naming : Naming N) (bound : (env : Typ
   -- If each name of a section has a property, so does each name of the section as an optional part.
   constant-section : (cs : Tree N (maybe constants)) → Each P (occurrences (section_constants cs)) → Each P (occurrences cs)
   constant-section none h = tt
-  constant-section (one (declares_constants cs)) h = h
+  constant-section (one (declares_const_section cs)) h = h
 
   type-section : (ts : Tree N (maybe type_definitions)) → Each P (occurrences (section_types ts)) → Each P (occurrences ts)
   type-section none h = tt
-  type-section (one (declares_types ts)) h = h
+  type-section (one (declares_type_section ts)) h = h
 
   variable-section : (vs : Tree N (maybe variables)) → Each P (occurrences (section_variables vs)) → Each P (occurrences vs)
   variable-section none h = tt
-  variable-section (one (declares_variables vs)) h = h
+  variable-section (one (declares_var_section vs)) h = h
 
   formal-section : (fs : Tree N (maybe formals)) → Each P (occurrences (formal_sections fs)) → Each P (occurrences fs)
   formal-section none h = tt
@@ -124,13 +124,13 @@ label-bound env (as_written x) o h = let no : None ≡ Some o = sym (only-writte
 
 pub labels-bound : (m : Tree Label module_text) → passes_type_check naming_by_label m ≡ true → Each (λ x. is_unbound x ≡ false) (occurrences m)
 unfolding passes_type_check
-labels-bound (is_module x b closing) h = block-bound (λ x. is_unbound x ≡ false) naming_by_label label-bound b 0 (outermost_environment naming_by_label) h
+labels-bound (forms_module x b closing) h = block-bound (λ x. is_unbound x ≡ false) naming_by_label label-bound b 0 (outermost_environment naming_by_label) h
 
-none-unbound : (source : TextWithTokens) (tokens : List ℕ) (labels : List Label) → Each (λ x. is_unbound x ≡ false) labels → undeclared_faults_by_labels source tokens labels ≡ []
+none-unbound : (source : TextWithTokens) (tokens : List ℕ) (labels : List Label) → Each (λ x. is_unbound x ≡ false) labels → undeclared_faults_from_labels source tokens labels ≡ []
 none-unbound source [] labels h = refl
 none-unbound source (token ∷ tokens) [] h = refl
 none-unbound source (token ∷ tokens) (label ∷ labels) h =
-    ap (λ b. if b then record { code = code.Undeclared; span = span_at source token } ∷ undeclared_faults_by_labels source tokens labels else undeclared_faults_by_labels source tokens labels) h.0 ∙ none-unbound source tokens labels h.1
+    ap (λ b. if b then record { code = code.Undeclared; span = span_at source token } ∷ undeclared_faults_from_labels source tokens labels else undeclared_faults_from_labels source tokens labels) h.0 ∙ none-unbound source tokens labels h.1
 
 pub typed_modules_have_bound_names-holds : TypedModulesHaveBoundNames
 typed_modules_have_bound_names-holds r is h =

@@ -2,12 +2,12 @@
 -- well-typed statements.
 use Rattle.std.proofs.Common.{◌≡◌, ℕ, suc, ◌+◌, true, true≢false, List, [], ◌∷◌, ◌++◌, map, Option, Some, None, option_map, option_and_then, refl, sym, ◌∙◌}
 use Rattle.std.proofs.lemmas.Bool.{and_parts}
-use Rattle.ob0_language_names.specs.Parts.{names_in_list}
-use Rattle.ob0_tree.specs.Tree.{Tree, addend, adds, arguments, array_type, assigns, branches, calls, compares, designator, else_branch, else_part, elsif_branch, elsif_part, empty, end, expression, factor, field, fields, further_argument, further_fields, further_statement, index, integer, items, maybe, more, multiplier, multiplies, named_type, negation, no_arguments, no_fields, none, occurrences, one, parenthesised, product, record_type, relates, repeat_loop, runs, selector, sequence, simple, some_arguments, some_fields, statement, sum, term, then_argument, then_fields, then_statement, while_loop, written_type}
+use Rattle.ob0_language_names.specs.BlockParts.{names_in_list}
+use Rattle.ob0_tree.specs.Tree.{Tree, addend, adds, arguments, array_type, assigns, branches, calls, compares, designator, else_branch, else_part, elsif_branch, elsif_part, empty, end, expression, factor, field, fields, argument_after_comma, fields_after_semicolon, statement_after_semicolon, index, integer, items, maybe, more, multiplier, multiplies, named_type, negation, no_arguments, no_fields, none, occurrences, one, parenthesised, product, record_type, relates, repeat_loop, runs, selector, sequence, simple, some_arguments, some_fields, statement, sum, term, comma_then_argument, semicolon_then_fields, semicolon_then_statement, while_loop, written_type}
 use Rattle.ob0_language_types.specs.Arguments.{call_arguments, further_arguments}
-use Rattle.ob0_language_types.specs.Expressions.{Meanings, Object, a_constant, a_procedure, a_standard, a_type, a_variable, evaluate}
+use Rattle.ob0_language_types.specs.Expressions.{Meanings, Object, a_constant, a_procedure, a_standard_procedure, a_type, a_variable, evaluate}
 use Rattle.ob0_language_types.specs.Typing.{addition_type, array_length, negation_type, constant_of, constant_value, constant_meanings, denoted_type, denoted_group_fields, denoted_further_fields, lone_designator, element_type, field_type, outcome_value, group_constructor_count, multiplication_type, type_of_variable_or_constant, relation_type, sign_type, type_after_selectors, type_of, type_of_addends, type_of_factor, type_of_multipliers, type_of_type_object, type_of_simple, type_of_term, prepend_fields, type_within_limits}
-use Rattle.ob0_language_types.specs.WellTyped.{FormalParameter, Mode, Signature, TypeMeanings, same_known_shape, argument_matches, arguments_match, by_place, by_value, call_is_well_typed, condition_is_boolean, else_is_well_typed, elsifs_are_well_typed, sequence_is_well_typed, signature_of, statement_is_well_typed, further_statements_are_well_typed, variable_type}
+use Rattle.ob0_language_types.specs.WellTyped.{FormalParameter, ParameterMode, Signature, TypeMeanings, same_known_shape, argument_matches, arguments_match, by_place, by_value, call_is_well_typed, condition_is_boolean, else_is_well_typed, elsifs_are_well_typed, sequence_is_well_typed, signature_of, statement_is_well_typed, further_statements_are_well_typed, variable_type}
 use Rattle.ob0_language_types.proofs.Conditions.{same_known_shape-true}
 use Rattle.ob0_language_values.specs.Values.{FieldShapes, Shape, Value, array_shape, boolean_shape, record_shape}
 use Rattle.ob0_types_check.proofs.DeclaredNames.{Each}
@@ -109,9 +109,9 @@ module _ {N V Q : Type 0} (P : N → Type 0) (meaning : Meanings N V Q) (bound :
     group-bound k later (some_fields ns t) fs h =
         let (s, hs, last) = and-then (λ s. Some (prepend_fields (map meaning.written (names_in_list ns)) s later)) (denoted_type meaning k t) fs h in type-bound k t s hs
 
-    groups-bound : (k : ℕ) (gs : Tree N (items further_fields)) (fs : FieldShapes) → denoted_further_fields meaning k gs ≡ Some fs → Each P (occurrences gs)
+    groups-bound : (k : ℕ) (gs : Tree N (items fields_after_semicolon)) (fs : FieldShapes) → denoted_further_fields meaning k gs ≡ Some fs → Each P (occurrences gs)
     groups-bound k end fs h = tt
-    groups-bound k (more (then_fields g) rest) fs h =
+    groups-bound k (more (semicolon_then_fields g) rest) fs h =
         let (later, hl, last) = and-then (λ later. denoted_group_fields meaning k later g) (denoted_further_fields meaning (k + group_constructor_count g) rest) fs h in
         each-of-both P (occurrences g) (occurrences rest) (group-bound k later g fs last) (groups-bound (k + group_constructor_count g) rest later hl)
 
@@ -129,7 +129,7 @@ module _ {N : Type 0} (P : N → Type 0) (meaning : TypeMeanings N) (bound : (x 
       by-object (Some (a_type t)) e h = absurd (some-none s (sym h))
       by-object (Some (a_constant c)) e h = absurd (some-none s (sym h))
       by-object (Some (a_procedure p)) e h = absurd (some-none s (sym h))
-      by-object (Some (a_standard p)) e h = absurd (some-none s (sym h))
+      by-object (Some (a_standard_procedure p)) e h = absurd (some-none s (sym h))
       by-object (Some (a_variable v)) e h = (bound x (a_variable v) e, selectors-bound P meaning bound v path s h)
 
   -- Each name in the argument of a VAR parameter has a meaning, because the argument is only a designator.
@@ -150,7 +150,7 @@ module _ {N : Type 0} (P : N → Type 0) (meaning : TypeMeanings N) (bound : (x 
   unfolding argument_matches
   argument-bound f e h = by-mode f.mode h
     where
-      by-mode : (m : Mode) → same_known_shape (Some f.shape) (elim m [ by_value ↦ type_of meaning e | by_place ↦ variable_type meaning (lone_designator e) ]) ≡ true → Each P (occurrences e)
+      by-mode : (m : ParameterMode) → same_known_shape (Some f.shape) (elim m [ by_value ↦ type_of meaning e | by_place ↦ variable_type meaning (lone_designator e) ]) ≡ true → Each P (occurrences e)
       by-mode by_value h = let (s, own, typed) = same_known_shape-true (Some f.shape) (type_of meaning e) h in expression-bound P meaning bound e s typed
       by-mode by_place h = let (s, own, typed) = same_known_shape-true (Some f.shape) (variable_type meaning (lone_designator e)) h in place-bound e s typed
 
@@ -166,9 +166,9 @@ module _ {N : Type 0} (P : N → Type 0) (meaning : TypeMeanings N) (bound : (x 
   arguments-bound (f ∷ fs) (e ∷ es) h =
       let parts = and_parts (argument_matches meaning f e) (arguments_match meaning fs es) h in (argument-bound f e parts.0, arguments-bound fs es parts.1)
 
-  further-listed : (es : Tree N (items further_argument)) → EachBound (further_arguments es) → Each P (occurrences es)
+  further-listed : (es : Tree N (items argument_after_comma)) → EachBound (further_arguments es) → Each P (occurrences es)
   further-listed end h = tt
-  further-listed (more (then_argument e) es) h = each-of-both P (occurrences e) (occurrences es) h.0 (further-listed es h.1)
+  further-listed (more (comma_then_argument e) es) h = each-of-both P (occurrences e) (occurrences es) h.0 (further-listed es h.1)
 
   all-listed : (es : Tree N (maybe arguments)) → EachBound (call_arguments es) → Each P (occurrences es)
   all-listed none h = tt
@@ -210,9 +210,9 @@ module _ {N : Type 0} (P : N → Type 0) (meaning : TypeMeanings N) (bound : (x 
     sequence-bound (runs a rest) h =
         let parts = and_parts (statement_is_well_typed meaning a) _ h in each-of-both P (occurrences a) (occurrences rest) (statement-bound a parts.0) (statements-bound rest parts.1)
 
-    statements-bound : (a : Tree N (items further_statement)) → further_statements_are_well_typed meaning a ≡ true → Each P (occurrences a)
+    statements-bound : (a : Tree N (items statement_after_semicolon)) → further_statements_are_well_typed meaning a ≡ true → Each P (occurrences a)
     statements-bound end h = tt
-    statements-bound (more (then_statement a) rest) h =
+    statements-bound (more (semicolon_then_statement a) rest) h =
         let parts = and_parts (statement_is_well_typed meaning a) _ h in each-of-both P (occurrences a) (occurrences rest) (statement-bound a parts.0) (statements-bound rest parts.1)
 
     elsifs-bound : (a : Tree N (items elsif_part)) → elsifs_are_well_typed meaning a ≡ true → Each P (occurrences a)

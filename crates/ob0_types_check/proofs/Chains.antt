@@ -6,8 +6,8 @@ use Rattle.std.proofs.lemmas.List.{drop_all, drop_more}
 use Rattle.ob0_tree.specs.Tree.{Tree, GrammarItem, item, items, end, more}
 use Rattle.ob0_tree.specs.View.{items_of}
 use Rattle.ob0_scope_table.specs.declared.faults.FaultAtTokens.{FaultAtTokens}
-use Rattle.ob0_types_check.specs.Known.{ResultWithFaults}
-use Rattle.ob0_types_check.specs.Operations.{ReturnsAndReports, with_earlier_faults, without_fault, ◌>>=◌}
+use Rattle.ob0_types_check.specs.TypesAndMeanings.{ResultWithFaults}
+use Rattle.ob0_types_check.specs.OperandFaults.{ReturnsAndReports, with_earlier_faults, without_fault, ◌>>=◌}
 
 pub reported_equal : {A : Type 0} {a b : ResultWithFaults A} → a.known ≡ b.known → a.faults ≡ b.faults → a ≡ b
 reported_equal p q = λ i. record { known = p i; faults = q i }

@@ -11,10 +11,10 @@ use Rattle.ob0_tree.specs.ParsedModule.{named_tree_of}
 use Rattle.ob0_tree.specs.Tree.{Tree, module_text}
 use Rattle.ob0_types_table.specs.declared.types.TypeId.{TypeId}
 use Rattle.ob0_types_check.specs.Agreement.{DeclarationAgreesWithObject, EntriesAgreeWithShapes, FieldsAgreeWithShapes, FormalsAgreeWithSignature, PartsAgreeWithShape, TableAgreesWithShapes, is_standard_procedure, shape_of_type_in}
-use Rattle.ob0_types_check.specs.DeclarationFaults.{every_body, undeclared_name_and_type_faults, reported_module}
-use Rattle.ob0_types_check.specs.Known.{KnownParameter, Meaning, a_constant, a_procedure, a_type, a_variable}
+use Rattle.ob0_types_check.specs.DeclarationFaults.{every_body, undeclared_name_and_type_faults, report_on_module}
+use Rattle.ob0_types_check.specs.TypesAndMeanings.{KnownParameter, Meaning, a_constant, a_procedure, a_type, a_variable}
 use Rattle.ob0_types_check.specs.ModuleLaws.{KnowsDeclarations}
-use Rattle.ob0_types_check.specs.KnownDeclarations.{KnownField, CompositeType, PartTypes, KnownDeclarations, of_elements, of_fields}
+use Rattle.ob0_types_check.specs.KnownDeclarations.{KnownField, CompositeType, CompositeParts, KnownDeclarations, of_elements, of_fields}
 use Rattle.ob0_types_check.specs.SomeBodies.{IncludesChangedAndFaultyBodies}
 use Rattle.ob0_types_check.proofs.BlocksKnown.{walk_without_fault_finds_correct_meanings-holds}
 use Rattle.ob0_types_check.proofs.SomeBodies.{IsKnownAlike, known_alike}
@@ -35,7 +35,7 @@ has_distinct_fields known (f ∷ fs) (next_field_shape x s gs) no_field_shape g 
 has_distinct_fields known (f ∷ fs) (next_field_shape x s gs) (next_field_shape y t hs) g h =
     λ i. next_field_shape ((sym g.0 ∙ h.0) i) (one_value (shape_of_type_in known f.of) s t g.1 h.1 i) (has_distinct_fields known fs gs hs g.2 h.2 i)
 
-parts_once : (known : List Shape) (k : ℕ) (parts : PartTypes) (s t : Shape) → PartsAgreeWithShape (shape_of_type_in known) k parts s → PartsAgreeWithShape (shape_of_type_in known) k parts t → s ≡ t
+parts_once : (known : List Shape) (k : ℕ) (parts : CompositeParts) (s t : Shape) → PartsAgreeWithShape (shape_of_type_in known) k parts s → PartsAgreeWithShape (shape_of_type_in known) k parts t → s ≡ t
 parts_once known k (of_elements n a) s t (u, e, there) (v, f, here) = e ∙ (ap (array_shape k n) (one_value (shape_of_type_in known a) u v there here) ∙ sym f)
 parts_once known k (of_fields fs) s t (gs, e, there) (hs, f, here) = e ∙ (ap (record_shape k) (has_distinct_fields known fs gs hs there here) ∙ sym f)
 
@@ -90,7 +90,7 @@ module _ (p q : KnownDeclarations) (m n : Tree Name module_text) (h : KnowsDecla
 
 -- returns the state at the end of a module
 abbrev last_known : Resolution → KnownDeclarations
-last_known r = (reported_module every_body r).known.so_far
+last_known r = (report_on_module every_body r).known.so_far
 
 pub declarations_stay : (wanted : ℕ → Bool) (r : Resolution) → IsResolution r → (w : IncludesChangedAndFaultyBodies wanted r) → undeclared_name_and_type_faults w.old ≡ [] → undeclared_name_and_type_faults r ≡ []
     → (k : ℕ) → declared_object (named_tree_of r.module_read) k ≡ declared_object (named_tree_of w.old.module_read) k

@@ -21,8 +21,8 @@ use Rattle.ob0_language_types.specs.Environments.{environment_from_binding, mean
 use Rattle.ob0_language_types.specs.Expressions as meant
 use Rattle.ob0_language_types.specs.WellTyped.{Signature, TypeEnvironment, bind_names}
 use Rattle.ob0_language_values.specs.Values.{Shape}
-use Rattle.ob0_types_check.specs.Known.{KnownParameter, Meaning, a_constant, a_procedure, a_type, a_variable}
-use Rattle.ob0_types_check.specs.KnownDeclarations.{KnownDeclarations, define_name_at_token, define_names_at_tokens, facts_at, with_meaning}
+use Rattle.ob0_types_check.specs.TypesAndMeanings.{KnownParameter, Meaning, a_constant, a_procedure, a_type, a_variable}
+use Rattle.ob0_types_check.specs.KnownDeclarations.{KnownDeclarations, define_name_at_token, define_names_at_tokens, facts_from_declarations, with_meaning}
 use Rattle.ob0_types_check.specs.Agreement.{FactsAgreeWithShapesAndLabels, FormalsAgreeWithSignature, MeaningAgreesWithObject, IsKnownAndAgreesWithObject, TableAgreesWithShapes, TokensAgreeWithLabels, is_standard_procedure, shape_of_type_in}
 use Rattle.ob0_types_check.proofs.PartsFitting.{PartsFit}
 use Rattle.ob0_types_check.proofs.DeclaredNames.{AreSeen, Each, IsPlaced, IsSeen, NamesPlaced, Numbering, scope_following}
@@ -173,12 +173,12 @@ holds_defined w p q shapes n scope env m x o h d own agrees =
 
 -- In an expression or statements whose names are all visible in the scope, the facts agree with all names.
 module _ (w : Numbering) (p : KnownDeclarations) (only_constants : Bool) (shapes : List Shape) (n : ℕ) (scope : Scope Name) (env : TypeEnvironment Name) (h : IsKnownAt w p shapes n scope env) where
-  pub seen_holds : (x : ℕ) → IsSeen w scope x → IsKnownAndAgreesWithObject (shape_of_type_in shapes) ((facts_at p only_constants).object_for x) ((meanings naming_by_spelling env).object_for (token_text_at w.source x))
+  pub seen_holds : (x : ℕ) → IsSeen w scope x → IsKnownAndAgreesWithObject (shape_of_type_in shapes) ((facts_from_declarations p only_constants).object_for x) ((meanings naming_by_spelling env).object_for (token_text_at w.source x))
   seen_holds x (k, at, there) =
       subst (λ o. IsKnownAndAgreesWithObject (shape_of_type_in shapes) (option_and_then (λ j. slice_index_or p.declared j None) o) (newest_object (environment_from_binding naming_by_spelling env (token_text_at w.source x)))) (sym (ap (λ os. ordinal_in os x) h.ordinals ∙ at))
       (name_found shapes p.declared n scope env h.names (token_text_at w.source x) k there)
 
-  tokens_agree : (xs : List (Role × ℕ)) → Each (IsSeen w scope) (looked_up_only xs) → TokensAgreeWithLabels (facts_at p only_constants) (shape_of_type_in shapes) (token_text_at w.source) (meanings naming_by_spelling env) xs
+  tokens_agree : (xs : List (Role × ℕ)) → Each (IsSeen w scope) (looked_up_only xs) → TokensAgreeWithLabels (facts_from_declarations p only_constants) (shape_of_type_in shapes) (token_text_at w.source) (meanings naming_by_spelling env) xs
   tokens_agree [] seen = tt
   tokens_agree ((role.LookedUp, x) ∷ xs) seen = (seen_holds x seen.0, tokens_agree xs seen.1)
   tokens_agree ((role.Declaring, x) ∷ xs) seen = (tt, tokens_agree xs seen)
@@ -186,7 +186,7 @@ module _ (w : Numbering) (p : KnownDeclarations) (only_constants : Bool) (shapes
   tokens_agree ((role.FieldName, x) ∷ xs) seen = (ap (λ s. token_text_at s x) (sym h.source), tokens_agree xs seen)
   tokens_agree ((role.ModuleName, x) ∷ xs) seen = (tt, tokens_agree xs seen)
 
-  pub agrees_where_seen : {s : Sort} → PartsFit → (t : Tree ℕ s) → AreSeen w scope t → FactsAgreeWithShapesAndLabels (facts_at p only_constants) (shape_of_type_in shapes) (token_text_at w.source) (meanings naming_by_spelling env) t
+  pub agrees_where_seen : {s : Sort} → PartsFit → (t : Tree ℕ s) → AreSeen w scope t → FactsAgreeWithShapesAndLabels (facts_from_declarations p only_constants) (shape_of_type_in shapes) (token_text_at w.source) (meanings naming_by_spelling env) t
   agrees_where_seen fit t seen = record {
     types = fit.tables p.made shapes h.table;
     tokens = tokens_agree (identifiers role.Declaring t) (subst (Each (IsSeen w scope)) (sym (looked_up-occurrences role.Declaring (λ x xs. refl) t)) seen);

@@ -6,13 +6,13 @@ use Rattle.ob0_tree.specs.declared.tree.Role.{Role}
 use Rattle.ob0_tree.specs.declared.tree.Role.TheVariants as role
 use Rattle.ob0_tree.specs.ParsedModule.{tree_of}
 use Rattle.ob0_tree.specs.Places.{token_text_at}
-use Rattle.ob0_tree.specs.Tree.{Tree, block, constant, constants, declares, declares_constant, declares_constants, declares_procedure, declares_type, declares_types, declares_variable, declares_variables, end, formals, further_name, further_section, forms_block, identifiers, item, items, listed, maybe, more, names, no_formals, none, occurrences, one, procedure, section, some_formals, then_name, then_section, type_definition, type_definitions, value_section, variable, variable_section, variables}
+use Rattle.ob0_tree.specs.Tree.{Tree, block, constant, constants, declares, declares_constant, declares_const_section, declares_procedure, declares_type, declares_type_section, declares_variable, declares_var_section, end, formals, name_after_comma, section_after_semicolon, forms_block, identifiers, item, items, listed, maybe, more, names, no_formals, none, occurrences, one, procedure, section, some_formals, comma_then_name, semicolon_then_section, type_definition, type_definitions, value_section, variable, variable_section, variables}
 use Rattle.ob0_language_names.specs.Names.{naming_by_spelling}
-use Rattle.ob0_language_names.specs.Parts.{constant_names, formal_names, formal_sections, further_names, module_block, declared_type_names, names_in_list, section_constants, parameter_section_names, section_types, section_variables, variable_names}
-use Rattle.ob0_scope_table.specs.Resolution.{IsResolution, Resolution, declaring_names, is_undeclared_fault, is_unbound, label_from_table, ordinal_in, undeclared_faults_by_labels}
+use Rattle.ob0_language_names.specs.BlockParts.{constant_names, formal_names, formal_sections, names_after_first, module_block, declared_type_names, names_in_list, section_constants, parameter_section_names, section_types, section_variables, variable_names}
+use Rattle.ob0_scope_table.specs.Resolution.{IsResolution, Resolution, declaring_names, is_undeclared_fault, is_unbound, label_from_table, ordinal_in, undeclared_faults_from_labels}
 use Rattle.ob0_scope_table.specs.FaultsAtTokens.{fault_at_token}
 use Rattle.ob0_scope_table.specs.declared.faults.FaultAtTokens.{FaultAtTokens}
-use Rattle.ob0_language_names.specs.Scopes.{ordinal_after_block, ordinal_after_names, ordinal_after_procedure, ordinal_after_procedures, label_from_ordinal, predeclared_scope}
+use Rattle.ob0_language_names.specs.Scopes.{ordinal_after_block, ordinal_after_names, ordinal_after_procedure, ordinal_after_procedure_list, label_from_ordinal, predeclared_scope}
 use Rattle.ob0_scope_table.proofs.Bound.{bindings_by_table}
 use Rattle.ob0_language_names.proofs.Ordinals.{ordinal_after_names-append}
 use Rattle.ob0_scope_table.proofs.Plain.{Plain, declares_nothing, declaring_names-append}
@@ -37,9 +37,9 @@ closing_last k x = record { counts = omega arith }
 to : {k i j : ℕ} {xs : List (Role × ℕ)} → i ≡ j → Counts k xs i → Counts k xs j
 to e p = record { counts = sym e ∙ p.counts }
 
-counts_further : (k : ℕ) (ns : Tree ℕ (items further_name)) → Counts k (identifiers role.Declaring ns) (ordinal_after_names k (further_names ns))
+counts_further : (k : ℕ) (ns : Tree ℕ (items name_after_comma)) → Counts k (identifiers role.Declaring ns) (ordinal_after_names k (names_after_first ns))
 counts_further k end = record { counts = omega arith }
-counts_further k (more (then_name x) rest) = first (counts_further (suc k) rest)
+counts_further k (more (comma_then_name x) rest) = first (counts_further (suc k) rest)
 
 counts_names : (k : ℕ) (ns : Tree ℕ names) → Counts k (identifiers role.Declaring ns) (ordinal_after_names k (names_in_list ns))
 counts_names k (listed x rest) = first (counts_further (suc k) rest)
@@ -62,9 +62,9 @@ counts_section : (k : ℕ) (f : Tree ℕ section) → Counts k (identifiers role
 counts_section k (value_section ns t) = both (counts_names k ns) (plain (ordinal_after_names k (names_in_list ns)) (declares_nothing tt t))
 counts_section k (variable_section ns t) = both (counts_names k ns) (plain (ordinal_after_names k (names_in_list ns)) (declares_nothing tt t))
 
-counts_sections : (k : ℕ) (fs : Tree ℕ (items further_section)) → Counts k (identifiers role.Declaring fs) (ordinal_after_names k (formal_names fs))
+counts_sections : (k : ℕ) (fs : Tree ℕ (items section_after_semicolon)) → Counts k (identifiers role.Declaring fs) (ordinal_after_names k (formal_names fs))
 counts_sections k end = record { counts = omega arith }
-counts_sections k (more (then_section f) fs) =
+counts_sections k (more (semicolon_then_section f) fs) =
     to (sym (ordinal_after_names-append k (parameter_section_names f) (formal_names fs))) (both (counts_section k f) (counts_sections (ordinal_after_names k (parameter_section_names f)) fs))
 
 counts_formals : (k : ℕ) (fs : Tree ℕ (maybe formals)) → Counts k (identifiers role.Declaring fs) (ordinal_after_names k (formal_names (formal_sections fs)))
@@ -75,15 +75,15 @@ counts_formals k (one (some_formals f fs)) =
 
 counts_constant_section : (k : ℕ) (cs : Tree ℕ (maybe constants)) → Counts k (identifiers role.Declaring cs) (ordinal_after_names k (constant_names (section_constants cs)))
 counts_constant_section k none = record { counts = omega arith }
-counts_constant_section k (one (declares_constants cs)) = counts_constants k cs
+counts_constant_section k (one (declares_const_section cs)) = counts_constants k cs
 
 counts_type_section : (k : ℕ) (ts : Tree ℕ (maybe type_definitions)) → Counts k (identifiers role.Declaring ts) (ordinal_after_names k (declared_type_names (section_types ts)))
 counts_type_section k none = record { counts = omega arith }
-counts_type_section k (one (declares_types ts)) = counts_types k ts
+counts_type_section k (one (declares_type_section ts)) = counts_types k ts
 
 counts_variable_section : (k : ℕ) (vs : Tree ℕ (maybe variables)) → Counts k (identifiers role.Declaring vs) (ordinal_after_names k (variable_names (section_variables vs)))
 counts_variable_section k none = record { counts = omega arith }
-counts_variable_section k (one (declares_variables vs)) = counts_variables k vs
+counts_variable_section k (one (declares_var_section vs)) = counts_variables k vs
 
 mutual
   counts_block : (k : ℕ) (b : Tree ℕ block) → Counts k (identifiers role.Declaring b) (ordinal_after_block k b)
@@ -91,9 +91,9 @@ mutual
       let k₁ : ℕ = ordinal_after_names k (constant_names (section_constants cs)) in
       let k₂ : ℕ = ordinal_after_names k₁ (declared_type_names (section_types ts)) in
       let k₃ : ℕ = ordinal_after_names k₂ (variable_names (section_variables vs)) in
-      both (both (counts_constant_section k cs) (both (counts_type_section k₁ ts) (both (counts_variable_section k₂ vs) (counts_procedures k₃ ps)))) (plain (ordinal_after_procedures k₃ ps) (declares_nothing tt statements))
+      both (both (counts_constant_section k cs) (both (counts_type_section k₁ ts) (both (counts_variable_section k₂ vs) (counts_procedures k₃ ps)))) (plain (ordinal_after_procedure_list k₃ ps) (declares_nothing tt statements))
 
-  counts_procedures : (k : ℕ) (ps : Tree ℕ (items procedure)) → Counts k (identifiers role.Declaring ps) (ordinal_after_procedures k ps)
+  counts_procedures : (k : ℕ) (ps : Tree ℕ (items procedure)) → Counts k (identifiers role.Declaring ps) (ordinal_after_procedure_list k ps)
   counts_procedures k end = record { counts = omega arith }
   counts_procedures k (more p rest) = both (counts_procedure k p) (counts_procedures (ordinal_after_procedure (suc k) p) rest)
 
@@ -108,10 +108,10 @@ one_bound : (n : Numbering) (x : ℕ) (xs : List ℕ) (later : List FaultAtToken
 one_bound n x xs later None f h others e = absurd (cc)
 one_bound n x xs later (Some k) f h others e = ((k, h), others e)
 
-all_bound : (n : Numbering) (xs : List ℕ) → undeclared_faults_by_labels xs (map (label_from_table n.source n.ordinals) xs) ≡ [] → Each (IsBound n) xs
+all_bound : (n : Numbering) (xs : List ℕ) → undeclared_faults_from_labels xs (map (label_from_table n.source n.ordinals) xs) ≡ [] → Each (IsBound n) xs
 all_bound n [] e = tt
 all_bound n (x ∷ xs) e =
-    one_bound n x xs (undeclared_faults_by_labels xs (map (label_from_table n.source n.ordinals) xs)) (ordinal_in n.ordinals x) (fault_at_token code.Undeclared x) refl (all_bound n xs) e
+    one_bound n x xs (undeclared_faults_from_labels xs (map (label_from_table n.source n.ordinals) xs)) (ordinal_in n.ordinals x) (fault_at_token code.Undeclared x) refl (all_bound n xs) e
 
 -- returns the numbering of a resolved module's names
 abbrev pub numbering_of : Resolution → Numbering
@@ -130,6 +130,6 @@ module_placed r is nothing =
     let m = r.module_read in
     let n : Numbering = numbering_of r in
     let b : Tree ℕ block = module_block (tree_of m) in
-    let bound : undeclared_faults_by_labels (occurrences (tree_of m)) (map (label_from_table m.source r.ordinals) (occurrences (tree_of m))) ≡ [] =
-    ap (undeclared_faults_by_labels (occurrences (tree_of m))) (sym (bindings_by_table m r.ordinals is.numbering)) ∙ (sym is.reported.undeclared ∙ nothing) in
+    let bound : undeclared_faults_from_labels (occurrences (tree_of m)) (map (label_from_table m.source r.ordinals) (occurrences (tree_of m))) ≡ [] =
+    ap (undeclared_faults_from_labels (occurrences (tree_of m))) (sym (bindings_by_table m r.ordinals is.numbering)) ∙ (sym is.reported.undeclared ∙ nothing) in
     block_placed n (predeclared_scope naming_by_spelling) 7 b (ap module_block is.binding) (all_bound n (occurrences b) bound) (omega (arith, module_counted r is))

@@ -6,13 +6,13 @@ use Rattle.std.proofs.Common.{◌≡◌, ℕ, suc, ◌<◌, ◌≤◌, Option, S
 use Rattle.std.proofs.lemmas.List.{map-append}
 use Rattle.ob0_scan.specs.TextWithTokens.{TextWithTokens}
 use Rattle.ob0_tree.specs.Places.{tree_with_names, token_text_at, token_value_at}
-use Rattle.ob0_tree.specs.Tree.{GrammarItem, Sort, Tree, block, body, constant, constants, declares, declares_constant, declares_constants, declares_procedure, declares_type, declares_types, declares_variable, declares_variables, end, expression, formals, further_name, further_section, forms_block, item, items, listed, mapped_tree, maybe, more, names, no_formals, none, occurrences, one, procedure, section, some_formals, then_name, then_section, type_definition, type_definitions, value_section, variable, variable_section, variables, written_type}
+use Rattle.ob0_tree.specs.Tree.{GrammarItem, Sort, Tree, block, body, constant, constants, declares, declares_constant, declares_const_section, declares_procedure, declares_type, declares_type_section, declares_variable, declares_var_section, end, expression, formals, name_after_comma, section_after_semicolon, forms_block, item, items, listed, mapped_tree, maybe, more, names, no_formals, none, occurrences, one, procedure, section, some_formals, comma_then_name, semicolon_then_section, type_definition, type_definitions, value_section, variable, variable_section, variables, written_type}
 use Rattle.ob0_language_names.specs.Names.{Name, naming_by_spelling}
-use Rattle.ob0_language_names.specs.Parts.{block_constants, block_procedures, block_statements, block_types, block_variables, constant_names, formal_names, formal_sections, further_names, declared_type_names, names_in_list, procedure_block, procedure_formals, procedure_name, section_constants, parameter_section_names, parameter_section_type, section_types, section_variables, variable_names}
+use Rattle.ob0_language_names.specs.BlockParts.{block_constants, block_procedures, block_statements, block_types, block_variables, constant_names, formal_names, formal_sections, names_after_first, declared_type_names, names_in_list, procedure_block, procedure_formals, procedure_name, section_constants, parameter_section_names, parameter_section_type, section_types, section_variables, variable_names}
 use Rattle.ob0_scope_table.specs.Resolution.{ordinal_and_spelling_at, ordinal_in, ordinal_and_spelling}
-use Rattle.ob0_language_names.specs.Scopes.{Scope, ordinal_after_block, ordinal_after_names, ordinal_after_procedure, ordinal_after_procedures, declare_names, declare_procedure_names, first_procedure_ordinal, first_type_ordinal, first_variable_ordinal, labels_of_declared_names, label_of, ordinal_in_scope, scope_before_procedures, relabel_block, relabel_constants, relabel_procedure, relabel_procedures, relabel_parameter_sections, relabel_types, relabel_uses, relabel_variables, scope_before_types, scope_before_variables}
+use Rattle.ob0_language_names.specs.Scopes.{Scope, ordinal_after_block, ordinal_after_names, ordinal_after_procedure, ordinal_after_procedure_list, declare_names, declare_procedure_names, first_procedure_ordinal, first_type_ordinal, first_variable_ordinal, labels_of_declared_names, label_of, ordinal_in_scope, scope_before_procedures, relabel_block, relabel_constants, relabel_procedure, relabel_procedure_list, relabel_parameter_section_list, relabel_types, relabel_uses, relabel_variables, scope_before_types, scope_before_variables}
 use Rattle.ob0_language_names.proofs.OccurrencesMapped.{occurrences-mapped}
-use Rattle.ob0_language_names.proofs.Ordinals.{ordinal_after_names-append, le-ordinal_after_block, le-ordinal_after_names, le-ordinal_after_procedures}
+use Rattle.ob0_language_names.proofs.Ordinals.{ordinal_after_names-append, le-ordinal_after_block, le-ordinal_after_names, le-ordinal_after_procedure_list}
 use Rattle.ob0_language_names.proofs.Peeling.{heads}
 use Rattle.ob0_language_names.proofs.Relabelled.{constants-section, formals-section, names-relabel, parameter_section_names-relabel, parameter_section_type-relabel, types-section, variables-section}
 
@@ -64,20 +64,20 @@ variables_left (declares_variable ns t) = names_in_list ns
 abbrev variables_side : {N : Type 0} → Tree N (item variable) → Tree N written_type
 variables_side (declares_variable ns t) = t
 
-abbrev section_in : {N : Type 0} → Tree N (item further_section) → Tree N section
-section_in (then_section f) = f
+abbrev section_in : {N : Type 0} → Tree N (item section_after_semicolon) → Tree N section
+section_in (semicolon_then_section f) = f
 
 -- The ordinal after names depends only on their number.
 pub ordinal_after_names-map : {A B : Type 0} (f : A → B) (k : ℕ) (xs : List A) → ordinal_after_names k (map f xs) ≡ ordinal_after_names k xs
 ordinal_after_names-map f k [] = refl
 ordinal_after_names-map f k (x ∷ xs) = ordinal_after_names-map f (suc k) xs
 
-further_names-mapped_tree : {N M : Type 0} (f : N → M) (g : ℕ → ℕ) (ns : Tree N (items further_name)) → further_names (mapped_tree f g ns) ≡ map f (further_names ns)
-further_names-mapped_tree f g end = refl
-further_names-mapped_tree f g (more (then_name x) ns) = λ i. f x ∷ further_names-mapped_tree f g ns i
+names_after_first-mapped_tree : {N M : Type 0} (f : N → M) (g : ℕ → ℕ) (ns : Tree N (items name_after_comma)) → names_after_first (mapped_tree f g ns) ≡ map f (names_after_first ns)
+names_after_first-mapped_tree f g end = refl
+names_after_first-mapped_tree f g (more (comma_then_name x) ns) = λ i. f x ∷ names_after_first-mapped_tree f g ns i
 
 pub names_in_list-mapped_tree : {N M : Type 0} (f : N → M) (g : ℕ → ℕ) (ns : Tree N names) → names_in_list (mapped_tree f g ns) ≡ map f (names_in_list ns)
-names_in_list-mapped_tree f g (listed x ns) = λ i. f x ∷ further_names-mapped_tree f g ns i
+names_in_list-mapped_tree f g (listed x ns) = λ i. f x ∷ names_after_first-mapped_tree f g ns i
 
 pub parameter_section_names-mapped_tree : {N M : Type 0} (f : N → M) (g : ℕ → ℕ) (s : Tree N section) → parameter_section_names (mapped_tree f g s) ≡ map f (parameter_section_names s)
 parameter_section_names-mapped_tree f g (value_section ns t) = names_in_list-mapped_tree f g ns
@@ -89,15 +89,15 @@ parameter_section_type-mapped_tree f g (variable_section ns t) = refl
 
 pub constants-mapped_tree : {N M : Type 0} (f : N → M) (g : ℕ → ℕ) (cs : Tree N (maybe constants)) → section_constants (mapped_tree f g cs) ≡ mapped_tree f g (section_constants cs)
 constants-mapped_tree f g none = refl
-constants-mapped_tree f g (one (declares_constants cs)) = refl
+constants-mapped_tree f g (one (declares_const_section cs)) = refl
 
 pub types-mapped_tree : {N M : Type 0} (f : N → M) (g : ℕ → ℕ) (ts : Tree N (maybe type_definitions)) → section_types (mapped_tree f g ts) ≡ mapped_tree f g (section_types ts)
 types-mapped_tree f g none = refl
-types-mapped_tree f g (one (declares_types ts)) = refl
+types-mapped_tree f g (one (declares_type_section ts)) = refl
 
 pub variables-mapped_tree : {N M : Type 0} (f : N → M) (g : ℕ → ℕ) (vs : Tree N (maybe variables)) → section_variables (mapped_tree f g vs) ≡ mapped_tree f g (section_variables vs)
 variables-mapped_tree f g none = refl
-variables-mapped_tree f g (one (declares_variables vs)) = refl
+variables-mapped_tree f g (one (declares_var_section vs)) = refl
 
 pub formals-mapped_tree : {N M : Type 0} (f : N → M) (g : ℕ → ℕ) (fs : Tree N (maybe formals)) → formal_sections (mapped_tree f g fs) ≡ mapped_tree f g (formal_sections fs)
 formals-mapped_tree f g none = refl
@@ -120,9 +120,9 @@ variable_names-mapped_tree f g end = refl
 variable_names-mapped_tree f g (more (declares_variable ns t) gs) =
     joined f (names_in_list ns) (variable_names gs) (names_in_list (mapped_tree f g ns)) (variable_names (mapped_tree f g gs)) (names_in_list-mapped_tree f g ns) (variable_names-mapped_tree f g gs)
 
-pub formal_names-mapped_tree : {N M : Type 0} (f : N → M) (g : ℕ → ℕ) (fs : Tree N (items further_section)) → formal_names (mapped_tree f g fs) ≡ map f (formal_names fs)
+pub formal_names-mapped_tree : {N M : Type 0} (f : N → M) (g : ℕ → ℕ) (fs : Tree N (items section_after_semicolon)) → formal_names (mapped_tree f g fs) ≡ map f (formal_names fs)
 formal_names-mapped_tree f g end = refl
-formal_names-mapped_tree f g (more (then_section s) fs) =
+formal_names-mapped_tree f g (more (semicolon_then_section s) fs) =
     joined f (parameter_section_names s) (formal_names fs) (parameter_section_names (mapped_tree f g s)) (formal_names (mapped_tree f g fs)) (parameter_section_names-mapped_tree f g s) (formal_names-mapped_tree f g fs)
 
 -- The names in optional sections of a mapped tree are the mapped names.
@@ -150,11 +150,11 @@ mutual
       let a = after-mapped_tree f j k (constant_names (section_constants cs)) (constant_names (section_constants (mapped_tree f g cs))) (constants-names f g cs) e in
       let b = after-mapped_tree f (ordinal_after_names j (constant_names (section_constants (mapped_tree f g cs)))) (ordinal_after_names k (constant_names (section_constants cs))) (declared_type_names (section_types ts)) (declared_type_names (section_types (mapped_tree f g ts))) (types-names f g ts) a in
       let c = after-mapped_tree f (ordinal_after_names (ordinal_after_names j (constant_names (section_constants (mapped_tree f g cs)))) (declared_type_names (section_types (mapped_tree f g ts)))) (ordinal_after_names (ordinal_after_names k (constant_names (section_constants cs))) (declared_type_names (section_types ts))) (variable_names (section_variables vs)) (variable_names (section_variables (mapped_tree f g vs))) (variables-names f g vs) b in
-      ordinal_after_procedures-mapped_tree f g _ _ c ps
+      ordinal_after_procedure_list-mapped_tree f g _ _ c ps
 
-  ordinal_after_procedures-mapped_tree : {N M : Type 0} (f : N → M) (g : ℕ → ℕ) (j k : ℕ) → j ≡ k → (ps : Tree N (items procedure)) → ordinal_after_procedures j (mapped_tree f g ps) ≡ ordinal_after_procedures k ps
-  ordinal_after_procedures-mapped_tree f g j k e end = e
-  ordinal_after_procedures-mapped_tree f g j k e (more p ps) = ordinal_after_procedures-mapped_tree f g (ordinal_after_procedure (suc j) (mapped_tree f g p)) (ordinal_after_procedure (suc k) p) (ordinal_after_procedure-mapped_tree f g (suc j) (suc k) (ap suc e) p) ps
+  ordinal_after_procedure_list-mapped_tree : {N M : Type 0} (f : N → M) (g : ℕ → ℕ) (j k : ℕ) → j ≡ k → (ps : Tree N (items procedure)) → ordinal_after_procedure_list j (mapped_tree f g ps) ≡ ordinal_after_procedure_list k ps
+  ordinal_after_procedure_list-mapped_tree f g j k e end = e
+  ordinal_after_procedure_list-mapped_tree f g j k e (more p ps) = ordinal_after_procedure_list-mapped_tree f g (ordinal_after_procedure (suc j) (mapped_tree f g p)) (ordinal_after_procedure (suc k) p) (ordinal_after_procedure-mapped_tree f g (suc j) (suc k) (ap suc e) p) ps
 
   pub ordinal_after_procedure-mapped_tree : {N M : Type 0} (f : N → M) (g : ℕ → ℕ) (j k : ℕ) → j ≡ k → (p : Tree N (item procedure)) → ordinal_after_procedure j (mapped_tree f g p) ≡ ordinal_after_procedure k p
   ordinal_after_procedure-mapped_tree f g j k e (declares_procedure x fs b closing) =
@@ -205,9 +205,9 @@ VariablesPlaced n scope k end = Unit {0}
 VariablesPlaced n scope k (more (declares_variable ns t) gs) =
     NamesPlaced n k (names_in_list ns) × AreSeen n scope t × VariablesPlaced n (scope_following n k (names_in_list ns) scope) (ordinal_after_names k (names_in_list ns)) gs
 
-abbrev pub SectionsPlaced : Numbering → Scope Name → ℕ → Tree ℕ (items further_section) → Type 0
+abbrev pub SectionsPlaced : Numbering → Scope Name → ℕ → Tree ℕ (items section_after_semicolon) → Type 0
 SectionsPlaced n scope k end = Unit {0}
-SectionsPlaced n scope k (more (then_section f) fs) =
+SectionsPlaced n scope k (more (semicolon_then_section f) fs) =
     NamesPlaced n k (parameter_section_names f) × AreSeen n scope (parameter_section_type f) × SectionsPlaced n (scope_following n k (parameter_section_names f) scope) (ordinal_after_names k (parameter_section_names f)) fs
 
 -- returns the scope after the constants of a block, given its tree of tokens; the next ones return the scopes after its
@@ -308,11 +308,11 @@ module _ (n : Numbering) where
   section_occurrences (value_section ns t) = refl
   section_occurrences (variable_section ns t) = refl
 
-  sections_placed : (scope : Scope Name) (k : ℕ) (fs : Tree ℕ (items further_section)) → relabel_parameter_sections naming_by_spelling ordinal_and_spelling scope k (tree_with_names n.source fs) ≡ bound_by fs → Each (IsBound n) (occurrences fs) → ordinal_after_names k (formal_names fs) ≤ n.room → SectionsPlaced n scope k fs
+  sections_placed : (scope : Scope Name) (k : ℕ) (fs : Tree ℕ (items section_after_semicolon)) → relabel_parameter_section_list naming_by_spelling ordinal_and_spelling scope k (tree_with_names n.source fs) ≡ bound_by fs → Each (IsBound n) (occurrences fs) → ordinal_after_names k (formal_names fs) ≤ n.room → SectionsPlaced n scope k fs
   sections_placed scope k end e all room = tt
-  sections_placed scope k (more (then_section f) fs) e all room =
+  sections_placed scope k (more (semicolon_then_section f) fs) e all room =
       let text : ℕ → Name = token_text_at n.source in
-      let first = ap (λ t. section_in (first_of (bound_by (then_section f)) t)) e in
+      let first = ap (λ t. section_in (first_of (bound_by (semicolon_then_section f)) t)) e in
       let parts = each_part (IsBound n) (occurrences f) (occurrences fs) all in
       let own : parameter_section_names (tree_with_names n.source f) ≡ map text (parameter_section_names f) = parameter_section_names-mapped_tree text (token_value_at n.source) f in
       let following : ordinal_after_names (ordinal_after_names k (parameter_section_names f)) (formal_names fs) ≤ n.room = subst (λ j. j ≤ n.room) (ordinal_after_names-append k (parameter_section_names f) (formal_names fs)) room in
@@ -320,8 +320,8 @@ module _ (n : Numbering) where
       sym (parameter_section_names-relabel naming_by_spelling ordinal_and_spelling scope k (tree_with_names n.source f) ∙ ap (labels_of_declared_names ordinal_and_spelling k) own) ∙ (ap parameter_section_names first ∙ parameter_section_names-mapped_tree (ordinal_and_spelling_at n.source n.ordinals) (token_value_at n.source) f) in
       let sided : relabel_uses naming_by_spelling ordinal_and_spelling scope (tree_with_names n.source (parameter_section_type f)) ≡ bound_by (parameter_section_type f) =
       sym (parameter_section_type-relabel naming_by_spelling ordinal_and_spelling scope k (tree_with_names n.source f) ∙ ap (relabel_uses naming_by_spelling ordinal_and_spelling scope) (parameter_section_type-mapped_tree text (token_value_at n.source) f)) ∙ (ap parameter_section_type first ∙ parameter_section_type-mapped_tree (ordinal_and_spelling_at n.source n.ordinals) (token_value_at n.source) f) in
-      let rest : relabel_parameter_sections naming_by_spelling ordinal_and_spelling (scope_following n k (parameter_section_names f) scope) (ordinal_after_names k (parameter_section_names f)) (tree_with_names n.source fs) ≡ bound_by fs =
-      sym (λ i. relabel_parameter_sections naming_by_spelling ordinal_and_spelling (declare_names k (own i) scope) (after-mapped_tree text k k (parameter_section_names f) (parameter_section_names (tree_with_names n.source f)) own refl i) (tree_with_names n.source fs)) ∙ ap rest_of e in (
+      let rest : relabel_parameter_section_list naming_by_spelling ordinal_and_spelling (scope_following n k (parameter_section_names f) scope) (ordinal_after_names k (parameter_section_names f)) (tree_with_names n.source fs) ≡ bound_by fs =
+      sym (λ i. relabel_parameter_section_list naming_by_spelling ordinal_and_spelling (declare_names k (own i) scope) (after-mapped_tree text k k (parameter_section_names f) (parameter_section_names (tree_with_names n.source f)) own refl i) (tree_with_names n.source fs)) ∙ ap rest_of e in (
         names_placed k (parameter_section_names f) labels (le_trans (le-ordinal_after_names (ordinal_after_names k (parameter_section_names f)) (formal_names fs)) following),
         uses_seen scope (parameter_section_type f) sided (subst (Each (IsBound n)) (section_occurrences f) parts.0),
         sections_placed (scope_following n k (parameter_section_names f) scope) (ordinal_after_names k (parameter_section_names f)) fs rest parts.1 following,
@@ -329,15 +329,15 @@ module _ (n : Numbering) where
 
   constants_occurrences : (cs : Tree ℕ (maybe constants)) → occurrences cs ≡ occurrences (section_constants cs)
   constants_occurrences none = refl
-  constants_occurrences (one (declares_constants cs)) = refl
+  constants_occurrences (one (declares_const_section cs)) = refl
 
   types_occurrences : (ts : Tree ℕ (maybe type_definitions)) → occurrences ts ≡ occurrences (section_types ts)
   types_occurrences none = refl
-  types_occurrences (one (declares_types ts)) = refl
+  types_occurrences (one (declares_type_section ts)) = refl
 
   variables_occurrences : (vs : Tree ℕ (maybe variables)) → occurrences vs ≡ occurrences (section_variables vs)
   variables_occurrences none = refl
-  variables_occurrences (one (declares_variables vs)) = refl
+  variables_occurrences (one (declares_var_section vs)) = refl
 
   formals_occurrences : (fs : Tree ℕ (maybe formals)) → occurrences fs ≡ occurrences (formal_sections fs)
   formals_occurrences none = refl
@@ -361,7 +361,7 @@ module _ (n : Numbering) where
         let s₁ : scope_before_types k (tree_with_names n.source b) scope ≡ following_constants n scope k b = λ i. declare_names k (constants-names text value cs i) scope in
         let s₂ : scope_before_variables k (tree_with_names n.source b) scope ≡ following_types n scope k b = λ i. declare_names (k₁ i) (types-names text value ts i) (s₁ i) in
         let s₃ : scope_before_procedures k (tree_with_names n.source b) scope ≡ following_variables n scope k b = λ i. declare_names (k₂ i) (variables-names text value vs i) (s₂ i) in
-        let room₃ : first_procedure_ordinal k b ≤ n.room = le_trans (le-ordinal_after_procedures (first_procedure_ordinal k b) ps) room in
+        let room₃ : first_procedure_ordinal k b ≤ n.room = le_trans (le-ordinal_after_procedure_list (first_procedure_ordinal k b) ps) room in
         let room₂ : first_variable_ordinal k b ≤ n.room = le_trans (le-ordinal_after_names (first_variable_ordinal k b) (variable_names (section_variables vs))) room₃ in
         let room₁ : first_type_ordinal k b ≤ n.room = le_trans (le-ordinal_after_names (first_type_ordinal k b) (declared_type_names (section_types ts))) room₂ in
         let of_constants : relabel_constants naming_by_spelling ordinal_and_spelling scope k (tree_with_names n.source (section_constants cs)) ≡ bound_by (section_constants cs) =
@@ -370,8 +370,8 @@ module _ (n : Numbering) where
         sym (types-section naming_by_spelling ordinal_and_spelling (scope_before_types k (tree_with_names n.source b) scope) (first_type_ordinal k (tree_with_names n.source b)) (tree_with_names n.source ts) ∙ (λ i. relabel_types naming_by_spelling ordinal_and_spelling (s₁ i) (k₁ i) (types-mapped_tree text value ts i))) ∙ (ap block_types e ∙ types-mapped_tree bound value ts) in
         let of_variables : relabel_variables naming_by_spelling ordinal_and_spelling (following_types n scope k b) (first_variable_ordinal k b) (tree_with_names n.source (section_variables vs)) ≡ bound_by (section_variables vs) =
         sym (variables-section naming_by_spelling ordinal_and_spelling (scope_before_variables k (tree_with_names n.source b) scope) (first_variable_ordinal k (tree_with_names n.source b)) (tree_with_names n.source vs) ∙ (λ i. relabel_variables naming_by_spelling ordinal_and_spelling (s₂ i) (k₂ i) (variables-mapped_tree text value vs i))) ∙ (ap block_variables e ∙ variables-mapped_tree bound value vs) in
-        let of_procedures : relabel_procedures naming_by_spelling ordinal_and_spelling (following_variables n scope k b) (first_procedure_ordinal k b) (tree_with_names n.source ps) ≡ bound_by ps =
-        sym (λ i. relabel_procedures naming_by_spelling ordinal_and_spelling (s₃ i) (k₃ i) (tree_with_names n.source ps)) ∙ ap block_procedures e in
+        let of_procedures : relabel_procedure_list naming_by_spelling ordinal_and_spelling (following_variables n scope k b) (first_procedure_ordinal k b) (tree_with_names n.source ps) ≡ bound_by ps =
+        sym (λ i. relabel_procedure_list naming_by_spelling ordinal_and_spelling (s₃ i) (k₃ i) (tree_with_names n.source ps)) ∙ ap block_procedures e in
         let of_statements : relabel_uses naming_by_spelling ordinal_and_spelling (declare_procedure_names (first_procedure_ordinal k b) (tree_with_names n.source ps) (following_variables n scope k b)) (tree_with_names n.source statements) ≡ bound_by statements =
         sym (λ i. relabel_uses naming_by_spelling ordinal_and_spelling (declare_procedure_names (k₃ i) (tree_with_names n.source ps) (s₃ i)) (tree_with_names n.source statements)) ∙ ap block_statements e in (
           constants_placed scope k (section_constants cs) of_constants (subst (Each (IsBound n)) (constants_occurrences cs) first.0) room₁,
@@ -380,18 +380,18 @@ module _ (n : Numbering) where
           procedures_placed (following_variables n scope k b) (first_procedure_ordinal k b) statements ps of_procedures of_statements third.1 both.1 room,
         )
 
-    procedures_placed : (scope : Scope Name) (k : ℕ) (statements : Tree ℕ (maybe body)) (ps : Tree ℕ (items procedure)) → relabel_procedures naming_by_spelling ordinal_and_spelling scope k (tree_with_names n.source ps) ≡ bound_by ps
-        → relabel_uses naming_by_spelling ordinal_and_spelling (declare_procedure_names k (tree_with_names n.source ps) scope) (tree_with_names n.source statements) ≡ bound_by statements → Each (IsBound n) (occurrences ps) → Each (IsBound n) (occurrences statements) → ordinal_after_procedures k ps ≤ n.room → ProceduresPlaced n scope k statements ps
+    procedures_placed : (scope : Scope Name) (k : ℕ) (statements : Tree ℕ (maybe body)) (ps : Tree ℕ (items procedure)) → relabel_procedure_list naming_by_spelling ordinal_and_spelling scope k (tree_with_names n.source ps) ≡ bound_by ps
+        → relabel_uses naming_by_spelling ordinal_and_spelling (declare_procedure_names k (tree_with_names n.source ps) scope) (tree_with_names n.source statements) ≡ bound_by statements → Each (IsBound n) (occurrences ps) → Each (IsBound n) (occurrences statements) → ordinal_after_procedure_list k ps ≤ n.room → ProceduresPlaced n scope k statements ps
     procedures_placed scope k statements end e last all following room = uses_seen scope statements last following
     procedures_placed scope k statements (more p rest) e last all following room =
         let parts = each_part (IsBound n) (occurrences p) (occurrences rest) all in
         let next : ordinal_after_procedure (suc k) (tree_with_names n.source p) ≡ ordinal_after_procedure (suc k) p = ordinal_after_procedure-mapped_tree (token_text_at n.source) (token_value_at n.source) (suc k) (suc k) refl p in
         let own : procedure_name (tree_with_names n.source p) ≡ token_text_at n.source (procedure_name p) = procedure_name-mapped_tree (token_text_at n.source) (token_value_at n.source) p in
-        let others : relabel_procedures naming_by_spelling ordinal_and_spelling (following_procedure n scope k p) (ordinal_after_procedure (suc k) p) (tree_with_names n.source rest) ≡ bound_by rest =
-        sym (λ i. relabel_procedures naming_by_spelling ordinal_and_spelling ((own i, k) ∷ scope) (next i) (tree_with_names n.source rest)) ∙ ap rest_of e in
+        let others : relabel_procedure_list naming_by_spelling ordinal_and_spelling (following_procedure n scope k p) (ordinal_after_procedure (suc k) p) (tree_with_names n.source rest) ≡ bound_by rest =
+        sym (λ i. relabel_procedure_list naming_by_spelling ordinal_and_spelling ((own i, k) ∷ scope) (next i) (tree_with_names n.source rest)) ∙ ap rest_of e in
         let final : relabel_uses naming_by_spelling ordinal_and_spelling (declare_procedure_names (ordinal_after_procedure (suc k) p) (tree_with_names n.source rest) (following_procedure n scope k p)) (tree_with_names n.source statements) ≡ bound_by statements =
         sym (λ i. relabel_uses naming_by_spelling ordinal_and_spelling (declare_procedure_names (next i) (tree_with_names n.source rest) ((own i, k) ∷ scope)) (tree_with_names n.source statements)) ∙ last in (
-          procedure_placed scope k p (ap (first_of (bound_by p)) e) parts.0 (le_trans (le-ordinal_after_procedures (ordinal_after_procedure (suc k) p) rest) room),
+          procedure_placed scope k p (ap (first_of (bound_by p)) e) parts.0 (le_trans (le-ordinal_after_procedure_list (ordinal_after_procedure (suc k) p) rest) room),
           procedures_placed (following_procedure n scope k p) (ordinal_after_procedure (suc k) p) statements rest others final parts.1 following room,
         )
 
@@ -404,8 +404,8 @@ module _ (n : Numbering) where
         let own : formal_names (formal_sections (tree_with_names n.source fs)) ≡ map text (formal_names (formal_sections fs)) = formals-names text value fs in
         let next : ordinal_after_names (suc k) (formal_names (formal_sections (tree_with_names n.source fs))) ≡ ordinal_after_names (suc k) (formal_names (formal_sections fs)) = after-mapped_tree text (suc k) (suc k) (formal_names (formal_sections fs)) (formal_names (formal_sections (tree_with_names n.source fs))) own refl in
         let inner : ordinal_after_names (suc k) (formal_names (formal_sections fs)) ≤ n.room = le_trans (le-ordinal_after_block (ordinal_after_names (suc k) (formal_names (formal_sections fs))) b) room in
-        let of_formals : relabel_parameter_sections naming_by_spelling ordinal_and_spelling scope (suc k) (tree_with_names n.source (formal_sections fs)) ≡ bound_by (formal_sections fs) =
-        sym (formals-section naming_by_spelling ordinal_and_spelling scope (suc k) (tree_with_names n.source fs) ∙ ap (relabel_parameter_sections naming_by_spelling ordinal_and_spelling scope (suc k)) (formals-mapped_tree text value fs)) ∙ (ap procedure_formals e ∙ formals-mapped_tree (ordinal_and_spelling_at n.source n.ordinals) value fs) in
+        let of_formals : relabel_parameter_section_list naming_by_spelling ordinal_and_spelling scope (suc k) (tree_with_names n.source (formal_sections fs)) ≡ bound_by (formal_sections fs) =
+        sym (formals-section naming_by_spelling ordinal_and_spelling scope (suc k) (tree_with_names n.source fs) ∙ ap (relabel_parameter_section_list naming_by_spelling ordinal_and_spelling scope (suc k)) (formals-mapped_tree text value fs)) ∙ (ap procedure_formals e ∙ formals-mapped_tree (ordinal_and_spelling_at n.source n.ordinals) value fs) in
         let of_block : relabel_block naming_by_spelling ordinal_and_spelling (inside_procedure n scope k p) (ordinal_after_names (suc k) (formal_names (formal_sections fs))) (tree_with_names n.source b) ≡ bound_by b =
         sym (λ i. relabel_block naming_by_spelling ordinal_and_spelling (declare_names (suc k) (own i) (following_procedure n scope k p)) (next i) (tree_with_names n.source b)) ∙ ap procedure_block e in (
           (ap (λ (q : Tree (Option ℕ × Name) (item procedure)). (procedure_name q).0) (sym e), le_trans (le-ordinal_after_names (suc k) (formal_names (formal_sections fs))) inner),

@@ -9,7 +9,7 @@ use Rattle.ob0_types_table.specs.declared.types.TypeId.{TypeId}
 use Rattle.ob0_types_table.specs.declared.types.TypeId.TheVariants as type
 use Rattle.ob0_language_types.specs.Typing.{depth, field_depth, field_scalars, scalars, prepend_fields, type_within_limits}
 use Rattle.ob0_language_values.specs.Values.{FieldShapes, Shape, array_shape, boolean_shape, integer_shape, next_field_shape, no_field_shape, record_shape}
-use Rattle.ob0_types_check.specs.KnownDeclarations.{CompositeType, PartTypes, Size, KnownField, is_within_limits, of_elements, of_fields, scalar_size, size_of_type_so_far, composite_size}
+use Rattle.ob0_types_check.specs.KnownDeclarations.{CompositeType, CompositeParts, TypeSize, KnownField, is_within_limits, of_elements, of_fields, scalar_size, size_of_type_so_far, composite_size}
 use Rattle.ob0_types_check.specs.WrittenTypeFaults.{KnownFields, array_size, record_size, with_known_field, with_known_fields}
 use Rattle.ob0_types_check.specs.Agreement.{EntriesAgreeWithShapes, FieldsAgreeWithShapes, CompositeAgreesWithShape, PartsAgreeWithShape, TableAgreesWithShapes, shape_if_array, shape_if_record, shape_of_type_in}
 
@@ -41,7 +41,7 @@ fields_kept before after longer [] (next_field_shape x s fs) h = absurd h
 fields_kept before after longer (f ∷ fields) no_field_shape h = absurd h
 fields_kept before after longer (f ∷ fields) (next_field_shape x s fs) h = (h.0, longer f.of s h.1, fields_kept before after longer fields fs h.2)
 
-parts_kept : (before after : List Shape) → Longer before after → (k : ℕ) (p : PartTypes) (s : Shape) → PartsAgreeWithShape (shape_of_type_in before) k p s → PartsAgreeWithShape (shape_of_type_in after) k p s
+parts_kept : (before after : List Shape) → Longer before after → (k : ℕ) (p : CompositeParts) (s : Shape) → PartsAgreeWithShape (shape_of_type_in before) k p s → PartsAgreeWithShape (shape_of_type_in after) k p s
 parts_kept before after longer k (of_elements n t) s (u, e, h) = (u, e, longer t u h)
 parts_kept before after longer k (of_fields fields) s (fs, e, h) = (fs, e, fields_kept before after longer fields fs h)
 
@@ -81,7 +81,7 @@ pub last_record : (ms : List CompositeType) (shapes : List Shape) (k : ℕ) (fs 
 last_record ms shapes k fs h = ap (option_and_then shape_if_record) (last_shape shapes (length ms) (record_shape k fs) (table_long ms shapes h))
 
 -- holds if a size is the size of a shape
-pub record SizeAgrees (z : Size) (s : Shape) : Type 0 where
+pub record SizeAgrees (z : TypeSize) (s : Shape) : Type 0 where
   pub scalars_are : z.scalars ≡ scalars s
   pub depth_is : z.depth ≡ depth s
 
@@ -123,10 +123,10 @@ size_agrees ms shapes (type.Array i) s h e = sized s (entered [] shape_if_array 
 size_agrees ms shapes (type.Record i) s h e = sized s (entered [] shape_if_record record_is ms shapes i s h e)
 size_agrees ms shapes type.Unknown s h e = absurd (cc)
 
-pub is_limited : (z : Size) (s : Shape) → SizeAgrees z s → is_within_limits z ≡ true → type_within_limits s ≡ Some s
+pub is_limited : (z : TypeSize) (s : Shape) → SizeAgrees z s → is_within_limits z ≡ true → type_within_limits s ≡ Some s
 is_limited z s h e = (λ i. if nat_le (sym h.scalars_are i) 65536 && nat_le (sym h.depth_is i) 100 then Some s else None) ∙ ap (λ b. if b then Some s else None) e
 
-pub array_sized : (z : Size) (k n : ℕ) (s : Shape) → SizeAgrees z s → SizeAgrees (array_size n z) (array_shape k n s)
+pub array_sized : (z : TypeSize) (k n : ℕ) (s : Shape) → SizeAgrees z s → SizeAgrees (array_size n z) (array_shape k n s)
 array_sized z k n s h = record { scalars_are = ap (λ a. a * n) h.scalars_are ∙ mul_comm (scalars s) n; depth_is = omega (arith, h.depth_is) }
 
 -- concatenates the shapes of two lists of fields

@@ -3,9 +3,9 @@
 -- before any fields that follow. Definitions nest two sums differently; `grouped` proves that they are equal.
 use Rattle.std.proofs.Common.{◌≡◌, ℕ, suc, ◌+◌, Bool, true, false, List, [], ◌∷◌, ◌++◌, length, map, Option, Some, None, option_and_then, if◌then◌else◌, refl, sym, ap, ◌∙◌, subst, subst₂, le_refl, arith}
 use Rattle.ob0_tree.specs.Places.{tree_with_names, token_text_at, token_value_at}
-use Rattle.ob0_tree.specs.Tree.{Tree, array_type, end, fields, further_fields, items, mapped_tree, more, named_type, no_fields, occurrences, record_type, some_fields, then_fields, written_type}
+use Rattle.ob0_tree.specs.Tree.{Tree, array_type, end, fields, fields_after_semicolon, items, mapped_tree, more, named_type, no_fields, occurrences, record_type, some_fields, semicolon_then_fields, written_type}
 use Rattle.ob0_language_names.specs.Names.{Name, naming_by_spelling}
-use Rattle.ob0_language_names.specs.Parts.{names_in_list}
+use Rattle.ob0_language_names.specs.BlockParts.{names_in_list}
 use Rattle.ob0_language_names.specs.Scopes.{Scope}
 use Rattle.ob0_types_table.specs.declared.types.TypeId.{TypeId}
 use Rattle.ob0_language_types.specs.Environments.{meanings}
@@ -14,10 +14,10 @@ use Rattle.ob0_language_types.specs.Typing.{array_length, constant_value, denote
 use Rattle.ob0_language_types.specs.WellTyped.{Signature, TypeEnvironment}
 use Rattle.ob0_language_values.specs.Values.{FieldShapes, Shape, Value, array_shape, no_field_shape, record_shape}
 use Rattle.ob0_types_check.specs.ExpressionFaults.{report_on_expression}
-use Rattle.ob0_types_check.specs.Known.{Meaning, Operand, ResultWithFaults, a_constant, a_procedure, a_type, a_variable}
-use Rattle.ob0_types_check.specs.Operations.{without_fault}
-use Rattle.ob0_types_check.specs.KnownDeclarations.{PartTypes, Size, KnownDeclarations, TypeWithFollowingDeclarations, facts_at, is_within_limits, append_composite, make_composite_type, of_elements, of_fields, size_of_type_so_far, report_on_too_large_type, type_at_index}
-use Rattle.ob0_types_check.specs.TypeFaults.{length_by_operand, type_by_meaning}
+use Rattle.ob0_types_check.specs.TypesAndMeanings.{Meaning, Operand, ResultWithFaults, a_constant, a_procedure, a_type, a_variable}
+use Rattle.ob0_types_check.specs.OperandFaults.{without_fault}
+use Rattle.ob0_types_check.specs.KnownDeclarations.{CompositeParts, TypeSize, KnownDeclarations, TypeWithFollowingDeclarations, facts_from_declarations, is_within_limits, append_composite, make_composite_type, of_elements, of_fields, size_of_type_so_far, report_on_too_large_type, type_at_index}
+use Rattle.ob0_types_check.specs.TypeFaults.{length_from_operand, type_from_meaning}
 use Rattle.ob0_types_check.specs.WrittenTypeFaults.{KnownFields, made_array_type, array_size, with_field_group, no_known_fields, made_record_type, record_size, record_keyword_token, report_on_field_group, report_on_further_field_groups, next_type_ordinal, report_on_written_type, with_known_field, with_known_fields, token_before_group}
 use Rattle.ob0_types_check.specs.Agreement.{PartsAgreeWithShape, IsKnownAndAgreesWithObject, TableAgreesWithShapes, shape_of_type_in}
 use Rattle.ob0_types_check.specs.WellTypedLaws.{ordinal_of_shape}
@@ -39,8 +39,8 @@ pub record Denotes (n : ℕ) (p : KnownDeclarations) (before : List Shape) (k l 
   pub known : shape_of_type_in after u.of ≡ Some shape
 
 -- A name of a type denotes that type's shape if no fault is reported for the name.
-named_denotes : (n : ℕ) (w : KnownDeclarations) (p : KnownDeclarations) (before : List Shape) (k l : ℕ) → l ≡ k → (token : ℕ) (m : Option (Meaning TypeId)) (o : Option (meant.Object Shape Signature)) → TableAgreesWithShapes p.made before → IsKnownAndAgreesWithObject (shape_of_type_in before) m o → (type_by_meaning (facts_at w false) token m).faults ≡ []
-    → Denotes n p before k l (type_of_type_object o) (record { of = (type_by_meaning (facts_at w false) token m).known; following = p })
+named_denotes : (n : ℕ) (w : KnownDeclarations) (p : KnownDeclarations) (before : List Shape) (k l : ℕ) → l ≡ k → (token : ℕ) (m : Option (Meaning TypeId)) (o : Option (meant.Object Shape Signature)) → TableAgreesWithShapes p.made before → IsKnownAndAgreesWithObject (shape_of_type_in before) m o → (type_from_meaning (facts_from_declarations w false) token m).faults ≡ []
+    → Denotes n p before k l (type_of_type_object o) (record { of = (type_from_meaning (facts_from_declarations w false) token m).known; following = p })
 named_denotes n w p before k l last token None o table alike e = absurd alike
 named_denotes n w p before k l last token (Some (a_type t)) o table (s, known, is) e = record { shape = s; given_is = ap type_of_type_object is; after = before; apart = apart_same k l before last; later = later_same n p before table; known = known }
 named_denotes n w p before k l last token (Some (a_constant v)) o table alike e = absurd (cc)
@@ -52,7 +52,7 @@ pub record MadeDenotes (n : ℕ) (p : KnownDeclarations) (before : List Shape) (
   pub limited : type_within_limits s ≡ Some s
   pub denotes : Denotes n p before k l (Some s) u
 
-made_denotes : (n : ℕ) (p q : KnownDeclarations) (before mid : List Shape) (k l word ordinal : ℕ) (parts : PartTypes) (size : Size) (s : Shape) → ordinal ≡ k → ordinal_of_shape s ≡ Some k → Apart (suc k) l before mid → Later n p q before mid → PartsAgreeWithShape (shape_of_type_in mid) k parts s → SizeAgrees size s → shape_of_type_in (mid ++ s ∷ []) (type_at_index parts (length q.made)) ≡ Some s
+made_denotes : (n : ℕ) (p q : KnownDeclarations) (before mid : List Shape) (k l word ordinal : ℕ) (parts : CompositeParts) (size : TypeSize) (s : Shape) → ordinal ≡ k → ordinal_of_shape s ≡ Some k → Apart (suc k) l before mid → Later n p q before mid → PartsAgreeWithShape (shape_of_type_in mid) k parts s → SizeAgrees size s → shape_of_type_in (mid ++ s ∷ []) (type_at_index parts (length q.made)) ≡ Some s
     → (make_composite_type q word ordinal parts size).faults ≡ [] → MadeDenotes n p before k l s (make_composite_type q word ordinal parts size).known
 made_denotes n p q before mid k l word ordinal parts size s here number own later agrees sized last none =
     by_size (is_within_limits size) refl none
@@ -207,15 +207,15 @@ module _ (w : Numbering) (fit : PartsFit) (n : ℕ) (scope : Scope Name) (env : 
     pub type_denotes : (around k : ℕ) (t : Tree ℕ written_type) (p : KnownDeclarations) (before : List Shape) → length before + around ≡ k → IsKnownAt w p before n scope env → AreSeen w scope t → (report_on_written_type around p t).faults ≡ []
         → Denotes n p before k (k + constructor_count (tree_with_names w.source t)) (denoted_type (meanings naming_by_spelling env) k (tree_with_names w.source t)) (report_on_written_type around p t).known
     type_denotes around k (named_type x) p before at st seen e =
-        named_denotes n p p before k (k + 0) (omega arith) x ((facts_at p false).object_for x) ((meanings naming_by_spelling env).object_for (token_text_at w.source x)) st.table (seen_holds w p false before n scope env st x seen.0) (none-reported (type_by_meaning (facts_at p false) x ((facts_at p false).object_for x)).faults [] e).0
+        named_denotes n p p before k (k + 0) (omega arith) x ((facts_from_declarations p false).object_for x) ((meanings naming_by_spelling env).object_for (token_text_at w.source x)) st.table (seen_holds w p false before n scope env st x seen.0) (none-reported (type_from_meaning (facts_from_declarations p false) x ((facts_from_declarations p false).object_for x)).faults [] e).0
     type_denotes around k (array_type e u) p before at st seen h =
         let parts = each_part (IsSeen w scope) (occurrences e) (occurrences u) seen in
-        let o : Operand TypeId = (report_on_expression (facts_at p true) e).known in
-        let l : ResultWithFaults (Option ℕ) = length_by_operand (facts_at p false) o in
+        let o : Operand TypeId = (report_on_expression (facts_from_declarations p true) e).known in
+        let l : ResultWithFaults (Option ℕ) = length_from_operand (facts_from_declarations p false) o in
         let el : ResultWithFaults TypeWithFollowingDeclarations = report_on_written_type (suc around) p u in
         let ordinal : ℕ = next_type_ordinal around p in
         let here : ordinal ≡ k = omega (arith, table_long p.made before st.table, at) in
-        let a = none-reported (report_on_expression (facts_at p true) e).faults (l.faults ++ (el.faults ++ (made_array_type ordinal o l.known el.known).faults)) h in
+        let a = none-reported (report_on_expression (facts_from_declarations p true) e).faults (l.faults ++ (el.faults ++ (made_array_type ordinal o l.known el.known).faults)) h in
         let b = none-reported l.faults (el.faults ++ (made_array_type ordinal o l.known el.known).faults) a.1 in
         let c = none-reported el.faults (made_array_type ordinal o l.known el.known).faults b.1 in
         let long = fit.lengths p before (token_text_at w.source) (meanings naming_by_spelling env) e (agrees_where_seen w p true before n scope env st fit e parts.0) (λ i. a.0 i ++ b.0 i) in
@@ -251,10 +251,10 @@ module _ (w : Numbering) (fit : PartsFit) (n : ℕ) (scope : Scope Name) (env : 
         names_gather n w g before k (k + constructor_count (tree_with_names w.source t)) first (names_in_list ns) (map (λ x. x) (names_in_list (tree_with_names w.source ns))) (denoted_type (meanings naming_by_spelling env) k (tree_with_names w.source t)) u.known st.source
         (map-same (names_in_list (tree_with_names w.source ns)) ∙ names_in_list-mapped_tree (token_text_at w.source) (token_value_at w.source) ns) agrees d
 
-    pub groups_gather : (around k : ℕ) (t : Tree ℕ (items further_fields)) (g : KnownFields) (before : List Shape) (first : FieldShapes) → length before + around ≡ k → IsKnownAt w g.following before n scope env → AreSeen w scope t → GatheredAgrees before g first → (report_on_further_field_groups around g t).faults ≡ []
+    pub groups_gather : (around k : ℕ) (t : Tree ℕ (items fields_after_semicolon)) (g : KnownFields) (before : List Shape) (first : FieldShapes) → length before + around ≡ k → IsKnownAt w g.following before n scope env → AreSeen w scope t → GatheredAgrees before g first → (report_on_further_field_groups around g t).faults ≡ []
         → GroupsGather n g.following before k (k + groups_constructor_count (tree_with_names w.source t)) first (denoted_further_fields (meanings naming_by_spelling env) k (tree_with_names w.source t)) (report_on_further_field_groups around g t).known
     groups_gather around k end g before first at st seen agrees h = record { own = no_field_shape; given_is = refl; gathers = nothing_more n g before k (k + 0) (omega arith) first st.table agrees }
-    groups_gather around k (more (then_fields f) rest) g before first at st seen agrees h =
+    groups_gather around k (more (semicolon_then_fields f) rest) g before first at st seen agrees h =
         let parts = each_part (IsSeen w scope) (occurrences f) (occurrences rest) seen in
         let next : ResultWithFaults KnownFields = report_on_field_group around g f in
         let all : ResultWithFaults KnownFields = report_on_further_field_groups around next.known rest in
@@ -264,5 +264,5 @@ module _ (w : Numbering) (fit : PartsFit) (n : ℕ) (scope : Scope Name) (env : 
         let other = groups_gather around (k + group_constructor_count (tree_with_names w.source f)) rest next.known one.gathers.after (followed first one.own) (omega (arith, at, one.gathers.apart.counted)) later parts.1 one.gathers.agrees a.1 in
         let c : ℕ = group_constructor_count (tree_with_names w.source f) in
         let d : ℕ = groups_constructor_count (tree_with_names w.source rest) in
-        subst (λ j. GroupsGather n g.following before k j first (denoted_further_fields (meanings naming_by_spelling env) k (tree_with_names w.source (more (then_fields f) rest))) all.known) (more_groups k c d)
+        subst (λ j. GroupsGather n g.following before k j first (denoted_further_fields (meanings naming_by_spelling env) k (tree_with_names w.source (more (semicolon_then_fields f) rest))) all.known) (more_groups k c d)
         (both_gather n g.following before k (k + c) (k + c + d) first (λ ys. denoted_group_fields (meanings naming_by_spelling env) k ys (tree_with_names w.source f)) next.known all.known (denoted_further_fields (meanings naming_by_spelling env) (k + group_constructor_count (tree_with_names w.source f)) (tree_with_names w.source rest)) one other)

@@ -13,14 +13,14 @@ use Rattle.ob0_tree.specs.declared.tree.Sign.{Sign}
 use Rattle.ob0_tree.specs.Places.{token_text_at, token_value_at}
 use Rattle.ob0_tree.specs.Tree.{Sort, Tree, addend, adds, compares, designator, end, expression, factor, field, identifiers, index, integer, item, items, mapped_tree, more, multiplier, multiplies, negation, none, one, parenthesised, product, relates, selector, simple, sum, term}
 use Rattle.ob0_language_types.specs.Expressions.{Meanings, a_variable, evaluate, evaluate_addends, evaluate_factor, evaluate_multipliers, evaluate_simple, evaluate_term}
-use Rattle.ob0_language_types.specs.Selected.{apply_to_both_options}
+use Rattle.ob0_language_types.specs.DesignatorSelectors.{apply_to_both_options}
 use Rattle.ob0_language_types.specs.Typing.{addition_type, negation_type, constant_of, constant_meanings, element_type, field_type, outcome_value, multiplication_type, type_of_variable_or_constant, relation_type, sign_type, type_after_selectors, type_of, type_of_addends, type_of_factor, type_of_multipliers, type_of_simple, type_of_term}
 use Rattle.ob0_types_table.specs.Operators.{product_value, sum_value}
 use Rattle.ob0_language_values.specs.Values.{Place, Shape, Value, boolean_shape, integer_shape, negate, number, apply_relation}
 use Rattle.ob0_language_values.specs.Values.{apply_sign as with_sign}
 use Rattle.ob0_types_check.specs.ExpressionFaults.{report_on_addends, report_on_expression, report_on_factor, report_on_multipliers, report_on_selectors, report_on_simple_expression, report_on_term}
-use Rattle.ob0_types_check.specs.Known.{Facts, Operand}
-use Rattle.ob0_types_check.specs.Operations.{add_operands, negated_operand, element_operand, field_operand, multiply_operands, name_operand, relate_operands, signed_operand}
+use Rattle.ob0_types_check.specs.TypesAndMeanings.{Facts, Operand}
+use Rattle.ob0_types_check.specs.OperandFaults.{add_operands, negated_operand, element_operand, field_operand, multiply_operands, name_operand, relate_operands, signed_operand}
 use Rattle.ob0_types_check.specs.Agreement.{TypesAgreeWithShapes}
 use Rattle.ob0_types_check.proofs.Operands.{IsOf, added-fits, value_of_negation-of, complemented-fits, element-fits, field-fits, multiplied-fits, none-of, related-fits, relation-of, apply_sign-fits, some-of}
 use Rattle.ob0_types_check.proofs.Unreported.{goes-on, none-reported, then-assoc, then-itself}

@@ -9,8 +9,8 @@ use Rattle.ob0_language_types.specs.Expressions.{Object}
 use Rattle.ob0_language_types.specs.Typing.{constant_of, constant_meanings, type_of_variable_or_constant, value_type}
 use Rattle.ob0_language_types.specs.WellTyped.{Signature, TypeMeanings}
 use Rattle.ob0_language_values.specs.Values.{Shape, Value, boolean_shape, elements, integer_shape, members, number, truth}
-use Rattle.ob0_types_check.specs.Known.{Facts, Meaning, Operand, a_constant, a_procedure, a_type, a_variable}
-use Rattle.ob0_types_check.specs.Operations.{constant_name_operand, typed_name_operand, fault_at_token, operand_by_meaning, without_fault}
+use Rattle.ob0_types_check.specs.TypesAndMeanings.{Facts, Meaning, Operand, a_constant, a_procedure, a_type, a_variable}
+use Rattle.ob0_types_check.specs.OperandFaults.{constant_name_operand, typed_name_operand, fault_at_token, operand_from_meaning, without_fault}
 use Rattle.ob0_types_check.specs.Agreement.{IsKnownAndAgreesWithObject, TokenAgreesWithLabel, TokensAgreeWithLabels, TypesAgreeWithShapes}
 use Rattle.ob0_types_check.proofs.FittingExpressions.{Fits, TokenFits, TokensFit}
 use Rattle.ob0_types_check.proofs.Operands.{none-of, some-of}
@@ -40,14 +40,14 @@ module _ {T : Type 0} (facts : Facts T) (shape : T → Option Shape) (types : Ty
   variable-fits x t s known true h = absurd (cc)
   variable-fits x t s known false h = record { fits = record { of = s; known = known; typed = refl; value_agrees = refl; scalar = none-of s }; placed = λ e. refl }
 
-  holds-fits : (x : ℕ) (m : Option (Meaning T)) (o : Option (Object Shape Signature)) → IsKnownAndAgreesWithObject shape m o → (operand_by_meaning facts x m).faults ≡ [] → RunObjectAgrees shape (operand_by_meaning facts x m).known o
+  holds-fits : (x : ℕ) (m : Option (Meaning T)) (o : Option (Object Shape Signature)) → IsKnownAndAgreesWithObject shape m o → (operand_from_meaning facts x m).faults ≡ [] → RunObjectAgrees shape (operand_from_meaning facts x m).known o
   holds-fits x None o a h = absurd a
   holds-fits x (Some (a_type t)) o a h = absurd (cc)
   holds-fits x (Some (a_procedure fs)) o a h = absurd (cc)
   holds-fits x (Some (a_constant c)) o (v, reported, holds, scalar) h =
       subst₂ (λ c o. RunObjectAgrees shape (constant_name_operand facts.types c x) o) (sym reported) (sym holds) (constant-fits x v scalar)
   holds-fits x (Some (a_variable t)) o (s, known, holds) h =
-      subst (λ o. RunObjectAgrees shape (operand_by_meaning facts x (Some (a_variable t))).known o) (sym holds) (variable-fits x t s known facts.only_constants h)
+      subst (λ o. RunObjectAgrees shape (operand_from_meaning facts x (Some (a_variable t))).known o) (sym holds) (variable-fits x t s known facts.only_constants h)
 
   -- The operand of a name in a constant expression, in which names may only refer to constants, has the type and value
   -- of its object.
@@ -55,8 +55,8 @@ module _ {T : Type 0} (facts : Facts T) (shape : T → Option Shape) (types : Ty
   no-variable x t true only h = cc
   no-variable x t false only h = true≢false (sym only)
 
-  only-fits : {Q : Type 0} (x : ℕ) (m : Option (Meaning T)) (o : Option (Object Shape Signature)) → facts.only_constants ≡ true → IsKnownAndAgreesWithObject shape m o → (operand_by_meaning facts x m).faults ≡ []
-      → RunObjectAgrees {P = Q} shape (operand_by_meaning facts x m).known (option_map meant.a_constant (constant_of o))
+  only-fits : {Q : Type 0} (x : ℕ) (m : Option (Meaning T)) (o : Option (Object Shape Signature)) → facts.only_constants ≡ true → IsKnownAndAgreesWithObject shape m o → (operand_from_meaning facts x m).faults ≡ []
+      → RunObjectAgrees {P = Q} shape (operand_from_meaning facts x m).known (option_map meant.a_constant (constant_of o))
   only-fits x None o only a h = absurd a
   only-fits x (Some (a_type t)) o only a h = absurd (cc)
   only-fits x (Some (a_procedure fs)) o only a h = absurd (cc)

@@ -9,8 +9,8 @@ use Rattle.ob0_language_types.specs.Typing.{lone_designator, type_after_selector
 use Rattle.ob0_language_types.specs.WellTyped.{variable_type}
 use Rattle.ob0_language_values.specs.Values.{Shape}
 use Rattle.ob0_types_check.specs.ExpressionFaults.{report_on_expression, report_on_factor, report_on_selectors, report_on_term}
-use Rattle.ob0_types_check.specs.Known.{Facts, Operand}
-use Rattle.ob0_types_check.specs.Operations.{add_operands, multiply_operands, name_operand, signed_operand}
+use Rattle.ob0_types_check.specs.TypesAndMeanings.{Facts, Operand}
+use Rattle.ob0_types_check.specs.OperandFaults.{add_operands, multiply_operands, name_operand, signed_operand}
 use Rattle.ob0_types_check.specs.Agreement.{TypesAgreeWithShapes}
 use Rattle.ob0_types_check.specs.ReportLaws.{OperandAgreesWithExpression}
 use Rattle.ob0_types_check.proofs.FittingExpressions.{FitsExpression, FitsSelectors, NameFits, TokensFit, addends-apart, expression-fits, multipliers-apart, parts-placed, selectors-fit, split-tokens}

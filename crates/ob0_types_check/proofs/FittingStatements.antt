@@ -7,7 +7,7 @@ use Rattle.ob0_types_table.proofs.SameShapes.{same_shape-refl}
 use Rattle.ob0_tree.specs.declared.tree.Role.{Role}
 use Rattle.ob0_tree.specs.declared.tree.Role.TheVariants as role
 use Rattle.ob0_tree.specs.Places.{token_value_at}
-use Rattle.ob0_tree.specs.Tree.{Sort, Tree, arguments, assigns, branches, calls, else_branch, else_part, elsif_branch, elsif_part, empty, end, expression, further_argument, further_statement, identifiers, items, mapped_tree, maybe, more, no_arguments, none, one, repeat_loop, runs, selector, sequence, some_arguments, statement, then_argument, then_statement, while_loop}
+use Rattle.ob0_tree.specs.Tree.{Sort, Tree, arguments, assigns, branches, calls, else_branch, else_part, elsif_branch, elsif_part, empty, end, expression, argument_after_comma, statement_after_semicolon, identifiers, items, mapped_tree, maybe, more, no_arguments, none, one, repeat_loop, runs, selector, sequence, some_arguments, statement, comma_then_argument, semicolon_then_statement, while_loop}
 use Rattle.ob0_language_types.specs.Arguments.{call_arguments, further_arguments}
 use Rattle.ob0_language_types.specs.Expressions as meant
 use Rattle.ob0_language_types.specs.Expressions.{Object}
@@ -15,11 +15,11 @@ use Rattle.ob0_language_types.specs.Typing.{lone_designator, type_of}
 use Rattle.ob0_language_types.specs.WellTyped.{FormalParameter, Signature, TypeMeanings, same_known_shape, argument_matches, arguments_match, by_place, by_value, call_is_well_typed, condition_is_boolean, else_is_well_typed, elsifs_are_well_typed, sequence_is_well_typed, signature_of, statement_is_well_typed, further_statements_are_well_typed, variable_type}
 use Rattle.ob0_language_values.specs.Values.{Shape, boolean_shape}
 use Rattle.ob0_types_check.specs.ExpressionFaults.{report_on_expression}
-use Rattle.ob0_types_check.specs.Known.{Facts, Meaning, Operand, ResultWithFaults, a_constant, a_procedure, a_type, a_variable}
-use Rattle.ob0_types_check.specs.Known as known
-use Rattle.ob0_types_check.specs.Operations.{typed_name_operand, required_type, fault_at_operand}
-use Rattle.ob0_types_check.specs.KnownDeclarations.{facts_at}
-use Rattle.ob0_types_check.specs.StatementFaults.{target_name_type, target_type_by_meaning, call_faults_by_meaning, faults_of_argument, faults_of_arguments, typed_expression_faults, assignment_faults, call_faults, condition_faults, else_faults, elsif_faults, sequence_faults, statement_faults, further_statement_faults, report_on_target}
+use Rattle.ob0_types_check.specs.TypesAndMeanings.{Facts, Meaning, Operand, ResultWithFaults, a_constant, a_procedure, a_type, a_variable}
+use Rattle.ob0_types_check.specs.TypesAndMeanings as known
+use Rattle.ob0_types_check.specs.OperandFaults.{typed_name_operand, required_type, fault_at_operand}
+use Rattle.ob0_types_check.specs.KnownDeclarations.{facts_from_declarations}
+use Rattle.ob0_types_check.specs.StatementFaults.{target_name_type, target_type_from_meaning, call_faults_from_meaning, faults_of_argument, faults_of_arguments, typed_expression_faults, assignment_faults, call_faults, condition_faults, else_faults, elsif_faults, sequence_faults, statement_faults, further_statement_faults, report_on_target}
 use Rattle.ob0_types_check.specs.Agreement.{FormalsAgreeWithSignature, IsKnownAndAgreesWithObject, TokensAgreeWithLabels, TypesAgreeWithShapes, shape_of_type_in}
 use Rattle.ob0_types_check.specs.ReportLaws.{OperandAgreesWithExpression, FaultlessStatementsAreWellTyped}
 use Rattle.ob0_types_check.proofs.FittingExpressions.{FitsSelectors, selectors-fit}
@@ -77,7 +77,7 @@ module _ {T N : Type 0} (facts : Facts T) (shape : T → Option Shape) (types : 
     pub known : shape reported.known ≡ Some of
     pub holds : o ≡ Some (meant.a_variable of)
 
-  assigned-holds : (x : ℕ) (m : Option (Meaning T)) (o : Option (Object Shape Signature)) → IsKnownAndAgreesWithObject shape m o → (target_type_by_meaning facts x m).faults ≡ [] → IsAssigned (target_type_by_meaning facts x m) o
+  assigned-holds : (x : ℕ) (m : Option (Meaning T)) (o : Option (Object Shape Signature)) → IsKnownAndAgreesWithObject shape m o → (target_type_from_meaning facts x m).faults ≡ [] → IsAssigned (target_type_from_meaning facts x m) o
   assigned-holds x None o a h = absurd a
   assigned-holds x (Some (a_type t)) o a h = absurd (cc)
   assigned-holds x (Some (a_constant c)) o a h = absurd (cc)
@@ -134,25 +134,25 @@ module _ {T N : Type 0} (facts : Facts T) (shape : T → Option Shape) (types : 
       let parts = none-reported (faults_of_argument facts f e) _ h in
       and_from (argument_matches meaning g (here e)) (arguments_match meaning gs (map here es)) (argument-fits f g e a.0 a.1 k.0 parts.0) (arguments-fit fs gs es a.2 (omega (arith, n)) k.1 parts.1)
 
-  further-mapped_tree : (es : Tree ℕ (items further_argument)) → further_arguments (here es) ≡ map here (further_arguments es)
+  further-mapped_tree : (es : Tree ℕ (items argument_after_comma)) → further_arguments (here es) ≡ map here (further_arguments es)
   further-mapped_tree end = refl
-  further-mapped_tree (more (then_argument e) es) = λ i. here e ∷ further-mapped_tree es i
+  further-mapped_tree (more (comma_then_argument e) es) = λ i. here e ∷ further-mapped_tree es i
 
   pub arguments-mapped_tree : (es : Tree ℕ (maybe arguments)) → call_arguments (here es) ≡ map here (call_arguments es)
   arguments-mapped_tree none = refl
   arguments-mapped_tree (one no_arguments) = refl
   arguments-mapped_tree (one (some_arguments e es)) = λ i. here e ∷ further-mapped_tree es i
 
-  further-agreed : (es : Tree ℕ (items further_argument)) → Agreed es → EachAgreed (further_arguments es)
+  further-agreed : (es : Tree ℕ (items argument_after_comma)) → Agreed es → EachAgreed (further_arguments es)
   further-agreed end k = tt
-  further-agreed (more (then_argument e) es) k = let parts = split (ids e) (ids es) k in (parts.0, further-agreed es parts.1)
+  further-agreed (more (comma_then_argument e) es) k = let parts = split (ids e) (ids es) k in (parts.0, further-agreed es parts.1)
 
   pub arguments-agreed : (es : Tree ℕ (maybe arguments)) → Agreed es → EachAgreed (call_arguments es)
   arguments-agreed none k = tt
   arguments-agreed (one no_arguments) k = tt
   arguments-agreed (one (some_arguments e es)) k = let parts = split (ids e) (ids es) k in (parts.0, further-agreed es parts.1)
 
-  called-fits : (x : ℕ) (m : Option (Meaning T)) (o : Option (Object Shape Signature)) (es : List (Tree ℕ expression)) → IsKnownAndAgreesWithObject shape m o → EachAgreed es → call_faults_by_meaning facts x m es ≡ [] → call_is_well_typed meaning (signature_of o) (map here es) ≡ true
+  called-fits : (x : ℕ) (m : Option (Meaning T)) (o : Option (Object Shape Signature)) (es : List (Tree ℕ expression)) → IsKnownAndAgreesWithObject shape m o → EachAgreed es → call_faults_from_meaning facts x m es ≡ [] → call_is_well_typed meaning (signature_of o) (map here es) ≡ true
   unfolding call_is_well_typed
   called-fits x None o es a k h = absurd a
   called-fits x (Some (a_type t)) o es a k h = absurd (cc)
@@ -199,9 +199,9 @@ module _ {T N : Type 0} (facts : Facts T) (shape : T → Option Shape) (types : 
         let parts = none-reported (statement_faults facts a) _ h in
         and_from _ _ (statement-fits a tokens.0 parts.0) (statements-fit rest tokens.1 parts.1)
 
-    statements-fit : (a : Tree ℕ (items further_statement)) → Agreed a → further_statement_faults facts a ≡ [] → further_statements_are_well_typed meaning (here a) ≡ true
+    statements-fit : (a : Tree ℕ (items statement_after_semicolon)) → Agreed a → further_statement_faults facts a ≡ [] → further_statements_are_well_typed meaning (here a) ≡ true
     statements-fit end k h = refl
-    statements-fit (more (then_statement a) rest) k h =
+    statements-fit (more (semicolon_then_statement a) rest) k h =
         let tokens = split (ids a) (ids rest) k in
         let parts = none-reported (statement_faults facts a) _ h in
         and_from _ _ (statement-fits a tokens.0 parts.0) (statements-fit rest tokens.1 parts.1)
@@ -220,4 +220,4 @@ module _ {T N : Type 0} (facts : Facts T) (shape : T → Option Shape) (types : 
     else-fits (one (else_branch statements)) k h = sequence-fits statements k h
 
 pub faultless_statements_are_well_typed-holds : {N : Type 0} → FaultlessStatementsAreWellTyped N
-faultless_statements_are_well_typed-holds p shapes label meaning statements agrees h = sequence-fits (facts_at p false) (shape_of_type_in shapes) agrees.types label meaning statements agrees.tokens h
+faultless_statements_are_well_typed-holds p shapes label meaning statements agrees h = sequence-fits (facts_from_declarations p false) (shape_of_type_in shapes) agrees.types label meaning statements agrees.tokens h

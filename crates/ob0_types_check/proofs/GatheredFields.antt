@@ -7,27 +7,27 @@ use Rattle.std.proofs.lemmas.List.{drop_all, drop_more}
 use Rattle.ob0_scope_table.specs.declared.faults.FaultAtTokens.{FaultAtTokens}
 use Rattle.ob0_types_table.specs.declared.types.TypeId.{TypeId}
 use Rattle.ob0_tree.specs.Places.{token_text_at}
-use Rattle.ob0_tree.specs.View.{optional_field_group_of, further_field_group_of}
+use Rattle.ob0_tree.specs.View.{optional_field_group_of, field_group_after_semicolon_of}
 use Rattle.ob0_tree.specs.declared.tree.OptionalFieldGroup.{OptionalFieldGroup}
 use Rattle.ob0_types_check.specs.declared.reporting.checker_state.CheckerState.{CheckerState}
 use Rattle.ob0_types_check.specs.declared.reporting.written_types.KnownFields as gathering
-use Rattle.ob0_types_check.specs.Known.{ResultWithFaults}
-use Rattle.ob0_types_check.specs.Operations.{ReturnsAndReports}
-use Rattle.ob0_types_check.specs.KnownDeclarations.{Size, zero_size, size_of_type_so_far}
+use Rattle.ob0_types_check.specs.TypesAndMeanings.{ResultWithFaults}
+use Rattle.ob0_types_check.specs.OperandFaults.{ReturnsAndReports}
+use Rattle.ob0_types_check.specs.KnownDeclarations.{TypeSize, zero_size, size_of_type_so_far}
 use Rattle.ob0_types_check.specs.CheckerViews.{AddsKnownFields, HasKnownFields, capped_size, known_fields_of, size_of, declarations_in_state}
 use Rattle.ob0_types_check.specs.WrittenTypeFaults.{KnownFields, sum_of_sizes, no_known_fields, report_on_field_group, report_on_further_field_groups, with_known_field, with_known_fields}
 use Rattle.ob0_types_check.proofs.Chains.{Chained, chain_goes_on}
 use Rattle.ob0_types_check.proofs.ReportedTypes.{group_reported, groups_chain}
 
 -- Adding to a capped size and capping the sum is the same as capping the exact sum.
-beside_counted : (z w : Size) → capped_size (sum_of_sizes (capped_size z) w) ≡ capped_size (sum_of_sizes z w)
+beside_counted : (z w : TypeSize) → capped_size (sum_of_sizes (capped_size z) w) ≡ capped_size (sum_of_sizes z w)
 beside_counted z w =
     let s : min (min z.scalars (2 ^ 64 - 1) + w.scalars) (2 ^ 64 - 1) ≡ min (z.scalars + w.scalars) (2 ^ 64 - 1) = omega arith in
     let d : min (max (min z.depth (2 ^ 64 - 1)) w.depth) (2 ^ 64 - 1) ≡ min (max z.depth w.depth) (2 ^ 64 - 1) = omega arith in
     λ i. record { scalars = s i; depth = d i }
 
 -- If the code has gathered the same fields, it still has when both add a field.
-pub one_more : (g : KnownFields) (s : CheckerState) (old new : gathering.KnownFields) (token : ℕ) (t : TypeId) (w : Size) → HasKnownFields g s old
+pub one_more : (g : KnownFields) (s : CheckerState) (old new : gathering.KnownFields) (token : ℕ) (t : TypeId) (w : TypeSize) → HasKnownFields g s old
     → known_fields_of new.fields.items ≡ known_fields_of old.fields.items ++ record { name = token_text_at s.resolved.now.module_read.source token; of = t } ∷ []
     → size_of new.size ≡ capped_size (sum_of_sizes (size_of old.size) w) → w ≡ size_of_type_so_far (declarations_in_state s).made t → HasKnownFields (with_known_field t g token) s new
 one_more g s old new token t w h fields size is = record {
@@ -59,7 +59,7 @@ names_end {t = t} {s = s} {xs = xs} {done = done} {now = now} n over =
 pub record GroupsGathered (around : ℕ) (start : KnownFields) (before : List FaultAtTokens) (xs : List OptionalFieldGroup) (done : ℕ) (now : List FaultAtTokens) (s : CheckerState) (gathered : gathering.KnownFields) : Type 0 where
   pub out : KnownFields
   pub is : HasKnownFields out s gathered
-  pub reported : Chained (report_on_further_field_groups around) further_field_group_of before start xs done now out
+  pub reported : Chained (report_on_further_field_groups around) field_group_after_semicolon_of before start xs done now out
 
 pub gathers : {before after : List FaultAtTokens} {s : CheckerState} {gathered : gathering.KnownFields} {x : KnownFields} {t : ResultWithFaults KnownFields} → ReturnsAndReports before after x t → HasKnownFields x s gathered → AddsKnownFields before after s gathered t
 gathers {s = s} {gathered = gathered} reports is = record { reported = reports.reported; now = subst (λ z. HasKnownFields z s gathered) reports.known is }

@@ -4,8 +4,8 @@
 use Rattle.std.proofs.Common.{◌≡◌, ℕ, ◌+◌, ◌<◌, ◌≤◌, List, [], ◌∷◌, ◌++◌, length, get_or, drop, map, refl, sym, ap, ◌∙◌, append-nil, append_assoc, arith}
 use Rattle.std.proofs.lemmas.List.{drop_all, drop_more}
 use Rattle.ob0_scope_table.specs.declared.faults.FaultAtTokens.{FaultAtTokens}
-use Rattle.ob0_types_check.specs.Known.{ResultWithFaults}
-use Rattle.ob0_types_check.specs.Operations.{ReturnsAndReports}
+use Rattle.ob0_types_check.specs.TypesAndMeanings.{ResultWithFaults}
+use Rattle.ob0_types_check.specs.OperandFaults.{ReturnsAndReports}
 
 pub reported_both : (before a b : List FaultAtTokens) {between after : List FaultAtTokens} → between ≡ before ++ a → after ≡ between ++ b → after ≡ before ++ (a ++ b)
 reported_both before a b p q = q ∙ ap (λ f. f ++ b) p ∙ append_assoc before a b

@@ -4,16 +4,16 @@ use Rattle.ob0_scan.specs.declared.fault.Fault.{Fault}
 use Rattle.ob0_tree.specs.ParsedModule.{tree_of}
 use Rattle.ob0_tree.specs.Tree.{Tree, block, body, constants, declares, declares_procedure, end, forms_block, item, items, maybe, more, none, procedure, type_definitions, variables}
 use Rattle.ob0_language_names.specs.Names.{naming_by_spelling}
-use Rattle.ob0_language_names.specs.Parts.{formal_sections, module_block, section_constants, section_types, section_variables}
+use Rattle.ob0_language_names.specs.BlockParts.{formal_sections, module_block, section_constants, section_types, section_variables}
 use Rattle.ob0_language_names.specs.Scopes.{predeclared_scope}
 use Rattle.ob0_language_types.specs.Environments.{outermost_environment}
 use Rattle.ob0_language_types.specs.WellTyped.{passes_type_check}
-use Rattle.ob0_scope_table.specs.BodyReplaced.{PathToBody, block_without_body, closing_name_at_path_in_procedures, closing_name_at_path_in_block, closing_name_at_path_in_procedure, procedure_without_body, procedures_without_body}
+use Rattle.ob0_scope_table.specs.BodyReplacement.{PathToBody, block_without_body, closing_name_at_path_in_procedures, closing_name_at_path_in_block, closing_name_at_path_in_procedure, procedure_without_body, procedures_without_body}
 use Rattle.ob0_scope_table.specs.Resolution.{IsResolution, Resolution}
-use Rattle.ob0_types_check.specs.DeclarationFaults.{WalkProgress, body_faults, every_body, report_body_if_wanted, report_on_block, report_on_constant_declarations, reported_module, report_on_procedure, report_on_procedures, report_on_parameter_sections, report_on_type_declarations, report_on_variable_declarations, declarations_after_heading, walk_at_start, with_body_if_faulty, with_declarations}
-use Rattle.ob0_types_check.specs.Known.{ResultWithFaults}
+use Rattle.ob0_types_check.specs.DeclarationFaults.{WalkProgress, body_faults, every_body, report_body_if_wanted, report_on_block, report_on_constant_declarations, report_on_module, report_on_procedure, report_on_procedures, report_on_parameter_sections, report_on_type_declarations, report_on_variable_declarations, declarations_after_heading, walk_at_start, with_body_if_faulty, with_declarations}
+use Rattle.ob0_types_check.specs.TypesAndMeanings.{ResultWithFaults}
 use Rattle.ob0_types_check.specs.NewBody.{PassesTypeCheckWithoutBody}
-use Rattle.ob0_types_check.specs.Operations.{◌>>=◌}
+use Rattle.ob0_types_check.specs.OperandFaults.{◌>>=◌}
 use Rattle.ob0_types_check.specs.KnownDeclarations.{KnownDeclarations}
 use Rattle.ob0_types_check.specs.SomeBodies.{is_among}
 use Rattle.ob0_types_check.proofs.BlocksFit.{first_holds, heading_known}
@@ -190,7 +190,7 @@ among_itself : (closing : ℕ) → is_among (closing ∷ []) closing ≡ true
 among_itself closing = ap (λ b. b || false) (eq-eqb closing closing refl)
 
 -- If a module fits without the statements of one body, walking only that body reports the same as walking all.
-pub new_body_reported : (r : Resolution) (closing : ℕ) → IsResolution r → PassesTypeCheckWithoutBody r closing → reported_module (is_among (closing ∷ [])) r ≡ reported_module every_body r
+pub new_body_reported : (r : Resolution) (closing : ℕ) → IsResolution r → PassesTypeCheckWithoutBody r closing → report_on_module (is_among (closing ∷ [])) r ≡ report_on_module every_body r
 unfolding passes_type_check
 new_body_reported r closing is f =
     let b : Tree ℕ block = module_block (tree_of r.module_read) in

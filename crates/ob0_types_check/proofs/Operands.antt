@@ -12,12 +12,12 @@ use Rattle.ob0_tree.specs.declared.tree.Relation.TheVariants as relation
 use Rattle.ob0_tree.specs.declared.tree.Sign.{Sign}
 use Rattle.ob0_tree.specs.declared.tree.Sign.TheVariants as sign
 use Rattle.ob0_tree.specs.Places.{token_text_at}
-use Rattle.ob0_language_types.specs.Selected.{apply_to_both_options}
+use Rattle.ob0_language_types.specs.DesignatorSelectors.{apply_to_both_options}
 use Rattle.ob0_language_types.specs.Typing.{addition_type, negation_type, element_type, field_type, outcome_value, multiplication_type, relation_type, shape_of_field, sign_type, value_type}
-use Rattle.ob0_language_values.specs.Values.{Overflow, Shape, Value, add, add_short_circuits, boolean_shape, checked_division, division_outcome, ends_run_with, succeeds_with, checked_number, integer_shape, multiply, multiply_short_circuits, negate, number, quotient, apply_relation, remainder, truth}
+use Rattle.ob0_language_values.specs.Values.{Overflow, Shape, Value, add, add_operator_short_circuits, boolean_shape, checked_division, division_outcome, ends_run_with, succeeds_with, checked_number, integer_shape, multiply, multiply_operator_short_circuits, negate, number, quotient, apply_relation, remainder, truth}
 use Rattle.ob0_language_values.specs.Values as values
-use Rattle.ob0_types_check.specs.Known.{Facts, TypeForm, Operand, ResultWithFaults, a_record, a_scalar, an_array, unknown_form}
-use Rattle.ob0_types_check.specs.Operations.{add_operands, required_type, required_type_of_both, fault_at_operand, negated_operand, element_type_in_form, element_operand, field_type_in_form, field_operand, may_be_same_type, field_type_or_fault, multiply_operands, relate_operands, signed_operand, comparison_type, operand_type_of_addition, operand_type_of_equality, operand_type_of_multiplication, operand_type_of_relation}
+use Rattle.ob0_types_check.specs.TypesAndMeanings.{Facts, TypeForm, Operand, ResultWithFaults, a_record, a_scalar, an_array, unknown_form}
+use Rattle.ob0_types_check.specs.OperandFaults.{add_operands, required_type, required_type_of_both, fault_at_operand, negated_operand, element_type_from_form, element_operand, field_type_from_form, field_operand, may_be_same_type, field_type_or_fault, multiply_operands, relate_operands, signed_operand, comparison_type, operand_type_of_addition, operand_type_of_equality, operand_type_of_multiplication, operand_type_of_relation}
 use Rattle.ob0_types_check.specs.Agreement.{FormAgreesWithShape, TypesAgreeWithShapes}
 use Rattle.ob0_types_check.proofs.Unreported.{first-of, first-reported, none-if, none-reported, not-true, some-none, some-same}
 
@@ -91,13 +91,13 @@ settled-of s false x o h k = k
 sum-of : (o : AddOperator) (a b : Option Value) (s : Shape) → s ≡ shape_added o → IsOf s a → IsOf (shape_added o) (option_and_then (sum_value o b) a)
 sum-of o a b s same h =
     then-of (shape_added o) (sum_value o b) a
-    (λ x e. settled-of (shape_added o) (add_short_circuits o x) x (option_and_then (λ y. outcome_value (add o x y)) b) (h x e ∙ ap (λ u. Some u) same)
+    (λ x e. settled-of (shape_added o) (add_operator_short_circuits o x) x (option_and_then (λ y. outcome_value (add o x y)) b) (h x e ∙ ap (λ u. Some u) same)
     (then-of (shape_added o) (λ y. outcome_value (add o x y)) b (λ y f. add-of o x y)))
 
 product-of : (o : MultiplyOperator) (a b : Option Value) (s : Shape) → s ≡ shape_multiplied o → IsOf s a → IsOf (shape_multiplied o) (option_and_then (product_value o b) a)
 product-of o a b s same h =
     then-of (shape_multiplied o) (product_value o b) a
-    (λ x e. settled-of (shape_multiplied o) (multiply_short_circuits o x) x (option_and_then (λ y. outcome_value (multiply o x y)) b) (h x e ∙ ap (λ u. Some u) same)
+    (λ x e. settled-of (shape_multiplied o) (multiply_operator_short_circuits o x) x (option_and_then (λ y. outcome_value (multiply o x y)) b) (h x e ∙ ap (λ u. Some u) same)
     (then-of (shape_multiplied o) (λ y. outcome_value (multiply o x y)) b (λ y f. multiply-of o x y)))
 
 pub relation-of : (r : Relation) (a b : Option Value) → IsOf boolean_shape (apply_to_both_options (λ x y. outcome_value (apply_relation r x y)) a b)
@@ -225,7 +225,7 @@ module _ {T : Type 0} (facts : Facts T) (shape : T → Option Shape) (types : Ty
   found-fits x (Some u) None e h = absurd (cc)
   found-fits x (Some u) (Some v) e h = (v, some-same (shape u) (Some v) e, refl)
 
-  field-found : (f : TypeForm T) (s : Shape) → FormAgreesWithShape shape f s → (x : ℕ) → (field_type_in_form facts x f).faults ≡ [] → (u : Shape) × (shape (field_type_in_form facts x f).known ≡ Some u) × (field_type s (token_text_at facts.source x) ≡ Some u)
+  field-found : (f : TypeForm T) (s : Shape) → FormAgreesWithShape shape f s → (x : ℕ) → (field_type_from_form facts x f).faults ≡ [] → (u : Shape) × (shape (field_type_from_form facts x f).known ≡ Some u) × (field_type s (token_text_at facts.source x) ≡ Some u)
   field-found a_scalar s a x h = absurd (cc)
   field-found (an_array t) s a x h = absurd (cc)
   field-found (a_record fields) s (k, fs, e, each) x h =
@@ -237,8 +237,8 @@ module _ {T : Type 0} (facts : Facts T) (shape : T → Option Shape) (types : Ty
       → (u : Shape) × (shape (field_operand facts o x).known.of ≡ Some u) × (field_type s (token_text_at facts.source x) ≡ Some u)
   field-fits o s hs x h = field-found (facts.types.form o.of) s (types.form_agrees o.of s hs) x (none-reported _ _ h).0
 
-  element-found : (f : TypeForm T) (s : Shape) → FormAgreesWithShape shape f s → (o : Operand T) (n : T) → n ≡ facts.types.integer → (element_type_in_form facts o n f).faults ≡ []
-      → (u : Shape) × (shape (element_type_in_form facts o n f).known ≡ Some u) × (element_type s integer_shape ≡ Some u)
+  element-found : (f : TypeForm T) (s : Shape) → FormAgreesWithShape shape f s → (o : Operand T) (n : T) → n ≡ facts.types.integer → (element_type_from_form facts o n f).faults ≡ []
+      → (u : Shape) × (shape (element_type_from_form facts o n f).known ≡ Some u) × (element_type s integer_shape ≡ Some u)
   element-found a_scalar s a o n e h = absurd (cc)
   element-found (an_array t) s (k, count, u, same, known) o n e h =
       (u, ap (λ n. shape (if facts.types.same n facts.types.integer then t else facts.types.unknown)) e ∙ (ap (λ b. shape (if b then t else facts.types.unknown)) types.integer_same ∙ known), ap (λ s. element_type s integer_shape) same)

@@ -8,10 +8,10 @@ use Rattle.ob0_language_types.specs.Typing.{array_length, constant_of, constant_
 use Rattle.ob0_language_types.specs.WellTyped.{TypeMeanings}
 use Rattle.ob0_language_values.specs.Values.{Place, Shape, Value, integer_shape}
 use Rattle.ob0_types_check.specs.ExpressionFaults.{report_on_expression}
-use Rattle.ob0_types_check.specs.Known.{Facts, Operand}
-use Rattle.ob0_types_check.specs.Operations.{required_type, without_fault}
-use Rattle.ob0_types_check.specs.KnownDeclarations.{facts_at}
-use Rattle.ob0_types_check.specs.TypeFaults.{operand_value, length_or_fault, length_by_value, length_by_operand, report_on_constant_expression, value_or_fault}
+use Rattle.ob0_types_check.specs.TypesAndMeanings.{Facts, Operand}
+use Rattle.ob0_types_check.specs.OperandFaults.{required_type, without_fault}
+use Rattle.ob0_types_check.specs.KnownDeclarations.{facts_from_declarations}
+use Rattle.ob0_types_check.specs.TypeFaults.{operand_value, length_or_fault, length_from_value, length_from_operand, report_on_constant_expression, value_or_fault}
 use Rattle.ob0_types_check.specs.Agreement.{FactsAgreeWithShapesAndLabels, TypesAgreeWithShapes, shape_of_type_in}
 use Rattle.ob0_types_check.specs.ReportLaws.{FaultlessConstantsHaveCorrectValues, FaultlessExpressionsHaveCorrectTypesAndValues, FaultlessLengthsHaveCorrectValues, OperandAgreesWithExpression, allowed_meanings}
 use Rattle.ob0_types_check.proofs.FittingExpressions.{FitsExpression, expression-fits}
@@ -69,7 +69,7 @@ operand_value-there facts o known h =
 pub faultless_constants_have_correct_values-holds : {N : Type 0} → FaultlessConstantsHaveCorrectValues N
 unfolding report_on_constant_expression
 faultless_constants_have_correct_values-holds p shapes label meaning e agrees h =
-    let facts = facts_at p true in
+    let facts = facts_from_declarations p true in
     let parts = none-reported (report_on_expression facts e).faults _ h in
     let c = constant-known facts (shape_of_type_in shapes) label meaning e agrees refl parts.0 in
     let o : Operand _ = (report_on_expression facts e).known in
@@ -77,7 +77,7 @@ faultless_constants_have_correct_values-holds p shapes label meaning e agrees h 
     record { value = w.value; known = w.known; given = c.given w.value w.there; scalar = ap is_some (c.scalar w.value w.there) }
 
 pub faultless_expressions_have_correct_types_and_values-holds : {N : Type 0} → FaultlessExpressionsHaveCorrectTypesAndValues N
-faultless_expressions_have_correct_types_and_values-holds p only shapes label meaning e agrees h = here-fits (facts_at p only) (shape_of_type_in shapes) label meaning e agrees only refl h
+faultless_expressions_have_correct_types_and_values-holds p only shapes label meaning e agrees h = here-fits (facts_from_declarations p only) (shape_of_type_in shapes) label meaning e agrees only refl h
 
 -- holds if a length is reported and is the length that the operand's value gives
 pub record IsLong {T : Type 0} (o : Operand T) (reported : Option ℕ) : Type 0 where
@@ -91,27 +91,27 @@ bounded : {T : Type 0} (o : Operand T) (v : Value) (n : Option ℕ) → o.value 
 bounded o v None there e h = absurd (cc)
 bounded o v (Some n) there e h = record { value = v; length = n; known = refl; there = there; counted = e }
 
-length-given : {T : Type 0} (o : Operand T) (c : Option Value) → o.value ≡ c → (length_by_value o c).faults ≡ [] → IsLong o (length_by_value o c).known
+length-given : {T : Type 0} (o : Operand T) (c : Option Value) → o.value ≡ c → (length_from_value o c).faults ≡ [] → IsLong o (length_from_value o c).known
 length-given o None e h = absurd (cc)
 length-given o (Some v) e h = bounded o v (array_length v) e refl h
 
-pub length-there : {T : Type 0} (facts : Facts T) (shape : T → Option Shape) (types : TypesAgreeWithShapes facts.types shape) (o : Operand T) (s : Shape) → shape o.of ≡ Some s → (length_by_operand facts o).faults ≡ [] → IsLong o (length_by_operand facts o).known
+pub length-there : {T : Type 0} (facts : Facts T) (shape : T → Option Shape) (types : TypesAgreeWithShapes facts.types shape) (o : Operand T) (s : Shape) → shape o.of ≡ Some s → (length_from_operand facts o).faults ≡ [] → IsLong o (length_from_operand facts o).known
 length-there facts shape types o s hs h =
     let parts = none-reported (required_type facts facts.types.integer o).faults _ h in
     let (given, same) = requested-fits facts shape types facts.types.integer o s integer_shape hs types.integer parts.0 in
     let alone : facts.types.same (required_type facts facts.types.integer o).known facts.types.integer ≡ true = ap (λ t. facts.types.same t facts.types.integer) given ∙ types.integer_same in
-    let long : IsLong o (length_by_value o o.value).known = length-given o o.value refl (sym (ap (λ b. (if b then length_by_value o o.value else without_fault None).faults) alone) ∙ parts.1) in
+    let long : IsLong o (length_from_value o o.value).known = length-given o o.value refl (sym (ap (λ b. (if b then length_from_value o o.value else without_fault None).faults) alone) ∙ parts.1) in
     record {
       value = long.value;
       length = long.length;
-      known = ap (λ b. (if b then length_by_value o o.value else without_fault None).known) alone ∙ long.known;
+      known = ap (λ b. (if b then length_from_value o o.value else without_fault None).known) alone ∙ long.known;
       there = long.there;
       counted = long.counted;
     }
 
 pub faultless_lengths_have_correct_values-holds : {N : Type 0} → FaultlessLengthsHaveCorrectValues N
 faultless_lengths_have_correct_values-holds p shapes label meaning e agrees h =
-    let parts = none-reported (report_on_expression (facts_at p true) e).faults _ h in
-    let c = constant-known (facts_at p true) (shape_of_type_in shapes) label meaning e agrees refl parts.0 in
-    let long = length-there (facts_at p false) (shape_of_type_in shapes) agrees.types (report_on_expression (facts_at p true) e).known c.of c.known parts.1 in
+    let parts = none-reported (report_on_expression (facts_from_declarations p true) e).faults _ h in
+    let c = constant-known (facts_from_declarations p true) (shape_of_type_in shapes) label meaning e agrees refl parts.0 in
+    let long = length-there (facts_from_declarations p false) (shape_of_type_in shapes) agrees.types (report_on_expression (facts_from_declarations p true) e).known c.of c.known parts.1 in
     record { value = long.value; length = long.length; known = long.known; given = c.given long.value long.there; counted = long.counted }

@@ -4,26 +4,26 @@ use Rattle.std.proofs.lemmas.List.{map-append}
 use Rattle.std.specs.List.{filter}
 use Rattle.ob0_scan.specs.declared.fault.Fault.{Fault}
 use Rattle.ob0_scope_table.specs.Resolution.{Resolution, is_undeclared_fault}
-use Rattle.ob0_language_names.specs.Parts.{formal_sections, further_names, names_in_list, section_constants, section_types, section_variables}
+use Rattle.ob0_language_names.specs.BlockParts.{formal_sections, names_after_first, names_in_list, section_constants, section_types, section_variables}
 use Rattle.ob0_types_table.specs.declared.known.FormalParameter as formal
 use Rattle.ob0_types_table.specs.declared.types.TypeId.{TypeId}
-use Rattle.ob0_tree.specs.Tree.{Tree, begins, block, body, constant, constants, declares, declares_constant, declares_procedure, declares_type, declares_variable, end, expression, formals, further_section, forms_block, item, items, maybe, more, names, none, one, procedure, sequence, then_name, then_section, type_definition, type_definitions, value_section, variable, variable_section, variables, written_type}
-use Rattle.ob0_tree.specs.View.{block_of, formals_of_list, formals_of, further_parameter_section_of, items_of, names_of, procedure_of}
+use Rattle.ob0_tree.specs.Tree.{Tree, begins, block, body, constant, constants, declares, declares_constant, declares_procedure, declares_type, declares_variable, end, expression, formals, section_after_semicolon, forms_block, item, items, maybe, more, names, none, one, procedure, sequence, comma_then_name, semicolon_then_section, type_definition, type_definitions, value_section, variable, variable_section, variables, written_type}
+use Rattle.ob0_tree.specs.View.{block_of, formals_of_list, formals_of, parameter_section_after_semicolon_of, items_of, names_of, procedure_of}
 use Rattle.ob0_tree.specs.declared.tree.Names.{Names}
 use Rattle.ob0_tree.specs.declared.tree.Procedure.{Procedure, out-Procedure, roll-out-Procedure}
 use Rattle.ob0_tree.specs.declared.tree.ParameterSection.{ParameterSection}
 use Rattle.ob0_tree.proofs.Viewed.{procedure_made}
-use Rattle.ob0_types_check.specs.DeclarationFaults.{KnownHeading, WalkProgress, body_faults, every_body, undeclared_name_and_type_faults, report_body_if_wanted, report_on_block, report_on_constant_declaration, report_on_constant_declarations, reported_module, report_on_parameters, report_on_procedure, report_on_procedures, report_on_parameter_section, report_on_parameter_sections, report_on_type_declaration, report_on_type_declarations, report_on_variable_group, report_on_variable_declarations, declarations_after_heading, with_body_if_faulty, with_declarations, with_parameters}
-use Rattle.ob0_types_check.specs.Known.{Meaning, a_constant, a_type, a_variable}
-use Rattle.ob0_types_check.specs.Operations.{ReturnsAndReports, without_fault, ◌>>=◌}
-use Rattle.ob0_types_check.specs.KnownDeclarations.{KnownDeclarations, define_name_at_token, define_names_at_tokens, facts_at}
+use Rattle.ob0_types_check.specs.DeclarationFaults.{KnownHeading, WalkProgress, body_faults, every_body, undeclared_name_and_type_faults, report_body_if_wanted, report_on_block, report_on_constant_declaration, report_on_constant_declarations, report_on_module, report_on_parameters, report_on_procedure, report_on_procedures, report_on_parameter_section, report_on_parameter_sections, report_on_type_declaration, report_on_type_declarations, report_on_variable_group, report_on_variable_declarations, declarations_after_heading, with_body_if_faulty, with_declarations, with_parameters}
+use Rattle.ob0_types_check.specs.TypesAndMeanings.{Meaning, a_constant, a_type, a_variable}
+use Rattle.ob0_types_check.specs.OperandFaults.{ReturnsAndReports, without_fault, ◌>>=◌}
+use Rattle.ob0_types_check.specs.KnownDeclarations.{KnownDeclarations, define_name_at_token, define_names_at_tokens, facts_from_declarations}
 use Rattle.ob0_types_check.specs.StatementFaults.{sequence_faults}
 use Rattle.ob0_types_check.specs.CheckerViews.{formal_of}
 use Rattle.ob0_types_check.specs.TypeFaults.{report_on_constant_expression}
 use Rattle.ob0_types_check.specs.WrittenTypeFaults.{report_on_written_type}
 use Rattle.ob0_types_check.proofs.Chains.{IsChain}
 
-further_are : (xs : List ℕ) → further_names (items_of then_name xs) ≡ xs
+further_are : (xs : List ℕ) → names_after_first (items_of comma_then_name xs) ≡ xs
 further_are [] = refl
 further_are (x ∷ xs) = ap (λ ys. x ∷ ys) (further_are xs)
 
@@ -41,7 +41,7 @@ alike f (x ∷ xs) = ap (λ fs. formal_of f ∷ fs) (alike f xs)
 pub parameters_added : (old : List formal.FormalParameter) (f : formal.FormalParameter) (xs : List ℕ) → map formal_of (old ++ map (λ x. f) xs) ≡ map formal_of old ++ map (λ x. formal_of f) xs
 parameters_added old f xs = map-append formal_of old (map (λ x. f) xs) ∙ ap (λ fs. map formal_of old ++ fs) (alike f xs)
 
-pub constant_reported : (p : KnownDeclarations) (x : ℕ) (e : Tree ℕ expression) → report_on_constant_declaration p (declares_constant x e) ≡ (report_on_constant_expression (facts_at p true) e >>= (λ v. without_fault (define_name_at_token p (a_constant v) x)))
+pub constant_reported : (p : KnownDeclarations) (x : ℕ) (e : Tree ℕ expression) → report_on_constant_declaration p (declares_constant x e) ≡ (report_on_constant_expression (facts_from_declarations p true) e >>= (λ v. without_fault (define_name_at_token p (a_constant v) x)))
 unfolding report_on_constant_declaration
 constant_reported p x e = refl
 
@@ -86,16 +86,16 @@ variables_stepped p t ts = refl
 pub variables_chain : IsChain report_on_variable_declarations report_on_variable_group
 variables_chain = record { ended = variables_ended; stepped = variables_stepped }
 
-parameters_reported : (h : KnownHeading) (b : Bool) (ns : Tree ℕ names) (t : Tree ℕ written_type) → report_on_parameter_section h (then_section (if b then variable_section ns t else value_section ns t)) ≡ (report_on_written_type 0 h.following t >>= (λ u. without_fault (with_parameters h b (names_in_list ns) u)))
+parameters_reported : (h : KnownHeading) (b : Bool) (ns : Tree ℕ names) (t : Tree ℕ written_type) → report_on_parameter_section h (semicolon_then_section (if b then variable_section ns t else value_section ns t)) ≡ (report_on_written_type 0 h.following t >>= (λ u. without_fault (with_parameters h b (names_in_list ns) u)))
 unfolding report_on_parameter_section report_on_parameters
 parameters_reported h true ns t = refl
 parameters_reported h false ns t = refl
 
 pub section_reported : (h : KnownHeading) (b : Bool) (ns : Names) (t : Tree ℕ written_type)
-    → report_on_parameter_section h (then_section (if b then variable_section (names_of ns) t else value_section (names_of ns) t)) ≡ (report_on_written_type 0 h.following t >>= (λ u. without_fault (with_parameters h b (ns.first ∷ ns.more.items) u)))
+    → report_on_parameter_section h (semicolon_then_section (if b then variable_section (names_of ns) t else value_section (names_of ns) t)) ≡ (report_on_written_type 0 h.following t >>= (λ u. without_fault (with_parameters h b (ns.first ∷ ns.more.items) u)))
 section_reported h b ns t = parameters_reported h b (names_of ns) t ∙ ap (λ xs. report_on_written_type 0 h.following t >>= (λ u. without_fault (with_parameters h b xs u))) (names_are ns)
 
-pub sections_listed : (ss : List ParameterSection) → formal_sections (one (formals_of_list ss)) ≡ items_of further_parameter_section_of ss
+pub sections_listed : (ss : List ParameterSection) → formal_sections (one (formals_of_list ss)) ≡ items_of parameter_section_after_semicolon_of ss
 sections_listed [] = refl
 sections_listed (s ∷ ss) = refl
 
@@ -103,7 +103,7 @@ pub sections_ended : (h : KnownHeading) → report_on_parameter_sections h end �
 unfolding report_on_parameter_sections
 sections_ended h = refl
 
-sections_stepped : (h : KnownHeading) (t : Tree ℕ (item further_section)) (ts : Tree ℕ (items further_section)) → report_on_parameter_sections h (more t ts) ≡ (report_on_parameter_section h t >>= (λ g. report_on_parameter_sections g ts))
+sections_stepped : (h : KnownHeading) (t : Tree ℕ (item section_after_semicolon)) (ts : Tree ℕ (items section_after_semicolon)) → report_on_parameter_sections h (more t ts) ≡ (report_on_parameter_section h t >>= (λ g. report_on_parameter_sections g ts))
 unfolding report_on_parameter_sections
 sections_stepped h t ts = refl
 
@@ -114,7 +114,7 @@ pub no_body_faults : (p : KnownDeclarations) → body_faults p none ≡ []
 unfolding body_faults
 no_body_faults p = refl
 
-pub some_body_faults : (p : KnownDeclarations) (a : Tree ℕ sequence) → body_faults p (one (begins a)) ≡ sequence_faults (facts_at p false) a
+pub some_body_faults : (p : KnownDeclarations) (a : Tree ℕ sequence) → body_faults p (one (begins a)) ≡ sequence_faults (facts_from_declarations p false) a
 unfolding body_faults
 some_body_faults p a = refl
 
@@ -148,7 +148,7 @@ module _ (wanted : ℕ → Bool) where
       let x = out-Procedure d in
       ap (report_on_procedure wanted w) (sym (ap procedure_of (roll-out-Procedure d)) ∙ procedure_made x) ∙ with_parts w x.name (formals_of x.formals) (block_of x.block) x.closing
 
-pub module_reported : (r : Resolution) → undeclared_name_and_type_faults r ≡ filter is_undeclared_fault r.faults ++ (reported_module every_body r).faults
+pub module_reported : (r : Resolution) → undeclared_name_and_type_faults r ≡ filter is_undeclared_fault r.faults ++ (report_on_module every_body r).faults
 unfolding undeclared_name_and_type_faults
 module_reported r = refl
 

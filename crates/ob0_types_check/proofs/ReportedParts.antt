@@ -7,9 +7,9 @@ use Rattle.ob0_tree.specs.declared.tree.Selector.{Selector}
 use Rattle.ob0_tree.specs.declared.tree.Sign.{Sign}
 use Rattle.ob0_tree.specs.Tree.{Tree, addend, adds, compares, designator, end, expression, factor, field, index, integer, item, items, more, multiplier, multiplies, negation, none, one, parenthesised, product, relates, selector, simple, sum, term}
 use Rattle.ob0_tree.specs.View.{items_of, selector_of}
-use Rattle.ob0_types_check.specs.Known.{Facts, Operand, ResultWithFaults}
+use Rattle.ob0_types_check.specs.TypesAndMeanings.{Facts, Operand, ResultWithFaults}
 use Rattle.ob0_types_check.specs.ExpressionFaults.{report_on_addends, report_on_expression, report_on_factor, report_on_multipliers, report_on_selector, report_on_selectors, report_on_simple_expression, report_on_term}
-use Rattle.ob0_types_check.specs.Operations.{number_operand, add_operands, negated_operand, element_operand, operand_in_parentheses, field_operand, multiply_operands, name_operand, relate_operands, without_fault, signed_operand, ◌>>=◌}
+use Rattle.ob0_types_check.specs.OperandFaults.{number_operand, add_operands, negated_operand, element_operand, operand_in_parentheses, field_operand, multiply_operands, name_operand, relate_operands, without_fault, signed_operand, ◌>>=◌}
 use Rattle.ob0_types_check.specs.TypeFaults.{operand_value, report_on_constant_expression}
 use Rattle.ob0_types_check.proofs.Chains.{IsChain, reported_equal, then_assoc}
 

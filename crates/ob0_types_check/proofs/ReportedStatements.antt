@@ -6,19 +6,19 @@ use Rattle.ob0_scan.specs.declared.fault.FaultCode.TheVariants as code
 use Rattle.ob0_types_table.specs.declared.known.FormalParameter as formal
 use Rattle.ob0_types_table.specs.declared.types.TypeId.{TypeId}
 use Rattle.ob0_tree.specs.Tree.{Tree, arguments, assigns, branches, calls, elsif_branch, elsif_part, else_branch, else_part, empty, end, expression, items, maybe, more, none, one, repeat_loop, selector, sequence, while_loop}
-use Rattle.ob0_tree.specs.View.{elsif_of, expression_of, further_argument_of, further_statement_of, items_of, sequence_of_list, statement_of}
+use Rattle.ob0_tree.specs.View.{elsif_of, expression_of, argument_after_comma_of, statement_after_semicolon_of, items_of, sequence_of_list, statement_of}
 use Rattle.ob0_tree.specs.View as view
 use Rattle.ob0_tree.specs.declared.tree.Expression.{Expression}
 use Rattle.ob0_tree.specs.declared.tree.Statement.{Statement}
 use Rattle.ob0_language_types.specs.Arguments.{call_arguments, further_arguments}
 use Rattle.ob0_types_check.specs.ExpressionFaults.{report_on_expression, report_on_selectors}
-use Rattle.ob0_types_check.specs.Known.{Facts, KnownParameter, a_procedure}
-use Rattle.ob0_types_check.specs.Operations.{typed_name_operand, required_type, fault_at_token, ◌>>=◌}
-use Rattle.ob0_types_check.specs.StatementFaults.{target_name_type, call_faults_by_meaning, required_type_of_argument, faults_of_argument, faults_of_arguments, typed_expression_faults, assignment_faults, call_faults, condition_faults, else_faults, elsif_faults, untyped_argument_faults, sequence_faults, statement_faults, further_statement_faults, report_on_target}
+use Rattle.ob0_types_check.specs.TypesAndMeanings.{Facts, KnownParameter, a_procedure}
+use Rattle.ob0_types_check.specs.OperandFaults.{typed_name_operand, required_type, fault_at_token, ◌>>=◌}
+use Rattle.ob0_types_check.specs.StatementFaults.{target_name_type, call_faults_from_meaning, required_type_of_argument, faults_of_argument, faults_of_arguments, typed_expression_faults, assignment_faults, call_faults, condition_faults, else_faults, elsif_faults, untyped_argument_faults, sequence_faults, statement_faults, further_statement_faults, report_on_target}
 use Rattle.ob0_types_check.specs.CheckerViews.{formal_of}
 use Rattle.ob0_types_check.proofs.Listed.{IsEach, IsPairwise}
 
-further_listed : (es : List Expression) → further_arguments (items_of further_argument_of es) ≡ map expression_of es
+further_listed : (es : List Expression) → further_arguments (items_of argument_after_comma_of es) ≡ map expression_of es
 further_listed [] = refl
 further_listed (e ∷ es) = ap (λ z. expression_of e ∷ z) (further_listed es)
 
@@ -74,7 +74,7 @@ module _ {T : Type 0} (facts : Facts T) where
 
   -- The faults of a sequence or a branch are the faults of its first statement or branch, followed by the faults of the
   -- rest.
-  flat : (ss : List Statement) → sequence_faults facts (sequence_of_list ss) ≡ further_statement_faults facts (items_of further_statement_of ss)
+  flat : (ss : List Statement) → sequence_faults facts (sequence_of_list ss) ≡ further_statement_faults facts (items_of statement_after_semicolon_of ss)
   unfolding statement_faults
   flat [] = refl
   flat (s ∷ ss) = refl
@@ -83,7 +83,7 @@ module _ {T : Type 0} (facts : Facts T) where
   unfolding statement_faults
   none_in_sequence = refl
 
-  some_in_sequence : (s : Statement) (ss : List Statement) → sequence_faults facts (sequence_of_list (s ∷ ss)) ≡ statement_faults facts (statement_of s) ++ further_statement_faults facts (items_of further_statement_of ss)
+  some_in_sequence : (s : Statement) (ss : List Statement) → sequence_faults facts (sequence_of_list (s ∷ ss)) ≡ statement_faults facts (statement_of s) ++ further_statement_faults facts (items_of statement_after_semicolon_of ss)
   unfolding statement_faults
   some_in_sequence s ss = refl
 
@@ -117,13 +117,13 @@ module _ (facts : Facts TypeId) where
 
   -- The faults of a call depend on whether there are as many arguments as parameters.
   pub count_is_right : (p : ℕ) (fs : List formal.FormalParameter) (es : List Expression) → length fs ≡ length es
-      → call_faults_by_meaning facts p (Some (a_procedure (map formal_of fs))) (map expression_of es) ≡ faults_of_arguments facts (map formal_of fs) (map expression_of es)
+      → call_faults_from_meaning facts p (Some (a_procedure (map formal_of fs))) (map expression_of es) ≡ faults_of_arguments facts (map formal_of fs) (map expression_of es)
   count_is_right p fs es e =
       ap (λ b. if b then faults_of_arguments facts (map formal_of fs) (map expression_of es) else fault_at_token code.ArgumentCount p)
       (eq-eqb (length (map formal_of fs)) (length (map expression_of es)) (length-map fs formal_of ∙ e ∙ sym (length-map es expression_of)))
 
   pub count_differs : (p : ℕ) (fs : List formal.FormalParameter) (es : List Expression) → length fs ≢ length es
-      → call_faults_by_meaning facts p (Some (a_procedure (map formal_of fs))) (map expression_of es) ≡ fault_at_token code.ArgumentCount p
+      → call_faults_from_meaning facts p (Some (a_procedure (map formal_of fs))) (map expression_of es) ≡ fault_at_token code.ArgumentCount p
   count_differs p fs es d =
       ap (λ b. if b then faults_of_arguments facts (map formal_of fs) (map expression_of es) else fault_at_token code.ArgumentCount p)
       (ne_eqb (length (map formal_of fs)) (length (map expression_of es)) (λ e. d (sym (length-map fs formal_of) ∙ e ∙ length-map es expression_of)))

@@ -5,10 +5,10 @@ use Rattle.ob0_tree.specs.ParsedModule.{named_tree_of}
 use Rattle.ob0_scope_table.specs.Resolution.{IsResolution, Resolution, is_undeclared_fault}
 use Rattle.ob0_scope_table.specs.declared.faults.FaultAtTokens.{FaultAtTokens}
 use Rattle.ob0_types_table.specs.DeclarationTableView.{AreEntriesInOrder}
-use Rattle.ob0_types_check.specs.DeclarationFaults.{WalkProgress, every_body, undeclared_name_and_type_faults, reported_module}
+use Rattle.ob0_types_check.specs.DeclarationFaults.{WalkProgress, every_body, undeclared_name_and_type_faults, report_on_module}
 use Rattle.ob0_types_check.specs.ModuleLaws.{WalkWithoutFaultFindsCorrectMeanings, HasDeclarations, KnowsDeclarations}
-use Rattle.ob0_types_check.specs.Known.{ResultWithFaults}
-use Rattle.ob0_types_check.specs.Operations.{ReturnsAndReports}
+use Rattle.ob0_types_check.specs.TypesAndMeanings.{ResultWithFaults}
+use Rattle.ob0_types_check.specs.OperandFaults.{ReturnsAndReports}
 use Rattle.ob0_types_check.specs.SomeBodies.{IsFinishedWalk, walk_progress_of}
 use Rattle.ob0_types_check.specs.CheckerViews.{declarations_in_state, table_in_state}
 use Rattle.ob0_types_check.specs.declared.reporting.checker_state.CheckerState.{CheckerState}

@@ -6,7 +6,7 @@ use Rattle.std.proofs.lemmas.Option.{slice_get-map}
 use Rattle.std.proofs.Math.ListN.{get_or-map}
 use Rattle.ob0_language_names.specs.Names.{Name, same_name}
 use Rattle.ob0_scope_table.specs.Resolution.{ordinal_in}
-use Rattle.ob0_types_table.specs.FieldIndex.{type_of_first_field_named}
+use Rattle.ob0_types_table.specs.FirstFieldMaps.{type_of_first_field_named}
 use Rattle.ob0_types_table.specs.declared.known.Field.{Field}
 use Rattle.ob0_types_table.specs.declared.known.TypeEntry.{TypeEntry}
 use Rattle.ob0_types_table.specs.declared.known.TypeEntry.TheVariants as made
@@ -14,8 +14,8 @@ use Rattle.ob0_types_table.specs.declared.types.TypeId.{TypeId}
 use Rattle.ob0_types_table.specs.declared.types.TypeId.TheVariants as type
 use Rattle.ob0_types_check.specs.declared.reporting.checker_state.Meaning.{Meaning}
 use Rattle.ob0_types_check.specs.declared.reporting.checker_state.CheckerState.{CheckerState}
-use Rattle.ob0_types_check.specs.Known.{a_record, an_array}
-use Rattle.ob0_types_check.specs.KnownDeclarations.{element_type_of_composite, facts_at, field_type_of_composite, type_of_field_named, form_of_type_so_far, same_type}
+use Rattle.ob0_types_check.specs.TypesAndMeanings.{a_record, an_array}
+use Rattle.ob0_types_check.specs.KnownDeclarations.{element_type_of_composite, facts_from_declarations, field_type_of_composite, type_of_field_named, form_of_type_so_far, same_type}
 use Rattle.ob0_types_check.specs.CheckerViews.{entry_element_type, facts_in, entry_field_type, known_fields_of, form_of_type_in, composite_type_of, meaning_view, declarations_in_state}
 
 elements_same : (o : Option TypeEntry) → entry_element_type o ≡ element_type_of_composite (option_map composite_type_of o)
@@ -44,7 +44,7 @@ identifier_meaning_at ms None = refl
 identifier_meaning_at ms (Some k) = sym (get_or-map (option_map meaning_view) ms k None)
 
 -- The facts from the code's state are the facts from the definitions' state.
-pub facts_same : (s : CheckerState) (only_constants : Bool) → facts_in s only_constants ≡ facts_at (declarations_in_state s) only_constants
+pub facts_same : (s : CheckerState) (only_constants : Bool) → facts_in s only_constants ≡ facts_from_declarations (declarations_in_state s) only_constants
 facts_same s only_constants = λ j. record {
   source = s.resolved.now.module_read.source;
   types = record { integer = type.Integer; boolean = type.Boolean; unknown = type.Unknown; same = same_type; form = λ t. form_same s.composites.items t j };

@@ -7,16 +7,16 @@ use Rattle.ob0_scan.specs.declared.fault.FaultCode.TheVariants as code
 use Rattle.ob0_scan.specs.TextWithTokens.{TextWithTokens}
 use Rattle.ob0_tree.specs.declared.tree.Sign.{Sign}
 use Rattle.ob0_tree.specs.Places.{token_text_at, token_value_at}
-use Rattle.ob0_tree.specs.Tree.{Sort, Tree, addend, arguments, no_arguments, some_arguments, then_argument, further_argument, adds, assigns, branches, calls, compares, designator, else_branch, else_part, elsif_branch, elsif_part, empty, end, expression, factor, field, further_statement, index, integer, items, maybe, more, multiplier, multiplies, negation, none, one, parenthesised, product, relates, repeat_loop, runs, selector, sequence, simple, statement, sum, term, then_statement, while_loop}
+use Rattle.ob0_tree.specs.Tree.{Sort, Tree, addend, arguments, no_arguments, some_arguments, comma_then_argument, argument_after_comma, adds, assigns, branches, calls, compares, designator, else_branch, else_part, elsif_branch, elsif_part, empty, end, expression, factor, field, statement_after_semicolon, index, integer, items, maybe, more, multiplier, multiplies, negation, none, one, parenthesised, product, relates, repeat_loop, runs, selector, sequence, simple, statement, sum, term, semicolon_then_statement, while_loop}
 use Rattle.ob0_language_types.specs.Arguments.{call_arguments, further_arguments}
 use Rattle.ob0_language_values.specs.Values.{number}
 use Rattle.ob0_scope_table.specs.TokenProperty.{EachTokenHas}
 use Rattle.ob0_scope_table.specs.Resolution.{ordinal_in}
 use Rattle.ob0_types_check.specs.ExpressionFaults.{report_on_addends, report_on_expression, report_on_factor, report_on_multipliers, report_on_selectors, report_on_simple_expression, report_on_term}
-use Rattle.ob0_types_check.specs.Known.{Facts, TypeForm, KnownParameter, Meaning, Operand, ResultWithFaults, Types, a_constant, a_procedure, a_record, a_scalar, a_type, a_variable, an_array, unknown_form}
-use Rattle.ob0_types_check.specs.Operations.{typed_name_operand, number_operand, add_operands, negated_operand, element_type_in_form, element_operand, fault_at_token, operand_in_parentheses, field_type_in_form, field_operand, field_type_or_fault, multiply_operands, name_operand, operand_by_meaning, extended_operand, relate_operands, required_type, without_fault, signed_operand, token_after, token_before, ◌>>=◌}
-use Rattle.ob0_types_check.specs.StatementFaults.{call_faults_by_meaning, required_type_of_argument, faults_of_argument, faults_of_arguments, assignment_faults, call_faults, else_faults, elsif_faults, untyped_argument_faults, typed_expression_faults, sequence_faults, statement_faults, further_statement_faults, report_on_target, target_type_by_meaning, target_name_type}
-use Rattle.ob0_types_check.specs.TypeFaults.{operand_value, report_on_constant_expression, type_by_meaning, type_named_at}
+use Rattle.ob0_types_check.specs.TypesAndMeanings.{Facts, TypeForm, KnownParameter, Meaning, Operand, ResultWithFaults, Types, a_constant, a_procedure, a_record, a_scalar, a_type, a_variable, an_array, unknown_form}
+use Rattle.ob0_types_check.specs.OperandFaults.{typed_name_operand, number_operand, add_operands, negated_operand, element_type_from_form, element_operand, fault_at_token, operand_in_parentheses, field_type_from_form, field_operand, field_type_or_fault, multiply_operands, name_operand, operand_from_meaning, extended_operand, relate_operands, required_type, without_fault, signed_operand, token_after, token_before, ◌>>=◌}
+use Rattle.ob0_types_check.specs.StatementFaults.{call_faults_from_meaning, required_type_of_argument, faults_of_argument, faults_of_arguments, assignment_faults, call_faults, else_faults, elsif_faults, untyped_argument_faults, typed_expression_faults, sequence_faults, statement_faults, further_statement_faults, report_on_target, target_type_from_meaning, target_name_type}
+use Rattle.ob0_types_check.specs.TypeFaults.{operand_value, report_on_constant_expression, type_from_meaning, type_named_at}
 
 -- returns the facts at a place, given the meaning of each declaration
 abbrev pub facts_over : {T : Type 0} → TextWithTokens → List (Option ℕ) → Types T → (ℕ → Option (Meaning T)) → Bool → Facts T
@@ -81,7 +81,7 @@ module _ (old new : TextWithTokens) (os ns : List (Option ℕ)) (P : ℕ → Typ
     enclosed_same : (o : Operand T) → operand_in_parentheses fo o ≡ operand_in_parentheses fn o
     enclosed_same o = λ i. record { of = o.of; value = o.value; may_be_variable = false; first = token_before o.first; last = after_same o.last i }
 
-    operand_of_name : (token : ℕ) (m : Option (Meaning T)) → operand_by_meaning fo token m ≡ operand_by_meaning fn token m
+    operand_of_name : (token : ℕ) (m : Option (Meaning T)) → operand_from_meaning fo token m ≡ operand_from_meaning fn token m
     operand_of_name token None = refl
     operand_of_name token (Some (a_constant v)) = refl
     operand_of_name token (Some (a_variable t)) = refl
@@ -89,13 +89,13 @@ module _ (old new : TextWithTokens) (os ns : List (Option ℕ)) (P : ℕ → Typ
     operand_of_name token (Some (a_procedure fs)) = refl
 
     named_same : (token : ℕ) → P token → name_operand fo token ≡ name_operand fn token
-    named_same token h = operand_of_name token (fo.object_for token) ∙ ap (operand_by_meaning fn token) (meant token h)
+    named_same token h = operand_of_name token (fo.object_for token) ∙ ap (operand_from_meaning fn token) (meant token h)
 
     found_same : (token : ℕ) (t : Option T) → field_type_or_fault fo token t ≡ field_type_or_fault fn token t
     found_same token None = refl
     found_same token (Some t) = refl
 
-    field_same : (token : ℕ) → P token → (form : TypeForm T) → field_type_in_form fo token form ≡ field_type_in_form fn token form
+    field_same : (token : ℕ) → P token → (form : TypeForm T) → field_type_from_form fo token form ≡ field_type_from_form fn token form
     field_same token h (a_record fields) = found_same token (fields (token_text_at old token)) ∙ ap (λ x. field_type_or_fault fn token (fields x)) (sym (w.written token h))
     field_same token h unknown_form = refl
     field_same token h a_scalar = refl
@@ -104,7 +104,7 @@ module _ (old new : TextWithTokens) (os ns : List (Option ℕ)) (P : ℕ → Typ
     field_after : (o : Operand T) (token : ℕ) → P token → field_operand fo o token ≡ field_operand fn o token
     field_after o token h = λ i. field_same token h (types.form o.of) i >>= (λ t. without_fault (extended_operand o t token))
 
-    element_same : (i : Operand T) (of : T) (form : TypeForm T) → element_type_in_form fo i of form ≡ element_type_in_form fn i of form
+    element_same : (i : Operand T) (of : T) (form : TypeForm T) → element_type_from_form fo i of form ≡ element_type_from_form fn i of form
     element_same i of (an_array t) = refl
     element_same i of unknown_form = refl
     element_same i of a_scalar = refl
@@ -153,7 +153,7 @@ module _ (old new : TextWithTokens) (os ns : List (Option ℕ)) (P : ℕ → Typ
     unfolding report_on_constant_expression
     constant_same e h = λ i. expression_same e h i >>= (λ o. operand_value fo o)
 
-    type_same : (token : ℕ) (m : Option (Meaning T)) → type_by_meaning fo token m ≡ type_by_meaning fn token m
+    type_same : (token : ℕ) (m : Option (Meaning T)) → type_from_meaning fo token m ≡ type_from_meaning fn token m
     type_same token (Some (a_type t)) = refl
     type_same token (Some (a_constant v)) = refl
     type_same token (Some (a_variable t)) = refl
@@ -161,7 +161,7 @@ module _ (old new : TextWithTokens) (os ns : List (Option ℕ)) (P : ℕ → Typ
     type_same token None = refl
 
     pub type_named_same : (token : ℕ) → P token → type_named_at fo token ≡ type_named_at fn token
-    type_named_same token h = type_same token (fo.object_for token) ∙ ap (type_by_meaning fn token) (meant token h)
+    type_named_same token h = type_same token (fo.object_for token) ∙ ap (type_from_meaning fn token) (meant token h)
 
     -- ---- statements
 
@@ -169,7 +169,7 @@ module _ (old new : TextWithTokens) (os ns : List (Option ℕ)) (P : ℕ → Typ
     unfolding typed_expression_faults
     required_there wanted e h = λ i. (expression_same e h i >>= (λ o. required_type fo wanted o)).faults
 
-    target_meant : (token : ℕ) (m : Option (Meaning T)) → target_type_by_meaning fo token m ≡ target_type_by_meaning fn token m
+    target_meant : (token : ℕ) (m : Option (Meaning T)) → target_type_from_meaning fo token m ≡ target_type_from_meaning fn token m
     target_meant token (Some (a_variable t)) = refl
     target_meant token (Some (a_constant v)) = refl
     target_meant token (Some (a_type t)) = refl
@@ -177,7 +177,7 @@ module _ (old new : TextWithTokens) (os ns : List (Option ℕ)) (P : ℕ → Typ
     target_meant token None = refl
 
     target_named : (x : ℕ) → P x → target_name_type fo x ≡ target_name_type fn x
-    target_named x h = target_meant x (fo.object_for x) ∙ ap (target_type_by_meaning fn x) (meant x h)
+    target_named x h = target_meant x (fo.object_for x) ∙ ap (target_type_from_meaning fn x) (meant x h)
 
     target_same : (x : ℕ) (path : Tree ℕ (items selector)) → P x → Each path → report_on_target fo x path ≡ report_on_target fn x path
     unfolding report_on_target
@@ -195,9 +195,9 @@ module _ (old new : TextWithTokens) (os ns : List (Option ℕ)) (P : ℕ → Typ
     EachOf [] = Unit {0}
     EachOf (e ∷ es) = Each e × EachOf es
 
-    further_each : (es : Tree ℕ (items further_argument)) → Each es → EachOf (further_arguments es)
+    further_each : (es : Tree ℕ (items argument_after_comma)) → Each es → EachOf (further_arguments es)
     further_each end h = tt
-    further_each (more (then_argument e) es) h = (h.0, further_each es h.1)
+    further_each (more (comma_then_argument e) es) h = (h.0, further_each es h.1)
 
     arguments_each : (es : Tree ℕ (maybe arguments)) → Each es → EachOf (call_arguments es)
     arguments_each none h = tt
@@ -213,7 +213,7 @@ module _ (old new : TextWithTokens) (os ns : List (Option ℕ)) (P : ℕ → Typ
     parts_same [] h = refl
     parts_same (e ∷ es) h = λ i. (expression_same e h.0 i).faults ++ parts_same es h.1 i
 
-    call_meant : (p : ℕ) (m : Option (Meaning T)) (es : List (Tree ℕ expression)) → EachOf es → call_faults_by_meaning fo p m es ≡ call_faults_by_meaning fn p m es
+    call_meant : (p : ℕ) (m : Option (Meaning T)) (es : List (Tree ℕ expression)) → EachOf es → call_faults_from_meaning fo p m es ≡ call_faults_from_meaning fn p m es
     call_meant p (Some (a_procedure fs)) es h = ap (λ faults. if nat_eq (length fs) (length es) then faults else fault_at_token code.ArgumentCount p) (arguments_same fs es h)
     call_meant p (Some (a_type t)) es h = ap (λ faults. fault_at_token code.WrongKind p ++ faults) (parts_same es h)
     call_meant p (Some (a_constant v)) es h = ap (λ faults. fault_at_token code.WrongKind p ++ faults) (parts_same es h)
@@ -221,7 +221,7 @@ module _ (old new : TextWithTokens) (os ns : List (Option ℕ)) (P : ℕ → Typ
     call_meant p None es h = parts_same es h
 
     call_same : (p : ℕ) (es : List (Tree ℕ expression)) → P p → EachOf es → call_faults fo p es ≡ call_faults fn p es
-    call_same p es h each = call_meant p (fo.object_for p) es each ∙ ap (λ m. call_faults_by_meaning fn p m es) (meant p h)
+    call_same p es h each = call_meant p (fo.object_for p) es each ∙ ap (λ m. call_faults_from_meaning fn p m es) (meant p h)
 
     mutual
       unfolding statement_faults
@@ -238,9 +238,9 @@ module _ (old new : TextWithTokens) (os ns : List (Option ℕ)) (P : ℕ → Typ
       pub sequence_same : (s : Tree ℕ sequence) → Each s → sequence_faults fo s ≡ sequence_faults fn s
       sequence_same (runs a rest) h = λ i. statement_same a h.0 i ++ statements_same rest h.1 i
 
-      statements_same : (rest : Tree ℕ (items further_statement)) → Each rest → further_statement_faults fo rest ≡ further_statement_faults fn rest
+      statements_same : (rest : Tree ℕ (items statement_after_semicolon)) → Each rest → further_statement_faults fo rest ≡ further_statement_faults fn rest
       statements_same end h = refl
-      statements_same (more (then_statement a) rest) h = λ i. statement_same a h.0 i ++ statements_same rest h.1 i
+      statements_same (more (semicolon_then_statement a) rest) h = λ i. statement_same a h.0 i ++ statements_same rest h.1 i
 
       elsifs_same : (rest : Tree ℕ (items elsif_part)) → Each rest → elsif_faults fo rest ≡ elsif_faults fn rest
       elsifs_same end h = refl

@@ -2,13 +2,13 @@
 -- declarations and bodies.
 use Rattle.std.proofs.Common.{◌≡◌, ℕ, suc, Bool, true, false, List, [], ◌∷◌, ◌++◌, Option, Some, None, map, slice_index_or, refl, sym, ap, ◌∙◌, subst, if◌then◌else◌}
 use Rattle.std.specs.List.{filter}
-use Rattle.ob0_scan.specs.Reused.{words_of_tokens}
+use Rattle.ob0_scan.specs.ReusedLexemes.{words_of_tokens}
 use Rattle.ob0_scan.specs.TextWithTokens.{TextWithTokens}
-use Rattle.ob0_language_names.specs.Parts.{formal_sections, further_names, module_block, names_in_list, section_constants, section_types, section_variables}
+use Rattle.ob0_language_names.specs.BlockParts.{formal_sections, names_after_first, module_block, names_in_list, section_constants, section_types, section_variables}
 use Rattle.ob0_tree.specs.ParsedModule.{parsed_module, tree_of}
-use Rattle.ob0_tree.specs.Tree.{Sort, Tree, no_formals, some_formals, listed, then_name, further_name, constants, type_definitions, variables, formals, declares_constants, declares_types, declares_variables, array_type, begins, block, body, constant, declares, declares_constant, declares_procedure, declares_type, declares_variable, end, fields, further_fields, further_section, forms_block, item, items, maybe, more, named_type, names, no_fields, none, one, procedure, record_type, some_fields, then_fields, then_section, type_definition, value_section, variable, variable_section, written_type}
+use Rattle.ob0_tree.specs.Tree.{Sort, Tree, no_formals, some_formals, listed, comma_then_name, name_after_comma, constants, type_definitions, variables, formals, declares_const_section, declares_type_section, declares_var_section, array_type, begins, block, body, constant, declares, declares_constant, declares_procedure, declares_type, declares_variable, end, fields, fields_after_semicolon, section_after_semicolon, forms_block, item, items, maybe, more, named_type, names, no_fields, none, one, procedure, record_type, some_fields, semicolon_then_fields, semicolon_then_section, type_definition, value_section, variable, variable_section, written_type}
 use Rattle.ob0_tree.specs.declared.tree.ModuleTree.{ModuleTree}
-use Rattle.ob0_scope_table.specs.Bindings.{resolution_with}
+use Rattle.ob0_scope_table.specs.Bindings.{resolution_with_bindings}
 use Rattle.ob0_scope_table.specs.TokenProperty.{EachTokenHas}
 use Rattle.ob0_scope_table.specs.Resolution.{is_undeclared_fault, ordinal_in}
 use Rattle.ob0_scope_table.specs.declared.resolved.Bindings.{Bindings}
@@ -17,10 +17,10 @@ use Rattle.ob0_scope_table.proofs.SameWords.{same_count, same_texts, same_values
 use Rattle.ob0_types_table.specs.declared.types.TypeId.{TypeId}
 use Rattle.ob0_types_table.specs.declared.types.TypeId.TheVariants as type
 use Rattle.ob0_types_check.specs.DeclarationFaults.{KnownHeading, WalkProgress, body_faults, every_body, undeclared_name_and_type_faults, report_body_if_wanted, report_on_block, report_on_constant_declaration, report_on_constant_declarations, report_on_parameters, report_on_procedure, report_on_procedures, report_on_parameter_section, report_on_parameter_sections, report_on_type_declaration, report_on_type_declarations, report_on_variable_group, report_on_variable_declarations, declarations_after_heading, with_body_if_faulty, with_declarations, with_parameters}
-use Rattle.ob0_types_check.specs.Known.{Meaning, Operand, ResultWithFaults, a_constant, a_procedure, a_type, a_variable}
-use Rattle.ob0_types_check.specs.Operations.{without_fault, token_before, ◌>>=◌}
-use Rattle.ob0_types_check.specs.KnownDeclarations.{PartTypes, Size, KnownDeclarations, TypeWithFollowingDeclarations, known_declarations_at_start, define_name_at_token, define_names_at_tokens, facts_at, is_within_limits, append_composite, make_composite_type, of_elements, of_fields, size_of_type_so_far, report_on_too_large_type, types_so_far, with_meaning}
-use Rattle.ob0_types_check.specs.TypeFaults.{length_by_operand}
+use Rattle.ob0_types_check.specs.TypesAndMeanings.{Meaning, Operand, ResultWithFaults, a_constant, a_procedure, a_type, a_variable}
+use Rattle.ob0_types_check.specs.OperandFaults.{without_fault, token_before, ◌>>=◌}
+use Rattle.ob0_types_check.specs.KnownDeclarations.{CompositeParts, TypeSize, KnownDeclarations, TypeWithFollowingDeclarations, known_declarations_at_start, define_name_at_token, define_names_at_tokens, facts_from_declarations, is_within_limits, append_composite, make_composite_type, of_elements, of_fields, size_of_type_so_far, report_on_too_large_type, types_so_far, with_meaning}
+use Rattle.ob0_types_check.specs.TypeFaults.{length_from_operand}
 use Rattle.ob0_types_check.specs.WrittenTypeFaults.{KnownFields, made_array_type, array_size, with_field_group, no_known_fields, next_type_ordinal, made_record_type, record_size, record_keyword_token, report_on_field_group, report_on_further_field_groups, report_on_written_type, with_known_fields, with_known_field, token_before_group}
 use Rattle.ob0_types_check.proofs.SameFaults.{Alike, Alikeness, constant_same, expression_same, goes_on, goes_on_equally, rightly, sequence_same, type_named_same}
 
@@ -121,16 +121,16 @@ module _ (old new : TextWithTokens) (os ns : List (Option ℕ)) (P : ℕ → Typ
       let q : KnownDeclarations = define_name_at_token (so_old p) m x in
       ap (λ r. define_names_at_tokens r m xs) (define_after p m x h.0) ∙ (all_after q m xs h.1 ∙ ap (λ r. so_new (define_names_at_tokens r m xs)) (sym (define_before p m x)))
 
-  further_each : (ns : Tree ℕ (items further_name)) → Each ns → AllOf (further_names ns)
+  further_each : (ns : Tree ℕ (items name_after_comma)) → Each ns → AllOf (names_after_first ns)
   further_each end h = tt
-  further_each (more (then_name x) ns) h = (h.0, further_each ns h.1)
+  further_each (more (comma_then_name x) ns) h = (h.0, further_each ns h.1)
 
   names_each : (ns : Tree ℕ names) → Each ns → AllOf (names_in_list ns)
   names_each (listed x ns) h = (h.0, further_each ns h.1)
 
   -- ---- written types
 
-  made_within : (b : Bool) (p : KnownDeclarations) (word ordinal : ℕ) (parts : PartTypes) (size : Size)
+  made_within : (b : Bool) (p : KnownDeclarations) (word ordinal : ℕ) (parts : CompositeParts) (size : TypeSize)
       → Typed (if b then without_fault (append_composite (so_old p) ordinal parts size) else report_on_too_large_type (so_old p) word) (if b then without_fault (append_composite (so_new p) ordinal parts size) else report_on_too_large_type (so_new p) word)
   made_within true p word ordinal parts size = rightly typed_old typed_new (append_composite p ordinal parts size)
   made_within false p word ordinal parts size = record {
@@ -140,7 +140,7 @@ module _ (old new : TextWithTokens) (os ns : List (Option ℕ)) (P : ℕ → Typ
     faults = refl;
   }
 
-  made_same : (p : KnownDeclarations) (word ordinal : ℕ) (parts : PartTypes) (size : Size) → Typed (make_composite_type (so_old p) word ordinal parts size) (make_composite_type (so_new p) word ordinal parts size)
+  made_same : (p : KnownDeclarations) (word ordinal : ℕ) (parts : CompositeParts) (size : TypeSize) → Typed (make_composite_type (so_old p) word ordinal parts size) (make_composite_type (so_new p) word ordinal parts size)
   made_same p word ordinal parts size = made_within (is_within_limits size) p word ordinal parts size
 
   array_same : (ordinal : ℕ) (o : Operand TypeId) (n : Option ℕ) (t : TypeWithFollowingDeclarations) → Typed (made_array_type ordinal o n (typed_old t)) (made_array_type ordinal o n (typed_new t))
@@ -173,11 +173,11 @@ module _ (old new : TextWithTokens) (os ns : List (Option ℕ)) (P : ℕ → Typ
         goes_on_equally (λ t. without_fault (record { of = t; following = so_old p })) (λ t. without_fault (record { of = t; following = so_new p })) (type_named_same old new os ns P w (types_so_far p.made) (declared_at p) false x h)
         (λ t. rightly typed_old typed_new (record { of = t; following = p }))
     written_same around p (array_type e u) h =
-        goes_on_equally (λ o. length_by_operand (facts_at (so_old p) false) o >>= (λ n. report_on_written_type (suc around) (so_old p) u >>= made_array_type (next_type_ordinal around p) o n))
-        (λ o. length_by_operand (facts_at (so_new p) false) o >>= (λ n. report_on_written_type (suc around) (so_new p) u >>= made_array_type (next_type_ordinal around p) o n))
+        goes_on_equally (λ o. length_from_operand (facts_from_declarations (so_old p) false) o >>= (λ n. report_on_written_type (suc around) (so_old p) u >>= made_array_type (next_type_ordinal around p) o n))
+        (λ o. length_from_operand (facts_from_declarations (so_new p) false) o >>= (λ n. report_on_written_type (suc around) (so_new p) u >>= made_array_type (next_type_ordinal around p) o n))
         (expression_same old new os ns P w (types_so_far p.made) (declared_at p) true e h.0)
         (λ o.
-        let lengths : length_by_operand (facts_at (so_old p) false) o ≡ length_by_operand (facts_at (so_new p) false) o = refl in
+        let lengths : length_from_operand (facts_from_declarations (so_old p) false) o ≡ length_from_operand (facts_from_declarations (so_new p) false) o = refl in
         goes_on_equally (λ n. report_on_written_type (suc around) (so_old p) u >>= made_array_type (next_type_ordinal around p) o n) (λ n. report_on_written_type (suc around) (so_new p) u >>= made_array_type (next_type_ordinal around p) o n) lengths
         (λ n. goes_on (made_array_type (next_type_ordinal around p) o n) (made_array_type (next_type_ordinal around p) o n) (written_same (suc around) p u h.1) (λ t. array_same (next_type_ordinal around p) o n t)))
     written_same around p (record_type g rest) h =
@@ -194,9 +194,9 @@ module _ (old new : TextWithTokens) (os ns : List (Option ℕ)) (P : ℕ → Typ
         goes_on (λ u. without_fault (with_field_group (gathered_old so_far) (names_in_list ns) u)) (λ u. without_fault (with_field_group (gathered_new so_far) (names_in_list ns) u)) (written_same around so_far.following t h.1)
         (λ u. gathered_same so_far (names_in_list ns) u (names_each ns h.0))
 
-    groups_same : (around : ℕ) (so_far : KnownFields) (gs : Tree ℕ (items further_fields)) → Each gs → AddsKnownFields (report_on_further_field_groups around (gathered_old so_far) gs) (report_on_further_field_groups around (gathered_new so_far) gs)
+    groups_same : (around : ℕ) (so_far : KnownFields) (gs : Tree ℕ (items fields_after_semicolon)) → Each gs → AddsKnownFields (report_on_further_field_groups around (gathered_old so_far) gs) (report_on_further_field_groups around (gathered_new so_far) gs)
     groups_same around so_far end h = rightly gathered_old gathered_new so_far
-    groups_same around so_far (more (then_fields g) rest) h =
+    groups_same around so_far (more (semicolon_then_fields g) rest) h =
         goes_on (λ next. report_on_further_field_groups around next rest) (λ next. report_on_further_field_groups around next rest) (group_same around so_far g h.0) (λ next. groups_same around next rest h.1)
 
   -- ---- declarations
@@ -259,12 +259,12 @@ module _ (old new : TextWithTokens) (os ns : List (Option ℕ)) (P : ℕ → Typ
       goes_on (λ u. without_fault (with_parameters (heading_old h) by_place (names_in_list ns) u)) (λ u. without_fault (with_parameters (heading_new h) by_place (names_in_list ns) u)) (written_same 0 h.following t of_type)
       (λ u. parameters_after h by_place (names_in_list ns) u (names_each ns of_names))
 
-  section_same : (h : KnownHeading) (s : Tree ℕ (item further_section)) → Each s → Heads (report_on_parameter_section (heading_old h) s) (report_on_parameter_section (heading_new h) s)
+  section_same : (h : KnownHeading) (s : Tree ℕ (item section_after_semicolon)) → Each s → Heads (report_on_parameter_section (heading_old h) s) (report_on_parameter_section (heading_new h) s)
   unfolding report_on_parameter_section
-  section_same h (then_section (value_section ns t)) each = parameters_same h false ns t each.0 each.1
-  section_same h (then_section (variable_section ns t)) each = parameters_same h true ns t each.0 each.1
+  section_same h (semicolon_then_section (value_section ns t)) each = parameters_same h false ns t each.0 each.1
+  section_same h (semicolon_then_section (variable_section ns t)) each = parameters_same h true ns t each.0 each.1
 
-  pub sections_same : (h : KnownHeading) (ss : Tree ℕ (items further_section)) → Each ss → Heads (report_on_parameter_sections (heading_old h) ss) (report_on_parameter_sections (heading_new h) ss)
+  pub sections_same : (h : KnownHeading) (ss : Tree ℕ (items section_after_semicolon)) → Each ss → Heads (report_on_parameter_sections (heading_old h) ss) (report_on_parameter_sections (heading_new h) ss)
   unfolding report_on_parameter_sections
   sections_same h end each = rightly heading_old heading_new h
   sections_same h (more s rest) each = goes_on (λ g. report_on_parameter_sections g rest) (λ g. report_on_parameter_sections g rest) (section_same h s each.0) (λ g. sections_same g rest each.1)
@@ -282,15 +282,15 @@ module _ (old new : TextWithTokens) (os ns : List (Option ℕ)) (P : ℕ → Typ
 
   pub constants_each : (cs : Tree ℕ (maybe constants)) → Each cs → Each (section_constants cs)
   constants_each none h = tt
-  constants_each (one (declares_constants cs)) h = h
+  constants_each (one (declares_const_section cs)) h = h
 
   pub types_each : (ts : Tree ℕ (maybe type_definitions)) → Each ts → Each (section_types ts)
   types_each none h = tt
-  types_each (one (declares_types ts)) h = h
+  types_each (one (declares_type_section ts)) h = h
 
   pub variables_each : (vs : Tree ℕ (maybe variables)) → Each vs → Each (section_variables vs)
   variables_each none h = tt
-  variables_each (one (declares_variables vs)) h = h
+  variables_each (one (declares_var_section vs)) h = h
 
   -- ---- bodies
 
@@ -360,10 +360,10 @@ module _ (old new : TextWithTokens) (os ns : List (Option ℕ)) (P : ℕ → Typ
 
 -- If all tokens of two texts have the same spellings, both modules have the same undeclared names and faults of types.
 pub module_same : (old new : TextWithTokens) → words_of_tokens new.text new.tokens ≡ words_of_tokens old.text old.tokens → (tree : ModuleTree) (b : Bindings)
-    → undeclared_name_and_type_faults (resolution_with (parsed_module old tree) b) ≡ undeclared_name_and_type_faults (resolution_with (parsed_module new tree) b)
+    → undeclared_name_and_type_faults (resolution_with_bindings (parsed_module old tree) b) ≡ undeclared_name_and_type_faults (resolution_with_bindings (parsed_module new tree) b)
 unfolding undeclared_name_and_type_faults
 module_same old new same tree b =
     let P : ℕ → Type 0 = λ k. Unit {0} in
     let likeness : Alikeness old new b.ordinals.items b.ordinals.items P = record { count = same_count old new same; written = λ k u. λ j. same_texts old new same j k; value = λ k u. λ j. same_values old new same j k; bound = λ k u. refl } in
     let whole : Tree ℕ block = module_block (tree_of (parsed_module old tree)) in
-    ap (λ fs. filter is_undeclared_fault b.faults.items ++ fs) (block_same old new b.ordinals.items b.ordinals.items P likeness tree.closing (record { so = known_declarations_at_start (resolution_with (parsed_module old tree) b); in_old = []; in_new = [] }) whole (each_token P (λ k. tt) whole)).faults
+    ap (λ fs. filter is_undeclared_fault b.faults.items ++ fs) (block_same old new b.ordinals.items b.ordinals.items P likeness tree.closing (record { so = known_declarations_at_start (resolution_with_bindings (parsed_module old tree) b); in_old = []; in_new = [] }) whole (each_token P (λ k. tt) whole)).faults

@@ -3,15 +3,15 @@ use Rattle.std.proofs.Common.{◌≡◌, ℕ, Bool, true, false, List, [], ◌�
 use Rattle.ob0_scan.specs.TextWithTokens.{TextWithTokens}
 use Rattle.ob0_tree.specs.declared.tree.Role.TheVariants as role
 use Rattle.ob0_tree.specs.ParsedModule.{tree_of}
-use Rattle.ob0_tree.specs.Tree.{Tree, block, body, declares, declares_procedure, end, forms_block, identifiers, is_module, item, items, maybe, module_text, more, procedure}
-use Rattle.ob0_language_names.specs.Parts.{formal_sections, module_block, section_constants, section_types, section_variables}
+use Rattle.ob0_tree.specs.Tree.{Tree, block, body, declares, declares_procedure, end, forms_block, identifiers, forms_module, item, items, maybe, module_text, more, procedure}
+use Rattle.ob0_language_names.specs.BlockParts.{formal_sections, module_block, section_constants, section_types, section_variables}
 use Rattle.ob0_scope_table.specs.TokenProperty.{EachTokenHas}
 use Rattle.ob0_scope_table.specs.Resolution.{IsResolution, Resolution, declaring_names}
 use Rattle.ob0_scope_table.specs.declared.faults.FaultAtTokens.{FaultAtTokens}
-use Rattle.ob0_types_check.specs.EqualExceptBodies.{EachTokenOfBlockHasExceptInBodies, IsSameTokenAt, EachTokenOfProcedureHasExceptInBodies, EachTokenOfProceduresHasExceptInBodies, Unless}
-use Rattle.ob0_types_check.specs.DeclarationFaults.{KnownHeading, WalkProgress, body_faults, every_body, report_body_if_wanted, report_on_block, report_on_constant_declarations, reported_module, report_on_procedure, report_on_procedures, report_on_parameter_sections, report_on_type_declarations, report_on_variable_declarations, declarations_after_heading, walk_at_start, with_body_if_faulty, with_declarations}
-use Rattle.ob0_types_check.specs.Known.{ResultWithFaults}
-use Rattle.ob0_types_check.specs.Operations.{◌>>=◌}
+use Rattle.ob0_types_check.specs.EqualExceptBodies.{EachTokenOfBlockHasExceptInBodies, IsSameTokenAt, EachTokenOfProcedureHasExceptInBodies, EachTokenOfProceduresHasExceptInBodies, HoldsUnless}
+use Rattle.ob0_types_check.specs.DeclarationFaults.{KnownHeading, WalkProgress, body_faults, every_body, report_body_if_wanted, report_on_block, report_on_constant_declarations, report_on_module, report_on_procedure, report_on_procedures, report_on_parameter_sections, report_on_type_declarations, report_on_variable_declarations, declarations_after_heading, walk_at_start, with_body_if_faulty, with_declarations}
+use Rattle.ob0_types_check.specs.TypesAndMeanings.{ResultWithFaults}
+use Rattle.ob0_types_check.specs.OperandFaults.{◌>>=◌}
 use Rattle.ob0_types_check.specs.KnownDeclarations.{KnownDeclarations, known_declarations_at_start, predeclared_meanings}
 use Rattle.ob0_types_check.specs.SomeBodies.{AllClosingNamesPass, IncludesChangedAndFaultyBodies, WalkingChangedAndFaultyBodiesSuffices, faulty_bodies}
 use Rattle.ob0_types_check.proofs.Chains.{reported_equal}
@@ -142,14 +142,14 @@ module _ (old new : TextWithTokens) (os ns : List (Option ℕ)) (P : ℕ → Typ
   none_unless [] own xs e h = refl
   none_unless (fault ∷ faults) own xs e h = absurd (true≢false (sym (all_last wanted xs own h) ∙ e))
 
-  body_with : (own : ℕ) (z : Both) (a : Tree ℕ (maybe body)) → Unless (wanted own) (EachTokenHas P a) → Were (report_body_if_wanted true own (walked_before z) a).known
+  body_with : (own : ℕ) (z : Both) (a : Tree ℕ (maybe body)) → HoldsUnless (wanted own) (EachTokenHas P a) → Were (report_body_if_wanted true own (walked_before z) a).known
       → With (report_body_if_wanted true own (walked_before z) a) (report_body_if_wanted true own (walked_now z) a) (report_body_if_wanted (wanted own) own (walked_now z) a)
   body_with own z a each were = one (wanted own) refl each
     where
       at_end : Both
       at_end = after_body old new os ns P w own z a
 
-      one : (b : Bool) → wanted own ≡ b → Unless b (EachTokenHas P a) → With (report_body_if_wanted true own (walked_before z) a) (report_body_if_wanted true own (walked_now z) a) (report_body_if_wanted b own (walked_now z) a)
+      one : (b : Bool) → wanted own ≡ b → HoldsUnless b (EachTokenHas P a) → With (report_body_if_wanted true own (walked_before z) a) (report_body_if_wanted true own (walked_now z) a) (report_body_if_wanted b own (walked_now z) a)
       one true e each = record { value = at_end; before = refl; after = refl; same = refl }
       one false e each =
           let none : body_faults (walked_now z).so_far a ≡ [] = sym (body_same old new os ns P w z.so a each) ∙ none_unless (body_faults (walked_before z).so_far a) own z.in_old e were in
@@ -216,13 +216,13 @@ module _ (old new : TextWithTokens) (os ns : List (Option ℕ)) (P : ℕ → Typ
 -- ---- a module
 
 abbrev pub closing_of : Tree ℕ module_text → ℕ
-closing_of (is_module x b closing) = closing
+closing_of (forms_module x b closing) = closing
 
 -- holds if the final states in both texts come from one value
 pub record IsKnownAlike (old new : Resolution) : Type 0 where
   pub value : KnownDeclarations
-  pub before : (reported_module every_body old).known.so_far ≡ so_over old.module_read.source old.ordinals value
-  pub after : (reported_module every_body new).known.so_far ≡ so_over new.module_read.source new.ordinals value
+  pub before : (report_on_module every_body old).known.so_far ≡ so_over old.module_read.source old.ordinals value
+  pub after : (report_on_module every_body new).known.so_far ≡ so_over new.module_read.source new.ordinals value
 
 module _ (wanted : ℕ → Bool) (r : Resolution) (is : IsResolution r) (w : IncludesChangedAndFaultyBodies wanted r) where
   abbrev old : Resolution
@@ -241,10 +241,10 @@ module _ (wanted : ℕ → Bool) (r : Resolution) (is : IsResolution r) (w : Inc
   at_start = record { so_far = so_over r.module_read.source r.ordinals (known_declarations_at_start old); bodies_with_faults = [] }
 
   one : One (walked_before old.module_read.source r.module_read.source old.ordinals r.ordinals (IsSameTokenAt old r) likeness wanted) (walked_now old.module_read.source r.module_read.source old.ordinals r.ordinals (IsSameTokenAt old r) likeness wanted)
-      (reported_module every_body old) (report_on_block every_body old.module_read.closing at_start old_block) (report_on_block wanted old.module_read.closing at_start old_block)
+      (report_on_module every_body old) (report_on_block every_body old.module_read.closing at_start old_block) (report_on_block wanted old.module_read.closing at_start old_block)
   one = block_one old.module_read.source r.module_read.source old.ordinals r.ordinals (IsSameTokenAt old r) likeness wanted old.module_read.closing start old_block w.alike.alike.1 w.bodies_with_faults
 
-  as_read : (test : ℕ → Bool) → reported_module test r ≡ report_on_block test old.module_read.closing at_start old_block
+  as_read : (test : ℕ → Bool) → report_on_module test r ≡ report_on_block test old.module_read.closing at_start old_block
   as_read test =
       let tree = w.alike.tree in
       let declared : r.declaration_tokens ≡ old.declaration_tokens = is.declaring ∙ (ap (λ t. declaring_names (identifiers role.Declaring t)) tree ∙ sym w.resolved.declaring) in

@@ -11,8 +11,8 @@ use Rattle.ob0_language_types.specs.Bindings.{declared_object}
 use Rattle.ob0_language_types.specs.Expressions as meant
 use Rattle.ob0_language_types.specs.Typing.{depth, scalars}
 use Rattle.ob0_language_types.specs.WellTyped.{Signature, signature_of}
-use Rattle.ob0_types_table.specs.KnownTables.{declared_object_in, shapes_of}
-use Rattle.ob0_types_table.specs.DeclarationTableView.{AreEntriesInOrder, IsValidEntry, RefersOnlyToFirstEntries, field_shapes, formal_view, entry_shape, faulty_shape, object_view, array_or_faulty, record_or_faulty, extended_shapes, type_shape}
+use Rattle.ob0_types_table.specs.DeclarationTables.{declared_object_in, shapes_of}
+use Rattle.ob0_types_table.specs.DeclarationTableView.{AreEntriesInOrder, IsValidEntry, RefersOnlyToFirstEntries, field_shapes, formal_view, entry_shape, faulty_shape, object_view, array_or_faulty, record_or_faulty, shapes_after_entries, type_shape}
 use Rattle.ob0_types_table.specs.declared.known.Field.{Field}
 use Rattle.ob0_types_table.specs.declared.known.FormalParameter as formal
 use Rattle.ob0_types_table.specs.declared.known.Object as object
@@ -88,7 +88,7 @@ entry_there known (made.Record r) s h =
     let same : entry_shape known (made.Record r) ≡ s = ap (record_shape r.ordinal) all.0 ∙ sym e in
     (same, record { parts = all.1; counted = (h.scalars ∙ ap scalars (sym same), h.depth ∙ ap depth (sym same)) })
 
-entries_there : (known : List Shape) (ms : List TypeEntry) (ss : List Shape) → EntriesAgreeWithShapes known (map composite_type_of ms) ss → AreEntriesInOrder known ms × (extended_shapes known ms ≡ known ++ ss)
+entries_there : (known : List Shape) (ms : List TypeEntry) (ss : List Shape) → EntriesAgreeWithShapes known (map composite_type_of ms) ss → AreEntriesInOrder known ms × (shapes_after_entries known ms ≡ known ++ ss)
 entries_there known [] [] h = (tt, sym (append-nil known))
 entries_there known [] (s ∷ ss) h = absurd h
 entries_there known (m ∷ ms) [] h = absurd h
@@ -96,7 +96,7 @@ entries_there known (m ∷ ms) (s ∷ ss) h =
     let one = entry_there known m s h.0 in
     let rest = entries_there (known ++ s ∷ []) ms ss h.1 in (
       (one.1, subst (λ z. AreEntriesInOrder (known ++ z ∷ []) ms) (sym one.0) rest.0),
-      ap (λ z. extended_shapes (known ++ z ∷ []) ms) one.0 ∙ (rest.1 ∙ append_assoc known (s ∷ []) ss),
+      ap (λ z. shapes_after_entries (known ++ z ∷ []) ms) one.0 ∙ (rest.1 ∙ append_assoc known (s ∷ []) ss),
     )
 
 -- The object of a declaration in the table is the module's object if its meaning agrees with that object.
@@ -112,7 +112,7 @@ procedure_there (Some (meant.a_type s)) signature own e = absurd (cc)
 procedure_there (Some (meant.a_constant v)) signature own e = absurd (cc)
 procedure_there (Some (meant.a_variable s)) signature own e = absurd (cc)
 procedure_there (Some (meant.a_procedure g)) signature own e = ap (λ z. Some (meant.a_procedure z)) (sym (some-same g signature e))
-procedure_there (Some (meant.a_standard p)) signature own e = absurd (cc)
+procedure_there (Some (meant.a_standard_procedure p)) signature own e = absurd (cc)
 
 object_there : (shapes : List Shape) (m : Meaning) (o : Option (meant.Object Shape Signature)) → MeaningAgreesWithObject (shape_of_type_in shapes) (meaning_view m) o → is_standard_procedure o ≡ false → object_view shapes (table_object m) ≡ o
 object_there shapes (declared.Named t) o (s, there, is) own = ap (λ z. Some (meant.a_type z)) (type_there shapes t s there) ∙ sym is

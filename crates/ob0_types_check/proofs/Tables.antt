@@ -10,8 +10,8 @@ use Rattle.ob0_language_names.specs.Names.{Name, same_name}
 use Rattle.ob0_language_types.specs.Typing.{shape_of_field}
 use Rattle.ob0_language_values.specs.Values.{FieldShapes, Shape, array_shape, next_field_shape, no_field_shape, record_shape}
 use Rattle.ob0_types_check.proofs.DeclaredShapes.{longer_more, made_kept}
-use Rattle.ob0_types_check.specs.Known.{a_record, an_array}
-use Rattle.ob0_types_check.specs.KnownDeclarations.{CompositeType, PartTypes, KnownField, element_type_of_composite, element_type_of_parts, field_type_of_composite, field_type_of_parts, type_of_field_named, form_of_type_so_far, of_elements, of_fields, same_type}
+use Rattle.ob0_types_check.specs.TypesAndMeanings.{a_record, an_array}
+use Rattle.ob0_types_check.specs.KnownDeclarations.{CompositeType, CompositeParts, KnownField, element_type_of_composite, element_type_of_parts, field_type_of_composite, field_type_of_parts, type_of_field_named, form_of_type_so_far, of_elements, of_fields, same_type}
 use Rattle.ob0_types_check.specs.Agreement.{EntriesAgreeWithShapes, FieldsAgreeWithShapes, FormAgreesWithShape, CompositeAgreesWithShape, PartsAgreeWithShape, TableAgreesWithShapes, shape_if_array, shape_if_record, shape_of_type_in}
 use Rattle.ob0_types_check.specs.ReportLaws.{TypesAgreeWithShapesIfTableDoes}
 use Rattle.ob0_types_check.proofs.Unreported.{some-none, some-same}
@@ -34,7 +34,7 @@ entry-found known (m ∷ ms) (u ∷ us) (suc i) s each h =
 pub found : (made : List CompositeType) (shapes : List Shape) (i : ℕ) (s : Shape) → TableAgreesWithShapes made shapes → slice_get shapes i ≡ Some s → Found (shape_of_type_in shapes) made i s
 found made shapes i s each h = entry-found [] made shapes i s each h
 
-array-formed : (shape : TypeId → Option Shape) (k : ℕ) (p : PartTypes) (r s : Shape) → PartsAgreeWithShape shape k p r → shape_if_array r ≡ Some s → FormAgreesWithShape shape (an_array (element_type_of_parts p)) s
+array-formed : (shape : TypeId → Option Shape) (k : ℕ) (p : CompositeParts) (r s : Shape) → PartsAgreeWithShape shape k p r → shape_if_array r ≡ Some s → FormAgreesWithShape shape (an_array (element_type_of_parts p)) s
 array-formed shape k (of_elements n t) r s (u, e, known) h = (k, n, u, some-same s (array_shape k n u) (sym h ∙ ap shape_if_array e), known)
 array-formed shape k (of_fields fields) r s (fs, e, each) h = absurd (some-none s (sym h ∙ ap shape_if_array e))
 
@@ -47,7 +47,7 @@ field-there shape (f ∷ fields) (next_field_shape y s fs) h x =
     ap (λ z. option_map shape (if same_name x z then Some f.of else type_of_field_named fields x)) h.0
     ∙ (elim (same_name x y) as (λ b. option_map shape (if b then Some f.of else type_of_field_named fields x) ≡ option_map Some (if b then Some s else shape_of_field fs x)) [ true ↦ ap Some h.1 | false ↦ field-there shape fields fs h.2 x ])
 
-record-formed : (shape : TypeId → Option Shape) (k : ℕ) (p : PartTypes) (r s : Shape) → PartsAgreeWithShape shape k p r → shape_if_record r ≡ Some s → FormAgreesWithShape shape (a_record (field_type_of_parts p)) s
+record-formed : (shape : TypeId → Option Shape) (k : ℕ) (p : CompositeParts) (r s : Shape) → PartsAgreeWithShape shape k p r → shape_if_record r ≡ Some s → FormAgreesWithShape shape (a_record (field_type_of_parts p)) s
 record-formed shape k (of_elements n t) r s (u, e, known) h = absurd (some-none s (sym h ∙ ap shape_if_record e))
 record-formed shape k (of_fields fields) r s (fs, e, each) h = (k, fs, some-same s (record_shape k fs) (sym h ∙ ap shape_if_record e), field-there shape fields fs each)
 

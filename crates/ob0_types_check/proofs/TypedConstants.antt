@@ -8,10 +8,10 @@ use Rattle.ob0_language_types.specs.Typing.{array_length, constant_value, consta
 use Rattle.ob0_language_types.specs.WellTyped.{Signature, TypeMeanings}
 use Rattle.ob0_language_values.specs.Values.{Shape, Value, elements, integer_shape, members, number, truth}
 use Rattle.ob0_types_check.specs.ExpressionFaults.{report_on_expression}
-use Rattle.ob0_types_check.specs.Known.{Facts, Operand}
-use Rattle.ob0_types_check.specs.Operations.{required_type, without_fault}
-use Rattle.ob0_types_check.specs.KnownDeclarations.{facts_at}
-use Rattle.ob0_types_check.specs.TypeFaults.{operand_value, length_or_fault, length_by_value, length_by_operand, report_on_constant_expression, value_or_fault}
+use Rattle.ob0_types_check.specs.TypesAndMeanings.{Facts, Operand}
+use Rattle.ob0_types_check.specs.OperandFaults.{required_type, without_fault}
+use Rattle.ob0_types_check.specs.KnownDeclarations.{facts_from_declarations}
+use Rattle.ob0_types_check.specs.TypeFaults.{operand_value, length_or_fault, length_from_value, length_from_operand, report_on_constant_expression, value_or_fault}
 use Rattle.ob0_types_check.specs.Agreement.{FactsAgreeWithShapesAndLabels, shape_of_type_in}
 use Rattle.ob0_types_check.specs.WellTypedLaws.{ConstantsWithValuesHaveNoFault, TypedExpressionsHaveNoFault, ValidLengthsHaveNoFault}
 use Rattle.ob0_types_check.proofs.FittingExpressions.{FitsExpression, expression-fits}
@@ -63,8 +63,8 @@ operand_value-right : {T : Type 0} (o : Operand T) (b : Bool) (c : Option Value)
 operand_value-right o true c v h = refl
 operand_value-right o false c v h = ap (λ c. (value_or_fault o c).faults) h
 
-bounds-right : {T : Type 0} (o : Operand T) (b : Bool) (c : Option Value) (v : Value) (n : ℕ) → c ≡ Some v → array_length v ≡ Some n → (if b then length_by_value o c else without_fault None).faults ≡ []
-bounds-right o true c v n h k = ap (λ c. (length_by_value o c).faults) h ∙ ap (λ m. (length_or_fault o m).faults) k
+bounds-right : {T : Type 0} (o : Operand T) (b : Bool) (c : Option Value) (v : Value) (n : ℕ) → c ≡ Some v → array_length v ≡ Some n → (if b then length_from_value o c else without_fault None).faults ≡ []
+bounds-right o true c v n h k = ap (λ c. (length_from_value o c).faults) h ∙ ap (λ m. (length_or_fault o m).faults) k
 bounds-right o false c v n h k = refl
 
 length-integer : (v : Value) (n : ℕ) (s : Shape) → array_length v ≡ Some n → value_type v ≡ Some s → s ≡ integer_shape
@@ -78,15 +78,15 @@ length-integer (members j ms) n s h k = absurd (cc)
 pub typed_expressions_have_no_fault-holds : {N : Type 0} → TypedExpressionsHaveNoFault N
 typed_expressions_have_no_fault-holds p true shapes label meaning e agrees h =
     let (s, hs) = is-there (type_of (constant_meanings meaning) (mapped_tree label (token_value_at p.source) e)) h in
-    constant-right (facts_at p true) (shape_of_type_in shapes) (types-apart p.made shapes) label meaning e agrees Signature refl s hs
+    constant-right (facts_from_declarations p true) (shape_of_type_in shapes) (types-apart p.made shapes) label meaning e agrees Signature refl s hs
 typed_expressions_have_no_fault-holds p false shapes label meaning e agrees h =
     let (s, hs) = is-there (type_of meaning (mapped_tree label (token_value_at p.source) e)) h in
-    typed-right (facts_at p false) (shape_of_type_in shapes) (types-apart p.made shapes) label meaning e agrees refl s hs
+    typed-right (facts_from_declarations p false) (shape_of_type_in shapes) (types-apart p.made shapes) label meaning e agrees refl s hs
 
 pub constants_with_values_have_no_fault-holds : {N : Type 0} → ConstantsWithValuesHaveNoFault N
 unfolding report_on_constant_expression
 constants_with_values_have_no_fault-holds p shapes label meaning e agrees h =
-    let facts = facts_at p true in
+    let facts = facts_from_declarations p true in
     let (v, hv) = is-there (constant_value meaning (mapped_tree label (token_value_at p.source) e)) h in
     let c = value-known facts (shape_of_type_in shapes) (types-apart p.made shapes) label meaning e agrees refl v hv in
     let o : Operand _ = (report_on_expression facts e).known in
@@ -94,8 +94,8 @@ constants_with_values_have_no_fault-holds p shapes label meaning e agrees h =
 
 pub valid_lengths_have_no_fault-holds : {N : Type 0} → ValidLengthsHaveNoFault N
 valid_lengths_have_no_fault-holds p shapes label meaning e agrees h =
-    let facts = facts_at p true in
-    let after = facts_at p false in
+    let facts = facts_from_declarations p true in
+    let after = facts_from_declarations p false in
     let (n, hn) = is-there (option_and_then array_length (constant_value meaning (mapped_tree label (token_value_at p.source) e))) h in
     let (v, hv, counted) = and-then array_length (constant_value meaning (mapped_tree label (token_value_at p.source) e)) n hn in
     let apart = types-apart p.made shapes in
@@ -103,6 +103,6 @@ valid_lengths_have_no_fault-holds p shapes label meaning e agrees h =
     let o : Operand _ = (report_on_expression facts e).known in
     let integer = apart.integer o.of (c.known ∙ ap Some (length-integer v n c.of counted c.scalar)) in
     let t = (required_type after after.types.integer o).known in
-    none-of-both (report_on_expression facts e).faults (length_by_operand after o).faults c.none
+    none-of-both (report_on_expression facts e).faults (length_from_operand after o).faults c.none
     (none-of-both (required_type after after.types.integer o).faults _ (required_type-right after (shape_of_type_in shapes) agrees.types apart after.types.integer o integer)
     (bounds-right o (after.types.same t after.types.integer) o.value v n c.value counted))

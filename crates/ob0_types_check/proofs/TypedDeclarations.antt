@@ -1,19 +1,19 @@
 -- No fault is reported for declarations that give an environment.
 use Rattle.std.proofs.Common.{length, arith, ◌≡◌, ℕ, suc, ◌+◌, true, false, List, [], ◌∷◌, ◌++◌, map, Option, Some, option_and_then, is_some, refl, sym, ap, ◌∙◌, le_refl}
 use Rattle.ob0_tree.specs.Places.{tree_with_names, token_text_at, token_value_at}
-use Rattle.ob0_tree.specs.Tree.{Tree, begins, body, constant, declares_constant, declares_type, declares_variable, end, further_section, items, mapped_tree, maybe, more, none, one, then_section, type_definition, value_section, variable, variable_section}
+use Rattle.ob0_tree.specs.Tree.{Tree, begins, body, constant, declares_constant, declares_type, declares_variable, end, section_after_semicolon, items, mapped_tree, maybe, more, none, one, semicolon_then_section, type_definition, value_section, variable, variable_section}
 use Rattle.ob0_language_names.specs.Names.{Name, naming_by_spelling}
-use Rattle.ob0_language_names.specs.Parts.{names_in_list}
+use Rattle.ob0_language_names.specs.BlockParts.{names_in_list}
 use Rattle.ob0_language_names.specs.Scopes.{Scope, ordinal_after_names}
 use Rattle.ob0_language_types.specs.Declarations.{declare_constants, declare_types}
 use Rattle.ob0_language_types.specs.Environments.{meanings}
 use Rattle.ob0_language_types.specs.Expressions as meant
 use Rattle.ob0_language_types.specs.Typing.{constant_value, constructor_count, denoted_type}
-use Rattle.ob0_language_types.specs.WellTyped.{Mode, TypeEnvironment, TypedParameter, bind_names, body_is_well_typed, by_place, by_value, declare_typed_variables, sequence_is_well_typed, typed_parameters}
+use Rattle.ob0_language_types.specs.WellTyped.{ParameterMode, TypeEnvironment, TypedParameter, bind_names, body_is_well_typed, by_place, by_value, declare_typed_variables, sequence_is_well_typed, typed_parameters}
 use Rattle.ob0_language_values.specs.Values.{Shape, Value}
 use Rattle.ob0_types_check.specs.DeclarationFaults.{KnownHeading, body_faults, report_on_constant_declarations, report_on_parameter_sections, report_on_type_declarations, report_on_variable_declarations, report_on_constant_declaration, report_on_parameters, report_on_parameter_section, report_on_type_declaration, report_on_variable_group, with_parameters}
-use Rattle.ob0_types_check.specs.Known.{ResultWithFaults, a_constant, a_type, a_variable}
-use Rattle.ob0_types_check.specs.KnownDeclarations.{KnownDeclarations, TypeWithFollowingDeclarations, define_name_at_token, define_names_at_tokens, facts_at}
+use Rattle.ob0_types_check.specs.TypesAndMeanings.{ResultWithFaults, a_constant, a_type, a_variable}
+use Rattle.ob0_types_check.specs.KnownDeclarations.{KnownDeclarations, TypeWithFollowingDeclarations, define_name_at_token, define_names_at_tokens, facts_from_declarations}
 use Rattle.ob0_types_check.specs.TypeFaults.{report_on_constant_expression}
 use Rattle.ob0_types_check.specs.WrittenTypeFaults.{report_on_written_type}
 use Rattle.ob0_types_check.specs.WellTypedLaws.{HaveDistinctOrdinals}
@@ -38,7 +38,7 @@ module _ (w : Numbering) (fit : PartsFit) (fine : PartsRight) where
       let there : is_some (constant_value (meanings naming_by_spelling env) (mapped_tree (token_text_at w.source) (token_value_at p.source) e)) ≡ true =
       some-there (constant_value (meanings naming_by_spelling env) (mapped_tree (token_text_at w.source) (token_value_at p.source) e)) v (ap (λ s. constant_value (meanings naming_by_spelling env) (mapped_tree (token_text_at w.source) (token_value_at s) e)) st.source ∙ hv) in
       let unreported = fine.constants p before (token_text_at w.source) (meanings naming_by_spelling env) e agrees there in
-      let t : ResultWithFaults (Option Value) = report_on_constant_expression (facts_at p true) e in
+      let t : ResultWithFaults (Option Value) = report_on_constant_expression (facts_from_declarations p true) e in
       let q : KnownDeclarations = define_name_at_token p (a_constant t.known) x in
       let c = fit.constants p before (token_text_at w.source) (meanings naming_by_spelling env) e agrees unreported in
       let given : value ≡ Some c.value = ap (λ s. constant_value (meanings naming_by_spelling env) (mapped_tree (token_text_at w.source) (token_value_at s) e)) (sym st.source) ∙ c.given in
@@ -86,14 +86,14 @@ module _ (w : Numbering) (fit : PartsFit) (fine : PartsRight) where
       (variables_right gs (k + constructor_count (tree_with_names w.source t)) (ordinal_after_names n xs) q s.after (scope_following w n xs scope) (bind_names (map (token_text_at w.source) xs) (meant.a_variable s.shape) env) (omega (arith, at, s.apart.counted)) all.holds placed.2 after last)
 
   -- No fault is reported for sections of parameters that have types.
-  abbrev after_section : Mode → List Name → TypeEnvironment Name → ℕ → Tree Name (items further_section) → Shape → Option (List (TypedParameter Name))
+  abbrev after_section : ParameterMode → List Name → TypeEnvironment Name → ℕ → Tree Name (items section_after_semicolon) → Shape → Option (List (TypedParameter Name))
   after_section mode ys env k fs s = option_and_then (λ rest. Some (map (typed_as mode s) ys ++ rest)) (typed_parameters naming_by_spelling (bind_names ys (meant.a_variable s) env) k fs)
 
-  pub sections_right : (fs : Tree ℕ (items further_section)) (k n : ℕ) (h : KnownHeading) (before : List Shape) (scope : Scope Name) (env : TypeEnvironment Name) → length before ≡ k → IsKnownAt w h.following before n scope env → SectionsPlaced w scope n fs
+  pub sections_right : (fs : Tree ℕ (items section_after_semicolon)) (k n : ℕ) (h : KnownHeading) (before : List Shape) (scope : Scope Name) (env : TypeEnvironment Name) → length before ≡ k → IsKnownAt w h.following before n scope env → SectionsPlaced w scope n fs
       → (ps : List (TypedParameter Name)) → typed_parameters naming_by_spelling env k (tree_with_names w.source fs) ≡ Some ps → (report_on_parameter_sections h fs).faults ≡ []
   unfolding report_on_parameter_sections report_on_parameter_section report_on_parameters typed_parameters
   sections_right end k n h before scope env at st placed ps e = refl
-  sections_right (more (then_section (value_section ns t)) fs) k n h before scope env at st placed ps e =
+  sections_right (more (semicolon_then_section (value_section ns t)) fs) k n h before scope env at st placed ps e =
       let xs : List ℕ = names_in_list ns in
       let j : ℕ = k + constructor_count (tree_with_names w.source t) in
       let given : Option Shape = denoted_type (meanings naming_by_spelling env) k (tree_with_names w.source t) in
@@ -108,7 +108,7 @@ module _ (w : Numbering) (fit : PartsFit) (fine : PartsRight) where
       let (rest, hrest, whole) = and-then (λ rest. Some (map (typed_as by_value one.shape) (map (token_text_at w.source) xs) ++ rest)) (typed_parameters naming_by_spelling (bind_names (map (token_text_at w.source) xs) (meant.a_variable one.shape) env) j (tree_with_names w.source fs)) ps last in
       none-of-both (u.faults ++ []) (report_on_parameter_sections g fs).faults (none-of-both u.faults [] unreported refl)
       (sections_right fs j (ordinal_after_names n xs) g one.after (scope_following w n xs scope) (bind_names (map (token_text_at w.source) xs) (meant.a_variable one.shape) env) (omega (arith, at, one.apart.counted)) one.holds placed.2 rest hrest)
-  sections_right (more (then_section (variable_section ns t)) fs) k n h before scope env at st placed ps e =
+  sections_right (more (semicolon_then_section (variable_section ns t)) fs) k n h before scope env at st placed ps e =
       let xs : List ℕ = names_in_list ns in
       let j : ℕ = k + constructor_count (tree_with_names w.source t) in
       let given : Option Shape = denoted_type (meanings naming_by_spelling env) k (tree_with_names w.source t) in

@@ -10,8 +10,8 @@ use Rattle.ob0_language_types.specs.Expressions.{Meanings}
 use Rattle.ob0_language_types.specs.Typing.{addition_type, negation_type, element_type, field_type, multiplication_type, type_of_variable_or_constant, relation_type, sign_type, type_after_selectors, type_of, type_of_addends, type_of_factor, type_of_multipliers, type_of_simple, type_of_term}
 use Rattle.ob0_language_values.specs.Values.{Shape, Value}
 use Rattle.ob0_types_check.specs.ExpressionFaults.{report_on_addends, report_on_expression, report_on_factor, report_on_multipliers, report_on_selectors, report_on_simple_expression, report_on_term}
-use Rattle.ob0_types_check.specs.Known.{Facts, Operand}
-use Rattle.ob0_types_check.specs.Operations.{add_operands, element_operand, field_operand, multiply_operands, name_operand, signed_operand}
+use Rattle.ob0_types_check.specs.TypesAndMeanings.{Facts, Operand}
+use Rattle.ob0_types_check.specs.OperandFaults.{add_operands, element_operand, field_operand, multiply_operands, name_operand, signed_operand}
 use Rattle.ob0_types_check.specs.Agreement.{TypesAgreeWithShapes}
 use Rattle.ob0_types_check.proofs.FittingExpressions.{Fits, FitsExpression, FitsFactor, FitsSimple, FitsTerm, NameFits, TokensFit, expression-fits, factor-fits, simple-fits, split-tokens, term-fits}
 use Rattle.ob0_types_check.proofs.Operands.{added-fits, element-fits, field-fits, multiplied-fits, apply_sign-fits}

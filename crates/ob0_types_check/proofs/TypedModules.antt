@@ -6,15 +6,15 @@ use Rattle.ob0_tree.specs.ParsedModule.{tree_of}
 use Rattle.ob0_tree.specs.Places.{tree_with_names, token_text_at, token_value_at}
 use Rattle.ob0_tree.specs.Tree.{Tree, block, body, declares, declares_procedure, end, forms_block, item, items, maybe, more, procedure}
 use Rattle.ob0_language_names.specs.Names.{Name, naming_by_spelling}
-use Rattle.ob0_language_names.specs.Parts.{formal_names, formal_sections, module_block, procedure_formals, procedure_name, section_constants, section_types, section_variables}
+use Rattle.ob0_language_names.specs.BlockParts.{formal_names, formal_sections, module_block, procedure_formals, procedure_name, section_constants, section_types, section_variables}
 use Rattle.ob0_language_names.specs.Scopes.{Scope, ordinal_after_names, ordinal_after_procedure, first_procedure_ordinal, first_type_ordinal, first_variable_ordinal, predeclared_scope}
 use Rattle.ob0_language_types.specs.Declarations.{constructors_before_variables, constructors_before_procedures, declare_constants, declare_constants_and_types, declare_types, formals_constructor_count, procedure_constructor_count, types_constructor_count}
 use Rattle.ob0_language_types.specs.Environments.{outermost_environment}
 use Rattle.ob0_language_types.specs.WellTyped.{TypeEnvironment, TypedParameter, bind_typed_parameters, block_is_well_typed, declare_typed_variables, passes_type_check, bind_procedure, option_satisfies, procedure_is_well_typed, procedures_are_well_typed, typed_parameters}
 use Rattle.ob0_language_types.proofs.Conditions.{hold-true}
 use Rattle.ob0_language_values.specs.Values.{Shape}
-use Rattle.ob0_types_check.specs.DeclarationFaults.{WalkProgress, body_faults, every_body, undeclared_name_and_type_faults, report_on_block, report_on_constant_declarations, reported_module, report_on_procedure, report_on_procedures, report_on_parameter_sections, report_on_type_declarations, report_on_variable_declarations, walk_at_start, with_declarations}
-use Rattle.ob0_types_check.specs.Known.{ResultWithFaults}
+use Rattle.ob0_types_check.specs.DeclarationFaults.{WalkProgress, body_faults, every_body, undeclared_name_and_type_faults, report_on_block, report_on_constant_declarations, report_on_module, report_on_procedure, report_on_procedures, report_on_parameter_sections, report_on_type_declarations, report_on_variable_declarations, walk_at_start, with_declarations}
+use Rattle.ob0_types_check.specs.TypesAndMeanings.{ResultWithFaults}
 use Rattle.ob0_types_check.specs.KnownDeclarations.{KnownDeclarations}
 use Rattle.ob0_types_check.specs.WellTypedLaws.{TypedModulesHaveNoFault}
 use Rattle.ob0_types_check.proofs.BlocksDeclared.{constants_declare, next_le, types_declare}
@@ -117,5 +117,5 @@ unfolding undeclared_name_and_type_faults passes_type_check
 typed_modules_have_no_fault-holds r is h =
     let m = r.module_read in
     let names = typed_modules_have_bound_names-holds r is h in
-    none-of-both _ (reported_module every_body r).faults names
+    none-of-both _ (report_on_module every_body r).faults names
     (block_right (numbering_of r) parts_fit parts_right (module_block (tree_of m)) m.closing 0 7 (walk_at_start r) [] (predeclared_scope naming_by_spelling) (outermost_environment naming_by_spelling) (first_holds r) fresh_first (module_placed r is names) h)

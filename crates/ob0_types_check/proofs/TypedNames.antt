@@ -10,8 +10,8 @@ use Rattle.ob0_language_types.specs.WellTyped.{Signature, TypeMeanings, signatur
 use Rattle.ob0_types_table.specs.declared.types.TypeId.{TypeId}
 use Rattle.ob0_types_table.specs.declared.types.TypeId.TheVariants as type
 use Rattle.ob0_language_values.specs.Values.{Shape, array_shape, boolean_shape, integer_shape, record_shape}
-use Rattle.ob0_types_check.specs.Known.{Facts, Meaning, a_constant, a_procedure, a_scalar, a_type, a_variable}
-use Rattle.ob0_types_check.specs.Operations.{typed_name_operand, fault_at_token, operand_by_meaning, without_fault}
+use Rattle.ob0_types_check.specs.TypesAndMeanings.{Facts, Meaning, a_constant, a_procedure, a_scalar, a_type, a_variable}
+use Rattle.ob0_types_check.specs.OperandFaults.{typed_name_operand, fault_at_token, operand_from_meaning, without_fault}
 use Rattle.ob0_types_check.specs.Agreement.{IsKnownAndAgreesWithObject, TokenAgreesWithLabel, TokensAgreeWithLabels, shape_if_array, shape_if_record, shape_of_type_in}
 use Rattle.ob0_types_check.specs.KnownDeclarations.{CompositeType, form_of_type_so_far, types_so_far}
 use Rattle.ob0_types_check.proofs.TypedExpressions.{NameTyped, NamesTyped}
@@ -71,13 +71,13 @@ module _ {T : Type 0} (facts : Facts T) (shape : T → Option Shape) where
   no-procedure (Some (meant.a_constant v)) signature s e h = some-none signature (sym e)
   no-procedure (Some (meant.a_variable t)) signature s e h = some-none signature (sym e)
   no-procedure (Some (meant.a_procedure p)) signature s e h = some-none s (sym h)
-  no-procedure (Some (meant.a_standard p)) signature s e h = some-none s (sym h)
+  no-procedure (Some (meant.a_standard_procedure p)) signature s e h = some-none s (sym h)
 
   variable-named : (x : ℕ) (t : T) (b : Bool) → b ≡ false → (if b then record { known = typed_name_operand facts.types.unknown x; faults = fault_at_token code.NotConstant x } else without_fault (typed_name_operand t x)).faults ≡ []
   variable-named x t true e = absurd (true≢false e)
   variable-named x t false e = refl
 
-  holds-right : (x : ℕ) (m : Option (Meaning T)) (o : Option (Object Shape Signature)) → facts.only_constants ≡ false → IsKnownAndAgreesWithObject shape m o → (s : Shape) → type_of_variable_or_constant o ≡ Some s → (operand_by_meaning facts x m).faults ≡ []
+  holds-right : (x : ℕ) (m : Option (Meaning T)) (o : Option (Object Shape Signature)) → facts.only_constants ≡ false → IsKnownAndAgreesWithObject shape m o → (s : Shape) → type_of_variable_or_constant o ≡ Some s → (operand_from_meaning facts x m).faults ≡ []
   holds-right x None o only a s h = absurd a
   holds-right x (Some (a_type t)) o only (u, known, holds) s h = absurd (some-none s (sym h ∙ ap type_of_variable_or_constant holds))
   holds-right x (Some (a_procedure fs)) o only (signature, holds, formals) s h = absurd (no-procedure o signature s holds h)
@@ -89,7 +89,7 @@ module _ {T : Type 0} (facts : Facts T) (shape : T → Option Shape) where
   abbrev only : Option (Object Shape Signature) → Option (Object Shape (Unit {0}))
   only o = option_map meant.a_constant (constant_of o)
 
-  only-right : (Q : Type 0) (x : ℕ) (m : Option (Meaning T)) (o : Option (Object Shape Signature)) → IsKnownAndAgreesWithObject shape m o → (s : Shape) → type_of_variable_or_constant (option_map {U = Object Shape Q} meant.a_constant (constant_of o)) ≡ Some s → (operand_by_meaning facts x m).faults ≡ []
+  only-right : (Q : Type 0) (x : ℕ) (m : Option (Meaning T)) (o : Option (Object Shape Signature)) → IsKnownAndAgreesWithObject shape m o → (s : Shape) → type_of_variable_or_constant (option_map {U = Object Shape Q} meant.a_constant (constant_of o)) ≡ Some s → (operand_from_meaning facts x m).faults ≡ []
   only-right Q x None o a s h = absurd a
   only-right Q x (Some (a_type t)) o (u, known, holds) s h = absurd (some-none s (sym h ∙ ap (λ z. type_of_variable_or_constant (option_map {U = Object Shape Q} meant.a_constant (constant_of z))) holds))
   only-right Q x (Some (a_procedure fs)) o (signature, holds, formals) s h = absurd (no-constant o signature s holds h)
@@ -100,7 +100,7 @@ module _ {T : Type 0} (facts : Facts T) (shape : T → Option Shape) where
       no-constant (Some (meant.a_constant v)) signature s e h = some-none signature (sym e)
       no-constant (Some (meant.a_variable t)) signature s e h = some-none s (sym h)
       no-constant (Some (meant.a_procedure p)) signature s e h = some-none s (sym h)
-      no-constant (Some (meant.a_standard p)) signature s e h = some-none s (sym h)
+      no-constant (Some (meant.a_standard_procedure p)) signature s e h = some-none s (sym h)
   only-right Q x (Some (a_constant c)) o a s h = refl
   only-right Q x (Some (a_variable t)) o (u, known, holds) s h = absurd (some-none s (sym h ∙ ap (λ z. type_of_variable_or_constant (option_map {U = Object Shape Q} meant.a_constant (constant_of z))) holds))
 

@@ -15,8 +15,8 @@ use Rattle.ob0_tree.specs.Places.{token_text_at}
 use Rattle.ob0_scope_table.specs.declared.faults.FaultAtTokens.{FaultAtTokens}
 use Rattle.ob0_language_types.specs.Typing.{addition_type, negation_type, element_type, field_type, multiplication_type, relation_type, shape_of_field, sign_type}
 use Rattle.ob0_language_values.specs.Values.{Shape, array_shape, boolean_shape, integer_shape, record_shape}
-use Rattle.ob0_types_check.specs.Known.{Facts, TypeForm, Operand, ResultWithFaults, Types, a_record, a_scalar, an_array, unknown_form}
-use Rattle.ob0_types_check.specs.Operations.{add_operands, required_type, required_type_of_both, fault_at_operand, negated_operand, element_type_in_form, element_operand, field_type_in_form, field_operand, may_be_same_type, field_type_or_fault, multiply_operands, relate_operands, signed_operand, operand_type_of_addition, operand_type_of_equality, operand_type_of_multiplication, operand_type_of_relation}
+use Rattle.ob0_types_check.specs.TypesAndMeanings.{Facts, TypeForm, Operand, ResultWithFaults, Types, a_record, a_scalar, an_array, unknown_form}
+use Rattle.ob0_types_check.specs.OperandFaults.{add_operands, required_type, required_type_of_both, fault_at_operand, negated_operand, element_type_from_form, element_operand, field_type_from_form, field_operand, may_be_same_type, field_type_or_fault, multiply_operands, relate_operands, signed_operand, operand_type_of_addition, operand_type_of_equality, operand_type_of_multiplication, operand_type_of_relation}
 use Rattle.ob0_types_check.specs.Agreement.{FormAgreesWithShape, TypesAgreeWithShapes, shape_if_array, shape_if_record}
 use Rattle.ob0_types_check.proofs.Unreported.{not-true, some-none}
 
@@ -159,7 +159,7 @@ module _ {T : Type 0} (facts : Facts T) (shape : T → Option Shape) (types : Ty
   abbrev IsApart : TypeForm T → Shape → Type 0
   IsApart f s = f ≡ a_scalar → (shape_if_array s ≡ None) × (shape_if_record s ≡ None)
 
-  field-found : (f : TypeForm T) (s : Shape) → FormAgreesWithShape shape f s → IsApart f s → (x : ℕ) (u : Shape) → field_type s (token_text_at facts.source x) ≡ Some u → (field_type_in_form facts x f).faults ≡ []
+  field-found : (f : TypeForm T) (s : Shape) → FormAgreesWithShape shape f s → IsApart f s → (x : ℕ) (u : Shape) → field_type s (token_text_at facts.source x) ≡ Some u → (field_type_from_form facts x f).faults ≡ []
   field-found a_scalar s a far x u h = absurd (no-record s (far refl).1 (token_text_at facts.source x) u h)
   field-found (an_array t) s (k, n, v, e, known) far x u h = absurd (some-none u (sym h ∙ ap (λ z. field_type z (token_text_at facts.source x)) e))
   field-found (a_record fields) s (k, fs, e, each) far x u h =
@@ -169,9 +169,9 @@ module _ {T : Type 0} (facts : Facts T) (shape : T → Option Shape) (types : Ty
 
   pub field-right : (o : Operand T) (s : Shape) → shape o.of ≡ Some s → (x : ℕ) (u : Shape) → field_type s (token_text_at facts.source x) ≡ Some u → (field_operand facts o x).faults ≡ []
   field-right o s hs x u h =
-      none-of-both (field_type_in_form facts x (facts.types.form o.of)).faults [] (field-found (facts.types.form o.of) s (types.form_agrees o.of s hs) (apart.scalar o.of s hs) x u h) refl
+      none-of-both (field_type_from_form facts x (facts.types.form o.of)).faults [] (field-found (facts.types.form o.of) s (types.form_agrees o.of s hs) (apart.scalar o.of s hs) x u h) refl
 
-  element-found : (f : TypeForm T) (s t : Shape) → FormAgreesWithShape shape f s → IsApart f s → (i : Operand T) (n : T) (u : Shape) → element_type s t ≡ Some u → (element_type_in_form facts i n f).faults ≡ []
+  element-found : (f : TypeForm T) (s t : Shape) → FormAgreesWithShape shape f s → IsApart f s → (i : Operand T) (n : T) (u : Shape) → element_type s t ≡ Some u → (element_type_from_form facts i n f).faults ≡ []
   element-found a_scalar s t a far i n u h = absurd (no-array s (far refl).0 t u h)
   element-found (an_array e) s t a far i n u h = refl
   element-found (a_record fields) s t (k, fs, e, each) far i n u h = absurd (some-none u (sym h ∙ ap (λ z. element_type z t) e))
@@ -184,6 +184,6 @@ module _ {T : Type 0} (facts : Facts T) (shape : T → Option Shape) (types : Ty
   pub element-right : (o i : Operand T) (s t u : Shape) → shape o.of ≡ Some s → shape i.of ≡ Some t → element_type s t ≡ Some u → (element_operand facts o i).faults ≡ []
   element-right o i s t u hs ht e =
       let n : T = (required_type facts facts.types.integer i).known in
-      let inner : List FaultAtTokens = (element_type_in_form facts i n (facts.types.form o.of)).faults in
+      let inner : List FaultAtTokens = (element_type_from_form facts i n (facts.types.form o.of)).faults in
       none-of-both (required_type facts facts.types.integer i).faults (inner ++ []) (required_type-right facts.types.integer i (apart.integer i.of (ht ∙ ap Some (index-required_type s t u e))))
       (none-of-both inner [] (element-found (facts.types.form o.of) s t (types.form_agrees o.of s hs) (apart.scalar o.of s hs) i n u e) refl)

@@ -8,7 +8,7 @@ use Rattle.ob0_types_table.specs.declared.types.TypeId.TheVariants as type
 use Rattle.ob0_tree.specs.declared.tree.Role.{Role}
 use Rattle.ob0_tree.specs.declared.tree.Role.TheVariants as role
 use Rattle.ob0_tree.specs.Places.{token_value_at}
-use Rattle.ob0_tree.specs.Tree.{Sort, Tree, adds, arguments, assigns, branches, calls, compares, designator, else_branch, else_part, elsif_branch, elsif_part, empty, end, expression, further_statement, identifiers, integer, items, mapped_tree, maybe, more, multiplies, negation, none, one, parenthesised, product, relates, repeat_loop, runs, selector, sequence, statement, sum, then_statement, while_loop}
+use Rattle.ob0_tree.specs.Tree.{Sort, Tree, adds, arguments, assigns, branches, calls, compares, designator, else_branch, else_part, elsif_branch, elsif_part, empty, end, expression, statement_after_semicolon, identifiers, integer, items, mapped_tree, maybe, more, multiplies, negation, none, one, parenthesised, product, relates, repeat_loop, runs, selector, sequence, statement, sum, semicolon_then_statement, while_loop}
 use Rattle.ob0_language_types.specs.Arguments.{call_arguments}
 use Rattle.ob0_language_types.specs.Expressions as meant
 use Rattle.ob0_language_types.specs.Expressions.{Object}
@@ -17,11 +17,11 @@ use Rattle.ob0_language_types.specs.WellTyped.{FormalParameter, Signature, TypeM
 use Rattle.ob0_language_types.proofs.Conditions.{same_known_shape-true}
 use Rattle.ob0_language_values.specs.Values.{Shape, array_shape, boolean_shape, integer_shape, record_shape}
 use Rattle.ob0_types_check.specs.ExpressionFaults.{report_on_expression}
-use Rattle.ob0_types_check.specs.Known.{Facts, Meaning, Operand, a_constant, a_procedure, a_type, a_variable}
-use Rattle.ob0_types_check.specs.Known as known
-use Rattle.ob0_types_check.specs.Operations.{typed_name_operand, fault_at_operand, fault_at_token, name_operand, operand_by_meaning, required_type, without_fault}
-use Rattle.ob0_types_check.specs.KnownDeclarations.{CompositeType, facts_at, types_so_far}
-use Rattle.ob0_types_check.specs.StatementFaults.{call_faults_by_meaning, required_type_of_argument, faults_of_argument, faults_of_arguments, typed_expression_faults, assignment_faults, call_faults, condition_faults, else_faults, elsif_faults, sequence_faults, statement_faults, further_statement_faults, report_on_target}
+use Rattle.ob0_types_check.specs.TypesAndMeanings.{Facts, Meaning, Operand, a_constant, a_procedure, a_type, a_variable}
+use Rattle.ob0_types_check.specs.TypesAndMeanings as known
+use Rattle.ob0_types_check.specs.OperandFaults.{typed_name_operand, fault_at_operand, fault_at_token, name_operand, operand_from_meaning, required_type, without_fault}
+use Rattle.ob0_types_check.specs.KnownDeclarations.{CompositeType, facts_from_declarations, types_so_far}
+use Rattle.ob0_types_check.specs.StatementFaults.{call_faults_from_meaning, required_type_of_argument, faults_of_argument, faults_of_arguments, typed_expression_faults, assignment_faults, call_faults, condition_faults, else_faults, elsif_faults, sequence_faults, statement_faults, further_statement_faults, report_on_target}
 use Rattle.ob0_types_check.specs.Agreement.{FormalsAgreeWithSignature, IsKnownAndAgreesWithObject, TokensAgreeWithLabels, TypesAgreeWithShapes, shape_if_array, shape_if_record, shape_of_type_in}
 use Rattle.ob0_types_check.specs.WellTypedLaws.{HaveDistinctOrdinals, ordinal_of_shape, WellTypedStatementsHaveNoFault}
 use Rattle.ob0_types_check.proofs.FittingExpressions.{parts-placed}
@@ -71,7 +71,7 @@ module _ {T N : Type 0} (facts : Facts T) (shape : T → Option Shape) (types : 
   variable-place x t true = refl
   variable-place x t false = refl
 
-  named-place : (x : ℕ) (m : Option (Meaning T)) (o : Option (Object Shape Signature)) (v : Shape) → IsKnownAndAgreesWithObject shape m o → o ≡ Some (meant.a_variable v) → (operand_by_meaning facts x m).known.may_be_variable ≡ true
+  named-place : (x : ℕ) (m : Option (Meaning T)) (o : Option (Object Shape Signature)) (v : Shape) → IsKnownAndAgreesWithObject shape m o → o ≡ Some (meant.a_variable v) → (operand_from_meaning facts x m).known.may_be_variable ≡ true
   named-place x None o v a e = absurd a
   named-place x (Some (a_type t)) o v (s, reported, holds) e = absurd (some-none v (sym (ap type_of_variable_or_constant e) ∙ ap type_of_variable_or_constant holds))
   named-place x (Some (a_constant c)) o v (w, reported, holds, scalar) e = let same : Some (meant.a_constant w) ≡ Some (meant.a_variable v) = sym holds ∙ e in absurd (cc)
@@ -142,7 +142,7 @@ module _ {T N : Type 0} (facts : Facts T) (shape : T → Option Shape) (types : 
   unfolding call_is_well_typed
   not-called o p es e unsigned h = absurd (true≢false (sym (sym (ap (λ s. call_is_well_typed meaning s (map here es)) (ap signature_of e ∙ unsigned)) ∙ h)))
 
-  called-right : (x : ℕ) (m : Option (Meaning T)) (o : Option (Object Shape Signature)) (es : List (Tree ℕ expression)) → IsKnownAndAgreesWithObject shape m o → EachAgreed facts shape types label meaning es → call_is_well_typed meaning (signature_of o) (map here es) ≡ true → call_faults_by_meaning facts x m es ≡ []
+  called-right : (x : ℕ) (m : Option (Meaning T)) (o : Option (Object Shape Signature)) (es : List (Tree ℕ expression)) → IsKnownAndAgreesWithObject shape m o → EachAgreed facts shape types label meaning es → call_is_well_typed meaning (signature_of o) (map here es) ≡ true → call_faults_from_meaning facts x m es ≡ []
   unfolding call_is_well_typed
   called-right x None o es a k h = absurd a
   called-right x (Some (a_type t)) o es (s, reported, holds) k h = not-called o (Some (meant.a_type s)) es holds refl h
@@ -190,9 +190,9 @@ module _ {T N : Type 0} (facts : Facts T) (shape : T → Option Shape) (types : 
         let parts = and_parts (statement_is_well_typed meaning (here a)) _ h in
         none-of-both (statement_faults facts a) _ (statement-right a tokens.0 parts.0) (statements-right rest tokens.1 parts.1)
 
-    statements-right : (a : Tree ℕ (items further_statement)) → Named a → further_statements_are_well_typed meaning (here a) ≡ true → further_statement_faults facts a ≡ []
+    statements-right : (a : Tree ℕ (items statement_after_semicolon)) → Named a → further_statements_are_well_typed meaning (here a) ≡ true → further_statement_faults facts a ≡ []
     statements-right end k h = refl
-    statements-right (more (then_statement a) rest) k h =
+    statements-right (more (semicolon_then_statement a) rest) k h =
         let tokens = apart-in (ids a) (ids rest) k in
         let parts = and_parts (statement_is_well_typed meaning (here a)) _ h in
         none-of-both (statement_faults facts a) _ (statement-right a tokens.0 parts.0) (statements-right rest tokens.1 parts.1)
@@ -290,4 +290,4 @@ once-alike made shapes once (type.Record i) (type.Record j) s p q = eq-eqb i j (
 
 pub well_typed_statements_have_no_fault-holds : {N : Type 0} → WellTypedStatementsHaveNoFault N
 well_typed_statements_have_no_fault-holds p shapes label meaning statements once agrees h =
-    sequence-right (facts_at p false) (shape_of_type_in shapes) agrees.types (types-apart p.made shapes) (once-alike p.made shapes once) refl label meaning statements agrees.tokens h
+    sequence-right (facts_from_declarations p false) (shape_of_type_in shapes) agrees.types (types-apart p.made shapes) (once-alike p.made shapes once) refl label meaning statements agrees.tokens h

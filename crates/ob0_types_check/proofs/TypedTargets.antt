@@ -11,10 +11,10 @@ use Rattle.ob0_language_types.specs.Typing.{type_of_variable_or_constant, type_a
 use Rattle.ob0_language_types.specs.WellTyped.{Signature, TypeMeanings, signature_of, variable_type}
 use Rattle.ob0_language_values.specs.Values.{Shape}
 use Rattle.ob0_types_check.specs.ExpressionFaults.{report_on_expression, report_on_selectors}
-use Rattle.ob0_types_check.specs.Known.{Facts, Meaning, Operand, a_constant, a_procedure, a_type, a_variable}
-use Rattle.ob0_types_check.specs.Operations.{typed_name_operand}
-use Rattle.ob0_types_check.specs.KnownDeclarations.{facts_at}
-use Rattle.ob0_types_check.specs.StatementFaults.{target_name_type, target_type_by_meaning, report_on_target}
+use Rattle.ob0_types_check.specs.TypesAndMeanings.{Facts, Meaning, Operand, a_constant, a_procedure, a_type, a_variable}
+use Rattle.ob0_types_check.specs.OperandFaults.{typed_name_operand}
+use Rattle.ob0_types_check.specs.KnownDeclarations.{facts_from_declarations}
+use Rattle.ob0_types_check.specs.StatementFaults.{target_name_type, target_type_from_meaning, report_on_target}
 use Rattle.ob0_types_check.specs.Agreement.{IsKnownAndAgreesWithObject, TokensAgreeWithLabels, TypesAgreeWithShapes, shape_of_type_in}
 use Rattle.ob0_types_check.specs.ReportLaws.{OperandAgreesWithExpression}
 use Rattle.ob0_types_check.specs.WellTypedLaws.{TypedTargetsHaveNoFault}
@@ -34,7 +34,7 @@ variable-of (Some (meant.a_type t)) f s h = absurd (some-none s (sym h))
 variable-of (Some (meant.a_constant c)) f s h = absurd (some-none s (sym h))
 variable-of (Some (meant.a_variable v)) f s h = (v, refl, h)
 variable-of (Some (meant.a_procedure p)) f s h = absurd (some-none s (sym h))
-variable-of (Some (meant.a_standard p)) f s h = absurd (some-none s (sym h))
+variable-of (Some (meant.a_standard_procedure p)) f s h = absurd (some-none s (sym h))
 
 module _ {T N : Type 0} (facts : Facts T) (shape : T → Option Shape) (types : TypesAgreeWithShapes facts.types shape) (apart : TypesApart facts.types shape) (only : facts.only_constants ≡ false) (label : ℕ → N) (meaning : TypeMeanings N) where
   abbrev here : {s : Sort} → Tree ℕ s → Tree N s
@@ -62,7 +62,7 @@ module _ {T N : Type 0} (facts : Facts T) (shape : T → Option Shape) (types : 
   pub no-signature : {A : Type 0} (o : Option (Object Shape Signature)) (v : Shape) (signature : Signature) → o ≡ Some (meant.a_variable v) → signature_of o ≡ Some signature → A
   no-signature o v signature e h = absurd (some-none signature (sym h ∙ ap signature_of e))
 
-  assigned-right : (x : ℕ) (m : Option (Meaning T)) (o : Option (Object Shape Signature)) (v : Shape) → IsKnownAndAgreesWithObject shape m o → o ≡ Some (meant.a_variable v) → ((target_type_by_meaning facts x m).faults ≡ []) × (shape (target_type_by_meaning facts x m).known ≡ Some v)
+  assigned-right : (x : ℕ) (m : Option (Meaning T)) (o : Option (Object Shape Signature)) (v : Shape) → IsKnownAndAgreesWithObject shape m o → o ≡ Some (meant.a_variable v) → ((target_type_from_meaning facts x m).faults ≡ []) × (shape (target_type_from_meaning facts x m).known ≡ Some v)
   assigned-right x None o v a e = absurd a
   assigned-right x (Some (a_type t)) o v (s, reported, holds) e = absurd (some-none v (sym (ap type_of_variable_or_constant e) ∙ ap type_of_variable_or_constant holds))
   assigned-right x (Some (a_constant c)) o v (w, reported, holds, scalar) e = let same : Some (meant.a_constant w) ≡ Some (meant.a_variable v) = sym holds ∙ e in absurd (cc)
@@ -89,4 +89,4 @@ module _ {T N : Type 0} (facts : Facts T) (shape : T → Option Shape) (types : 
 pub typed_targets_have_no_fault-holds : {N : Type 0} → TypedTargetsHaveNoFault N
 typed_targets_have_no_fault-holds p shapes label meaning x path agrees h =
     let (s, hs) = is-there (variable_type meaning (Some (label x, mapped_tree label (token_value_at p.source) path))) h in
-    (target-typed (facts_at p false) (shape_of_type_in shapes) agrees.types (types-apart p.made shapes) refl label meaning x path s agrees.tokens hs).none
+    (target-typed (facts_from_declarations p false) (shape_of_type_in shapes) agrees.types (types-apart p.made shapes) refl label meaning x path s agrees.tokens hs).none

@@ -2,9 +2,9 @@
 -- steps to the value that another law gives, without an equality of values.
 use Rattle.std.proofs.Common.{◌≡◌, ℕ, suc, ◌+◌, Bool, true, false, ◌&&◌, List, [], map, Option, Some, None, option_and_then, if◌then◌else◌, is_some, nat_le, refl, sym, ap, ◌∙◌, le_refl, length, arith}
 use Rattle.ob0_tree.specs.Places.{tree_with_names, token_text_at, token_value_at}
-use Rattle.ob0_tree.specs.Tree.{Tree, array_type, end, fields, further_fields, items, mapped_tree, more, named_type, no_fields, occurrences, record_type, some_fields, then_fields, written_type}
+use Rattle.ob0_tree.specs.Tree.{Tree, array_type, end, fields, fields_after_semicolon, items, mapped_tree, more, named_type, no_fields, occurrences, record_type, some_fields, semicolon_then_fields, written_type}
 use Rattle.ob0_language_names.specs.Names.{Name, naming_by_spelling}
-use Rattle.ob0_language_names.specs.Parts.{names_in_list}
+use Rattle.ob0_language_names.specs.BlockParts.{names_in_list}
 use Rattle.ob0_language_names.specs.Scopes.{Scope}
 use Rattle.ob0_types_table.specs.declared.types.TypeId.{TypeId}
 use Rattle.ob0_language_types.specs.Environments.{meanings}
@@ -13,11 +13,11 @@ use Rattle.ob0_language_types.specs.Typing.{array_length, constant_value, denote
 use Rattle.ob0_language_types.specs.WellTyped.{Signature, TypeEnvironment, TypeMeanings, signature_of}
 use Rattle.ob0_language_values.specs.Values.{FieldShapes, Shape, Value, array_shape, no_field_shape, record_shape}
 use Rattle.ob0_types_check.specs.ExpressionFaults.{report_on_expression}
-use Rattle.ob0_types_check.specs.Known.{Meaning, Operand, ResultWithFaults, a_constant, a_procedure, a_type, a_variable}
-use Rattle.ob0_types_check.specs.Operations.{without_fault}
-use Rattle.ob0_types_check.specs.KnownDeclarations.{PartTypes, Size, KnownDeclarations, facts_at, is_within_limits, append_composite, make_composite_type, of_elements, size_of_type_so_far, report_on_too_large_type}
+use Rattle.ob0_types_check.specs.TypesAndMeanings.{Meaning, Operand, ResultWithFaults, a_constant, a_procedure, a_type, a_variable}
+use Rattle.ob0_types_check.specs.OperandFaults.{without_fault}
+use Rattle.ob0_types_check.specs.KnownDeclarations.{CompositeParts, TypeSize, KnownDeclarations, facts_from_declarations, is_within_limits, append_composite, make_composite_type, of_elements, size_of_type_so_far, report_on_too_large_type}
 use Rattle.ob0_types_check.specs.KnownDeclarations as so_far
-use Rattle.ob0_types_check.specs.TypeFaults.{length_by_operand, type_by_meaning}
+use Rattle.ob0_types_check.specs.TypeFaults.{length_from_operand, type_from_meaning}
 use Rattle.ob0_types_check.specs.WrittenTypeFaults.{KnownFields, made_array_type, array_size, no_known_fields, made_record_type, record_size, record_keyword_token, report_on_field_group, report_on_further_field_groups, next_type_ordinal, report_on_written_type, token_before_group}
 use Rattle.ob0_types_check.specs.Agreement.{IsKnownAndAgreesWithObject, shape_of_type_in}
 use Rattle.ob0_types_check.specs.WellTypedLaws.{ConstantsWithValuesHaveNoFault, ValidLengthsHaveNoFault, WellTypedStatementsHaveNoFault}
@@ -53,11 +53,11 @@ within : (b : Bool) (s t : Shape) → (if b then Some s else None) ≡ Some t �
 within true s t h = refl
 within false s t h = absurd (some-none t (sym h))
 
-is-within : (z : Size) (s t : Shape) → SizeAgrees z s → type_within_limits s ≡ Some t → is_within_limits z ≡ true
+is-within : (z : TypeSize) (s t : Shape) → SizeAgrees z s → type_within_limits s ≡ Some t → is_within_limits z ≡ true
 is-within z s t h e =
     (λ i. nat_le (h.scalars_are i) 65536 && nat_le (h.depth_is i) 100) ∙ within (nat_le (scalars s) 65536 && nat_le (depth s) 100) s t e
 
-make_composite_type-right : (p : KnownDeclarations) (word ordinal : ℕ) (parts : PartTypes) (size : Size) → is_within_limits size ≡ true → (make_composite_type p word ordinal parts size).faults ≡ []
+make_composite_type-right : (p : KnownDeclarations) (word ordinal : ℕ) (parts : CompositeParts) (size : TypeSize) → is_within_limits size ≡ true → (make_composite_type p word ordinal parts size).faults ≡ []
 make_composite_type-right p word ordinal parts size e = ap (λ b. (if b then without_fault (append_composite p ordinal parts size) else report_on_too_large_type p word).faults) e
 
 no-type : {A : Type 0} (o : Option (meant.Object Shape Signature)) (signature : Signature) (s : Shape) → signature_of o ≡ Some signature → type_of_type_object o ≡ Some s → A
@@ -66,10 +66,10 @@ no-type (Some (meant.a_type t)) signature s e h = absurd (some-none signature (s
 no-type (Some (meant.a_constant v)) signature s e h = absurd (some-none s (sym h))
 no-type (Some (meant.a_variable t)) signature s e h = absurd (some-none s (sym h))
 no-type (Some (meant.a_procedure p)) signature s e h = absurd (some-none s (sym h))
-no-type (Some (meant.a_standard p)) signature s e h = absurd (some-none s (sym h))
+no-type (Some (meant.a_standard_procedure p)) signature s e h = absurd (some-none s (sym h))
 
 -- No fault is reported for a name that denotes a type.
-meant-right : (p : KnownDeclarations) (before : List Shape) (x : ℕ) (m : Option (Meaning TypeId)) (o : Option (meant.Object Shape Signature)) → IsKnownAndAgreesWithObject (shape_of_type_in before) m o → (s : Shape) → type_of_type_object o ≡ Some s → (type_by_meaning (facts_at p false) x m).faults ≡ []
+meant-right : (p : KnownDeclarations) (before : List Shape) (x : ℕ) (m : Option (Meaning TypeId)) (o : Option (meant.Object Shape Signature)) → IsKnownAndAgreesWithObject (shape_of_type_in before) m o → (s : Shape) → type_of_type_object o ≡ Some s → (type_from_meaning (facts_from_declarations p false) x m).faults ≡ []
 meant-right p before x None o a s h = refl
 meant-right p before x (Some (a_type t)) o a s h = refl
 meant-right p before x (Some (a_constant c)) o (v, reported, holds, scalar) s h = absurd (some-none s (sym h ∙ ap type_of_type_object holds))
@@ -89,23 +89,23 @@ module _ (w : Numbering) (fit : PartsFit) (fine : PartsRight) (n : ℕ) (scope :
 
     pub type_right : (around k : ℕ) (t : Tree ℕ written_type) (p : KnownDeclarations) (before : List Shape) → length before + around ≡ k → IsKnownAt w p before n scope env → AreSeen w scope t → (s : Shape) → denoted_type (meanings naming_by_spelling env) k (tree_with_names w.source t) ≡ Some s → (report_on_written_type around p t).faults ≡ []
     type_right around k (named_type x) p before at st seen s h =
-        none-of-both (type_by_meaning (facts_at p false) x ((facts_at p false).object_for x)).faults []
-        (meant-right p before x ((facts_at p false).object_for x) ((meanings naming_by_spelling env).object_for (token_text_at w.source x)) (seen_holds w p false before n scope env st x seen.0) s h) refl
+        none-of-both (type_from_meaning (facts_from_declarations p false) x ((facts_from_declarations p false).object_for x)).faults []
+        (meant-right p before x ((facts_from_declarations p false).object_for x) ((meanings naming_by_spelling env).object_for (token_text_at w.source x)) (seen_holds w p false before n scope env st x seen.0) s h) refl
     type_right around k (array_type e u) p before at st seen s h =
         let parts = each_part (IsSeen w scope) (occurrences e) (occurrences u) seen in
         let given : Option Shape = denoted_type here (suc k) (tree_with_names w.source u) in
         let value : Option Value = constant_value here (tree_with_names w.source e) in
         let (v, hv, later) = and-then (λ v. option_and_then (λ c. of_limits k c given) (array_length v)) value s h in
         let (c, hc, last) = and-then (λ c. of_limits k c given) (array_length v) s later in
-        let o : Operand TypeId = (report_on_expression (facts_at p true) e).known in
-        let l : ResultWithFaults (Option ℕ) = length_by_operand (facts_at p false) o in
+        let o : Operand TypeId = (report_on_expression (facts_from_declarations p true) e).known in
+        let l : ResultWithFaults (Option ℕ) = length_from_operand (facts_from_declarations p false) o in
         let el : ResultWithFaults so_far.TypeWithFollowingDeclarations = report_on_written_type (suc around) p u in
         let agrees = agrees_where_seen w p true before n scope env st fit e parts.0 in
         let there : is_some (option_and_then array_length (constant_value here (mapped_tree (token_text_at w.source) (token_value_at p.source) e))) ≡ true =
         some-there (option_and_then array_length (constant_value here (mapped_tree (token_text_at w.source) (token_value_at p.source) e))) c
         (ap (λ z. option_and_then array_length (constant_value here (mapped_tree (token_text_at w.source) (token_value_at z) e))) st.source ∙ (ap (option_and_then array_length) hv ∙ hc)) in
         let none = fine.lengths p before (token_text_at w.source) here e agrees there in
-        let a = none-reported (report_on_expression (facts_at p true) e).faults l.faults none in
+        let a = none-reported (report_on_expression (facts_from_declarations p true) e).faults l.faults none in
         let long = fit.lengths p before (token_text_at w.source) here e agrees none in
         let known : value ≡ Some long.value = ap (λ z. constant_value here (mapped_tree (token_text_at w.source) (token_value_at z) e)) (sym st.source) ∙ long.given in
         let limited : of_limits k long.length given ≡ Some s = sym (array_given k value long.value long.length given known long.counted) ∙ h in
@@ -114,7 +114,7 @@ module _ (w : Numbering) (fit : PartsFit) (fine : PartsRight) (n : ℕ) (scope :
         let d = type_denotes w fit n scope env (suc around) (suc k) u p before (omega (arith, at)) st parts.1 inner in
         let size = array_sized (size_of_type_so_far el.known.following.made el.known.of) k long.length d.shape (size_agrees el.known.following.made d.after el.known.of d.shape d.later.table d.known) in
         let small = is-within (array_size long.length (size_of_type_so_far el.known.following.made el.known.of)) (array_shape k long.length d.shape) s size (given-again (λ s. type_within_limits (array_shape k long.length s)) given d.shape (Some s) d.given_is limited) in
-        none-of-both (report_on_expression (facts_at p true) e).faults _ a.0
+        none-of-both (report_on_expression (facts_from_declarations p true) e).faults _ a.0
         (none-of-both l.faults _ a.1 (none-of-both el.faults (made_array_type (next_type_ordinal around p) o l.known el.known).faults inner (array-right (next_type_ordinal around p) o l.known long.length el.known long.known small)))
     type_right around k (record_type g rest) p before at st seen s h =
         let parts = each_part (IsSeen w scope) (occurrences g) (occurrences rest) seen in
@@ -143,10 +143,10 @@ module _ (w : Numbering) (fit : PartsFit) (fine : PartsRight) (n : ℕ) (scope :
         let (s, hs, last) = and-then (λ s. Some (prepend_fields (map (λ x. x) (names_in_list (tree_with_names w.source ns))) s later)) (denoted_type here k (tree_with_names w.source t)) fs h in
         none-of-both (report_on_written_type around g.following t).faults [] (type_right around k t g.following before at st seen s hs) refl
 
-    groups_right : (around k : ℕ) (t : Tree ℕ (items further_fields)) (g : KnownFields) (before : List Shape) (first : FieldShapes) → length before + around ≡ k → IsKnownAt w g.following before n scope env → AreSeen w scope t → GatheredAgrees before g first
+    groups_right : (around k : ℕ) (t : Tree ℕ (items fields_after_semicolon)) (g : KnownFields) (before : List Shape) (first : FieldShapes) → length before + around ≡ k → IsKnownAt w g.following before n scope env → AreSeen w scope t → GatheredAgrees before g first
         → (fs : FieldShapes) → denoted_further_fields (meanings naming_by_spelling env) k (tree_with_names w.source t) ≡ Some fs → (report_on_further_field_groups around g t).faults ≡ []
     groups_right around k end g before first at st seen agrees fs h = refl
-    groups_right around k (more (then_fields f) rest) g before first at st seen agrees fs h =
+    groups_right around k (more (semicolon_then_fields f) rest) g before first at st seen agrees fs h =
         let parts = each_part (IsSeen w scope) (occurrences f) (occurrences rest) seen in
         let c : ℕ = group_constructor_count (tree_with_names w.source f) in
         let next : ResultWithFaults KnownFields = report_on_field_group around g f in

@@ -2,7 +2,7 @@
 -- lemma is about any Bool instead of the condition (`first-reported`, `second-reported`).
 use Rattle.std.proofs.Common.{◌≡◌, Bool, true, false, ◌||◌, List, [], ◌∷◌, ◌++◌, if◌then◌else◌, Option, Some, None, option_and_then, refl, ap, ◌∙◌}
 use Rattle.ob0_scope_table.specs.declared.faults.FaultAtTokens.{FaultAtTokens}
-use Rattle.ob0_types_check.specs.Known.{ResultWithFaults}
+use Rattle.ob0_types_check.specs.TypesAndMeanings.{ResultWithFaults}
 
 pub none-reported : {A : Type 0} (xs ys : List A) → xs ++ ys ≡ [] → (xs ≡ []) × (ys ≡ [])
 none-reported [] ys h = (refl, h)

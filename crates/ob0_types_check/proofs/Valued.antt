@@ -10,9 +10,9 @@ use Rattle.ob0_tree.specs.declared.tree.Sign.{Sign}
 use Rattle.ob0_tree.specs.Tree.{Tree, addend, adds, compares, designator, end, factor, field, index, item, items, more, multiplier, multiplies, negation, one, product, relates, selector, simple, sum, term}
 use Rattle.ob0_types_table.specs.Operators.{product_value, sum_value}
 use Rattle.ob0_language_types.specs.Expressions.{Meanings, a_constant, element_step, evaluate, evaluate_addends, evaluate_factor, evaluate_multipliers, evaluate_simple, evaluate_term, evaluate_selectors, object_value}
-use Rattle.ob0_language_types.specs.Selected.{apply_to_both_options}
+use Rattle.ob0_language_types.specs.DesignatorSelectors.{apply_to_both_options}
 use Rattle.ob0_language_types.specs.Typing.{outcome_value, value_type}
-use Rattle.ob0_language_values.specs.Values.{Outcome, Place, Value, add, add_short_circuits, value_at_path, elements, ends_run_with, succeeds_with, members, multiply, multiply_short_circuits, negate, number, or_stuck, value_at_step, apply_relation, apply_sign, truth, ◌>>=◌}
+use Rattle.ob0_language_values.specs.Values.{Outcome, Place, Value, add, add_operator_short_circuits, value_at_path, elements, ends_run_with, succeeds_with, members, multiply, multiply_operator_short_circuits, negate, number, or_stuck, value_at_step, apply_relation, apply_sign, truth, ◌>>=◌}
 
 given_step : (o : Outcome Value) (next : Value → Outcome Value) → outcome_value (o >>= next) ≡ option_and_then (λ x. outcome_value (next x)) (outcome_value o)
 given_step (succeeds_with v) next = refl
@@ -51,15 +51,15 @@ module _ {N : Type 0} (among : Meanings N Place (Unit {0})) where
       → outcome_value (evaluate_addends among [] x (more (adds o t) ts)) ≡ option_and_then (λ y. outcome_value (evaluate_addends among [] y ts)) (sum_value o (outcome_value (evaluate_term among [] t)) x)
   unfolding evaluate
   addend-value_agrees o t ts x =
-      given_step (elim (add_short_circuits o x) [ true ↦ succeeds_with x | false ↦ evaluate_term among [] t >>= add o x ]) (λ y. evaluate_addends among [] y ts)
-      ∙ ap (option_and_then (λ y. outcome_value (evaluate_addends among [] y ts))) (given_settled (add_short_circuits o x) x (evaluate_term among [] t) (add o x))
+      given_step (elim (add_operator_short_circuits o x) [ true ↦ succeeds_with x | false ↦ evaluate_term among [] t >>= add o x ]) (λ y. evaluate_addends among [] y ts)
+      ∙ ap (option_and_then (λ y. outcome_value (evaluate_addends among [] y ts))) (given_settled (add_operator_short_circuits o x) x (evaluate_term among [] t) (add o x))
 
   pub multiplier-value_agrees : (o : MultiplyOperator) (f : Tree N factor) (fs : Tree N (items multiplier)) (x : Value)
       → outcome_value (evaluate_multipliers among [] x (more (multiplies o f) fs)) ≡ option_and_then (λ y. outcome_value (evaluate_multipliers among [] y fs)) (product_value o (outcome_value (evaluate_factor among [] f)) x)
   unfolding evaluate
   multiplier-value_agrees o f fs x =
-      given_step (elim (multiply_short_circuits o x) [ true ↦ succeeds_with x | false ↦ evaluate_factor among [] f >>= multiply o x ]) (λ y. evaluate_multipliers among [] y fs)
-      ∙ ap (option_and_then (λ y. outcome_value (evaluate_multipliers among [] y fs))) (given_settled (multiply_short_circuits o x) x (evaluate_factor among [] f) (multiply o x))
+      given_step (elim (multiply_operator_short_circuits o x) [ true ↦ succeeds_with x | false ↦ evaluate_factor among [] f >>= multiply o x ]) (λ y. evaluate_multipliers among [] y fs)
+      ∙ ap (option_and_then (λ y. outcome_value (evaluate_multipliers among [] y fs))) (given_settled (multiply_operator_short_circuits o x) x (evaluate_factor among [] f) (multiply o x))
 
   -- A name without selectors has the value of its constant.
   whole-value : (v : Option Value) → outcome_value (object_value {P = Unit {0}} [] (option_map a_constant v) >>= (λ w. succeeds_with [] >>= (λ steps. or_stuck (value_at_path steps w)))) ≡ v

@@ -4,15 +4,15 @@
 use Rattle.std.proofs.Common.{◌≡◌, ℕ, zero, suc, false, true≢false, Option, Some, None, List, [], ◌∷◌, map, refl, sym, ap, ◌∙◌, subst, arith}
 use Rattle.ob0_tree.specs.ParsedModule.{tree_of}
 use Rattle.ob0_tree.specs.Places.{tree_with_names, token_text_at, token_value_at}
-use Rattle.ob0_tree.specs.Tree.{Tree, block, declares, declares_procedure, end, forms_block, is_module, item, items, mapped_tree, module_text, more, occurrences, procedure}
+use Rattle.ob0_tree.specs.Tree.{Tree, block, declares, declares_procedure, end, forms_block, forms_module, item, items, mapped_tree, module_text, more, occurrences, procedure}
 use Rattle.ob0_language_names.specs.Names.{Label, Name, Naming, naming_by_spelling}
-use Rattle.ob0_language_names.specs.Parts.{constant_names, formal_names, formal_sections, module_block, declared_type_names, procedure_name, section_constants, section_types, section_variables, variable_names}
-use Rattle.ob0_language_names.specs.Scopes.{Labelling, Scope, ordinal_after_block, ordinal_after_names, ordinal_after_procedure, ordinal_after_procedures, label_from_ordinal, declare_names, declare_procedure_names, first_procedure_ordinal, first_type_ordinal, first_variable_ordinal, numbered, predeclared_scope, scope_before_procedures, relabel_block, relabel_constant_section, relabel_formals, relabel_procedure, relabel_procedures, relabel_type_section, relabel_uses, relabel_variable_section, relabel_module, scope_before_types, scope_before_variables}
+use Rattle.ob0_language_names.specs.BlockParts.{constant_names, formal_names, formal_sections, module_block, declared_type_names, procedure_name, section_constants, section_types, section_variables, variable_names}
+use Rattle.ob0_language_names.specs.Scopes.{Labelling, Scope, ordinal_after_block, ordinal_after_names, ordinal_after_procedure, ordinal_after_procedure_list, label_from_ordinal, declare_names, declare_procedure_names, first_procedure_ordinal, first_type_ordinal, first_variable_ordinal, numbered, predeclared_scope, scope_before_procedures, relabel_block, relabel_constant_section, relabel_formals, relabel_procedure, relabel_procedure_list, relabel_type_section, relabel_uses, relabel_variable_section, relabel_module, scope_before_types, scope_before_variables}
 use Rattle.ob0_language_names.proofs.OccurrencesMapped.{occurrences-mapped}
 use Rattle.ob0_language_types.proofs.Proved.{numbering_keeps_type_check-holds}
-use Rattle.ob0_scope_table.specs.BodyReplaced.{PathToBody, block_without_body, procedure_without_body, procedures_without_body, module_without_body}
+use Rattle.ob0_scope_table.specs.BodyReplacement.{PathToBody, block_without_body, procedure_without_body, procedures_without_body, module_without_body}
 use Rattle.ob0_scope_table.specs.Resolution.{IsResolution, Resolution, ordinal_and_spelling_at, is_unbound, label_from_table, ordinal_in, ordinal_and_spelling}
-use Rattle.ob0_scope_table.proofs.BodyReplaced.{without_mapped}
+use Rattle.ob0_scope_table.proofs.BodyReplacement.{without_mapped}
 use Rattle.ob0_types_check.specs.NewBody.{PassesTypeCheckWithoutBody}
 use Rattle.ob0_types_check.proofs.BoundModules.{labels-bound}
 use Rattle.ob0_types_check.proofs.DeclaredModules.{module_counted, numbering_of}
@@ -24,12 +24,12 @@ mutual
   pub ordinal_after_block-module_without_body : {N : Type 0} (path : PathToBody) (k : ℕ) (b : Tree N block) → ordinal_after_block k (block_without_body path b) ≡ ordinal_after_block k b
   ordinal_after_block-module_without_body [] k (forms_block (declares cs ts vs ps) a) = refl
   ordinal_after_block-module_without_body (j ∷ path) k (forms_block (declares cs ts vs ps) a) =
-      ordinal_after_procedures-module_without_body j path (ordinal_after_names (ordinal_after_names (ordinal_after_names k (constant_names (section_constants cs))) (declared_type_names (section_types ts))) (variable_names (section_variables vs))) ps
+      ordinal_after_procedure_list-module_without_body j path (ordinal_after_names (ordinal_after_names (ordinal_after_names k (constant_names (section_constants cs))) (declared_type_names (section_types ts))) (variable_names (section_variables vs))) ps
 
-  ordinal_after_procedures-module_without_body : {N : Type 0} (j : ℕ) (path : PathToBody) (k : ℕ) (ps : Tree N (items procedure)) → ordinal_after_procedures k (procedures_without_body j path ps) ≡ ordinal_after_procedures k ps
-  ordinal_after_procedures-module_without_body j path k end = refl
-  ordinal_after_procedures-module_without_body zero path k (more p rest) = ap (λ i. ordinal_after_procedures i rest) (ordinal_after_procedure-module_without_body path (suc k) p)
-  ordinal_after_procedures-module_without_body (suc j) path k (more p rest) = ordinal_after_procedures-module_without_body j path (ordinal_after_procedure (suc k) p) rest
+  ordinal_after_procedure_list-module_without_body : {N : Type 0} (j : ℕ) (path : PathToBody) (k : ℕ) (ps : Tree N (items procedure)) → ordinal_after_procedure_list k (procedures_without_body j path ps) ≡ ordinal_after_procedure_list k ps
+  ordinal_after_procedure_list-module_without_body j path k end = refl
+  ordinal_after_procedure_list-module_without_body zero path k (more p rest) = ap (λ i. ordinal_after_procedure_list i rest) (ordinal_after_procedure-module_without_body path (suc k) p)
+  ordinal_after_procedure_list-module_without_body (suc j) path k (more p rest) = ordinal_after_procedure_list-module_without_body j path (ordinal_after_procedure (suc k) p) rest
 
   ordinal_after_procedure-module_without_body : {N : Type 0} (path : PathToBody) (k : ℕ) (p : Tree N (item procedure)) → ordinal_after_procedure k (procedure_without_body path p) ≡ ordinal_after_procedure k p
   ordinal_after_procedure-module_without_body path k (declares_procedure x fs b closing) = ordinal_after_block-module_without_body path (ordinal_after_names k (formal_names (formal_sections fs))) b
@@ -53,14 +53,14 @@ module _ {N M : Type 0} (naming : Naming N) (label : Labelling N M) where
         λ i.
         forms_block
         (declares (relabel_constant_section naming label scope k cs) (relabel_type_section naming label (scope_before_types k b scope) (first_type_ordinal k b) ts) (relabel_variable_section naming label (scope_before_variables k b scope) (first_variable_ordinal k b) vs)
-        (relabel_procedures-module_without_body j path (scope_before_procedures k b scope) (first_procedure_ordinal k b) ps i))
+        (relabel_procedure_list-module_without_body j path (scope_before_procedures k b scope) (first_procedure_ordinal k b) ps i))
         (relabel_uses naming label (declared-module_without_body j path (first_procedure_ordinal k b) ps (scope_before_procedures k b scope) i) a)
 
-    relabel_procedures-module_without_body : (j : ℕ) (path : PathToBody) (scope : Scope N) (k : ℕ) (ps : Tree N (items procedure)) → relabel_procedures naming label scope k (procedures_without_body j path ps) ≡ procedures_without_body j path (relabel_procedures naming label scope k ps)
-    relabel_procedures-module_without_body j path scope k end = refl
-    relabel_procedures-module_without_body zero path scope k (more p rest) =
-        λ i. more (relabel_procedure-module_without_body path scope k p i) (relabel_procedures naming label ((procedure_name-module_without_body path p i, k) ∷ scope) (ordinal_after_procedure-module_without_body path (suc k) p i) rest)
-    relabel_procedures-module_without_body (suc j) path scope k (more p rest) = ap (more (relabel_procedure naming label scope k p)) (relabel_procedures-module_without_body j path ((procedure_name p, k) ∷ scope) (ordinal_after_procedure (suc k) p) rest)
+    relabel_procedure_list-module_without_body : (j : ℕ) (path : PathToBody) (scope : Scope N) (k : ℕ) (ps : Tree N (items procedure)) → relabel_procedure_list naming label scope k (procedures_without_body j path ps) ≡ procedures_without_body j path (relabel_procedure_list naming label scope k ps)
+    relabel_procedure_list-module_without_body j path scope k end = refl
+    relabel_procedure_list-module_without_body zero path scope k (more p rest) =
+        λ i. more (relabel_procedure-module_without_body path scope k p i) (relabel_procedure_list naming label ((procedure_name-module_without_body path p i, k) ∷ scope) (ordinal_after_procedure-module_without_body path (suc k) p i) rest)
+    relabel_procedure_list-module_without_body (suc j) path scope k (more p rest) = ap (more (relabel_procedure naming label scope k p)) (relabel_procedure_list-module_without_body j path ((procedure_name p, k) ∷ scope) (ordinal_after_procedure (suc k) p) rest)
 
     relabel_procedure-module_without_body : (path : PathToBody) (scope : Scope N) (k : ℕ) (p : Tree N (item procedure)) → relabel_procedure naming label scope k (procedure_without_body path p) ≡ procedure_without_body path (relabel_procedure naming label scope k p)
     relabel_procedure-module_without_body path scope k (declares_procedure x fs b closing) =
@@ -68,7 +68,7 @@ module _ {N M : Type 0} (naming : Naming N) (label : Labelling N M) where
         (relabel_block-module_without_body path (declare_names (suc k) (formal_names (formal_sections fs)) ((x, k) ∷ scope)) (ordinal_after_names (suc k) (formal_names (formal_sections fs))) b)
 
   relabel_module-module_without_body : (path : PathToBody) (t : Tree N module_text) → relabel_module naming label (module_without_body path t) ≡ module_without_body path (relabel_module naming label t)
-  relabel_module-module_without_body path (is_module x b closing) = ap (λ c. is_module (label None x) c (label None closing)) (relabel_block-module_without_body path (predeclared_scope naming) 7 b)
+  relabel_module-module_without_body path (forms_module x b closing) = ap (λ c. forms_module (label None x) c (label None closing)) (relabel_block-module_without_body path (predeclared_scope naming) 7 b)
 
 -- ---- each remaining name is bound
 

@@ -15,8 +15,8 @@ use Rattle.ob0_language_types.specs.Typing as typing
 use Rattle.ob0_language_types.specs.Typing.{shape_of_field, value_type}
 use Rattle.ob0_language_types.specs.WellTyped.{Signature, TypeMeanings, signature_of}
 use Rattle.ob0_language_values.specs.Values.{FieldShapes, Shape, Value, array_shape, boolean_shape, integer_shape, next_field_shape, no_field_shape, record_shape}
-use Rattle.ob0_types_check.specs.Known.{Facts, TypeForm, KnownParameter, Meaning, Types, a_constant, a_procedure, a_record, a_scalar, a_type, a_variable, an_array, unknown_form}
-use Rattle.ob0_types_check.specs.KnownDeclarations.{CompositeType, PartTypes, KnownField, of_elements, of_fields}
+use Rattle.ob0_types_check.specs.TypesAndMeanings.{Facts, TypeForm, KnownParameter, Meaning, Types, a_constant, a_procedure, a_record, a_scalar, a_type, a_variable, an_array, unknown_form}
+use Rattle.ob0_types_check.specs.KnownDeclarations.{CompositeType, CompositeParts, KnownField, of_elements, of_fields}
 
 -- States that the form of a type has the same parts as a shape. The function `shape` returns the shape of a type, or
 -- None if the type is unknown. A scalar's form agrees with every shape. The unknown form agrees with no shape.
@@ -75,7 +75,7 @@ is_standard_procedure (Some (meant.a_type s)) = false
 is_standard_procedure (Some (meant.a_constant v)) = false
 is_standard_procedure (Some (meant.a_variable s)) = false
 is_standard_procedure (Some (meant.a_procedure signature)) = false
-is_standard_procedure (Some (meant.a_standard p)) = true
+is_standard_procedure (Some (meant.a_standard_procedure p)) = true
 
 -- states that the meaning of a declaration agrees with its object, or that both are None
 abbrev pub DeclarationAgreesWithObject : (TypeId → Option Shape)
@@ -168,7 +168,7 @@ FieldsAgreeWithShapes shape (f ∷ fields) (next_field_shape x s fs) =
 
 -- States that the parts of an array or record type agree with its shape. `k` is the ordinal of the type's word ARRAY or
 -- RECORD: the number of such words before this one in the text.
-abbrev pub PartsAgreeWithShape : (TypeId → Option Shape) → ℕ → PartTypes → Shape → Type 0
+abbrev pub PartsAgreeWithShape : (TypeId → Option Shape) → ℕ → CompositeParts → Shape → Type 0
 PartsAgreeWithShape shape k (of_elements n t) s = (u : Shape) × (s ≡ array_shape k n u) × (shape t ≡ Some u)
 PartsAgreeWithShape shape k (of_fields fields) s =
     (fs : FieldShapes) × (s ≡ record_shape k fs) × FieldsAgreeWithShapes shape fields fs

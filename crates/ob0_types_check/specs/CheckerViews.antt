@@ -5,12 +5,12 @@ use Rattle.std.specs.Prelude.{◌≡◌, ℕ, ◌-◌, ◌^◌, Bool, List, map,
 use Rattle.ob0_language_names.specs.Names.{Name}
 use Rattle.ob0_scope_table.specs.Resolution.{ordinal_in}
 use Rattle.ob0_scope_table.specs.declared.faults.FaultAtTokens.{FaultAtTokens}
-use Rattle.ob0_types_table.specs.FieldIndex.{type_of_first_field_named}
+use Rattle.ob0_types_table.specs.FirstFieldMaps.{type_of_first_field_named}
 use Rattle.ob0_types_table.specs.declared.known.Field.{Field}
 use Rattle.ob0_types_table.specs.declared.known.FormalParameter as formal
 use Rattle.ob0_types_table.specs.declared.known.TypeEntry.{TypeEntry}
 use Rattle.ob0_types_table.specs.declared.known.TypeEntry.TheVariants as made
-use Rattle.ob0_types_table.specs.KnownTables.{DeclarationTableView}
+use Rattle.ob0_types_table.specs.DeclarationTables.{DeclarationTableView}
 use Rattle.ob0_types_table.specs.declared.known.Object as object
 use Rattle.ob0_types_table.specs.declared.known.Object.TheVariants as kind
 use Rattle.ob0_types_table.specs.declared.known.StandardProcedure.TheVariants as standards
@@ -20,12 +20,12 @@ use Rattle.ob0_language_values.specs.Scalars.{scalar_value}
 use Rattle.ob0_types_check.specs.declared.reporting.expressions.Operand as operand
 use Rattle.ob0_types_check.specs.declared.reporting.checker_state.Meaning as meaning
 use Rattle.ob0_types_check.specs.declared.reporting.checker_state.Meaning.TheVariants as declared
-use Rattle.ob0_types_check.specs.declared.reporting.checker_state.Size as code_size
+use Rattle.ob0_types_check.specs.declared.reporting.checker_state.TypeSize as code_size
 use Rattle.ob0_types_check.specs.declared.reporting.checker_state.CheckerState.{CheckerState}
 use Rattle.ob0_types_check.specs.declared.reporting.written_types.KnownFields as gathering
-use Rattle.ob0_types_check.specs.Known.{Facts, TypeForm, KnownParameter, Meaning, Operand, ResultWithFaults, Types, a_constant, a_procedure, a_record, a_scalar, a_type, a_variable, an_array, unknown_form}
+use Rattle.ob0_types_check.specs.TypesAndMeanings.{Facts, TypeForm, KnownParameter, Meaning, Operand, ResultWithFaults, Types, a_constant, a_procedure, a_record, a_scalar, a_type, a_variable, an_array, unknown_form}
 use Rattle.ob0_types_check.specs.DeclarationFaults.{KnownHeading}
-use Rattle.ob0_types_check.specs.KnownDeclarations.{CompositeType, Size, KnownDeclarations, KnownField, of_elements, of_fields, same_type}
+use Rattle.ob0_types_check.specs.KnownDeclarations.{CompositeType, TypeSize, KnownDeclarations, KnownField, of_elements, of_fields, same_type}
 use Rattle.ob0_types_check.specs.WrittenTypeFaults.{KnownFields}
 
 -- returns the element type of an entry that is an array; the unknown type for any other entry and for None
@@ -99,7 +99,7 @@ operand_of o =
     }
 
 -- converts a size of the code to a size of the definitions
-abbrev pub size_of : code_size.Size → Size
+abbrev pub size_of : code_size.TypeSize → TypeSize
 size_of z = record { scalars = z.scalars; depth = z.depth }
 
 -- converts fields of the code to fields of the definitions
@@ -136,7 +136,7 @@ abbrev pub heading_in_state : CheckerState → List formal.FormalParameter → K
 heading_in_state s formals = record { formals = map formal_of formals; following = declarations_in_state s }
 
 -- caps both numbers of a size at 2^64 - 1, because the code's arithmetic stops there
-abbrev pub capped_size : Size → Size
+abbrev pub capped_size : TypeSize → TypeSize
 capped_size z = record { scalars = min z.scalars (2 ^ 64 - 1); depth = min z.depth (2 ^ 64 - 1) }
 
 -- States that the fields `now`, which the code has found, are the fields of `g`. Their total size

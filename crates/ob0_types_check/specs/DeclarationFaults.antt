@@ -5,15 +5,15 @@
 -- Rule: docs/LANGUAGE.md, Faults of scopes and types 2 to 11.
 use Rattle.std.specs.Prelude.{ℕ, Bool, true, false, List, [], ◌∷◌, ◌++◌, map}
 use Rattle.std.specs.List.{filter}
-use Rattle.ob0_language_names.specs.Parts.{formal_sections, module_block, names_in_list, section_constants, section_types, section_variables}
+use Rattle.ob0_language_names.specs.BlockParts.{formal_sections, module_block, names_in_list, section_constants, section_types, section_variables}
 use Rattle.ob0_scope_table.specs.Resolution.{Resolution, is_undeclared_fault}
 use Rattle.ob0_scope_table.specs.declared.faults.FaultAtTokens.{FaultAtTokens}
 use Rattle.ob0_types_table.specs.declared.types.TypeId.{TypeId}
 use Rattle.ob0_tree.specs.ParsedModule.{tree_of}
-use Rattle.ob0_tree.specs.Tree.{Tree, begins, block, body, constant, declares, declares_constant, declares_procedure, declares_type, declares_variable, end, further_section, forms_block, item, items, maybe, more, names, none, one, procedure, then_section, type_definition, value_section, variable, variable_section, written_type}
-use Rattle.ob0_types_check.specs.Known.{KnownParameter, ResultWithFaults, a_constant, a_procedure, a_type, a_variable}
-use Rattle.ob0_types_check.specs.Operations.{without_fault, ◌>>=◌}
-use Rattle.ob0_types_check.specs.KnownDeclarations.{KnownDeclarations, TypeWithFollowingDeclarations, known_declarations_at_start, define_name_at_token, define_names_at_tokens, facts_at}
+use Rattle.ob0_tree.specs.Tree.{Tree, begins, block, body, constant, declares, declares_constant, declares_procedure, declares_type, declares_variable, end, section_after_semicolon, forms_block, item, items, maybe, more, names, none, one, procedure, semicolon_then_section, type_definition, value_section, variable, variable_section, written_type}
+use Rattle.ob0_types_check.specs.TypesAndMeanings.{KnownParameter, ResultWithFaults, a_constant, a_procedure, a_type, a_variable}
+use Rattle.ob0_types_check.specs.OperandFaults.{without_fault, ◌>>=◌}
+use Rattle.ob0_types_check.specs.KnownDeclarations.{KnownDeclarations, TypeWithFollowingDeclarations, known_declarations_at_start, define_name_at_token, define_names_at_tokens, facts_from_declarations}
 use Rattle.ob0_types_check.specs.StatementFaults.{sequence_faults}
 use Rattle.ob0_types_check.specs.TypeFaults.{report_on_constant_expression}
 use Rattle.ob0_types_check.specs.WrittenTypeFaults.{report_on_written_type}
@@ -22,7 +22,7 @@ use Rattle.ob0_types_check.specs.WrittenTypeFaults.{report_on_written_type}
 unfoldable pub report_on_constant_declaration : KnownDeclarations → Tree ℕ (item constant) → ResultWithFaults KnownDeclarations
 unfolding report_on_constant_expression
 report_on_constant_declaration p (declares_constant x e) = do
-  v ← report_on_constant_expression (facts_at p true) e
+  v ← report_on_constant_expression (facts_from_declarations p true) e
   without_fault (define_name_at_token p (a_constant v) x)
 
 -- returns the faults of constant declarations, and the known declarations with these constants added; each constant is
@@ -95,15 +95,15 @@ report_on_parameters h by_place ns t = do
 
 -- returns the faults of one section of parameters, and the heading `h` with these parameters added
 unfoldable pub report_on_parameter_section : KnownHeading
-    → Tree ℕ (item further_section)
+    → Tree ℕ (item section_after_semicolon)
     → ResultWithFaults KnownHeading
 unfolding report_on_parameters
-report_on_parameter_section h (then_section (value_section ns t)) = report_on_parameters h false ns t
-report_on_parameter_section h (then_section (variable_section ns t)) = report_on_parameters h true ns t
+report_on_parameter_section h (semicolon_then_section (value_section ns t)) = report_on_parameters h false ns t
+report_on_parameter_section h (semicolon_then_section (variable_section ns t)) = report_on_parameters h true ns t
 
 -- returns the faults of a heading's sections, and the heading with all parameters
 unfoldable pub report_on_parameter_sections : KnownHeading
-    → Tree ℕ (items further_section)
+    → Tree ℕ (items section_after_semicolon)
     → ResultWithFaults KnownHeading
 unfolding report_on_parameter_section
 report_on_parameter_sections h end = without_fault h
@@ -129,7 +129,7 @@ with_declarations w p = record { so_far = p; bodies_with_faults = w.bodies_with_
 unfoldable pub body_faults : KnownDeclarations → Tree ℕ (maybe body) → List FaultAtTokens
 unfolding sequence_faults
 body_faults p none = []
-body_faults p (one (begins statements)) = sequence_faults (facts_at p false) statements
+body_faults p (one (begins statements)) = sequence_faults (facts_from_declarations p false) statements
 
 -- appends `own`, the closing name of a body's block, to the list `bodies_with_faults` if the body's list of faults
 -- isn't empty
@@ -185,8 +185,8 @@ walk_at_start r = record { so_far = known_declarations_at_start r; bodies_with_f
 
 -- returns the state after a module, and the faults of its declarations and of the bodies whose closing names pass the
 -- test `wanted`
-abbrev pub reported_module : (ℕ → Bool) → Resolution → ResultWithFaults WalkProgress
-reported_module wanted r =
+abbrev pub report_on_module : (ℕ → Bool) → Resolution → ResultWithFaults WalkProgress
+report_on_module wanted r =
     report_on_block wanted r.module_read.closing (walk_at_start r) (module_block (tree_of r.module_read))
 
 -- returns true for every closing name, so that all bodies are walked
@@ -196,4 +196,4 @@ every_body closing = true
 -- returns the faults at the undeclared names of a module, in text order, and then the module's faults of types
 unfoldable pub undeclared_name_and_type_faults : Resolution → List FaultAtTokens
 unfolding report_on_block
-undeclared_name_and_type_faults r = filter is_undeclared_fault r.faults ++ (reported_module every_body r).faults
+undeclared_name_and_type_faults r = filter is_undeclared_fault r.faults ++ (report_on_module every_body r).faults

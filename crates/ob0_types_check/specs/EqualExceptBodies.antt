@@ -3,14 +3,14 @@
 use Rattle.std.specs.Prelude.{◌≡◌, ℕ, Bool, true, false, length}
 use Rattle.ob0_tree.specs.ParsedModule.{tree_of}
 use Rattle.ob0_tree.specs.Places.{token_text_at, token_value_at}
-use Rattle.ob0_tree.specs.Tree.{Tree, block, declares, declares_procedure, end, forms_block, is_module, item, items, module_text, more, procedure}
+use Rattle.ob0_tree.specs.Tree.{Tree, block, declares, declares_procedure, end, forms_block, forms_module, item, items, module_text, more, procedure}
 use Rattle.ob0_scope_table.specs.TokenProperty.{EachTokenHas}
 use Rattle.ob0_scope_table.specs.Resolution.{Resolution, ordinal_in}
 
 -- states the proposition `A` if the Bool is false, and nothing if the Bool is true
-abbrev pub Unless : Bool → Type 0 → Type 0
-Unless true A = Unit {0}
-Unless false A = A
+abbrev pub HoldsUnless : Bool → Type 0 → Type 0
+HoldsUnless true A = Unit {0}
+HoldsUnless false A = A
 
 -- States that each token of a tree has the property `P`, except in the statements of some blocks. These are the blocks
 -- whose closing names pass the test `left_out`. `own` is the token of a block's closing name.
@@ -23,7 +23,7 @@ abbrev mutual
       × EachTokenHas P ts
       × EachTokenHas P vs
       × EachTokenOfProceduresHasExceptInBodies P left_out ps
-      × Unless (left_out own) (EachTokenHas P statements)
+      × HoldsUnless (left_out own) (EachTokenHas P statements)
 
   -- states that each token of these procedures has the property `P`, except in statements of blocks whose closing names
   -- pass `left_out`
@@ -41,7 +41,7 @@ abbrev mutual
 -- states that each token of a module has the property `P`, except in statements of blocks whose closing names pass
 -- `left_out`
 abbrev pub EachTokenOfModuleHasExceptInBodies : (ℕ → Type 0) → (ℕ → Bool) → Tree ℕ module_text → Type 0
-EachTokenOfModuleHasExceptInBodies P left_out (is_module x b closing) = P x × EachTokenOfBlockHasExceptInBodies P left_out closing b × P closing
+EachTokenOfModuleHasExceptInBodies P left_out (forms_module x b closing) = P x × EachTokenOfBlockHasExceptInBodies P left_out closing b × P closing
 
 -- states that a token has the same spelling and value in both modules, and is bound to the same declaration in both
 pub record IsSameTokenAt (old new : Resolution) (token : ℕ) : Type 0 where

@@ -3,8 +3,8 @@
 -- Rule: docs/LANGUAGE.md, Faults of scopes and types 2, 3, 5, 6.
 use Rattle.std.specs.Prelude.{ℕ}
 use Rattle.ob0_tree.specs.Tree.{Tree, addend, adds, compares, designator, end, expression, factor, field, index, integer, item, items, more, multiplier, multiplies, negation, none, one, parenthesised, product, relates, selector, simple, sum, term}
-use Rattle.ob0_types_check.specs.Known.{Facts, Operand, ResultWithFaults}
-use Rattle.ob0_types_check.specs.Operations.{number_operand, add_operands, negated_operand, element_operand, operand_in_parentheses, field_operand, multiply_operands, name_operand, relate_operands, without_fault, signed_operand, ◌>>=◌}
+use Rattle.ob0_types_check.specs.TypesAndMeanings.{Facts, Operand, ResultWithFaults}
+use Rattle.ob0_types_check.specs.OperandFaults.{number_operand, add_operands, negated_operand, element_operand, operand_in_parentheses, field_operand, multiply_operands, name_operand, relate_operands, without_fault, signed_operand, ◌>>=◌}
 
 unfoldable mutual
   -- returns the faults of an expression, and the resulting operand; the faults of both sides come before the fault of

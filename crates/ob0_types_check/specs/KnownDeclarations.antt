@@ -6,16 +6,16 @@ use Rattle.ob0_scan.specs.declared.fault.FaultCode.TheVariants as code
 use Rattle.ob0_scan.specs.TextWithTokens.{TextWithTokens}
 use Rattle.ob0_language_names.specs.Names.{Name, same_name}
 use Rattle.ob0_scope_table.specs.Resolution.{Resolution, ordinal_in}
-use Rattle.ob0_language_types.specs.Typing.{max_depth, max_scalars}
+use Rattle.ob0_language_types.specs.Typing.{max_type_depth, max_scalars}
 use Rattle.ob0_types_table.specs.declared.types.TypeId.{TypeId}
 use Rattle.ob0_types_table.specs.declared.types.TypeId.TheVariants as type
 use Rattle.ob0_language_values.specs.Values.{truth}
-use Rattle.ob0_types_check.specs.Known.{Facts, TypeForm, Meaning, ResultWithFaults, Types, a_constant, a_procedure, a_record, a_scalar, a_type, an_array, unknown_form}
-use Rattle.ob0_types_check.specs.Operations.{fault_at_token, without_fault}
+use Rattle.ob0_types_check.specs.TypesAndMeanings.{Facts, TypeForm, Meaning, ResultWithFaults, Types, a_constant, a_procedure, a_record, a_scalar, a_type, an_array, unknown_form}
+use Rattle.ob0_types_check.specs.OperandFaults.{fault_at_token, without_fault}
 
 -- the size of a type: the number of INTEGER and BOOLEAN values in it (its scalars), and the depth to which its arrays
 -- and records are nested
-pub record Size : Type 0 where
+pub record TypeSize : Type 0 where
   pub scalars : ℕ
   pub depth : ℕ
 
@@ -25,16 +25,16 @@ pub record KnownField : Type 0 where
   pub of : TypeId
 
 -- the parts of an array or record type: the number and type of its elements, or its fields in order
-pub data PartTypes : Type 0 where
-  of_elements : ℕ → TypeId → PartTypes
-  of_fields : List KnownField → PartTypes
+pub data CompositeParts : Type 0 where
+  of_elements : ℕ → TypeId → CompositeParts
+  of_fields : List KnownField → CompositeParts
 
 -- An array or record type: its ordinal, its parts and its size. The ordinal is the number of words ARRAY and RECORD in
 -- the text before the type's own word.
 pub record CompositeType : Type 0 where
   pub ordinal : ℕ
-  pub parts : PartTypes
-  pub size : Size
+  pub parts : CompositeParts
+  pub size : TypeSize
 
 -- The state of a walk over declarations. `ordinals` has the ordinal of each identifier's declaration, by token.
 -- `declared` has the meaning of each declaration, by ordinal, or None if the meaning isn't found yet. `made` has the
@@ -55,7 +55,7 @@ same_type (type.Record i) (type.Record j) = i == j
 same_type _ _ = false
 
 -- returns the type of an array's elements, given its parts; for a record's parts, the unknown type
-abbrev pub element_type_of_parts : PartTypes → TypeId
+abbrev pub element_type_of_parts : CompositeParts → TypeId
 element_type_of_parts (of_elements n t) = t
 element_type_of_parts (of_fields fields) = type.Unknown
 
@@ -72,7 +72,7 @@ type_of_field_named (f ∷ fields) x = if same_name x f.name then Some f.of else
 
 -- returns the type of the first field with the name `x`, given the parts of a record; None if the record has no such
 -- field, and for the parts of an array
-abbrev pub field_type_of_parts : PartTypes → Name → Option TypeId
+abbrev pub field_type_of_parts : CompositeParts → Name → Option TypeId
 field_type_of_parts (of_elements n t) x = None
 field_type_of_parts (of_fields fields) x = type_of_field_named fields x
 
@@ -108,8 +108,8 @@ meaning_at p token =
 
 -- returns the data with which an expression, statement or type name is checked (`Facts`), given the
 -- declarations known before it; if the Bool is true, names may only refer to constants
-abbrev pub facts_at : KnownDeclarations → Bool → Facts TypeId
-facts_at p only_constants =
+abbrev pub facts_from_declarations : KnownDeclarations → Bool → Facts TypeId
+facts_from_declarations p only_constants =
     record {
       source = p.source;
       types = types_so_far p.made;
@@ -140,20 +140,20 @@ define_names_at_tokens p m [] = p
 define_names_at_tokens p m (x ∷ xs) = define_names_at_tokens (define_name_at_token p m x) m xs
 
 -- returns the size of INTEGER and BOOLEAN: one scalar and depth 0
-abbrev pub scalar_size : Size
+abbrev pub scalar_size : TypeSize
 scalar_size = record { scalars = 1; depth = 0 }
 
 -- returns the size of an unknown type, or of an empty list of fields: no scalars and depth 0
-abbrev pub zero_size : Size
+abbrev pub zero_size : TypeSize
 zero_size = record { scalars = 0; depth = 0 }
 
 -- returns the size of an array or record type; for None, the size of one scalar
-abbrev pub composite_size : Option CompositeType → Size
+abbrev pub composite_size : Option CompositeType → TypeSize
 composite_size None = scalar_size
 composite_size (Some m) = m.size
 
 -- returns the size of a type, given the array and record types found so far; the unknown type has no scalars
-abbrev pub size_of_type_so_far : List CompositeType → TypeId → Size
+abbrev pub size_of_type_so_far : List CompositeType → TypeId → TypeSize
 size_of_type_so_far made type.Integer = scalar_size
 size_of_type_so_far made type.Boolean = scalar_size
 size_of_type_so_far made (type.Array i) = composite_size (slice_get made i)
@@ -161,8 +161,8 @@ size_of_type_so_far made (type.Record i) = composite_size (slice_get made i)
 size_of_type_so_far made type.Unknown = zero_size
 
 -- returns whether a type of this size has at most 65,536 scalars, and arrays and records nested at most 100 deep
-abbrev pub is_within_limits : Size → Bool
-is_within_limits z = nat_le z.scalars max_scalars && nat_le z.depth max_depth
+abbrev pub is_within_limits : TypeSize → Bool
+is_within_limits z = nat_le z.scalars max_scalars && nat_le z.depth max_type_depth
 
 -- the checker's type for a type that is written in the text (`of`), and the declarations known after the written type
 -- (`following`)
@@ -171,13 +171,13 @@ pub record TypeWithFollowingDeclarations : Type 0 where
   pub following : KnownDeclarations
 
 -- returns the `TypeId` of an array or record type that has these parts and is at index `k` of the list of such types
-abbrev pub type_at_index : PartTypes → ℕ → TypeId
+abbrev pub type_at_index : CompositeParts → ℕ → TypeId
 type_at_index (of_elements n t) k = type.Array k
 type_at_index (of_fields fields) k = type.Record k
 
 -- Appends an array or record type with this ordinal, these parts and this size to the known types `p.made`. Returns the
 -- type's `TypeId` (`of`), and `p` with this type appended (`following`).
-abbrev pub append_composite : KnownDeclarations → ℕ → PartTypes → Size → TypeWithFollowingDeclarations
+abbrev pub append_composite : KnownDeclarations → ℕ → CompositeParts → TypeSize → TypeWithFollowingDeclarations
 append_composite p ordinal parts size = record {
   of = type_at_index parts (length p.made);
   following =
@@ -200,7 +200,7 @@ report_on_too_large_type p word =
 
 -- appends an array or record type and returns its `TypeId`; if its size isn't within the limits, reports `TypeTooLarge`
 -- at `word`, its word ARRAY or RECORD, instead
-abbrev pub make_composite_type : KnownDeclarations → ℕ → ℕ → PartTypes → Size → ResultWithFaults TypeWithFollowingDeclarations
+abbrev pub make_composite_type : KnownDeclarations → ℕ → ℕ → CompositeParts → TypeSize → ResultWithFaults TypeWithFollowingDeclarations
 make_composite_type p word ordinal parts size =
     if is_within_limits size then without_fault (append_composite p ordinal parts size) else report_on_too_large_type p word
 

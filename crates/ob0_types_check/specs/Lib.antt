@@ -1,5 +1,5 @@
-pub mod Known
-pub mod Operations
+pub mod TypesAndMeanings
+pub mod OperandFaults
 pub mod ExpressionFaults
 pub mod StatementFaults
 pub mod TypeFaults

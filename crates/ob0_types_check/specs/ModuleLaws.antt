@@ -10,10 +10,10 @@ use Rattle.ob0_tree.specs.Tree.{Tree, module_text}
 use Rattle.ob0_language_types.specs.Bindings.{declared_object, object_of_ordinal}
 use Rattle.ob0_language_types.specs.Environments.{outermost_environment}
 use Rattle.ob0_language_types.specs.WellTyped.{passes_type_check}
-use Rattle.ob0_types_table.specs.KnownTables.{DeclarationTableView, declared_object_in}
+use Rattle.ob0_types_table.specs.DeclarationTables.{DeclarationTableView, declared_object_in}
 use Rattle.ob0_language_values.specs.Values.{Shape}
 use Rattle.ob0_types_check.specs.Agreement.{DeclarationAgreesWithObject, TableAgreesWithShapes, is_standard_procedure, shape_of_type_in}
-use Rattle.ob0_types_check.specs.DeclarationFaults.{every_body, undeclared_name_and_type_faults, reported_module}
+use Rattle.ob0_types_check.specs.DeclarationFaults.{every_body, undeclared_name_and_type_faults, report_on_module}
 use Rattle.ob0_types_check.specs.KnownDeclarations.{KnownDeclarations}
 
 -- States that a module passes the type check if no fault of types and no undeclared name is reported for it. The type
@@ -50,4 +50,4 @@ WalkWithoutFaultFindsCorrectMeanings =
     (r : Resolution)
     → IsResolution r
     → undeclared_name_and_type_faults r ≡ []
-    → KnowsDeclarations (reported_module every_body r).known.so_far (named_tree_of r.module_read)
+    → KnowsDeclarations (report_on_module every_body r).known.so_far (named_tree_of r.module_read)

@@ -3,7 +3,7 @@
 use Rattle.std.specs.Prelude.{◌≡◌, ℕ, true}
 use Rattle.ob0_language_names.specs.Names.{naming_by_spelling}
 use Rattle.ob0_language_types.specs.WellTyped.{passes_type_check}
-use Rattle.ob0_scope_table.specs.BodyReplaced.{PathToBody, closing_name_at_path, module_without_body}
+use Rattle.ob0_scope_table.specs.BodyReplacement.{PathToBody, closing_name_at_path, module_without_body}
 use Rattle.ob0_scope_table.specs.Resolution.{Resolution}
 use Rattle.ob0_tree.specs.ParsedModule.{tree_of}
 use Rattle.ob0_tree.specs.Places.{tree_with_names}

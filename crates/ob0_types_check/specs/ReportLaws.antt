@@ -9,11 +9,11 @@ use Rattle.ob0_language_types.specs.Typing.{array_length, constant_value, consta
 use Rattle.ob0_language_types.specs.WellTyped.{TypeMeanings, sequence_is_well_typed, variable_type}
 use Rattle.ob0_language_values.specs.Values.{Shape, Value}
 use Rattle.ob0_types_check.specs.ExpressionFaults.{report_on_expression}
-use Rattle.ob0_types_check.specs.Known.{Operand}
-use Rattle.ob0_types_check.specs.Operations.{◌>>=◌}
-use Rattle.ob0_types_check.specs.KnownDeclarations.{CompositeType, KnownDeclarations, facts_at, types_so_far}
+use Rattle.ob0_types_check.specs.TypesAndMeanings.{Operand}
+use Rattle.ob0_types_check.specs.OperandFaults.{◌>>=◌}
+use Rattle.ob0_types_check.specs.KnownDeclarations.{CompositeType, KnownDeclarations, facts_from_declarations, types_so_far}
 use Rattle.ob0_types_check.specs.StatementFaults.{sequence_faults}
-use Rattle.ob0_types_check.specs.TypeFaults.{length_by_operand, report_on_constant_expression}
+use Rattle.ob0_types_check.specs.TypeFaults.{length_from_operand, report_on_constant_expression}
 use Rattle.ob0_types_check.specs.Agreement.{FactsAgreeWithShapesAndLabels, TableAgreesWithShapes, TypesAgreeWithShapes, shape_of_type_in}
 
 -- returns the meanings of names in `meaning`; if the Bool is true, returns only the meanings of constants
@@ -40,10 +40,10 @@ abbrev pub FaultlessExpressionsHaveCorrectTypesAndValues : Type 0 → Type 0
 FaultlessExpressionsHaveCorrectTypesAndValues N =
     (p : KnownDeclarations) (only_constants : Bool) (shapes : List Shape) (label : ℕ → N) (meaning : TypeMeanings N)
     (e : Tree ℕ expression)
-    → FactsAgreeWithShapesAndLabels (facts_at p only_constants) (shape_of_type_in shapes) label meaning e
-    → (report_on_expression (facts_at p only_constants) e).faults ≡ []
+    → FactsAgreeWithShapesAndLabels (facts_from_declarations p only_constants) (shape_of_type_in shapes) label meaning e
+    → (report_on_expression (facts_from_declarations p only_constants) e).faults ≡ []
     → OperandAgreesWithExpression (shape_of_type_in shapes) (allowed_meanings only_constants meaning)
-    (report_on_expression (facts_at p only_constants) e).known (mapped_tree label (token_value_at p.source) e)
+    (report_on_expression (facts_from_declarations p only_constants) e).known (mapped_tree label (token_value_at p.source) e)
 
 -- States that the expression `e`, the right side of a constant's declaration, has a scalar value,
 -- and that `reported` is this value.
@@ -61,9 +61,9 @@ pub record ConstantAgreesWithExpression
 abbrev pub FaultlessConstantsHaveCorrectValues : Type 0 → Type 0
 FaultlessConstantsHaveCorrectValues N =
     (p : KnownDeclarations) (shapes : List Shape) (label : ℕ → N) (meaning : TypeMeanings N) (e : Tree ℕ expression)
-    → FactsAgreeWithShapesAndLabels (facts_at p true) (shape_of_type_in shapes) label meaning e
-    → (report_on_constant_expression (facts_at p true) e).faults ≡ []
-    → ConstantAgreesWithExpression meaning (report_on_constant_expression (facts_at p true) e).known
+    → FactsAgreeWithShapesAndLabels (facts_from_declarations p true) (shape_of_type_in shapes) label meaning e
+    → (report_on_constant_expression (facts_from_declarations p true) e).faults ≡ []
+    → ConstantAgreesWithExpression meaning (report_on_constant_expression (facts_from_declarations p true) e).known
     (mapped_tree label (token_value_at p.source) e)
 
 -- states that the value of the expression `e`, the length in an array type, is a valid length, and that `reported` is
@@ -81,10 +81,10 @@ pub record LengthAgreesWithExpression
 abbrev pub FaultlessLengthsHaveCorrectValues : Type 0 → Type 0
 FaultlessLengthsHaveCorrectValues N =
     (p : KnownDeclarations) (shapes : List Shape) (label : ℕ → N) (meaning : TypeMeanings N) (e : Tree ℕ expression)
-    → FactsAgreeWithShapesAndLabels (facts_at p true) (shape_of_type_in shapes) label meaning e
-    → (report_on_expression (facts_at p true) e >>= length_by_operand (facts_at p false)).faults ≡ []
+    → FactsAgreeWithShapesAndLabels (facts_from_declarations p true) (shape_of_type_in shapes) label meaning e
+    → (report_on_expression (facts_from_declarations p true) e >>= length_from_operand (facts_from_declarations p false)).faults ≡ []
     → LengthAgreesWithExpression meaning
-    (report_on_expression (facts_at p true) e >>= length_by_operand (facts_at p false)).known
+    (report_on_expression (facts_from_declarations p true) e >>= length_from_operand (facts_from_declarations p false)).known
     (mapped_tree label (token_value_at p.source) e)
 
 -- States that statements are well-typed if no fault is reported for them. The types and meanings known for the names in
@@ -93,8 +93,8 @@ abbrev pub FaultlessStatementsAreWellTyped : Type 0 → Type 0
 FaultlessStatementsAreWellTyped N =
     (p : KnownDeclarations) (shapes : List Shape) (label : ℕ → N) (meaning : TypeMeanings N)
     (statements : Tree ℕ sequence)
-    → FactsAgreeWithShapesAndLabels (facts_at p false) (shape_of_type_in shapes) label meaning statements
-    → sequence_faults (facts_at p false) statements ≡ []
+    → FactsAgreeWithShapesAndLabels (facts_from_declarations p false) (shape_of_type_in shapes) label meaning statements
+    → sequence_faults (facts_from_declarations p false) statements ≡ []
     → sequence_is_well_typed meaning (mapped_tree label (token_value_at p.source) statements) ≡ true
 
 -- States that every type agrees with its shape if the table of types does. The table agrees if each

@@ -7,7 +7,7 @@ use Rattle.ob0_scope_table.specs.Resolution.{IsResolution, Resolution}
 use Rattle.ob0_scope_table.specs.declared.faults.FaultAtTokens.{FaultAtTokens}
 use Rattle.ob0_tree.specs.ParsedModule.{named_tree_of}
 use Rattle.ob0_types_check.specs.EqualExceptBodies.{AreEqualExceptInBodies}
-use Rattle.ob0_types_check.specs.DeclarationFaults.{WalkProgress, every_body, undeclared_name_and_type_faults, reported_module}
+use Rattle.ob0_types_check.specs.DeclarationFaults.{WalkProgress, every_body, undeclared_name_and_type_faults, report_on_module}
 use Rattle.ob0_types_check.specs.ModuleLaws.{HasDeclarations}
 use Rattle.ob0_types_check.specs.CheckerViews.{declarations_in_state}
 use Rattle.ob0_types_check.specs.declared.reporting.Report.{Report}
@@ -16,7 +16,7 @@ use Rattle.ob0_types_check.specs.declared.reporting.checker_state.CheckerState.{
 
 -- returns the closing names of a module's bodies in which a fault is reported, in text order
 abbrev pub faulty_bodies : Resolution → List ℕ
-faulty_bodies r = (reported_module every_body r).known.bodies_with_faults
+faulty_bodies r = (report_on_module every_body r).known.bodies_with_faults
 
 -- returns whether the closing name `closing` is in the list `bodies`
 abbrev pub is_among : List ℕ → ℕ → Bool
@@ -46,7 +46,7 @@ WalkingChangedAndFaultyBodiesSuffices =
     (wanted : ℕ → Bool) (r : Resolution)
     → IsResolution r
     → IncludesChangedAndFaultyBodies wanted r
-    → reported_module wanted r ≡ reported_module every_body r
+    → report_on_module wanted r ≡ report_on_module every_body r
 
 -- States that a report has the faults of the module `r` and the closing names of the bodies with faults. The report has
 -- a table with the objects of all declarations exactly if there are no faults.
@@ -66,4 +66,4 @@ walk_progress_of s bodies_with_faults = record { so_far = declarations_in_state 
 pub record IsFinishedWalk
     (r : Resolution) (found : List FaultAtTokens) (s : CheckerState) (bodies_with_faults : List ℕ) : Type 0 where
   pub faults : found ≡ undeclared_name_and_type_faults r
-  pub known : walk_progress_of s bodies_with_faults ≡ (reported_module every_body r).known
+  pub known : walk_progress_of s bodies_with_faults ≡ (report_on_module every_body r).known

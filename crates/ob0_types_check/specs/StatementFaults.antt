@@ -3,12 +3,12 @@
 -- Rule: docs/LANGUAGE.md, Types 2, 5, Faults of scopes and types 5, 7 to 9.
 use Rattle.std.specs.Prelude.{ℕ, nat_eq, ◌&&◌, not, List, [], ◌∷◌, ◌++◌, length, Option, Some, None, if◌then◌else◌}
 use Rattle.ob0_scan.specs.declared.fault.FaultCode.TheVariants as code
-use Rattle.ob0_tree.specs.Tree.{Tree, assigns, branches, calls, else_branch, else_part, elsif_branch, elsif_part, empty, end, expression, further_statement, items, maybe, more, none, one, repeat_loop, runs, selector, sequence, statement, then_statement, while_loop}
+use Rattle.ob0_tree.specs.Tree.{Tree, assigns, branches, calls, else_branch, else_part, elsif_branch, elsif_part, empty, end, expression, statement_after_semicolon, items, maybe, more, none, one, repeat_loop, runs, selector, sequence, statement, semicolon_then_statement, while_loop}
 use Rattle.ob0_scope_table.specs.declared.faults.FaultAtTokens.{FaultAtTokens}
 use Rattle.ob0_language_types.specs.Arguments.{call_arguments}
-use Rattle.ob0_types_check.specs.Known.{Facts, KnownParameter, Meaning, Operand, ResultWithFaults, a_constant, a_procedure, a_type, a_variable}
+use Rattle.ob0_types_check.specs.TypesAndMeanings.{Facts, KnownParameter, Meaning, Operand, ResultWithFaults, a_constant, a_procedure, a_type, a_variable}
 use Rattle.ob0_types_check.specs.ExpressionFaults.{report_on_expression, report_on_selectors}
-use Rattle.ob0_types_check.specs.Operations.{typed_name_operand, required_type, fault_at_operand, fault_at_token, without_fault, ◌>>=◌}
+use Rattle.ob0_types_check.specs.OperandFaults.{typed_name_operand, required_type, fault_at_operand, fault_at_token, without_fault, ◌>>=◌}
 
 -- returns the faults of an expression that must have the type `wanted`
 unfoldable pub typed_expression_faults : {T : Type 0} → Facts T → T → Tree ℕ expression → List FaultAtTokens
@@ -22,20 +22,20 @@ condition_faults facts e = typed_expression_faults facts facts.types.boolean e
 -- Returns the type of the name that is assigned to, given its token and its meaning. A constant's name is reported as
 -- `NotVariable`, and a type's or procedure's name as `WrongKind`. An undeclared name is reported elsewhere. In all
 -- these cases the type is unknown, so the right side may have any type.
-abbrev pub target_type_by_meaning : {T : Type 0} → Facts T → ℕ → Option (Meaning T) → ResultWithFaults T
-target_type_by_meaning facts token (Some (a_variable t)) = without_fault t
-target_type_by_meaning facts token (Some (a_constant v)) =
+abbrev pub target_type_from_meaning : {T : Type 0} → Facts T → ℕ → Option (Meaning T) → ResultWithFaults T
+target_type_from_meaning facts token (Some (a_variable t)) = without_fault t
+target_type_from_meaning facts token (Some (a_constant v)) =
     record { known = facts.types.unknown; faults = fault_at_token code.NotVariable token }
-target_type_by_meaning facts token (Some (a_type t)) =
+target_type_from_meaning facts token (Some (a_type t)) =
     record { known = facts.types.unknown; faults = fault_at_token code.WrongKind token }
-target_type_by_meaning facts token (Some (a_procedure fs)) =
+target_type_from_meaning facts token (Some (a_procedure fs)) =
     record { known = facts.types.unknown; faults = fault_at_token code.WrongKind token }
-target_type_by_meaning facts token None = without_fault facts.types.unknown
+target_type_from_meaning facts token None = without_fault facts.types.unknown
 
 -- Returns the type of the name at a token that is assigned to. Reports a fault if the name refers
 -- to something other than a variable or parameter.
 abbrev pub target_name_type : {T : Type 0} → Facts T → ℕ → ResultWithFaults T
-target_name_type facts token = target_type_by_meaning facts token (facts.object_for token)
+target_name_type facts token = target_type_from_meaning facts token (facts.object_for token)
 
 -- returns the operand for an assignment's target, and the faults of the target's name and selectors
 unfoldable pub report_on_target : {T : Type 0}
@@ -95,27 +95,27 @@ untyped_argument_faults facts (e ∷ es) = (report_on_expression facts e).faults
 -- as it has parameters. If their numbers differ, only `ArgumentCount` is reported. A name that isn't a procedure's is
 -- reported as `WrongKind`. An undeclared name is reported elsewhere. In these two cases the arguments may have any
 -- type.
-abbrev pub call_faults_by_meaning : {T : Type 0}
+abbrev pub call_faults_from_meaning : {T : Type 0}
     → Facts T
     → ℕ
     → Option (Meaning T)
     → List (Tree ℕ expression)
     → List FaultAtTokens
-call_faults_by_meaning facts p (Some (a_procedure fs)) es =
+call_faults_from_meaning facts p (Some (a_procedure fs)) es =
     if nat_eq (length fs) (length es)
     then faults_of_arguments facts fs es
     else fault_at_token code.ArgumentCount p
-call_faults_by_meaning facts p (Some (a_type t)) es =
+call_faults_from_meaning facts p (Some (a_type t)) es =
     fault_at_token code.WrongKind p ++ untyped_argument_faults facts es
-call_faults_by_meaning facts p (Some (a_constant v)) es =
+call_faults_from_meaning facts p (Some (a_constant v)) es =
     fault_at_token code.WrongKind p ++ untyped_argument_faults facts es
-call_faults_by_meaning facts p (Some (a_variable t)) es =
+call_faults_from_meaning facts p (Some (a_variable t)) es =
     fault_at_token code.WrongKind p ++ untyped_argument_faults facts es
-call_faults_by_meaning facts p None es = untyped_argument_faults facts es
+call_faults_from_meaning facts p None es = untyped_argument_faults facts es
 
 -- returns the faults of a call of the name at a token
 abbrev pub call_faults : {T : Type 0} → Facts T → ℕ → List (Tree ℕ expression) → List FaultAtTokens
-call_faults facts p es = call_faults_by_meaning facts p (facts.object_for p) es
+call_faults facts p es = call_faults_from_meaning facts p (facts.object_for p) es
 
 unfoldable mutual
   unfolding typed_expression_faults report_on_target faults_of_argument
@@ -141,9 +141,9 @@ unfoldable mutual
       statement_faults facts a ++ further_statement_faults facts rest
 
   -- returns the faults of the statements that follow the first statement of a sequence
-  pub further_statement_faults : {T : Type 0} → Facts T → Tree ℕ (items further_statement) → List FaultAtTokens
+  pub further_statement_faults : {T : Type 0} → Facts T → Tree ℕ (items statement_after_semicolon) → List FaultAtTokens
   further_statement_faults facts end = []
-  further_statement_faults facts (more (then_statement a) rest) =
+  further_statement_faults facts (more (semicolon_then_statement a) rest) =
       statement_faults facts a ++ further_statement_faults facts rest
 
   -- returns the faults of the ELSIF parts, one after another: first the faults of a part's

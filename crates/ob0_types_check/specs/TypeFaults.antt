@@ -6,24 +6,24 @@ use Rattle.ob0_tree.specs.Tree.{Tree, expression}
 use Rattle.ob0_language_types.specs.Typing.{array_length}
 use Rattle.ob0_language_values.specs.Values.{Value}
 use Rattle.ob0_types_check.specs.ExpressionFaults.{report_on_expression}
-use Rattle.ob0_types_check.specs.Known.{Facts, Meaning, Operand, ResultWithFaults, a_constant, a_procedure, a_type, a_variable}
-use Rattle.ob0_types_check.specs.Operations.{required_type, fault_at_operand, fault_at_token, without_fault, ◌>>=◌}
+use Rattle.ob0_types_check.specs.TypesAndMeanings.{Facts, Meaning, Operand, ResultWithFaults, a_constant, a_procedure, a_type, a_variable}
+use Rattle.ob0_types_check.specs.OperandFaults.{required_type, fault_at_operand, fault_at_token, without_fault, ◌>>=◌}
 
 -- Returns the type to which a name refers, given its token and its meaning. A name that isn't a type's is reported as
 -- `WrongKind`. An undeclared name is reported elsewhere. In both cases the result is the unknown type.
-abbrev pub type_by_meaning : {T : Type 0} → Facts T → ℕ → Option (Meaning T) → ResultWithFaults T
-type_by_meaning facts token (Some (a_type t)) = without_fault t
-type_by_meaning facts token (Some (a_constant v)) =
+abbrev pub type_from_meaning : {T : Type 0} → Facts T → ℕ → Option (Meaning T) → ResultWithFaults T
+type_from_meaning facts token (Some (a_type t)) = without_fault t
+type_from_meaning facts token (Some (a_constant v)) =
     record { known = facts.types.unknown; faults = fault_at_token code.WrongKind token }
-type_by_meaning facts token (Some (a_variable t)) =
+type_from_meaning facts token (Some (a_variable t)) =
     record { known = facts.types.unknown; faults = fault_at_token code.WrongKind token }
-type_by_meaning facts token (Some (a_procedure fs)) =
+type_from_meaning facts token (Some (a_procedure fs)) =
     record { known = facts.types.unknown; faults = fault_at_token code.WrongKind token }
-type_by_meaning facts token None = without_fault facts.types.unknown
+type_from_meaning facts token None = without_fault facts.types.unknown
 
 -- returns the type to which the name at a token refers; a name that isn't a type's is reported as `WrongKind`
 abbrev pub type_named_at : {T : Type 0} → Facts T → ℕ → ResultWithFaults T
-type_named_at facts token = type_by_meaning facts token (facts.object_for token)
+type_named_at facts token = type_from_meaning facts token (facts.object_for token)
 
 -- returns this value of a constant expression unchanged; for None, reports `ConstFault` at the expression's operand `o`
 abbrev pub value_or_fault : {T : Type 0} → Operand T → Option Value → ResultWithFaults (Option Value)
@@ -52,14 +52,14 @@ length_or_fault o (Some n) = without_fault (Some n)
 
 -- Returns the length of an array whose length expression has this value. Reports `ConstFault` if
 -- there is no value, and `ArrayLength` if the value isn't a valid length.
-abbrev pub length_by_value : {T : Type 0} → Operand T → Option Value → ResultWithFaults (Option ℕ)
-length_by_value o None = record { known = None; faults = fault_at_operand code.ConstFault o }
-length_by_value o (Some v) = length_or_fault o (array_length v)
+abbrev pub length_from_value : {T : Type 0} → Operand T → Option Value → ResultWithFaults (Option ℕ)
+length_from_value o None = record { known = None; faults = fault_at_operand code.ConstFault o }
+length_from_value o (Some v) = length_or_fault o (array_length v)
 
 -- Returns the length of an array, given the operand of its length expression. Returns None if the
 -- operand isn't INTEGER, has no value or isn't a valid length. Each of these is reported, unless
 -- the operand's type is unknown.
-abbrev pub length_by_operand : {T : Type 0} → Facts T → Operand T → ResultWithFaults (Option ℕ)
-length_by_operand facts o = do
+abbrev pub length_from_operand : {T : Type 0} → Facts T → Operand T → ResultWithFaults (Option ℕ)
+length_from_operand facts o = do
   t ← required_type facts facts.types.integer o
-  if facts.types.same t facts.types.integer then length_by_value o o.value else without_fault None
+  if facts.types.same t facts.types.integer then length_from_value o o.value else without_fault None

@@ -13,11 +13,11 @@ use Rattle.ob0_language_types.specs.WellTyped.{TypeMeanings, passes_type_check, 
 use Rattle.ob0_language_values.specs.Values.{Shape, array_shape, boolean_shape, integer_shape, record_shape}
 use Rattle.ob0_types_check.specs.DeclarationFaults.{undeclared_name_and_type_faults}
 use Rattle.ob0_types_check.specs.ExpressionFaults.{report_on_expression}
-use Rattle.ob0_types_check.specs.Operations.{◌>>=◌}
+use Rattle.ob0_types_check.specs.OperandFaults.{◌>>=◌}
 use Rattle.ob0_types_check.specs.ReportLaws.{allowed_meanings}
-use Rattle.ob0_types_check.specs.KnownDeclarations.{KnownDeclarations, facts_at}
+use Rattle.ob0_types_check.specs.KnownDeclarations.{KnownDeclarations, facts_from_declarations}
 use Rattle.ob0_types_check.specs.StatementFaults.{sequence_faults, report_on_target}
-use Rattle.ob0_types_check.specs.TypeFaults.{length_by_operand, report_on_constant_expression}
+use Rattle.ob0_types_check.specs.TypeFaults.{length_from_operand, report_on_constant_expression}
 use Rattle.ob0_types_check.specs.Agreement.{FactsAgreeWithShapesAndLabels, shape_of_type_in}
 
 -- States that no fault is reported for an expression that has a type. The types and meanings known for the names in the
@@ -26,30 +26,30 @@ abbrev pub TypedExpressionsHaveNoFault : Type 0 → Type 0
 TypedExpressionsHaveNoFault N =
     (p : KnownDeclarations) (only_constants : Bool) (shapes : List Shape) (label : ℕ → N) (meaning : TypeMeanings N)
     (e : Tree ℕ expression)
-    → FactsAgreeWithShapesAndLabels (facts_at p only_constants) (shape_of_type_in shapes) label meaning e
+    → FactsAgreeWithShapesAndLabels (facts_from_declarations p only_constants) (shape_of_type_in shapes) label meaning e
     → is_some (type_of (allowed_meanings only_constants meaning) (mapped_tree label (token_value_at p.source) e))
     ≡ true
-    → (report_on_expression (facts_at p only_constants) e).faults ≡ []
+    → (report_on_expression (facts_from_declarations p only_constants) e).faults ≡ []
 
 -- States that no fault is reported for a constant expression that has a value. The types and meanings known for the
 -- names in the expression must be correct (`FactsAgreeWithShapesAndLabels`).
 abbrev pub ConstantsWithValuesHaveNoFault : Type 0 → Type 0
 ConstantsWithValuesHaveNoFault N =
     (p : KnownDeclarations) (shapes : List Shape) (label : ℕ → N) (meaning : TypeMeanings N) (e : Tree ℕ expression)
-    → FactsAgreeWithShapesAndLabels (facts_at p true) (shape_of_type_in shapes) label meaning e
+    → FactsAgreeWithShapesAndLabels (facts_from_declarations p true) (shape_of_type_in shapes) label meaning e
     → is_some (constant_value meaning (mapped_tree label (token_value_at p.source) e)) ≡ true
-    → (report_on_constant_expression (facts_at p true) e).faults ≡ []
+    → (report_on_constant_expression (facts_from_declarations p true) e).faults ≡ []
 
 -- States that no fault is reported for a valid array length. The types and meanings known for the names in the length's
 -- expression must be correct (`FactsAgreeWithShapesAndLabels`).
 abbrev pub ValidLengthsHaveNoFault : Type 0 → Type 0
 ValidLengthsHaveNoFault N =
     (p : KnownDeclarations) (shapes : List Shape) (label : ℕ → N) (meaning : TypeMeanings N) (e : Tree ℕ expression)
-    → FactsAgreeWithShapesAndLabels (facts_at p true) (shape_of_type_in shapes) label meaning e
+    → FactsAgreeWithShapesAndLabels (facts_from_declarations p true) (shape_of_type_in shapes) label meaning e
     → is_some
     (option_and_then array_length (constant_value meaning (mapped_tree label (token_value_at p.source) e)))
     ≡ true
-    → (report_on_expression (facts_at p true) e >>= length_by_operand (facts_at p false)).faults ≡ []
+    → (report_on_expression (facts_from_declarations p true) e >>= length_from_operand (facts_from_declarations p false)).faults ≡ []
 
 -- States that no fault is reported for an assignment's target that is a variable or parameter with well-typed
 -- selectors. The types and meanings known for the names in the target must be correct (`FactsAgreeWithShapesAndLabels`).
@@ -57,9 +57,9 @@ abbrev pub TypedTargetsHaveNoFault : Type 0 → Type 0
 TypedTargetsHaveNoFault N =
     (p : KnownDeclarations) (shapes : List Shape) (label : ℕ → N) (meaning : TypeMeanings N) (x : ℕ)
     (path : Tree ℕ (items selector))
-    → FactsAgreeWithShapesAndLabels (facts_at p false) (shape_of_type_in shapes) label meaning (designator x path)
+    → FactsAgreeWithShapesAndLabels (facts_from_declarations p false) (shape_of_type_in shapes) label meaning (designator x path)
     → is_some (variable_type meaning (Some (label x, mapped_tree label (token_value_at p.source) path))) ≡ true
-    → (report_on_target (facts_at p false) x path).faults ≡ []
+    → (report_on_target (facts_from_declarations p false) x path).faults ≡ []
 
 -- returns the ordinal of the word ARRAY or RECORD that makes a type; None for INTEGER and BOOLEAN
 abbrev pub ordinal_of_shape : Shape → Option ℕ
@@ -83,9 +83,9 @@ WellTypedStatementsHaveNoFault N =
     (p : KnownDeclarations) (shapes : List Shape) (label : ℕ → N) (meaning : TypeMeanings N)
     (statements : Tree ℕ sequence)
     → HaveDistinctOrdinals shapes
-    → FactsAgreeWithShapesAndLabels (facts_at p false) (shape_of_type_in shapes) label meaning statements
+    → FactsAgreeWithShapesAndLabels (facts_from_declarations p false) (shape_of_type_in shapes) label meaning statements
     → sequence_is_well_typed meaning (mapped_tree label (token_value_at p.source) statements) ≡ true
-    → sequence_faults (facts_at p false) statements ≡ []
+    → sequence_faults (facts_from_declarations p false) statements ≡ []
 
 -- States that every name of a module that passes the type check is bound.
 abbrev pub TypedModulesHaveBoundNames : Type 0

@@ -2,19 +2,19 @@
 -- to right, and then `TypeTooLarge` for the whole type.
 -- Rule: docs/LANGUAGE.md, Faults of scopes and types 2, 4, 10, `TypeTooLarge`.
 use Rattle.std.specs.Prelude.{ℕ, suc, ◌+◌, ◌*◌, max, true, false, List, [], ◌∷◌, ◌++◌, length, Option, Some, None}
-use Rattle.ob0_language_names.specs.Parts.{names_in_list}
+use Rattle.ob0_language_names.specs.BlockParts.{names_in_list}
 use Rattle.ob0_types_table.specs.declared.types.TypeId.{TypeId}
 use Rattle.ob0_types_table.specs.declared.types.TypeId.TheVariants as type
 use Rattle.ob0_tree.specs.Places.{token_text_at}
-use Rattle.ob0_tree.specs.Tree.{Tree, array_type, end, fields, further_fields, item, items, listed, more, named_type, names, no_fields, record_type, some_fields, then_fields, written_type}
+use Rattle.ob0_tree.specs.Tree.{Tree, array_type, end, fields, fields_after_semicolon, item, items, listed, more, named_type, names, no_fields, record_type, some_fields, semicolon_then_fields, written_type}
 use Rattle.ob0_types_check.specs.ExpressionFaults.{report_on_expression}
-use Rattle.ob0_types_check.specs.Known.{Operand, ResultWithFaults}
-use Rattle.ob0_types_check.specs.Operations.{without_fault, token_before, ◌>>=◌}
-use Rattle.ob0_types_check.specs.KnownDeclarations.{Size, KnownDeclarations, TypeWithFollowingDeclarations, KnownField, facts_at, make_composite_type, zero_size, of_elements, of_fields, size_of_type_so_far}
-use Rattle.ob0_types_check.specs.TypeFaults.{length_by_operand, type_named_at}
+use Rattle.ob0_types_check.specs.TypesAndMeanings.{Operand, ResultWithFaults}
+use Rattle.ob0_types_check.specs.OperandFaults.{without_fault, token_before, ◌>>=◌}
+use Rattle.ob0_types_check.specs.KnownDeclarations.{TypeSize, KnownDeclarations, TypeWithFollowingDeclarations, KnownField, facts_from_declarations, make_composite_type, zero_size, of_elements, of_fields, size_of_type_so_far}
+use Rattle.ob0_types_check.specs.TypeFaults.{length_from_operand, type_named_at}
 
 -- returns the size of an array of `n` elements that each have this size
-abbrev pub array_size : ℕ → Size → Size
+abbrev pub array_size : ℕ → TypeSize → TypeSize
 array_size n z = record { scalars = z.scalars * n; depth = z.depth + 1 }
 
 -- Returns the number of array and record types made so far plus `around`, the number of types that
@@ -37,7 +37,7 @@ made_array_type ordinal o (Some n) element =
 -- the fields of a record found so far, their total size, and the declarations known after these fields (`following`)
 pub record KnownFields : Type 0 where
   pub fields : List KnownField
-  pub size : Size
+  pub size : TypeSize
   pub following : KnownDeclarations
 
 -- returns the `KnownFields` of a record before its first field: no fields, no scalars, and the known declarations `p`
@@ -45,7 +45,7 @@ abbrev pub no_known_fields : KnownDeclarations → KnownFields
 no_known_fields p = record { fields = []; size = zero_size; following = p }
 
 -- returns the size of two parts together: the sum of their scalars and the greater of their depths
-abbrev pub sum_of_sizes : Size → Size → Size
+abbrev pub sum_of_sizes : TypeSize → TypeSize → TypeSize
 sum_of_sizes z w = record { scalars = z.scalars + w.scalars; depth = max z.depth w.depth }
 
 -- Returns the fields `g` with one more field of the type `t`, whose name is at the given token. The size of the field's
@@ -70,7 +70,7 @@ with_field_group g xs t =
     with_known_fields t.of (record { fields = g.fields; size = g.size; following = t.following }) xs
 
 -- returns the size of a record, which has at least one scalar
-abbrev pub record_size : Size → Size
+abbrev pub record_size : TypeSize → TypeSize
 record_size z = record { scalars = max z.scalars 1; depth = z.depth + 1 }
 
 -- returns the token of the first name in a list
@@ -87,9 +87,9 @@ token_before_group no_fields following = token_before following
 -- the word RECORD. Between this token and the first field's name there are only semicolons, one for
 -- each empty group before the name. If there are no fields, the result is 0. A record without
 -- fields is never too large, so nothing is reported at that token.
-abbrev pub record_keyword_token : Tree ℕ (items further_fields) → ℕ
+abbrev pub record_keyword_token : Tree ℕ (items fields_after_semicolon) → ℕ
 record_keyword_token end = 0
-record_keyword_token (more (then_fields g) rest) = token_before_group g (record_keyword_token rest)
+record_keyword_token (more (semicolon_then_fields g) rest) = token_before_group g (record_keyword_token rest)
 
 -- Makes a record type of the gathered fields `g`, or reports `TypeTooLarge` at its token RECORD (`word`). `ordinal` is
 -- the number of words ARRAY and RECORD before this token in the text.
@@ -104,11 +104,11 @@ unfoldable mutual
   -- array or record come first
   pub report_on_written_type : ℕ → KnownDeclarations → Tree ℕ written_type → ResultWithFaults TypeWithFollowingDeclarations
   report_on_written_type around p (named_type x) = do
-    t ← type_named_at (facts_at p false) x
+    t ← type_named_at (facts_from_declarations p false) x
     without_fault (record { of = t; following = p })
   report_on_written_type around p (array_type e u) = do
-    o ← report_on_expression (facts_at p true) e
-    n ← length_by_operand (facts_at p false) o
+    o ← report_on_expression (facts_from_declarations p true) e
+    n ← length_from_operand (facts_from_declarations p false) o
     element ← report_on_written_type (suc around) p u
     made_array_type (next_type_ordinal around p) o n element
   report_on_written_type around p (record_type g rest) = do
@@ -125,14 +125,14 @@ unfoldable mutual
 
   -- returns the faults of further groups of fields, and the earlier fields with the fields of these
   -- groups added
-  pub report_on_further_field_groups : ℕ → KnownFields → Tree ℕ (items further_fields) → ResultWithFaults KnownFields
+  pub report_on_further_field_groups : ℕ → KnownFields → Tree ℕ (items fields_after_semicolon) → ResultWithFaults KnownFields
   report_on_further_field_groups around so_far end = without_fault so_far
-  report_on_further_field_groups around so_far (more (then_fields g) rest) = do
+  report_on_further_field_groups around so_far (more (semicolon_then_fields g) rest) = do
     next ← report_on_field_group around so_far g
     report_on_further_field_groups around next rest
 
 -- returns the faults of one more group of fields, and the earlier fields with the fields of this
 -- group added
-unfoldable pub report_on_further_field_group : ℕ → KnownFields → Tree ℕ (item further_fields) → ResultWithFaults KnownFields
+unfoldable pub report_on_further_field_group : ℕ → KnownFields → Tree ℕ (item fields_after_semicolon) → ResultWithFaults KnownFields
 unfolding report_on_written_type
-report_on_further_field_group around so_far (then_fields g) = report_on_field_group around so_far g
+report_on_further_field_group around so_far (semicolon_then_fields g) = report_on_field_group around so_far g

@@ -74,7 +74,7 @@ ghost use Rattle.ob0_scope_table.specs.Resolution.{is_undeclared_fault};
 ghost use Rattle.ob0_types_table.specs.DeclarationTableView.{AreEntriesInOrder};
 ghost use Rattle.ob0_types_check.specs.NewBody.{PassesTypeCheckWithoutBody};
 ghost use Rattle.ob0_types_check.specs.KnownDeclarations.{known_declarations_at_start};
-ghost use Rattle.ob0_types_check.specs.DeclarationFaults.{every_body, reported_module};
+ghost use Rattle.ob0_types_check.specs.DeclarationFaults.{every_body, report_on_module};
 ghost use Rattle.ob0_types_check.specs.SomeBodies.{IsFinishedWalk, IsReportOf, IncludesChangedAndFaultyBodies, is_among, includes_body};
 ghost use Rattle.ob0_types_check.specs.CheckerViews.{meaning_view, declarations_in_state, table_in_state};
 
@@ -182,7 +182,7 @@ fn module_report_walking_wanted_bodies<'t>(
     resolved: &'t Resolved<'t>,
     wanted: &BodiesToWalk<'_>,
 ) -> Result<Report, AllocError>
-    requires { reported_module (includes_body wanted.now) resolved.now ≡ reported_module every_body resolved.now }
+    requires { report_on_module (includes_body wanted.now) resolved.now ≡ report_on_module every_body resolved.now }
     ensures { IfOk result (IsReportOf resolved.now) }
 {
     let read = resolved.module();

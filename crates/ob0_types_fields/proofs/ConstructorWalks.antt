@@ -3,7 +3,7 @@ use Rattle.std.proofs.Common.{◌≡◌, ℕ, zero, suc, ◌+◌, ◌-◌, ◌==
 use Rattle.std.proofs.lemmas.List.{drop_all, drop_more}
 use Rattle.ob0_tree.specs.declared.tree.OptionalFieldGroup.{OptionalFieldGroup}
 use Rattle.ob0_tree.specs.Tree.{Tree, GrammarItem, item}
-use Rattle.ob0_tree.specs.View.{further_field_group_of, items_of, record_type_of_list}
+use Rattle.ob0_tree.specs.View.{field_group_after_semicolon_of, items_of, record_type_of_list}
 use Rattle.ob0_language_types.specs.Expressions.{Meanings}
 use Rattle.ob0_language_types.specs.WellTyped.{Signature}
 use Rattle.ob0_language_values.specs.Values.{Shape}
@@ -50,6 +50,6 @@ pub items_end : {A : Type 0} {i : GrammarItem} {f : A → Tree ℕ (item i)} {m 
 items_end {f = f} {m = m} {t = t} {xs = xs} {done = done} {now = now} w all =
     sym (ap (λ ys. state_after_constructors now (constructed_types m t (items_of f ys))) (drop_all done xs all)) ∙ w.so_far
 
-pub record_walked : (m : Meanings ℕ Shape Signature) (t : Option Shape) (gs : List OptionalFieldGroup) → constructed_types m t (record_type_of_list gs) ≡ t ∷ constructed_types m t (items_of further_field_group_of gs)
+pub record_walked : (m : Meanings ℕ Shape Signature) (t : Option Shape) (gs : List OptionalFieldGroup) → constructed_types m t (record_type_of_list gs) ≡ t ∷ constructed_types m t (items_of field_group_after_semicolon_of gs)
 record_walked m t [] = refl
 record_walked m t (g ∷ gs) = refl

@@ -3,12 +3,12 @@ use Rattle.std.proofs.Common.{◌≡◌, ℕ, suc, ◌+◌, ◌<◌, ◌≤◌, 
 use Rattle.std.proofs.lemmas.Bool.{ne_eqb}
 use Rattle.ob0_tree.specs.Tree.{Tree, block, constant, declares, declares_constant, declares_type, declares_variable, end, forms_block, items, more, type_definition, variable}
 use Rattle.ob0_language_names.specs.Names.{Label, Name, naming_by_label, naming_by_spelling, as_written, declared, same_label}
-use Rattle.ob0_language_names.specs.Parts.{block_constants, block_types, block_variables, constant_names, declared_type_names, names_in_list, section_constants, section_types, section_variables, variable_names}
+use Rattle.ob0_language_names.specs.BlockParts.{block_constants, block_types, block_variables, constant_names, declared_type_names, names_in_list, section_constants, section_types, section_variables, variable_names}
 use Rattle.ob0_language_names.specs.Scopes.{Scope, ordinal_after_names, label_from_ordinal, declare_names, first_procedure_ordinal, first_type_ordinal, first_variable_ordinal, labels_of_declared_names, relabel_block, relabel_constants, relabel_names, relabel_types, relabel_uses, relabel_variables, scope_before_types, scope_before_variables}
 use Rattle.ob0_language_names.proofs.Ordinals.{ordinal_after_names-append}
 use Rattle.ob0_language_names.proofs.Relabelled.{constants-section, names-relabel, types-section, variables-section}
 use Rattle.ob0_language_types.specs.Bindings.{object_of_ordinal}
-use Rattle.ob0_language_types.specs.Declaring.{declare_block}
+use Rattle.ob0_language_types.specs.BlockDeclarations.{declare_block}
 use Rattle.ob0_language_types.specs.Declarations.{constructors_before_variables, declare_constants, declare_constants_and_types, declare_types}
 use Rattle.ob0_language_types.specs.Environments.{environment_from_binding, meanings}
 use Rattle.ob0_language_types.specs.Expressions.{Object, a_constant, a_type, a_variable}

@@ -2,16 +2,16 @@
 -- them.
 use Rattle.std.proofs.Common.{◌≡◌, ℕ, zero, suc, ◌+◌, List, [], ◌∷◌, ◌++◌, map, Some, None, Option, refl, ap, ◌∙◌}
 use Rattle.std.specs.List.{AllByRecursion}
-use Rattle.ob0_tree.specs.Tree.{Tree, array_type, block, declares, declares_procedure, declares_type, declares_variable, end, fields, further_fields, further_name, further_section, forms_block, is_module, item, items, listed, mapped_tree, module_text, more, named_type, names, no_fields, procedure, record_type, section, some_fields, then_fields, then_name, then_section, type_definition, value_section, variable, variable_section, written_type}
-use Rattle.ob0_language_names.specs.Parts.{formal_sections, further_names, module_block, names_in_list, parameter_section_type, section_types, section_variables}
+use Rattle.ob0_tree.specs.Tree.{Tree, array_type, block, declares, declares_procedure, declares_type, declares_variable, end, fields, fields_after_semicolon, name_after_comma, section_after_semicolon, forms_block, forms_module, item, items, listed, mapped_tree, module_text, more, named_type, names, no_fields, procedure, record_type, section, some_fields, semicolon_then_fields, comma_then_name, semicolon_then_section, type_definition, value_section, variable, variable_section, written_type}
+use Rattle.ob0_language_names.specs.BlockParts.{formal_sections, names_after_first, module_block, names_in_list, parameter_section_type, section_types, section_variables}
 use Rattle.ob0_language_types.specs.Declarations.{constructors_before_procedure_block, constructors_before_variables, constructors_before_procedures, procedure_constructor_count}
 use Rattle.ob0_language_types.specs.Expressions.{Meanings}
 use Rattle.ob0_language_types.specs.Typing.{constructor_count, group_constructor_count}
 use Rattle.ob0_language_values.specs.Values.{Shape}
-use Rattle.ob0_scope_table.specs.BodyReplaced.{PathToBody, block_without_body, procedure_without_body, procedures_without_body, module_without_body}
+use Rattle.ob0_scope_table.specs.BodyReplacement.{PathToBody, block_without_body, procedure_without_body, procedures_without_body, module_without_body}
 use Rattle.ob0_types_fields.specs.declared.field_name.FieldName.{FieldName}
 use Rattle.ob0_types_fields.specs.Identifiers.{fields_declared_in_block, fields_declared_in_procedure, fields_declared_in_procedures}
-use Rattle.ob0_types_fields.specs.Owned.{fields_with_owners, fields_in_block, fields_in_group, fields_in_groups, fields_in_module, fields_at_tokens, fields_in_procedure, fields_in_procedures, fields_in_parameter_sections, fields_in_tree, fields_in_type, fields_in_types, fields_in_variables}
+use Rattle.ob0_types_fields.specs.IdentifierOwners.{fields_with_owners, fields_in_block, fields_in_group, fields_in_groups, fields_in_module, fields_at_tokens, fields_in_procedure, fields_in_procedures, fields_in_parameter_sections, fields_in_tree, fields_in_type, fields_in_types, fields_in_variables}
 use Rattle.ob0_tree.proofs.MappedIdentifiers.{both}
 use Rattle.ob0_types_fields.proofs.OwnedAround.{procedure_counted}
 use Rattle.ob0_types_fields.proofs.OwnedTypes.{counted_formals_section, counted_group, counted_procedure, counted_section, counted_type, counted_type_section, counted_variable_section, sections_mapped, types_mapped, variables_mapped}
@@ -36,7 +36,7 @@ mutual
       ap (λ l. fields_in_parameter_sections k (formal_sections fs) ++ l) (block_declares path (constructors_before_procedure_block k (declares_procedure x fs b closing)) b)
 
 pub declared_without : (path : PathToBody) (t : Tree ℕ module_text) → fields_declared_in_block 0 (module_block (module_without_body path t)) ≡ fields_declared_in_block 0 (module_block t)
-declared_without path (is_module x b closing) = block_declares path 0 b
+declared_without path (forms_module x b closing) = block_declares path 0 b
 
 -- ---- at other places
 
@@ -54,9 +54,9 @@ module _ (at : ℕ → ℕ) where
   among_placed ((x, None) ∷ xs) = among_placed xs
   among_placed ((x, Some k) ∷ xs) = ap (λ (l : List FieldName). record { token = at x; owner = k } ∷ l) (among_placed xs)
 
-  further_placed : (r : ℕ) (ns : Tree ℕ (items further_name)) → fields_at_tokens r (further_names (mapped_tree at at ns)) ≡ map (field_placed at) (fields_at_tokens r (further_names ns))
+  further_placed : (r : ℕ) (ns : Tree ℕ (items name_after_comma)) → fields_at_tokens r (names_after_first (mapped_tree at at ns)) ≡ map (field_placed at) (fields_at_tokens r (names_after_first ns))
   further_placed r end = refl
-  further_placed r (more (then_name x) rest) = ap (λ (l : List FieldName). record { token = at x; owner = r } ∷ l) (further_placed r rest)
+  further_placed r (more (comma_then_name x) rest) = ap (λ (l : List FieldName). record { token = at x; owner = r } ∷ l) (further_placed r rest)
 
   names_placed : (r : ℕ) (ns : Tree ℕ names) → fields_at_tokens r (names_in_list (mapped_tree at at ns)) ≡ map (field_placed at) (fields_at_tokens r (names_in_list ns))
   names_placed r (listed x rest) = ap (λ (l : List FieldName). record { token = at x; owner = r } ∷ l) (further_placed r rest)
@@ -73,9 +73,9 @@ module _ (at : ℕ → ℕ) where
     group_placed r k no_fields = refl
     group_placed r k (some_fields ns t) = both (field_placed at) (fields_at_tokens r (names_in_list ns)) (fields_in_type k t) (names_placed r ns) (type_placed k t)
 
-    groups_placed : (r k : ℕ) (gs : Tree ℕ (items further_fields)) → fields_in_groups r k (mapped_tree at at gs) ≡ map (field_placed at) (fields_in_groups r k gs)
+    groups_placed : (r k : ℕ) (gs : Tree ℕ (items fields_after_semicolon)) → fields_in_groups r k (mapped_tree at at gs) ≡ map (field_placed at) (fields_in_groups r k gs)
     groups_placed r k end = refl
-    groups_placed r k (more (then_fields g) rest) =
+    groups_placed r k (more (semicolon_then_fields g) rest) =
         both (field_placed at) (fields_in_group r k g) (fields_in_groups r (k + group_constructor_count g) rest) (group_placed r k g)
         ((λ i. fields_in_groups r (k + counted_group at at g i) (mapped_tree at at rest)) ∙ groups_placed r (k + group_constructor_count g) rest)
 
@@ -95,9 +95,9 @@ module _ (at : ℕ → ℕ) where
   section_placed k (value_section ns u) = type_placed k u
   section_placed k (variable_section ns u) = type_placed k u
 
-  sections_placed : (k : ℕ) (fs : Tree ℕ (items further_section)) → fields_in_parameter_sections k (mapped_tree at at fs) ≡ map (field_placed at) (fields_in_parameter_sections k fs)
+  sections_placed : (k : ℕ) (fs : Tree ℕ (items section_after_semicolon)) → fields_in_parameter_sections k (mapped_tree at at fs) ≡ map (field_placed at) (fields_in_parameter_sections k fs)
   sections_placed k end = refl
-  sections_placed k (more (then_section f) fs) =
+  sections_placed k (more (semicolon_then_section f) fs) =
       both (field_placed at) (fields_in_type k (parameter_section_type f)) (fields_in_parameter_sections (k + constructor_count (parameter_section_type f)) fs) (section_placed k f)
       ((λ i. fields_in_parameter_sections (k + counted_section at at f i) (mapped_tree at at fs)) ∙ sections_placed (k + constructor_count (parameter_section_type f)) fs)
 
@@ -126,7 +126,7 @@ module _ (at : ℕ → ℕ) where
         ((λ i. fields_declared_in_block (k + counted_formals_section at at fs i) (mapped_tree at at b)) ∙ block_fields_placed j b)
 
   pub declared_placed : (t : Tree ℕ module_text) → fields_declared_in_block 0 (module_block (mapped_tree at at t)) ≡ map (field_placed at) (fields_declared_in_block 0 (module_block t))
-  declared_placed (is_module x b closing) = block_fields_placed 0 b
+  declared_placed (forms_module x b closing) = block_fields_placed 0 b
 
 -- ---- among all fields
 
@@ -169,4 +169,4 @@ module _ {Q : Type 0} (m : Meanings ℕ Shape Q) (P : FieldName → Type 0) wher
 
   -- A property of all fields of a module holds for its declared fields.
   pub declared_among : (t : Tree ℕ module_text) → AllByRecursion P (fields_in_module m t) → AllByRecursion P (fields_declared_in_block 0 (module_block t))
-  declared_among (is_module x b closing) h = block_among 0 b h
+  declared_among (forms_module x b closing) h = block_among 0 b h

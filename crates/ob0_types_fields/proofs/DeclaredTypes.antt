@@ -3,20 +3,20 @@
 use Rattle.std.proofs.Common.{◌≡◌, ℕ, ◌+◌, true, List, [], ◌∷◌, ◌++◌, map, Some, None, Option, option_and_then, refl, sym, ap, ◌∙◌, subst, append_assoc}
 use Rattle.ob0_tree.specs.ParsedModule.{named_tree_of, tree_of}
 use Rattle.ob0_tree.specs.Places.{token_text_at}
-use Rattle.ob0_tree.specs.Tree.{Tree, block, body, constant, declares, declares_constant, declares_procedure, declares_type, declares_types, declares_variable, declares_variables, end, formals, further_section, forms_block, item, items, listed, maybe, module_text, more, no_formals, none, one, procedure, section, some_formals, then_section, type_definition, type_definitions, value_section, variable, variable_section, variables, written_type}
+use Rattle.ob0_tree.specs.Tree.{Tree, block, body, constant, declares, declares_constant, declares_procedure, declares_type, declares_type_section, declares_variable, declares_var_section, end, formals, section_after_semicolon, forms_block, item, items, listed, maybe, module_text, more, no_formals, none, one, procedure, section, some_formals, semicolon_then_section, type_definition, type_definitions, value_section, variable, variable_section, variables, written_type}
 use Rattle.ob0_language_names.specs.Names.{Label, naming_by_label, naming_by_spelling}
-use Rattle.ob0_language_names.specs.Parts.{block_constants, block_statements, block_types, block_variables, formal_sections, further_names, module_block, parameter_section_type, section_types, section_variables}
+use Rattle.ob0_language_names.specs.BlockParts.{block_constants, block_statements, block_types, block_variables, formal_sections, names_after_first, module_block, parameter_section_type, section_types, section_variables}
 use Rattle.ob0_scope_table.specs.Resolution.{IsResolution, Resolution, ordinal_in}
 use Rattle.ob0_language_names.specs.Scopes.{label_from_ordinal}
 use Rattle.ob0_language_types.specs.Bindings.{block_bindings, declared_object, module_bindings, procedures_bindings, bindings_since}
-use Rattle.ob0_language_types.specs.Declaring.{declare_block}
+use Rattle.ob0_language_types.specs.BlockDeclarations.{declare_block}
 use Rattle.ob0_scope_table.specs.LabelledTrees.{tree_with_labels, label_at_token}
 use Rattle.ob0_language_types.proofs.Bound.{bindings_since-append, bind_typed_parameters-append}
 use Rattle.ob0_language_types.specs.Declarations.{constructors_before_variables, constructors_before_procedures, declare_constants, declare_constants_and_types, declare_types, formals_constructor_count, procedure_constructor_count}
 use Rattle.ob0_language_types.specs.Environments.{meanings, outermost_environment}
 use Rattle.ob0_language_types.specs.Expressions.{Meanings, Object, a_constant, a_type, a_variable}
 use Rattle.ob0_language_types.specs.Typing.{constant_value, constructor_count, denoted_type}
-use Rattle.ob0_language_types.specs.WellTyped.{FormalParameter, Mode, Signature, TypeEnvironment, TypedParameter, WellTyped, bind_names, bind_typed_parameters, block_is_well_typed, by_place, by_value, declare_typed_variables, passes_type_check, bind_procedure, procedures_are_well_typed, typed_parameters}
+use Rattle.ob0_language_types.specs.WellTyped.{FormalParameter, ParameterMode, Signature, TypeEnvironment, TypedParameter, WellTyped, bind_names, bind_typed_parameters, block_is_well_typed, by_place, by_value, declare_typed_variables, passes_type_check, bind_procedure, procedures_are_well_typed, typed_parameters}
 use Rattle.ob0_language_types.proofs.Literals.{some_inverse}
 use Rattle.ob0_language_types.proofs.Proved.{numbering_keeps_type_check-holds}
 use Rattle.ob0_language_types.proofs.TypedElsewhere.{then_some}
@@ -24,10 +24,10 @@ use Rattle.ob0_language_types.proofs.ConstantsDeclared.{block-listed, block-part
 use Rattle.ob0_types_fields.proofs.DeclaredInOrder.{Right, at_label, right_split}
 use Rattle.ob0_types_fields.proofs.OwnedModules.{bindings_right, procedure-parts}
 use Rattle.ob0_types_fields.specs.FieldTypes.{first_name_listed}
-use Rattle.ob0_types_fields.specs.Owned.{meanings_by_token}
+use Rattle.ob0_types_fields.specs.IdentifierOwners.{meanings_by_token}
 use Rattle.ob0_language_values.specs.Values.{Shape}
 
-abbrev parameter_of : Mode → Shape → Label → TypedParameter Label
+abbrev parameter_of : ParameterMode → Shape → Label → TypedParameter Label
 parameter_of m s x = record { name = x; formal = record { mode = m; shape = s } }
 
 module _ (r : Resolution) where
@@ -58,9 +58,9 @@ module _ (r : Resolution) where
   first_parameter (value_section ns u) = first_name_listed ns
   first_parameter (variable_section ns u) = first_name_listed ns
 
-  abbrev pub FormalsAreTyped : Tree ℕ (items further_section) → Type 0
+  abbrev pub FormalsAreTyped : Tree ℕ (items section_after_semicolon) → Type 0
   FormalsAreTyped end = Unit {0}
-  FormalsAreTyped (more (then_section f) fs) = ((s : Shape) × (meaning.object_for (first_parameter f) ≡ Some (a_variable s)) × Denotes (parameter_section_type f) s) × FormalsAreTyped fs
+  FormalsAreTyped (more (semicolon_then_section f) fs) = ((s : Shape) × (meaning.object_for (first_parameter f) ≡ Some (a_variable s)) × Denotes (parameter_section_type f) s) × FormalsAreTyped fs
 
   abbrev mutual
     pub BlockIsTyped : Tree ℕ block → Type 0
@@ -138,7 +138,7 @@ module _ (r : Resolution) where
   variables-put env k end after h = subst (λ e. Put env e (Unit {0})) (some_inverse h) (put_nothing env (Unit {0}) tt)
   variables-put env k (more (declares_variable (listed x rest) u) gs) after h =
       let n : ℕ = k + constructor_count (tree_with_labels r u) in
-      let others : List Label = further_names (tree_with_labels r rest) in
+      let others : List Label = names_after_first (tree_with_labels r rest) in
       let found = then_some (denoted_type (meanings naming_by_label env) k (tree_with_labels r u)) (λ s. declare_typed_variables naming_by_label n (tree_with_labels r gs) (bind_names others (a_variable s) ((label_at_token r x, a_variable s) ∷ env))) after h in
       let o : Object Shape Signature = a_variable found.0 in
       let first : TypeEnvironment Label = (label_at_token r x, o) ∷ env in
@@ -149,11 +149,11 @@ module _ (r : Resolution) where
 
   type_section-put : (env : TypeEnvironment Label) (k : ℕ) (ts : Tree ℕ (maybe type_definitions)) (after : TypeEnvironment Label) → declare_types naming_by_label env k (section_types (tree_with_labels r ts)) ≡ Some after → Put env after (TypesAreTyped (section_types ts))
   type_section-put env k none after h = types-put env k end after h
-  type_section-put env k (one (declares_types ts)) after h = types-put env k ts after h
+  type_section-put env k (one (declares_type_section ts)) after h = types-put env k ts after h
 
   variable_section-put : (env : TypeEnvironment Label) (k : ℕ) (vs : Tree ℕ (maybe variables)) (after : TypeEnvironment Label) → declare_typed_variables naming_by_label k (section_variables (tree_with_labels r vs)) env ≡ Some after → Put env after (VariablesAreTyped (section_variables vs))
   variable_section-put env k none after h = variables-put env k end after h
-  variable_section-put env k (one (declares_variables vs)) after h = variables-put env k vs after h
+  variable_section-put env k (one (declares_var_section vs)) after h = variables-put env k vs after h
 
   firsts : (env : TypeEnvironment Label) (k : ℕ) (b : Tree Label block) (after : TypeEnvironment Label) → declare_constants_and_types naming_by_label env k b ≡ Some after
       → (mid : TypeEnvironment Label) × (declare_constants naming_by_label env (block_constants b) ≡ Some mid) × (declare_types naming_by_label mid k (block_types b) ≡ Some after)
@@ -183,7 +183,7 @@ module _ (r : Resolution) where
       (right_split objects (bind_typed_parameters ps []) one (subst (Right objects) (bind_typed_parameters-append ps [] one) right)).1.0
 
   -- A section of parameters has its types if the later sections have theirs.
-  section-typed : (env : TypeEnvironment Label) (k : ℕ) (mode : Mode) (x : ℕ) (others : List Label) (u : Tree ℕ written_type) (fs : Tree ℕ (items further_section)) (qs : List (TypedParameter Label))
+  section-typed : (env : TypeEnvironment Label) (k : ℕ) (mode : ParameterMode) (x : ℕ) (others : List Label) (u : Tree ℕ written_type) (fs : Tree ℕ (items section_after_semicolon)) (qs : List (TypedParameter Label))
       → option_and_then
       (λ s. option_and_then (λ rest. Some (map (parameter_of mode s) (label_at_token r x ∷ others) ++ rest))
       (typed_parameters naming_by_label (bind_names (label_at_token r x ∷ others) (a_variable s) env) (k + constructor_count (tree_with_labels r u)) (tree_with_labels r fs)))
@@ -206,19 +206,19 @@ module _ (r : Resolution) where
         later (bind_names xs (a_variable s) env) rest two.1 parts.0,
       )
 
-  formals-typed : (env : TypeEnvironment Label) (k : ℕ) (fs : Tree ℕ (items further_section)) (qs : List (TypedParameter Label)) → typed_parameters naming_by_label env k (tree_with_labels r fs) ≡ Some qs → Right objects (bind_typed_parameters qs []) → FormalsAreTyped fs
+  formals-typed : (env : TypeEnvironment Label) (k : ℕ) (fs : Tree ℕ (items section_after_semicolon)) (qs : List (TypedParameter Label)) → typed_parameters naming_by_label env k (tree_with_labels r fs) ≡ Some qs → Right objects (bind_typed_parameters qs []) → FormalsAreTyped fs
   unfolding typed_parameters
   formals-typed env k end qs h right = tt
-  formals-typed env k (more (then_section (value_section (listed x others) u)) fs) qs h right =
-      section-typed env k by_value x (further_names (tree_with_labels r others)) u fs qs h (λ e ps. formals-typed e (k + constructor_count (tree_with_labels r u)) fs ps) right
-  formals-typed env k (more (then_section (variable_section (listed x others) u)) fs) qs h right =
-      section-typed env k by_place x (further_names (tree_with_labels r others)) u fs qs h (λ e ps. formals-typed e (k + constructor_count (tree_with_labels r u)) fs ps) right
+  formals-typed env k (more (semicolon_then_section (value_section (listed x others) u)) fs) qs h right =
+      section-typed env k by_value x (names_after_first (tree_with_labels r others)) u fs qs h (λ e ps. formals-typed e (k + constructor_count (tree_with_labels r u)) fs ps) right
+  formals-typed env k (more (semicolon_then_section (variable_section (listed x others) u)) fs) qs h right =
+      section-typed env k by_place x (names_after_first (tree_with_labels r others)) u fs qs h (λ e ps. formals-typed e (k + constructor_count (tree_with_labels r u)) fs ps) right
 
   formal_section-typed : (env : TypeEnvironment Label) (k : ℕ) (fs : Tree ℕ (maybe formals)) (qs : List (TypedParameter Label)) → typed_parameters naming_by_label env k (formal_sections (tree_with_labels r fs)) ≡ Some qs
       → Right objects (bind_typed_parameters qs []) → FormalsAreTyped (formal_sections fs)
   formal_section-typed env k none qs h right = tt
   formal_section-typed env k (one no_formals) qs h right = tt
-  formal_section-typed env k (one (some_formals f fs)) qs h right = formals-typed env k (more (then_section f) fs) qs h right
+  formal_section-typed env k (one (some_formals f fs)) qs h right = formals-typed env k (more (semicolon_then_section f) fs) qs h right
 
   -- ---- blocks and procedures
 

@@ -5,13 +5,13 @@ use Rattle.ob0_tree.specs.declared.tree.ParameterSection.{ParameterSection}
 use Rattle.ob0_tree.specs.declared.tree.TypeDeclaration.{TypeDeclaration}
 use Rattle.ob0_tree.specs.declared.tree.VariableDeclaration.{VariableDeclaration}
 use Rattle.ob0_tree.specs.declared.tree.Procedure.{Procedure}
-use Rattle.ob0_tree.specs.View.{further_parameter_section_of, items_of, procedure_of, type_declaration_of, variable_of}
+use Rattle.ob0_tree.specs.View.{parameter_section_after_semicolon_of, items_of, procedure_of, type_declaration_of, variable_of}
 use Rattle.ob0_language_types.specs.Declarations.{formals_constructor_count, procedures_constructor_count, types_constructor_count, variables_constructor_count}
 use Rattle.ob0_language_types.specs.Expressions.{Meanings}
 use Rattle.ob0_language_types.specs.WellTyped.{Signature}
 use Rattle.ob0_language_values.specs.Values.{Shape}
 use Rattle.ob0_types_fields.specs.declared.field_name.FieldName.{FieldName}
-use Rattle.ob0_types_fields.specs.Owned.{fields_in_procedures, fields_in_parameter_sections, fields_in_types, fields_in_variables}
+use Rattle.ob0_types_fields.specs.IdentifierOwners.{fields_in_procedures, fields_in_parameter_sections, fields_in_types, fields_in_variables}
 
 pub record OverTypes (k : ℕ) (start : List FieldName) (xs : List TypeDeclaration) (done : ℕ) (out : List FieldName) (next : ℕ) : Type 0 where
   pub so_far : out ++ fields_in_types next (items_of type_declaration_of (drop done xs)) ≡ start ++ fields_in_types k (items_of type_declaration_of xs)
@@ -22,8 +22,8 @@ pub record OverVariables (k : ℕ) (start : List FieldName) (xs : List VariableD
   pub counted : next + variables_constructor_count (items_of variable_of (drop done xs)) ≡ k + variables_constructor_count (items_of variable_of xs)
 
 pub record OverSections (k : ℕ) (start : List FieldName) (xs : List ParameterSection) (done : ℕ) (out : List FieldName) (next : ℕ) : Type 0 where
-  pub so_far : out ++ fields_in_parameter_sections next (items_of further_parameter_section_of (drop done xs)) ≡ start ++ fields_in_parameter_sections k (items_of further_parameter_section_of xs)
-  pub counted : next + formals_constructor_count (items_of further_parameter_section_of (drop done xs)) ≡ k + formals_constructor_count (items_of further_parameter_section_of xs)
+  pub so_far : out ++ fields_in_parameter_sections next (items_of parameter_section_after_semicolon_of (drop done xs)) ≡ start ++ fields_in_parameter_sections k (items_of parameter_section_after_semicolon_of xs)
+  pub counted : next + formals_constructor_count (items_of parameter_section_after_semicolon_of (drop done xs)) ≡ k + formals_constructor_count (items_of parameter_section_after_semicolon_of xs)
 
 pub record OverProcedures (m : Meanings ℕ Shape Signature) (k : ℕ) (start : List FieldName) (xs : List Procedure) (done : ℕ) (out : List FieldName) (next : ℕ) : Type 0 where
   pub so_far : out ++ fields_in_procedures m next (items_of procedure_of (drop done xs)) ≡ start ++ fields_in_procedures m k (items_of procedure_of xs)

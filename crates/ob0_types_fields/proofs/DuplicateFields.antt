@@ -7,16 +7,16 @@ use Rattle.std.proofs.Math.Bool.{and-false}
 use Rattle.ob0_scan.specs.TextWithTokens.{TextWithTokens}
 use Rattle.ob0_tree.specs.ParsedModule.{tree_of}
 use Rattle.ob0_tree.specs.Places.{token_text_at, token_value_at}
-use Rattle.ob0_tree.specs.Tree.{Tree, item, items, maybe, array_type, block, declares, declares_procedure, declares_type, declares_variable, end, fields, formals, further_fields, further_name, further_section, forms_block, listed, mapped_tree, more, named_type, names, no_fields, procedure, record_type, section, some_fields, then_fields, then_name, then_section, type_definition, value_section, variable, variable_section, written_type}
-use Rattle.ob0_language_names.specs.ConsistentNames.{group_field_names, further_field_names}
+use Rattle.ob0_tree.specs.Tree.{Tree, item, items, maybe, array_type, block, declares, declares_procedure, declares_type, declares_variable, end, fields, formals, fields_after_semicolon, name_after_comma, section_after_semicolon, forms_block, listed, mapped_tree, more, named_type, names, no_fields, procedure, record_type, section, some_fields, semicolon_then_fields, comma_then_name, semicolon_then_section, type_definition, value_section, variable, variable_section, written_type}
+use Rattle.ob0_language_names.specs.ConsistentNames.{group_field_names, field_names_after_first_group}
 use Rattle.ob0_language_names.specs.Names.{Name, same_name}
-use Rattle.ob0_language_names.specs.Parts.{formal_sections, further_names, module_block, names_in_list, parameter_section_type, section_types, section_variables}
+use Rattle.ob0_language_names.specs.BlockParts.{formal_sections, names_after_first, module_block, names_in_list, parameter_section_type, section_types, section_variables}
 use Rattle.ob0_language_types.specs.Declarations.{constructors_before_procedure_block, constructors_before_variables, constructors_before_procedures, procedure_constructor_count}
 use Rattle.ob0_language_types.specs.Typing.{constructor_count, group_constructor_count}
 use Rattle.ob0_types_fields.specs.declared.field_name.FieldName.{FieldName}
 use Rattle.ob0_types_fields.specs.Identifiers.{DuplicateFieldNameHasDeclaringToken, declared_fields, fields_declared_in_block, fields_declared_in_procedure, fields_declared_in_procedures, first_token, belongs_to_field, tokens_of_field}
-use Rattle.ob0_types_fields.specs.Owned.{fields_in_group, fields_in_groups, fields_at_tokens, fields_in_parameter_sections, fields_in_type, fields_in_types, fields_in_variables}
-use Rattle.ob0_language_fields.specs.Renaming.{RecordFields, another_field_has_name, records_in_block, records_in_group, records_in_groups, records_in_procedure, records_in_procedures, records_in_parameter_sections, records_in_type, records_in_types, records_in_variables}
+use Rattle.ob0_types_fields.specs.IdentifierOwners.{fields_in_group, fields_in_groups, fields_at_tokens, fields_in_parameter_sections, fields_in_type, fields_in_types, fields_in_variables}
+use Rattle.ob0_language_fields.specs.Renaming.{RecordFields, has_another_field_named, records_in_block, records_in_group, records_in_further_groups, records_in_procedure, records_in_procedure_list, records_in_parameter_sections, records_in_type, records_in_type_definitions, records_in_variables}
 use Rattle.ob0_types_fields.proofs.OwnedTypes.{counted_formals_section, counted_group, counted_procedure, counted_section, counted_type, counted_type_section, counted_variable_section, sections_mapped, types_mapped, variables_mapped}
 
 any-append : {A : Type 0} (p : A → Bool) (xs ys : List A) → list_any p (xs ++ ys) ≡ (list_any p xs || list_any p ys)
@@ -45,9 +45,9 @@ shuffled true false false true w = refl
 shuffled true false false false w = refl
 
 module _ (text : ℕ → Name) (value : ℕ → ℕ) where
-  further-written : (ns : Tree ℕ (items further_name)) → further_names (mapped_tree text value ns) ≡ map text (further_names ns)
+  further-written : (ns : Tree ℕ (items name_after_comma)) → names_after_first (mapped_tree text value ns) ≡ map text (names_after_first ns)
   further-written end = refl
-  further-written (more (then_name x) rest) = ap (λ z. text x ∷ z) (further-written rest)
+  further-written (more (comma_then_name x) rest) = ap (λ z. text x ∷ z) (further-written rest)
 
   names-written : (ns : Tree ℕ names) → names_in_list (mapped_tree text value ns) ≡ map text (names_in_list ns)
   names-written (listed x rest) = ap (λ z. text x ∷ z) (further-written rest)
@@ -60,7 +60,7 @@ module _ (text : ℕ → Name) (value : ℕ → ℕ) where
     hit found = (found.owner == r) && another (text found.token)
 
     abbrev in_record : RecordFields → Bool
-    in_record t = (t.ordinal == r) && another_field_has_name t.declared f new
+    in_record t = (t.ordinal == r) && has_another_field_named t.declared f new
 
     both : (xs ys : List FieldName) (us vs : List RecordFields) → list_any hit xs ≡ list_any in_record us → list_any hit ys ≡ list_any in_record vs → list_any hit (xs ++ ys) ≡ list_any in_record (us ++ vs)
     both xs ys us vs e g = any-append hit xs ys ∙ ((λ i. e i || g i) ∙ sym (any-append in_record us vs))
@@ -72,23 +72,23 @@ module _ (text : ℕ → Name) (value : ℕ → ℕ) where
     abbrev GroupHit : ℕ → ℕ → Tree ℕ fields → Type 0
     GroupHit o k g = list_any hit (fields_in_group o k g) ≡ (((o == r) && list_any another (group_field_names (mapped_tree text value g))) || list_any in_record (records_in_group k (mapped_tree text value g)))
 
-    abbrev GroupsHit : ℕ → ℕ → Tree ℕ (items further_fields) → Type 0
-    GroupsHit o k gs = list_any hit (fields_in_groups o k gs) ≡ (((o == r) && list_any another (further_field_names (mapped_tree text value gs))) || list_any in_record (records_in_groups k (mapped_tree text value gs)))
+    abbrev GroupsHit : ℕ → ℕ → Tree ℕ (items fields_after_semicolon) → Type 0
+    GroupsHit o k gs = list_any hit (fields_in_groups o k gs) ≡ (((o == r) && list_any another (field_names_after_first_group (mapped_tree text value gs))) || list_any in_record (records_in_further_groups k (mapped_tree text value gs)))
 
     -- The tests for a first group and its inner records can be joined with the tests for the later groups.
-    two-hit : (o k : ℕ) (g : Tree ℕ fields) (rest : Tree ℕ (items further_fields)) → GroupHit o k g → GroupsHit o (k + group_constructor_count g) rest
+    two-hit : (o k : ℕ) (g : Tree ℕ fields) (rest : Tree ℕ (items fields_after_semicolon)) → GroupHit o k g → GroupsHit o (k + group_constructor_count g) rest
         → list_any hit (fields_in_group o k g ++ fields_in_groups o (k + group_constructor_count g) rest)
-        ≡ (((o == r) && list_any another (group_field_names (mapped_tree text value g) ++ further_field_names (mapped_tree text value rest)))
-        || list_any in_record (records_in_group k (mapped_tree text value g) ++ records_in_groups (k + group_constructor_count (mapped_tree text value g)) (mapped_tree text value rest)))
+        ≡ (((o == r) && list_any another (group_field_names (mapped_tree text value g) ++ field_names_after_first_group (mapped_tree text value rest)))
+        || list_any in_record (records_in_group k (mapped_tree text value g) ++ records_in_further_groups (k + group_constructor_count (mapped_tree text value g)) (mapped_tree text value rest)))
     two-hit o k g rest e h =
         let g' = mapped_tree text value g in
         let rest' = mapped_tree text value rest in
         let n : ℕ = k + group_constructor_count g in
         any-append hit (fields_in_group o k g) (fields_in_groups o n rest)
         ∙ ((λ i. e i || h i)
-        ∙ (shuffled (o == r) (list_any another (group_field_names g')) (list_any in_record (records_in_group k g')) (list_any another (further_field_names rest')) (list_any in_record (records_in_groups n rest'))
-        ∙ ((λ i. ((o == r) && sym (any-append another (group_field_names g') (further_field_names rest')) i) || sym (any-append in_record (records_in_group k g') (records_in_groups n rest')) i)
-        ∙ ap (λ c. ((o == r) && list_any another (group_field_names g' ++ further_field_names rest')) || list_any in_record (records_in_group k g' ++ records_in_groups (k + c) rest')) (sym (counted_group text value g)))))
+        ∙ (shuffled (o == r) (list_any another (group_field_names g')) (list_any in_record (records_in_group k g')) (list_any another (field_names_after_first_group rest')) (list_any in_record (records_in_further_groups n rest'))
+        ∙ ((λ i. ((o == r) && sym (any-append another (group_field_names g') (field_names_after_first_group rest')) i) || sym (any-append in_record (records_in_group k g') (records_in_further_groups n rest')) i)
+        ∙ ap (λ c. ((o == r) && list_any another (group_field_names g' ++ field_names_after_first_group rest')) || list_any in_record (records_in_group k g' ++ records_in_further_groups (k + c) rest')) (sym (counted_group text value g)))))
 
     mutual
       type-hit : (k : ℕ) (t : Tree ℕ written_type) → list_any hit (fields_in_type k t) ≡ list_any in_record (records_in_type k (mapped_tree text value t))
@@ -102,16 +102,16 @@ module _ (text : ℕ → Name) (value : ℕ → ℕ) where
           any-append hit (fields_at_tokens o (names_in_list ns)) (fields_in_type k t)
           ∙ (λ i. (names-hit o (names_in_list ns) ∙ ap (λ xs. (o == r) && list_any another xs) (sym (names-written ns))) i || type-hit k t i)
 
-      groups-hit : (o k : ℕ) (gs : Tree ℕ (items further_fields)) → GroupsHit o k gs
+      groups-hit : (o k : ℕ) (gs : Tree ℕ (items fields_after_semicolon)) → GroupsHit o k gs
       groups-hit o k end = nothing-here (o == r)
-      groups-hit o k (more (then_fields g) rest) = two-hit o k g rest (group-hit o k g) (groups-hit o (k + group_constructor_count g) rest)
+      groups-hit o k (more (semicolon_then_fields g) rest) = two-hit o k g rest (group-hit o k g) (groups-hit o (k + group_constructor_count g) rest)
 
-    types-hit : (k : ℕ) (ds : Tree ℕ (items type_definition)) → list_any hit (fields_in_types k ds) ≡ list_any in_record (records_in_types k (mapped_tree text value ds))
+    types-hit : (k : ℕ) (ds : Tree ℕ (items type_definition)) → list_any hit (fields_in_types k ds) ≡ list_any in_record (records_in_type_definitions k (mapped_tree text value ds))
     types-hit k end = refl
     types-hit k (more (declares_type x u) ds) =
         let n : ℕ = k + constructor_count u in
-        both (fields_in_type k u) (fields_in_types n ds) (records_in_type k (mapped_tree text value u)) (records_in_types n (mapped_tree text value ds)) (type-hit k u) (types-hit n ds)
-        ∙ ap (λ c. list_any in_record (records_in_type k (mapped_tree text value u) ++ records_in_types (k + c) (mapped_tree text value ds))) (sym (counted_type text value u))
+        both (fields_in_type k u) (fields_in_types n ds) (records_in_type k (mapped_tree text value u)) (records_in_type_definitions n (mapped_tree text value ds)) (type-hit k u) (types-hit n ds)
+        ∙ ap (λ c. list_any in_record (records_in_type k (mapped_tree text value u) ++ records_in_type_definitions (k + c) (mapped_tree text value ds))) (sym (counted_type text value u))
 
     variables-hit : (k : ℕ) (gs : Tree ℕ (items variable)) → list_any hit (fields_in_variables k gs) ≡ list_any in_record (records_in_variables k (mapped_tree text value gs))
     variables-hit k end = refl
@@ -124,9 +124,9 @@ module _ (text : ℕ → Name) (value : ℕ → ℕ) where
     section-hit k (value_section ns u) = type-hit k u
     section-hit k (variable_section ns u) = type-hit k u
 
-    sections-hit : (k : ℕ) (fs : Tree ℕ (items further_section)) → list_any hit (fields_in_parameter_sections k fs) ≡ list_any in_record (records_in_parameter_sections k (mapped_tree text value fs))
+    sections-hit : (k : ℕ) (fs : Tree ℕ (items section_after_semicolon)) → list_any hit (fields_in_parameter_sections k fs) ≡ list_any in_record (records_in_parameter_sections k (mapped_tree text value fs))
     sections-hit k end = refl
-    sections-hit k (more (then_section s) fs) =
+    sections-hit k (more (semicolon_then_section s) fs) =
         let n : ℕ = k + constructor_count (parameter_section_type s) in
         let s' = parameter_section_type (mapped_tree text value s) in
         both (fields_in_type k (parameter_section_type s)) (fields_in_parameter_sections n fs) (records_in_type k s') (records_in_parameter_sections n (mapped_tree text value fs)) (section-hit k s) (sections-hit n fs)
@@ -147,18 +147,18 @@ module _ (text : ℕ → Name) (value : ℕ → ℕ) where
           let ts' = section_types (mapped_tree text value ts) in
           let vs' = section_variables (mapped_tree text value vs) in
           let ps' = mapped_tree text value ps in
-          both (fields_in_types k (section_types ts)) (fields_in_variables n (section_variables vs) ++ fields_declared_in_procedures l ps) (records_in_types k ts') (records_in_variables (constructors_before_variables k b') vs' ++ records_in_procedures (constructors_before_procedures k b') ps')
-          (types-hit k (section_types ts) ∙ ap (λ t. list_any in_record (records_in_types k t)) (sym (types_mapped text value ts)))
-          (both (fields_in_variables n (section_variables vs)) (fields_declared_in_procedures l ps) (records_in_variables (constructors_before_variables k b') vs') (records_in_procedures (constructors_before_procedures k b') ps')
+          both (fields_in_types k (section_types ts)) (fields_in_variables n (section_variables vs) ++ fields_declared_in_procedures l ps) (records_in_type_definitions k ts') (records_in_variables (constructors_before_variables k b') vs' ++ records_in_procedure_list (constructors_before_procedures k b') ps')
+          (types-hit k (section_types ts) ∙ ap (λ t. list_any in_record (records_in_type_definitions k t)) (sym (types_mapped text value ts)))
+          (both (fields_in_variables n (section_variables vs)) (fields_declared_in_procedures l ps) (records_in_variables (constructors_before_variables k b') vs') (records_in_procedure_list (constructors_before_procedures k b') ps')
           (variables-hit n (section_variables vs) ∙ (λ i. list_any in_record (records_in_variables (sym types i) (sym (variables_mapped text value vs) i))))
-          (procedures-hit l ps ∙ ap (λ c. list_any in_record (records_in_procedures c ps')) (sym variables)))
+          (procedures-hit l ps ∙ ap (λ c. list_any in_record (records_in_procedure_list c ps')) (sym variables)))
 
-      procedures-hit : (k : ℕ) (ps : Tree ℕ (items procedure)) → list_any hit (fields_declared_in_procedures k ps) ≡ list_any in_record (records_in_procedures k (mapped_tree text value ps))
+      procedures-hit : (k : ℕ) (ps : Tree ℕ (items procedure)) → list_any hit (fields_declared_in_procedures k ps) ≡ list_any in_record (records_in_procedure_list k (mapped_tree text value ps))
       procedures-hit k end = refl
       procedures-hit k (more p rest) =
           let n : ℕ = k + procedure_constructor_count p in
-          both (fields_declared_in_procedure k p) (fields_declared_in_procedures n rest) (records_in_procedure k (mapped_tree text value p)) (records_in_procedures n (mapped_tree text value rest)) (procedure-hit k p) (procedures-hit n rest)
-          ∙ ap (λ c. list_any in_record (records_in_procedure k (mapped_tree text value p) ++ records_in_procedures (k + c) (mapped_tree text value rest))) (sym (counted_procedure text value p))
+          both (fields_declared_in_procedure k p) (fields_declared_in_procedures n rest) (records_in_procedure k (mapped_tree text value p)) (records_in_procedure_list n (mapped_tree text value rest)) (procedure-hit k p) (procedures-hit n rest)
+          ∙ ap (λ c. list_any in_record (records_in_procedure k (mapped_tree text value p) ++ records_in_procedure_list (k + c) (mapped_tree text value rest))) (sym (counted_procedure text value p))
 
       procedure-hit : (k : ℕ) (p : Tree ℕ (item procedure)) → list_any hit (fields_declared_in_procedure k p) ≡ list_any in_record (records_in_procedure k (mapped_tree text value p))
       procedure-hit k (declares_procedure x fs b closing) =

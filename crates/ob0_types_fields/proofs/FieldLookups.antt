@@ -5,7 +5,7 @@ use Rattle.ob0_language_names.specs.Names.{Name, same_name}
 use Rattle.ob0_language_types.specs.Typing.{shape_of_field}
 use Rattle.ob0_types_table.specs.declared.known.FieldId.{FieldId}
 use Rattle.ob0_types_table.specs.FieldPlaces.{position_of_field}
-use Rattle.ob0_types_fields.specs.Owned.{field_if_owned, owner}
+use Rattle.ob0_types_fields.specs.IdentifierOwners.{field_if_owned, owner}
 use Rattle.ob0_language_values.specs.Values.{FieldShapes, Shape, next_field_shape, no_field_shape, record_shape}
 
 -- returns the ordinal `k` of the record if a field has a position in the record

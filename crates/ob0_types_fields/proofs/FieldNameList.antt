@@ -6,7 +6,7 @@ use Rattle.std.proofs.Math.ListN.{length-set}
 use Rattle.std.proofs.lemmas.List.{length-replicate}
 use Rattle.ob0_scan.specs.TextWithTokens.{TextWithTokens}
 use Rattle.ob0_scan.specs.declared.lexeme.Token.{Token}
-use Rattle.ob0_tree.specs.Order.{AreIdentifierTokens, AreAscendingWithin, IsIdentifierToken}
+use Rattle.ob0_tree.specs.IdentifierIndexes.{AreIdentifierTokens, AreAscendingWithin, IsIdentifierToken}
 use Rattle.ob0_tree.specs.ParsedModule.{IsParsed, tree_of}
 use Rattle.ob0_tree.specs.Places.{token_text_at, token_value_at}
 use Rattle.ob0_tree.specs.Tree.{mapped_tree}
@@ -17,8 +17,8 @@ use Rattle.ob0_scope_table.specs.Spans.{is_in_span_or_at_end}
 use Rattle.ob0_language_names.specs.Scopes.{same_ordinal}
 use Rattle.ob0_types_fields.specs.declared.field_name.FieldName.{FieldName}
 use Rattle.ob0_types_fields.specs.Identifiers.{AreInTextOrder, RenamingChangesFieldTokens, field_identifiers, field_at_offset, field_tokens, belongs_to_field, tokens_of_field, token_indexes}
-use Rattle.ob0_types_fields.specs.Owned.{fields_with_owners, identifier_owners_in_resolution, table_with_owners}
-use Rattle.ob0_types_fields.specs.Owners.{is_token_of_field}
+use Rattle.ob0_types_fields.specs.IdentifierOwners.{fields_with_owners, identifier_owners_in_resolution, table_with_owners}
+use Rattle.ob0_types_fields.specs.OwnerTables.{is_token_of_field}
 use Rattle.ob0_types_fields.proofs.ByToken.{renaming_follows_owners-holds}
 use Rattle.ob0_types_fields.proofs.OwnedTokens.{module-tokens, table_with_entered_owners_is_owner_table-holds, tokens}
 

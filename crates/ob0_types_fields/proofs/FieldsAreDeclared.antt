@@ -9,7 +9,7 @@ use Rattle.std.proofs.Math.Bool.{and-false}
 use Rattle.ob0_scan.specs.TextWithTokens.{TextWithTokens}
 use Rattle.ob0_tree.specs.declared.tree.Role.TheVariants as role
 use Rattle.ob0_tree.specs.Lexeme.{Name}
-use Rattle.ob0_tree.specs.Order.{identifier_names}
+use Rattle.ob0_tree.specs.IdentifierIndexes.{identifier_names}
 use Rattle.ob0_tree.specs.ParsedModule.{ParsedModule, named_tree_of, tree_of}
 use Rattle.ob0_tree.specs.Places.{token_text_at, token_value_at}
 use Rattle.ob0_tree.specs.Tree.{mapped_tree}
@@ -20,14 +20,14 @@ use Rattle.ob0_language_names.proofs.Peeling.{heads}
 use Rattle.ob0_scope_table.specs.Resolution.{IsResolution, Resolution}
 use Rattle.ob0_language_types.specs.Bindings.{declared_object}
 use Rattle.ob0_language_types.specs.WellTyped.{WellTyped}
-use Rattle.ob0_language_fields.specs.Renaming.{RecordFields, is_duplicate_field, another_field_has_name, single_field_renaming, records}
+use Rattle.ob0_language_fields.specs.Renaming.{RecordFields, is_duplicate_field_name, has_another_field_named, single_field_renaming, records}
 use Rattle.ob0_language_fields.proofs.AgreeingFields.{NamesAgree, RecordsAgree}
 use Rattle.ob0_language_fields.proofs.AgreeingModules.{module-alike}
 use Rattle.ob0_language_fields.proofs.Bare.{rename_fields_in_module-bare}
 use Rattle.ob0_language_fields.proofs.Bare.{bare}
 use Rattle.ob0_types_fields.specs.declared.field_name.FieldName.{FieldName}
 use Rattle.ob0_types_fields.specs.Identifiers.{FieldsAreDeclared, field_declaring_token, field_identifiers, field_tokens, belongs_to_field, tokens_of_field}
-use Rattle.ob0_types_fields.specs.Owned.{fields_with_owners, identifier_owners_in_resolution, meanings_by_token}
+use Rattle.ob0_types_fields.specs.IdentifierOwners.{fields_with_owners, identifier_owners_in_resolution, meanings_by_token}
 use Rattle.ob0_types_fields.proofs.DuplicateFields.{duplicate_field_name_has_declaring_token-holds}
 use Rattle.ob0_types_fields.proofs.FieldNameList.{renaming_changes_field_tokens-holds}
 use Rattle.ob0_types_fields.proofs.OwnedTokens.{module-tokens, tokens}
@@ -61,17 +61,17 @@ module _ (k : ℕ) (f : written.Name) where
   others_left true false rest h = h
   others_left false b rest h = refl
 
-  names_kept : (o : ℕ) (xs : List written.Name) → ((o == k) && another_field_has_name xs (another f) f) ≡ false → NamesAgree (single_field_renaming k f (another f)) bare o xs
+  names_kept : (o : ℕ) (xs : List written.Name) → ((o == k) && has_another_field_named xs (another f) f) ≡ false → NamesAgree (single_field_renaming k f (another f)) bare o xs
   names_kept o [] h = tt
   names_kept o (x ∷ xs) h = (
-    as_it_was o x (o == k) (same_name x f) (same_name x (another f)) (another_field_has_name xs (another f) f) h (λ e. ap (λ y. same_name y (another f)) ((bytes_eq-Decides x f).0 e) ∙ differs f),
-    names_kept o xs (others_left (o == k) (same_name x f && not (same_name x (another f))) (another_field_has_name xs (another f) f) h),
+    as_it_was o x (o == k) (same_name x f) (same_name x (another f)) (has_another_field_named xs (another f) f) h (λ e. ap (λ y. same_name y (another f)) ((bytes_eq-Decides x f).0 e) ∙ differs f),
+    names_kept o xs (others_left (o == k) (same_name x f && not (same_name x (another f))) (has_another_field_named xs (another f) f) h),
   )
 
-  records_kept : (ts : List RecordFields) → list_any (λ t. (t.ordinal == k) && another_field_has_name t.declared (another f) f) ts ≡ false → RecordsAgree (single_field_renaming k f (another f)) bare ts
+  records_kept : (ts : List RecordFields) → list_any (λ t. (t.ordinal == k) && has_another_field_named t.declared (another f) f) ts ≡ false → RecordsAgree (single_field_renaming k f (another f)) bare ts
   records_kept [] h = tt
   records_kept (t ∷ ts) h =
-      let parts = or_parts ((t.ordinal == k) && another_field_has_name t.declared (another f) f) (list_any (λ u. (u.ordinal == k) && another_field_has_name u.declared (another f) f) ts) h in
+      let parts = or_parts ((t.ordinal == k) && has_another_field_named t.declared (another f) f) (list_any (λ u. (u.ordinal == k) && has_another_field_named u.declared (another f) f) ts) h in
       (names_kept t.ordinal t.declared parts.0, records_kept ts parts.1)
 
 -- ---- the identifiers of a tree whose names are rewritten
@@ -151,7 +151,7 @@ module _ (r : Resolution) (named : IsResolution r) (fits : WellTyped (named_tree
   unchanged : is_some (field_declaring_token m x.owner f) ≡ false → named_tree_of m ≡ mapped_tree writes (token_value_at m.source) (tree_of m)
   unfolding WellTyped
   unchanged none =
-      let free : is_duplicate_field (named_tree_of m) x.owner (another f) f ≡ false =
+      let free : is_duplicate_field_name (named_tree_of m) x.owner (another f) f ≡ false =
       duplicate_field_name_has_declaring_token-holds m x.owner (another f) f ∙ (ap (λ b. not (same_name f (another f)) && b) none ∙ and-false (not (same_name f (another f)))) in
       sym (rename_fields_in_module-bare (named_tree_of m))
       ∙ (sym (module-alike (single_field_renaming x.owner f (another f)) bare (named_tree_of m) (records_kept x.owner f (records (named_tree_of m)) free) fits.1)

@@ -7,13 +7,13 @@ use Rattle.std.proofs.lemmas.Bool.{lt-leb, le-leb, le-ltb, lt-ltb}
 use Rattle.std.specs.List.{AllByRecursion}
 use Rattle.ob0_scan.specs.declared.tokens.CommonPrefixAndSuffix.{CommonPrefixAndSuffix}
 use Rattle.ob0_tree.specs.declared.tree.Role.TheVariants as role
-use Rattle.ob0_tree.specs.Order.{AreAscendingWithin, identifier_names}
+use Rattle.ob0_tree.specs.IdentifierIndexes.{AreAscendingWithin, identifier_names}
 use Rattle.ob0_tree.specs.ParsedModule.{named_tree_of, tree_of}
 use Rattle.ob0_tree.specs.Places.{tree_with_names, token_text_at, token_value_at}
 use Rattle.ob0_tree.specs.Tree.{Tree, body, identifiers, mapped_tree, maybe, module_text}
 use Rattle.ob0_tree.proofs.Leaves.{leaves_ascend}
 use Rattle.ob0_language_names.specs.Names.{Name}
-use Rattle.ob0_language_names.specs.Parts.{module_block}
+use Rattle.ob0_language_names.specs.BlockParts.{module_block}
 use Rattle.ob0_language_names.proofs.Peeling.{heads}
 use Rattle.ob0_language_types.specs.Bindings.{declared_object}
 use Rattle.ob0_language_types.specs.Expressions.{Meanings}
@@ -22,17 +22,17 @@ use Rattle.ob0_language_fields.specs.Fields.{rename_fields_in_module}
 use Rattle.ob0_language_values.specs.Values.{Shape}
 use Rattle.ob0_tree.specs.FirstIdentifier.{token_of_first_identifier}
 use Rattle.ob0_tree.proofs.MappedIdentifiers.{leaves_mapped}
-use Rattle.ob0_scope_table.specs.BodyReplaced.{IsBodyReplaced, PathToBody, body_at_path, closing_name_at_path, shifted_token_index, module_without_body}
+use Rattle.ob0_scope_table.specs.BodyReplacement.{ReplacesStatementsOfOneBody, PathToBody, body_at_path, closing_name_at_path, shifted_token_index, module_without_body}
 use Rattle.ob0_scope_table.specs.Resolution.{IsResolution, Resolution, ordinal_in}
-use Rattle.ob0_scope_table.proofs.BodyReplaced.{names_outside, without_mapped}
+use Rattle.ob0_scope_table.proofs.BodyReplacement.{names_outside, without_mapped}
 use Rattle.ob0_scope_table.proofs.FewTokens.{few_tokens}
 use Rattle.ob0_scope_table.proofs.Moved.{moved_above, moved_below}
-use Rattle.ob0_types_table.specs.KnownTables.{DeclarationTableView, declared_object_in}
+use Rattle.ob0_types_table.specs.DeclarationTables.{DeclarationTableView, declared_object_in}
 use Rattle.ob0_types_fields.specs.declared.field_name.FieldName.{FieldName}
 use Rattle.ob0_types_fields.specs.Identifiers.{declared_fields, fields_declared_in_block, field_identifiers}
 use Rattle.ob0_types_fields.specs.FieldLists.{AreFieldListsOf, FieldLists, field_with_shifted_token, fields_before_token, fields_at_or_after_token, old_token_index}
-use Rattle.ob0_types_fields.specs.Owned.{AgreesWithOwnerList, fields_with_owners, fields_in_tree, identifier_owners_in_tree, identifier_owners_in_module, identifier_owners_in_resolution, meanings_by_token}
-use Rattle.ob0_types_fields.specs.Owners.{renaming_by_record}
+use Rattle.ob0_types_fields.specs.IdentifierOwners.{AgreesWithOwnerList, fields_with_owners, fields_in_tree, identifier_owners_in_tree, identifier_owners_in_module, identifier_owners_in_resolution, meanings_by_token}
+use Rattle.ob0_types_fields.specs.OwnerTables.{renaming_by_record}
 use Rattle.ob0_types_fields.proofs.DeclaredMoved.{among_placed, declared_among, declared_placed, declared_without, field_placed, placed}
 use Rattle.ob0_types_fields.proofs.WalkFindsAllFields.{fields_in_tree-fields, module-fields}
 use Rattle.ob0_types_fields.proofs.OwnedAround.{IsAround, module_split}
@@ -121,7 +121,7 @@ written_without q path named_q fits =
     ∙ (sym (refielded_without (renaming_by_record with_owner) path (named_tree_of m))
     ∙ (ap (module_without_body path) (table_with_entered_owners_is_owner_table-holds q named_q fits with_owner) ∙ without_mapped writes (token_value_at m.source) path (tree_of m)))
 
-module _ (old r : Resolution) (path : PathToBody) (s : CommonPrefixAndSuffix) (is : IsBodyReplaced old.module_read r.module_read path s)
+module _ (old r : Resolution) (path : PathToBody) (s : CommonPrefixAndSuffix) (is : ReplacesStatementsOfOneBody old.module_read r.module_read path s)
     (was_named : IsResolution old) (is_named : IsResolution r) (was_typed : WellTyped (named_tree_of old.module_read)) (is_typed : WellTyped (named_tree_of r.module_read)) where
   abbrev before : Tree ℕ module_text
   before = tree_of old.module_read

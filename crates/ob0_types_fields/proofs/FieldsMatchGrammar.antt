@@ -5,23 +5,23 @@ use Rattle.std.proofs.Common.{◌≡◌, ℕ, suc, ◌+◌, true, ◌&&◌, List
 use Rattle.ob0_scan.specs.TextWithTokens.{TextWithTokens}
 use Rattle.ob0_tree.specs.declared.tree.Role.{Role}
 use Rattle.ob0_tree.specs.declared.tree.Role.TheVariants as role
-use Rattle.ob0_tree.specs.Order.{names_without_roles}
+use Rattle.ob0_tree.specs.IdentifierIndexes.{names_without_roles}
 use Rattle.ob0_tree.specs.ParsedModule.{ParsedModule, named_tree_of, tree_of}
 use Rattle.ob0_tree.specs.Places.{token_text_at, token_value_at}
-use Rattle.ob0_tree.specs.Tree.{Sort, Tree, addend, adds, arguments, array_type, assigns, begins, block, body, branches, calls, compares, constant, constants, declares, declares_constant, declares_constants, declares_procedure, declares_type, declares_types, declares_variable, declares_variables, designator, else_branch, else_part, elsif_branch, elsif_part, empty, end, expression, factor, field, fields, formals, further_argument, further_fields, further_name, further_section, further_statement, forms_block, identifiers, index, integer, is_module, item, items, listed, mapped_tree, maybe, module_text, more, multiplier, multiplies, named_type, names, negation, no_arguments, no_fields, no_formals, none, one, parenthesised, procedure, product, record_type, relates, repeat_loop, runs, section, selector, sequence, simple, some_arguments, some_fields, some_formals, statement, sum, term, then_argument, then_fields, then_name, then_section, then_statement, type_definition, type_definitions, value_section, variable, variable_section, variables, while_loop, written_type}
-use Rattle.ob0_language_names.specs.Mapping.{map_names}
+use Rattle.ob0_tree.specs.Tree.{Sort, Tree, addend, adds, arguments, array_type, assigns, begins, block, body, branches, calls, compares, constant, constants, declares, declares_constant, declares_const_section, declares_procedure, declares_type, declares_type_section, declares_variable, declares_var_section, designator, else_branch, else_part, elsif_branch, elsif_part, empty, end, expression, factor, field, fields, formals, argument_after_comma, fields_after_semicolon, name_after_comma, section_after_semicolon, statement_after_semicolon, forms_block, identifiers, index, integer, forms_module, item, items, listed, mapped_tree, maybe, module_text, more, multiplier, multiplies, named_type, names, negation, no_arguments, no_fields, no_formals, none, one, parenthesised, procedure, product, record_type, relates, repeat_loop, runs, section, selector, sequence, simple, some_arguments, some_fields, some_formals, statement, sum, term, comma_then_argument, semicolon_then_fields, comma_then_name, semicolon_then_section, semicolon_then_statement, type_definition, type_definitions, value_section, variable, variable_section, variables, while_loop, written_type}
+use Rattle.ob0_language_names.specs.MappedNames.{map_names}
 use Rattle.ob0_language_names.specs.Names.{Name, naming_by_spelling}
-use Rattle.ob0_language_names.specs.Parts.{formal_sections, names_in_list, procedure_formals, procedure_name, section_constants, parameter_section_names, parameter_section_type, section_types, section_variables}
+use Rattle.ob0_language_names.specs.BlockParts.{formal_sections, names_in_list, procedure_formals, procedure_name, section_constants, parameter_section_names, parameter_section_type, section_types, section_variables}
 use Rattle.ob0_language_names.proofs.Peeling.{heads}
 use Rattle.ob0_scope_table.specs.Resolution.{ordinal_in}
 use Rattle.ob0_language_types.specs.Declarations.{constructors_before_procedure_block, constructors_before_variables, constructors_before_procedures, declare_constants, declare_constants_and_types, declare_types, procedure_constructor_count}
 use Rattle.ob0_language_types.specs.Environments.{meanings, outermost_environment}
-use Rattle.ob0_language_types.specs.Expressions.{Meanings, Object, a_constant, a_procedure, a_standard, a_type, a_variable, evaluate}
+use Rattle.ob0_language_types.specs.Expressions.{Meanings, Object, a_constant, a_procedure, a_standard_procedure, a_type, a_variable, evaluate}
 use Rattle.ob0_language_types.specs.Typing.{addition_type, array_length, negation_type, constant_of, constant_value, constant_meanings, constructor_count, denoted_type, denoted_group_fields, denoted_further_fields, element_type, outcome_value, group_constructor_count, multiplication_type, type_of_variable_or_constant, relation_type, sign_type, type_after_selectors, type_of, type_of_addends, type_of_factor, type_of_multipliers, type_of_simple, type_of_term, value_type, prepend_fields, type_within_limits}
 use Rattle.ob0_language_types.specs.WellTyped.{Signature, TypeEnvironment, TypeMeanings, TypedParameter, WellTyped, bind_names, bind_typed_parameters, block_is_well_typed, declare_typed_variables, passes_type_check, bind_procedure, procedure_is_well_typed, procedures_are_well_typed, parameter_section_mode, typed_parameters}
 use Rattle.ob0_language_values.specs.Values.{FieldShapes, Shape, Value, array_shape, boolean_shape, elements, integer_shape, members, number, record_shape, truth}
-use Rattle.ob0_language_fields.specs.Fields.{FieldRenaming, type_including_selector, rename_fields, rename_fields_in_block, rename_fields_in_formals, rename_fields_in_group, rename_fields_in_groups, rename_fields_in_procedure, rename_fields_in_procedures, rename_fields_in_parameter_section, rename_fields_in_parameter_sections, rename_fields_in_type, rename_fields_in_type_section, rename_fields_in_types, rename_fields_in_variable_section, rename_fields_in_variables, rename_fields_in_module}
-use Rattle.ob0_types_fields.specs.Owners.{renaming_by_record}
+use Rattle.ob0_language_fields.specs.Fields.{FieldRenaming, shape_after_selector, rename_fields, rename_fields_in_block, rename_fields_in_formals, rename_fields_in_group, rename_fields_in_further_groups, rename_fields_in_procedure, rename_fields_in_procedure_list, rename_fields_in_parameter_section, rename_fields_in_further_parameter_sections, rename_fields_in_type, rename_fields_in_type_section, rename_fields_in_type_definitions, rename_fields_in_variable_section, rename_fields_in_variables, rename_fields_in_module}
+use Rattle.ob0_types_fields.specs.OwnerTables.{renaming_by_record}
 use Rattle.ob0_language_fields.specs.Renaming.{RecordFields, records}
 use Rattle.ob0_language_fields.proofs.AgreeingFields.{NamesAgree, RecordsAgree}
 use Rattle.ob0_language_fields.proofs.AgreeingModules.{module-alike}
@@ -30,7 +30,7 @@ use Rattle.ob0_language_types.specs.Bindings.{declared_object}
 use Rattle.ob0_language_types.proofs.Conditions.{both_true, hold-true, of_some}
 use Rattle.ob0_language_types.proofs.TypedElsewhere.{then_some}
 use Rattle.ob0_types_fields.specs.Identifiers.{FieldsMatchGrammar, token_indexes, field_role_tokens}
-use Rattle.ob0_types_fields.specs.Owned.{AgreesWithOwnerList, fields_with_owners, identifier_owners_in_resolution, meanings_by_token}
+use Rattle.ob0_types_fields.specs.IdentifierOwners.{AgreesWithOwnerList, fields_with_owners, identifier_owners_in_resolution, meanings_by_token}
 use Rattle.ob0_tree.proofs.MappedIdentifiers.{beside_role, both, identifiers-mapped_tree}
 use Rattle.ob0_types_fields.proofs.OwnedModules.{agreeing_table_is_owner_table-holds}
 use Rattle.ob0_types_fields.proofs.OwnedTokens.{fields_have-owners, module-tokens, tokens, with_owners}
@@ -88,12 +88,12 @@ mutual
 
   path-marked : (m : TypeMeanings Name) (s : Option Shape) (path : Tree Name (items selector)) → ids (rename_fields every m s path) ≡ marked (ids path)
   path-marked m s end = refl
-  path-marked m s (more (field x) rest) = ap (λ z. (role.FieldName, again x) ∷ z) (path-marked m (type_including_selector s (field x)) rest)
-  path-marked m s (more (index e) rest) = both mark_at (ids e) (ids rest) (expression-marked m e) (path-marked m (type_including_selector s (index e)) rest)
+  path-marked m s (more (field x) rest) = ap (λ z. (role.FieldName, again x) ∷ z) (path-marked m (shape_after_selector s (field x)) rest)
+  path-marked m s (more (index e) rest) = both mark_at (ids e) (ids rest) (expression-marked m e) (path-marked m (shape_after_selector s (index e)) rest)
 
-further_arguments-marked : (m : TypeMeanings Name) (es : Tree Name (items further_argument)) → ids (rename_fields every m None es) ≡ marked (ids es)
+further_arguments-marked : (m : TypeMeanings Name) (es : Tree Name (items argument_after_comma)) → ids (rename_fields every m None es) ≡ marked (ids es)
 further_arguments-marked m end = refl
-further_arguments-marked m (more (then_argument e) es) = both mark_at (ids e) (ids es) (expression-marked m e) (further_arguments-marked m es)
+further_arguments-marked m (more (comma_then_argument e) es) = both mark_at (ids e) (ids es) (expression-marked m e) (further_arguments-marked m es)
 
 arguments-marked : (m : TypeMeanings Name) (es : Tree Name (maybe arguments)) → ids (rename_fields every m None es) ≡ marked (ids es)
 arguments-marked m none = refl
@@ -114,9 +114,9 @@ mutual
   sequence-marked : (m : TypeMeanings Name) (a : Tree Name sequence) → ids (rename_fields every m None a) ≡ marked (ids a)
   sequence-marked m (runs a rest) = both mark_at (ids a) (ids rest) (statement-marked m a) (statements-marked m rest)
 
-  statements-marked : (m : TypeMeanings Name) (a : Tree Name (items further_statement)) → ids (rename_fields every m None a) ≡ marked (ids a)
+  statements-marked : (m : TypeMeanings Name) (a : Tree Name (items statement_after_semicolon)) → ids (rename_fields every m None a) ≡ marked (ids a)
   statements-marked m end = refl
-  statements-marked m (more (then_statement a) rest) = both mark_at (ids a) (ids rest) (statement-marked m a) (statements-marked m rest)
+  statements-marked m (more (semicolon_then_statement a) rest) = both mark_at (ids a) (ids rest) (statement-marked m a) (statements-marked m rest)
 
   elsifs-marked : (m : TypeMeanings Name) (a : Tree Name (items elsif_part)) → ids (rename_fields every m None a) ≡ marked (ids a)
   elsifs-marked m end = refl
@@ -150,7 +150,7 @@ constant-scalar None s h = absurd (cc)
 constant-scalar (Some (a_type t)) s h = absurd (cc)
 constant-scalar (Some (a_variable t)) s h = absurd (cc)
 constant-scalar (Some (a_procedure t)) s h = absurd (cc)
-constant-scalar (Some (a_standard t)) s h = absurd (cc)
+constant-scalar (Some (a_standard_procedure t)) s h = absurd (cc)
 
 -- returns the meanings with constants only
 abbrev alone : TypeMeanings Name → Meanings Name Shape (Unit {0})
@@ -228,13 +228,13 @@ constants-plain env (more (declares_constant x e) cs) after h =
 
 constant_section-plain : (env : TypeEnvironment Name) (cs : Tree Name (maybe constants)) (after : TypeEnvironment Name) → declare_constants naming_by_spelling env (section_constants cs) ≡ Some after → ids cs ≡ marked (ids cs)
 constant_section-plain env none after h = refl
-constant_section-plain env (one (declares_constants cs)) after h = constants-plain env cs after h
+constant_section-plain env (one (declares_const_section cs)) after h = constants-plain env cs after h
 
 -- ---- written types: each declared field is rewritten
 
-further-marked : (k : ℕ) (ns : Tree Name (items further_name)) → identifiers role.FieldName (map_names (λ x. x) (every (Some k)) ns) ≡ marked (identifiers role.FieldName ns)
+further-marked : (k : ℕ) (ns : Tree Name (items name_after_comma)) → identifiers role.FieldName (map_names (λ x. x) (every (Some k)) ns) ≡ marked (identifiers role.FieldName ns)
 further-marked k end = refl
-further-marked k (more (then_name x) rest) = ap (λ z. (role.FieldName, again x) ∷ z) (further-marked k rest)
+further-marked k (more (comma_then_name x) rest) = ap (λ z. (role.FieldName, again x) ∷ z) (further-marked k rest)
 
 names-marked : (k : ℕ) (ns : Tree Name names) → identifiers role.FieldName (map_names (λ x. x) (every (Some k)) ns) ≡ marked (identifiers role.FieldName ns)
 names-marked k (listed x rest) = ap (λ z. (role.FieldName, again x) ∷ z) (further-marked k rest)
@@ -260,13 +260,13 @@ mutual
       let (s, es, h₁) = then_some (denoted_type m k t) (λ s. Some (prepend_fields (map m.written (names_in_list ns)) s later)) fs h in
       both mark_at (identifiers role.FieldName ns) (ids t) (names-marked r ns) (type-marked m k t s es)
 
-  groups-marked : (m : TypeMeanings Name) (r k : ℕ) (gs : Tree Name (items further_fields)) (fs : FieldShapes) → denoted_further_fields m k gs ≡ Some fs → ids (rename_fields_in_groups every r k gs) ≡ marked (ids gs)
+  groups-marked : (m : TypeMeanings Name) (r k : ℕ) (gs : Tree Name (items fields_after_semicolon)) (fs : FieldShapes) → denoted_further_fields m k gs ≡ Some fs → ids (rename_fields_in_further_groups every r k gs) ≡ marked (ids gs)
   groups-marked m r k end fs h = refl
-  groups-marked m r k (more (then_fields g) rest) fs h =
+  groups-marked m r k (more (semicolon_then_fields g) rest) fs h =
       let (later, el, h₁) = then_some (denoted_further_fields m (k + group_constructor_count g) rest) (λ later. denoted_group_fields m k later g) fs h in
       both mark_at (ids g) (ids rest) (group-marked m r k later g fs h₁) (groups-marked m r (k + group_constructor_count g) rest later el)
 
-types-marked : (env : TypeEnvironment Name) (k : ℕ) (ds : Tree Name (items type_definition)) (after : TypeEnvironment Name) → declare_types naming_by_spelling env k ds ≡ Some after → ids (rename_fields_in_types every k ds) ≡ marked (ids ds)
+types-marked : (env : TypeEnvironment Name) (k : ℕ) (ds : Tree Name (items type_definition)) (after : TypeEnvironment Name) → declare_types naming_by_spelling env k ds ≡ Some after → ids (rename_fields_in_type_definitions every k ds) ≡ marked (ids ds)
 unfolding declare_types
 types-marked env k end after h = refl
 types-marked env k (more (declares_type x u) ds) after h =
@@ -275,11 +275,11 @@ types-marked env k (more (declares_type x u) ds) after h =
 
 type_section-marked : (env : TypeEnvironment Name) (k : ℕ) (ts : Tree Name (maybe type_definitions)) (after : TypeEnvironment Name) → declare_types naming_by_spelling env k (section_types ts) ≡ Some after → ids (rename_fields_in_type_section every k ts) ≡ marked (ids ts)
 type_section-marked env k none after h = refl
-type_section-marked env k (one (declares_types ts)) after h = types-marked env k ts after h
+type_section-marked env k (one (declares_type_section ts)) after h = types-marked env k ts after h
 
-further_declared : (ns : Tree Name (items further_name)) → ids ns ≡ marked (ids ns)
+further_declared : (ns : Tree Name (items name_after_comma)) → ids ns ≡ marked (ids ns)
 further_declared end = refl
-further_declared (more (then_name x) rest) = ap (λ z. (role.Declaring, x) ∷ z) (further_declared rest)
+further_declared (more (comma_then_name x) rest) = ap (λ z. (role.Declaring, x) ∷ z) (further_declared rest)
 
 names_declared : (ns : Tree Name names) → ids ns ≡ marked (ids ns)
 names_declared (listed x rest) = ap (λ z. (role.Declaring, x) ∷ z) (further_declared rest)
@@ -294,16 +294,16 @@ variables-marked env k (more (declares_variable ns u) gs) after h =
 
 variable_section-marked : (env : TypeEnvironment Name) (k : ℕ) (vs : Tree Name (maybe variables)) (after : TypeEnvironment Name) → declare_typed_variables naming_by_spelling k (section_variables vs) env ≡ Some after → ids (rename_fields_in_variable_section every k vs) ≡ marked (ids vs)
 variable_section-marked env k none after h = refl
-variable_section-marked env k (one (declares_variables vs)) after h = variables-marked env k vs after h
+variable_section-marked env k (one (declares_var_section vs)) after h = variables-marked env k vs after h
 
 section-marked : (m : TypeMeanings Name) (k : ℕ) (f : Tree Name section) (s : Shape) → denoted_type m k (parameter_section_type f) ≡ Some s → ids (rename_fields_in_parameter_section every k f) ≡ marked (ids f)
 section-marked m k (value_section ns u) s h = both mark_at (ids ns) (ids u) (names_declared ns) (type-marked m k u s h)
 section-marked m k (variable_section ns u) s h = both mark_at (ids ns) (ids u) (names_declared ns) (type-marked m k u s h)
 
-sections-marked : (env : TypeEnvironment Name) (k : ℕ) (fs : Tree Name (items further_section)) (ps : List (TypedParameter Name)) → typed_parameters naming_by_spelling env k fs ≡ Some ps → ids (rename_fields_in_parameter_sections every k fs) ≡ marked (ids fs)
+sections-marked : (env : TypeEnvironment Name) (k : ℕ) (fs : Tree Name (items section_after_semicolon)) (ps : List (TypedParameter Name)) → typed_parameters naming_by_spelling env k fs ≡ Some ps → ids (rename_fields_in_further_parameter_sections every k fs) ≡ marked (ids fs)
 unfolding typed_parameters
 sections-marked env k end ps h = refl
-sections-marked env k (more (then_section f) fs) ps h =
+sections-marked env k (more (semicolon_then_section f) fs) ps h =
     let (s, es, h₁) = then_some (denoted_type (meanings naming_by_spelling env) k (parameter_section_type f)) (λ s. option_and_then (λ rest. Some (map (parameter_of (parameter_section_mode f) s) (parameter_section_names f) ++ rest)) (typed_parameters naming_by_spelling (bind_names (parameter_section_names f) (a_variable s) env) (k + constructor_count (parameter_section_type f)) fs)) ps h in
     let (rest, er, h₂) = then_some (typed_parameters naming_by_spelling (bind_names (parameter_section_names f) (a_variable s) env) (k + constructor_count (parameter_section_type f)) fs) (λ rest. Some (map (parameter_of (parameter_section_mode f) s) (parameter_section_names f) ++ rest)) ps h₁ in
     both mark_at (ids f) (ids fs) (section-marked (meanings naming_by_spelling env) k f s es)
@@ -312,7 +312,7 @@ sections-marked env k (more (then_section f) fs) ps h =
 formals-marked : (env : TypeEnvironment Name) (k : ℕ) (fs : Tree Name (maybe formals)) (ps : List (TypedParameter Name)) → typed_parameters naming_by_spelling env k (formal_sections fs) ≡ Some ps → ids (rename_fields_in_formals every k fs) ≡ marked (ids fs)
 formals-marked env k none ps h = refl
 formals-marked env k (one no_formals) ps h = refl
-formals-marked env k (one (some_formals f fs)) ps h = sections-marked env k (more (then_section f) fs) ps h
+formals-marked env k (one (some_formals f fs)) ps h = sections-marked env k (more (semicolon_then_section f) fs) ps h
 
 -- ---- blocks
 
@@ -325,21 +325,21 @@ mutual
       let (inner, e₁, e₂) = hold-true (option_and_then (declare_typed_variables naming_by_spelling (constructors_before_variables k b) (section_variables vs)) (declare_constants_and_types naming_by_spelling env k b)) (λ inner. procedures_are_well_typed naming_by_spelling inner (constructors_before_procedures k b) statements ps) h in
       let (first, ef, e₃) = then_some (declare_constants_and_types naming_by_spelling env k b) (declare_typed_variables naming_by_spelling (constructors_before_variables k b) (section_variables vs)) inner e₁ in
       let (consts, ec, e₄) = then_some (declare_constants naming_by_spelling env (section_constants cs)) (λ env. declare_types naming_by_spelling env k (section_types ts)) first ef in
-      let later = subst (λ inner. ids (rename_fields_in_procedures every inner (constructors_before_procedures k b) ps) ≡ marked (ids ps)) (sym (ap (λ o. unwrap_or o env) e₁)) (procedures-marked inner (constructors_before_procedures k b) statements ps e₂) in
+      let later = subst (λ inner. ids (rename_fields_in_procedure_list every inner (constructors_before_procedures k b) ps) ≡ marked (ids ps)) (sym (ap (λ o. unwrap_or o env) e₁)) (procedures-marked inner (constructors_before_procedures k b) statements ps e₂) in
       both mark_at (ids cs ++ (ids ts ++ (ids vs ++ ids ps))) (ids statements)
       (both mark_at (ids cs) (ids ts ++ (ids vs ++ ids ps)) (constant_section-plain env cs consts ec)
       (both mark_at (ids ts) (ids vs ++ ids ps) (type_section-marked consts k ts first e₄)
       (both mark_at (ids vs) (ids ps) (variable_section-marked first (constructors_before_variables k b) vs inner e₃) later)))
       (body-marked _ statements)
 
-  procedures-marked : (env : TypeEnvironment Name) (k : ℕ) (statements : Tree Name (maybe body)) (ps : Tree Name (items procedure)) → procedures_are_well_typed naming_by_spelling env k statements ps ≡ true → ids (rename_fields_in_procedures every env k ps) ≡ marked (ids ps)
+  procedures-marked : (env : TypeEnvironment Name) (k : ℕ) (statements : Tree Name (maybe body)) (ps : Tree Name (items procedure)) → procedures_are_well_typed naming_by_spelling env k statements ps ≡ true → ids (rename_fields_in_procedure_list every env k ps) ≡ marked (ids ps)
   procedures-marked env k statements end h = refl
   procedures-marked env k statements (more a rest) h =
       let (qs, eqs, e₁) = hold-true (typed_parameters naming_by_spelling env k (procedure_formals a)) (λ qs. procedure_is_well_typed naming_by_spelling (bind_typed_parameters qs (bind_procedure (procedure_name a) qs env)) k a && procedures_are_well_typed naming_by_spelling (bind_procedure (procedure_name a) qs env) (k + procedure_constructor_count a) statements rest) h in
       let split = both_true (procedure_is_well_typed naming_by_spelling (bind_typed_parameters qs (bind_procedure (procedure_name a) qs env)) k a) (procedures_are_well_typed naming_by_spelling (bind_procedure (procedure_name a) qs env) (k + procedure_constructor_count a) statements rest) e₁ in
       let own = procedure-marked env (bind_typed_parameters qs (bind_procedure (procedure_name a) qs env)) k a qs eqs split.0 in
       let others = procedures-marked (bind_procedure (procedure_name a) qs env) (k + procedure_constructor_count a) statements rest split.1 in
-      subst (λ qs. ids (rename_fields_in_procedure every (bind_typed_parameters qs (bind_procedure (procedure_name a) qs env)) k a) ++ ids (rename_fields_in_procedures every (bind_procedure (procedure_name a) qs env) (k + procedure_constructor_count a) rest) ≡ marked (ids a ++ ids rest))
+      subst (λ qs. ids (rename_fields_in_procedure every (bind_typed_parameters qs (bind_procedure (procedure_name a) qs env)) k a) ++ ids (rename_fields_in_procedure_list every (bind_procedure (procedure_name a) qs env) (k + procedure_constructor_count a) rest) ≡ marked (ids a ++ ids rest))
       (sym (ap (λ o. unwrap_or o []) eqs)) (both mark_at (ids a) (ids rest) own others)
 
   procedure-marked : (before env : TypeEnvironment Name) (k : ℕ) (a : Tree Name (item procedure)) (ps : List (TypedParameter Name)) → typed_parameters naming_by_spelling before k (procedure_formals a) ≡ Some ps → procedure_is_well_typed naming_by_spelling env k a ≡ true
@@ -350,7 +350,7 @@ mutual
 
 module-marked : (m : Tree Name module_text) → passes_type_check naming_by_spelling m ≡ true → ids (rename_fields_in_module every m) ≡ marked (ids m)
 unfolding passes_type_check
-module-marked (is_module x b closing) h = ap (λ z. (role.ModuleName, x) ∷ z) (both mark_at (ids b) ((role.ModuleName, closing) ∷ []) (block-marked (outermost_environment naming_by_spelling) 0 b h) refl)
+module-marked (forms_module x b closing) h = ap (λ z. (role.ModuleName, x) ∷ z) (both mark_at (ids b) ((role.ModuleName, closing) ∷ []) (block-marked (outermost_environment naming_by_spelling) 0 b h) refl)
 
 -- ---- the declarations of records have the same spelling, whatever is used for an unknown record
 

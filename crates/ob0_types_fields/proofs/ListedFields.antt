@@ -6,12 +6,12 @@ use Rattle.ob0_tree.specs.ParsedModule.{ParsedModule, named_tree_of, tree_of}
 use Rattle.ob0_tree.specs.Places.{token_text_at}
 use Rattle.ob0_scope_table.specs.Resolution.{IsResolution, Resolution}
 use Rattle.ob0_language_types.specs.Bindings.{declared_object}
-use Rattle.ob0_types_table.specs.KnownTables.{DeclarationTableView, declared_object_in}
+use Rattle.ob0_types_table.specs.DeclarationTables.{DeclarationTableView, declared_object_in}
 use Rattle.ob0_language_types.specs.WellTyped.{WellTyped}
 use Rattle.ob0_types_fields.specs.declared.field_name.FieldName.{FieldName}
 use Rattle.ob0_types_fields.specs.Identifiers.{declared_fields, field_declaring_token, field_identifiers, first_token, tokens_of_field}
 use Rattle.ob0_types_fields.specs.FieldLists.{AreFieldListsOf, field_lists_of}
-use Rattle.ob0_types_fields.specs.Owned.{fields_in_module, meanings_by_token}
+use Rattle.ob0_types_fields.specs.IdentifierOwners.{fields_in_module, meanings_by_token}
 use Rattle.ob0_types_fields.proofs.FieldsAreDeclared.{fields_are_declared-holds}
 use Rattle.ob0_types_fields.proofs.WalkFindsAllFields.{module-fields}
 

@@ -8,8 +8,8 @@ use Rattle.ob0_tree.specs.View.{items_of, selector_of}
 use Rattle.ob0_language_types.specs.Expressions.{Meanings}
 use Rattle.ob0_language_types.specs.WellTyped.{Signature}
 use Rattle.ob0_types_fields.specs.declared.field_name.FieldName.{FieldName}
-use Rattle.ob0_types_fields.specs.Owned.{fields_in_path, type_after_selector}
-use Rattle.ob0_types_fields.specs.Walk.{fields_in_selector}
+use Rattle.ob0_types_fields.specs.IdentifierOwners.{fields_in_path, type_after_selector}
+use Rattle.ob0_types_fields.specs.FieldWalks.{fields_in_selector}
 use Rattle.ob0_language_values.specs.Values.{Shape}
 
 path_more : {P : Type 0} (m : Meanings ℕ Shape P) (base : Option Shape) (a : Tree ℕ (item selector)) (rest : Tree ℕ (items selector))

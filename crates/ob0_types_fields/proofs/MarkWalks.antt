@@ -6,7 +6,7 @@ use Rattle.ob0_tree.specs.View.{items_of}
 use Rattle.ob0_language_types.specs.Expressions.{Meanings}
 use Rattle.ob0_language_types.specs.WellTyped.{Signature}
 use Rattle.ob0_types_fields.specs.declared.field_name.FieldName.{FieldName}
-use Rattle.ob0_types_fields.specs.Owned.{fields_in_tree}
+use Rattle.ob0_types_fields.specs.IdentifierOwners.{fields_in_tree}
 use Rattle.ob0_language_values.specs.Values.{Shape}
 
 -- holds if the fields so far, followed by the fields of the remaining items, are the fields at the start followed by

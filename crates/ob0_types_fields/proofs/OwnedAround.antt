@@ -1,13 +1,13 @@
 -- The identifiers of a module can be split around the statements to which a way leads. The identifiers before and after
 -- are the identifiers of the module without these statements.
 use Rattle.std.proofs.Common.{◌≡◌, ℕ, zero, suc, ◌+◌, List, [], ◌∷◌, ◌++◌, None, Option, refl, ap, ◌∙◌, sym, append_assoc, append-nil}
-use Rattle.ob0_tree.specs.Tree.{Tree, block, declares, declares_procedure, end, forms_block, is_module, item, items, module_text, more, procedure}
+use Rattle.ob0_tree.specs.Tree.{Tree, block, declares, declares_procedure, end, forms_block, forms_module, item, items, module_text, more, procedure}
 use Rattle.ob0_language_types.specs.Declarations.{constructors_before_procedure_block, constructors_before_variables, constructors_before_procedures, block_constructor_count, formals_constructor_count, procedure_constructor_count, procedures_constructor_count, types_constructor_count, variables_constructor_count}
 use Rattle.ob0_language_types.specs.Expressions.{Meanings}
-use Rattle.ob0_language_names.specs.Parts.{formal_sections, section_types, section_variables}
+use Rattle.ob0_language_names.specs.BlockParts.{formal_sections, section_types, section_variables}
 use Rattle.ob0_language_values.specs.Values.{Shape}
-use Rattle.ob0_scope_table.specs.BodyReplaced.{PathToBody, block_without_body, body_at_path_in_procedures, body_at_path, body_at_path_in_block, body_at_path_in_procedure, closing_name_at_path_in_procedures, closing_name_at_path, closing_name_at_path_in_block, closing_name_at_path_in_procedure, procedure_without_body, procedures_without_body, module_without_body}
-use Rattle.ob0_types_fields.specs.Owned.{identifier_owners_in_tree, identifier_owners_in_block, identifier_owners_in_formals, identifier_owners_in_module, identifier_owners_in_procedure, identifier_owners_in_procedures, identifier_owners_in_type_section, identifier_owners_in_variable_section, identifiers_without_owners}
+use Rattle.ob0_scope_table.specs.BodyReplacement.{PathToBody, block_without_body, body_at_path_in_procedures, body_at_path, body_at_path_in_block, body_at_path_in_procedure, closing_name_at_path_in_procedures, closing_name_at_path, closing_name_at_path_in_block, closing_name_at_path_in_procedure, procedure_without_body, procedures_without_body, module_without_body}
+use Rattle.ob0_types_fields.specs.IdentifierOwners.{identifier_owners_in_tree, identifier_owners_in_block, identifier_owners_in_formals, identifier_owners_in_module, identifier_owners_in_procedure, identifier_owners_in_procedures, identifier_owners_in_type_section, identifier_owners_in_variable_section, identifiers_without_owners}
 
 -- ---- leaving out statements doesn't change the number of words ARRAY and RECORD
 
@@ -124,5 +124,5 @@ module _ {Q : Type 0} (m : Meanings ℕ Shape Q) where
         in_front (identifier_owners_in_block m j b ++ closed closing) (identifier_owners_in_block m j (block_without_body path b) ++ closed closing) (identifier_owners_in_tree m None (body_at_path_in_block path b)) head (closing_name_at_path_in_block path closing b) (block_split path j closing b)
 
   pub module_split : (path : PathToBody) (t : Tree ℕ module_text) → IsAround (identifier_owners_in_module m t) (identifier_owners_in_module m (module_without_body path t)) (identifier_owners_in_tree m None (body_at_path path t)) (closing_name_at_path path t)
-  module_split path (is_module x b closing) =
+  module_split path (forms_module x b closing) =
       in_front (identifier_owners_in_block m 0 b ++ closed closing) (identifier_owners_in_block m 0 (block_without_body path b) ++ closed closing) (identifier_owners_in_tree m None (body_at_path_in_block path b)) ((x, None) ∷ []) (closing_name_at_path_in_block path closing b) (block_split path 0 closing b)

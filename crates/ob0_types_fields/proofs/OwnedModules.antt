@@ -6,21 +6,21 @@
 -- its ordinal (`Right`). In descending bindings each binding is found at its ordinal (`bound_right`), so the bindings
 -- of the whole module are `Right`. Splitting the lists gives the same for each part.
 use Rattle.std.proofs.Common.{◌≡◌, ℕ, suc, ◌+◌, true, false, List, [], ◌∷◌, ◌++◌, map, Some, None, Option, option_map, option_and_then, unwrap_or, refl, sym, ap, ◌∙◌, subst, arith, le_refl, le_of_lt, append-nil}
-use Rattle.ob0_tree.specs.Tree.{Tree, block, body, constants, declares, declares_procedure, end, formals, forms_block, is_module, item, items, GrammarItem, mapped_tree, maybe, more, occurrences, procedure, type_definitions, variables}
+use Rattle.ob0_tree.specs.Tree.{Tree, block, body, constants, declares, declares_procedure, end, formals, forms_block, forms_module, item, items, GrammarItem, mapped_tree, maybe, more, occurrences, procedure, type_definitions, variables}
 use Rattle.ob0_tree.specs.ParsedModule.{ParsedModule, named_tree_of, tree_of}
 use Rattle.ob0_tree.specs.Places.{token_text_at, token_value_at}
 use Rattle.ob0_language_names.specs.Names.{Label, Name, naming_by_label, naming_by_spelling, declared, same_name}
 use Rattle.ob0_language_names.specs.Occurrences.{label_ordinal}
-use Rattle.ob0_language_names.specs.Parts.{block_procedures, block_statements, block_variables, formal_names, formal_sections, module_block, procedure_block, section_types, section_variables}
+use Rattle.ob0_language_names.specs.BlockParts.{block_procedures, block_statements, block_variables, formal_names, formal_sections, module_block, procedure_block, section_types, section_variables}
 use Rattle.ob0_scope_table.specs.Resolution.{Resolution, ordinal_in}
 use Rattle.ob0_scope_table.proofs.Bound.{label_back}
-use Rattle.ob0_language_names.specs.Scopes.{Scope, ordinal_after_block, ordinal_after_names, ordinal_after_procedure, ordinal_after_procedures, label_from_ordinal, declare_names, declare_procedure_names, first_procedure_ordinal, first_type_ordinal, first_variable_ordinal, numbered, ordinal_in_scope, scope_before_procedures, relabel_block, relabel_formals, relabel_procedures, relabel_parameter_sections, relabel_uses, scope_before_types, scope_before_variables, label_of}
+use Rattle.ob0_language_names.specs.Scopes.{Scope, ordinal_after_block, ordinal_after_names, ordinal_after_procedure, ordinal_after_procedure_list, label_from_ordinal, declare_names, declare_procedure_names, first_procedure_ordinal, first_type_ordinal, first_variable_ordinal, numbered, ordinal_in_scope, scope_before_procedures, relabel_block, relabel_formals, relabel_procedure_list, relabel_parameter_section_list, relabel_uses, scope_before_types, scope_before_variables, label_of}
 use Rattle.ob0_language_names.proofs.OccurrencesMapped.{occurrences-mapped}
 use Rattle.ob0_language_names.proofs.Ordinals.{le-ordinal_after_procedure}
 use Rattle.ob0_language_names.proofs.Peeling.{heads}
 use Rattle.ob0_language_names.proofs.Relabelled.{formals-section, types-section, variables-section}
 use Rattle.ob0_language_types.specs.Bindings.{block_bindings, declared_object, module_bindings, procedures_bindings, bindings_since}
-use Rattle.ob0_language_types.specs.Declaring.{declare_block}
+use Rattle.ob0_language_types.specs.BlockDeclarations.{declare_block}
 use Rattle.ob0_language_types.specs.Declarations.{constructors_before_procedure_block, constructors_before_variables, constructors_before_procedures, declare_constants_and_types, formals_constructor_count, procedure_constructor_count, types_constructor_count, variables_constructor_count}
 use Rattle.ob0_language_types.specs.Environments.{environment_from_binding, meanings, newest_object, outermost_environment}
 use Rattle.ob0_language_types.specs.Expressions.{Meanings, Object, a_procedure}
@@ -35,9 +35,9 @@ use Rattle.ob0_language_types.proofs.Proved.{numbering_keeps_type_check-holds}
 use Rattle.ob0_language_types.proofs.TypesByOrdinal.{TypeNoted, TypedBelow, TypedBelow-weaken, TypedWithin, bind_typed_parameters-by_name, bind_typed_parameters-by_ordinal, body_is_well_typed-agrees, declarations_typed, label_typed, label_typed-formals, noted_parameters, noted_parameters-within, parameters_typed, typed_by_name, typed_by_ordinal, typed_names, typed_outermost, typed_scope}
 use Rattle.ob0_language_types.proofs.ConstantsDeclared as blocks
 use Rattle.ob0_language_types.proofs.ConstantsDeclared.{block-listed, block-parts, predeclared-below}
-use Rattle.ob0_language_fields.specs.Fields.{environment_after_heading, environment_after_procedures, environment_after_variables, typed_parameters_of_procedure, rename_fields, rename_fields_in_block, rename_fields_in_procedures, rename_fields_in_variable_section}
-use Rattle.ob0_types_fields.specs.Owners.{renaming_by_record}
-use Rattle.ob0_types_fields.specs.Owned.{AgreesWithOwnerList, AgreeingTableIsOwnerTable, identifier_owners_in_tree, identifier_owners_in_block, identifier_owners_in_formals, identifier_owners_in_procedure, identifier_owners_in_procedures, identifier_owners_in_type_section, identifier_owners_in_variable_section, meanings_by_token, identifiers_without_owners}
+use Rattle.ob0_language_fields.specs.Fields.{environment_after_heading, environment_after_procedures, environment_after_variables, typed_parameters_of_procedure, rename_fields, rename_fields_in_block, rename_fields_in_procedure_list, rename_fields_in_variable_section}
+use Rattle.ob0_types_fields.specs.OwnerTables.{renaming_by_record}
+use Rattle.ob0_types_fields.specs.IdentifierOwners.{AgreesWithOwnerList, AgreeingTableIsOwnerTable, identifier_owners_in_tree, identifier_owners_in_block, identifier_owners_in_formals, identifier_owners_in_procedure, identifier_owners_in_procedures, identifier_owners_in_type_section, identifier_owners_in_variable_section, meanings_by_token, identifiers_without_owners}
 use Rattle.ob0_types_fields.proofs.OwnedStatements.{Alike, SameTypes, identifier_owners_in_tree-alike, owners_split, recorded, recorded-alike, recorded-mapped_tree, identifiers_without_owners-all}
 use Rattle.ob0_types_fields.proofs.OwnedTypes.{counted_formals_section, counted_procedure, counted_type_section, counted_variable_section, formals-identifier_owners_in_tree, type_section-identifier_owners_in_tree, variable_section-identifier_owners_in_tree}
 use Rattle.ob0_language_fields.proofs.MeaningsByName.{object_in}
@@ -109,7 +109,7 @@ entered noted j k below statements fs b closing rest h =
     let fs' : Tree Label (maybe formals) = relabel_formals naming_by_spelling (label_from_ordinal naming_by_spelling) (typed_scope noted) (suc k) fs in
     let p = procedure-parts env j statements (declared k) fs' b closing rest h in
     let f = found (λ ps. ps) (label_typed (suc k)) (λ ps. typed_names ps ≡ formal_names (formal_sections fs)) (typed_parameters naming_by_spelling (typed_by_name noted) j (formal_sections fs))
-    (typed_parameters naming_by_label env j (relabel_parameter_sections naming_by_spelling (label_from_ordinal naming_by_spelling) (typed_scope noted) (suc k) (formal_sections fs)))
+    (typed_parameters naming_by_label env j (relabel_parameter_section_list naming_by_spelling (label_from_ordinal naming_by_spelling) (typed_scope noted) (suc k) (formal_sections fs)))
     (parameters_typed naming_by_spelling j (suc k) noted (TypedBelow-weaken k (suc k) noted (le_of_lt (le_refl (suc k))) below) (formal_sections fs)) p.0
     (ap (typed_parameters naming_by_label env j) (sym (formals-section naming_by_spelling (label_from_ordinal naming_by_spelling) (typed_scope noted) (suc k) fs)) ∙ p.1) in
     record { listed = f.0; by_name = f.1; names = f.3; parts = subst (FitParts env j statements (declared k) fs' b closing rest) (sym f.2) p.2 }
@@ -183,15 +183,15 @@ module _ (l : ℕ → Name → Name) (at : ℕ → Option ℕ) (text : ℕ → N
         → rename_fields_in_block (renaming_by_record l) (typed_by_name noted) j (mapped_tree text value b) ≡ mapped_tree (λ i. renaming_by_record l (at i) (text i)) value b
 
   record ProceduresHeld (noted : TypeNoted Name) (j k : ℕ) (statements : Tree Label (maybe body)) (ps : Tree ℕ (items procedure)) : Type 0 where
-    pub descends : Descends (ordinal_after_procedures k (mapped_tree text value ps)) (procedures_bindings naming_by_label (typed_by_ordinal noted) j (relabel_procedures naming_by_spelling (label_from_ordinal naming_by_spelling) (typed_scope noted) k (mapped_tree text value ps))) k
+    pub descends : Descends (ordinal_after_procedure_list k (mapped_tree text value ps)) (procedures_bindings naming_by_label (typed_by_ordinal noted) j (relabel_procedure_list naming_by_spelling (label_from_ordinal naming_by_spelling) (typed_scope noted) k (mapped_tree text value ps))) k
     pub last : TypeNoted Name
     pub following : environment_after_procedures (typed_by_name noted) j (mapped_tree text value ps) ≡ typed_by_name last
-    pub below : TypedBelow (ordinal_after_procedures k (mapped_tree text value ps)) last
+    pub below : TypedBelow (ordinal_after_procedure_list k (mapped_tree text value ps)) last
     pub fits : body_is_well_typed naming_by_label (typed_by_ordinal last) statements ≡ true
     pub scoped : typed_scope last ≡ declare_procedure_names k (mapped_tree text value ps) (typed_scope noted)
-    pub written : Right objects (typed_by_ordinal noted) → Right objects (procedures_bindings naming_by_label (typed_by_ordinal noted) j (relabel_procedures naming_by_spelling (label_from_ordinal naming_by_spelling) (typed_scope noted) k (mapped_tree text value ps)))
-        → relabel_procedures naming_by_spelling (label_from_ordinal naming_by_spelling) (typed_scope noted) k (mapped_tree text value ps) ≡ mapped_tree label value ps → AgreesWithOwnerList at (identifier_owners_in_procedures by_token j ps)
-        → (rename_fields_in_procedures (renaming_by_record l) (typed_by_name noted) j (mapped_tree text value ps) ≡ mapped_tree (λ i. renaming_by_record l (at i) (text i)) value ps) × Right objects (typed_by_ordinal last)
+    pub written : Right objects (typed_by_ordinal noted) → Right objects (procedures_bindings naming_by_label (typed_by_ordinal noted) j (relabel_procedure_list naming_by_spelling (label_from_ordinal naming_by_spelling) (typed_scope noted) k (mapped_tree text value ps)))
+        → relabel_procedure_list naming_by_spelling (label_from_ordinal naming_by_spelling) (typed_scope noted) k (mapped_tree text value ps) ≡ mapped_tree label value ps → AgreesWithOwnerList at (identifier_owners_in_procedures by_token j ps)
+        → (rename_fields_in_procedure_list (renaming_by_record l) (typed_by_name noted) j (mapped_tree text value ps) ≡ mapped_tree (λ i. renaming_by_record l (at i) (text i)) value ps) × Right objects (typed_by_ordinal last)
 
   no-procedures : (noted : TypeNoted Name) (j k : ℕ) → TypedBelow k noted → (statements : Tree Label (maybe body)) → procedures_are_well_typed naming_by_label (typed_by_ordinal noted) j statements end ≡ true → ProceduresHeld noted j k statements end
   unfolding block_bindings block_is_well_typed
@@ -234,9 +234,9 @@ module _ (l : ℕ → Name → Name) (at : ℕ → Option ℕ) (text : ℕ → N
       let kp : ℕ = first_procedure_ordinal k nb in
       let counted : constructors_before_procedures j nb ≡ constructors_before_procedures j b = named_count j cs ts vs ps st in
       let count : constructors_before_procedures j lb ≡ constructors_before_procedures j b = labelled_count scope j k nb ∙ counted in
-      let P : TypeEnvironment Label = procedures_bindings naming_by_label (typed_by_ordinal o.last) (constructors_before_procedures j b) (relabel_procedures naming_by_spelling (label_from_ordinal naming_by_spelling) (typed_scope o.last) kp nps) in
+      let P : TypeEnvironment Label = procedures_bindings naming_by_label (typed_by_ordinal o.last) (constructors_before_procedures j b) (relabel_procedure_list naming_by_spelling (label_from_ordinal naming_by_spelling) (typed_scope o.last) kp nps) in
       let all_listed : block_bindings naming_by_label (typed_by_ordinal noted) j lb ≡ P ++ o.grown.bound =
-      o.listed ∙ (λ i. procedures_bindings naming_by_label (typed_by_ordinal o.last) (count i) (relabel_procedures naming_by_spelling (label_from_ordinal naming_by_spelling) (sym o.within.0 i) kp nps) ++ o.grown.bound) in
+      o.listed ∙ (λ i. procedures_bindings naming_by_label (typed_by_ordinal o.last) (count i) (relabel_procedure_list naming_by_spelling (label_from_ordinal naming_by_spelling) (sym o.within.0 i) kp nps) ++ o.grown.bound) in
       record {
         descends = subst (λ e. Descends (ordinal_after_block k nb) e k) (sym all_listed) (descends_join (ordinal_after_block k nb) kp k P o.grown.bound q.descends o.grown.descends);
         written = λ right all numbered has.
@@ -248,16 +248,16 @@ module _ (l : ℕ → Name → Name) (at : ℕ → Option ℕ) (text : ℕ → N
             let s1 = owners_split at (identifiers_without_owners cs) (identifier_owners_in_type_section j ts ++ (B ++ C)) s0.0 in
             let s2 = owners_split at (identifier_owners_in_type_section j ts) (B ++ C) s1.1 in
             let s3 = owners_split at B C s2.1 in
-            let r = q.written right_last two.0 (ap (λ s. relabel_procedures naming_by_spelling (label_from_ordinal naming_by_spelling) s kp nps) o.within.0 ∙ ap block_procedures numbered) s3.1 in
+            let r = q.written right_last two.0 (ap (λ s. relabel_procedure_list naming_by_spelling (label_from_ordinal naming_by_spelling) s kp nps) o.within.0 ∙ ap block_procedures numbered) s3.1 in
             let following_all : typed_scope q.last ≡ declare_procedure_names kp nps (scope_before_procedures k nb scope) = q.scoped ∙ ap (declare_procedure_names kp nps) o.within.0 in
             let variables-written : rename_fields_in_variable_section (renaming_by_record l) (constructors_before_variables j nb) (mapped_tree text value vs) ≡ mapped_tree (λ i. renaming_by_record l (at i) (text i)) value vs =
             (λ i. rename_fields_in_variable_section (renaming_by_record l) (j + counted_type_section text value ts i) (mapped_tree text value vs)) ∙ variable_section-identifier_owners_in_tree l at text value (constructors_before_variables j b) vs s3.0 in
-            let procedures-written : rename_fields_in_procedures (renaming_by_record l) (environment_after_variables (typed_by_name noted) j nb) (constructors_before_procedures j nb) nps ≡ mapped_tree (λ i. renaming_by_record l (at i) (text i)) value ps =
-            (λ i. rename_fields_in_procedures (renaming_by_record l) (o.named i) (counted i) nps) ∙ r.0 in
+            let procedures-written : rename_fields_in_procedure_list (renaming_by_record l) (environment_after_variables (typed_by_name noted) j nb) (constructors_before_procedures j nb) nps ≡ mapped_tree (λ i. renaming_by_record l (at i) (text i)) value ps =
+            (λ i. rename_fields_in_procedure_list (renaming_by_record l) (o.named i) (counted i) nps) ∙ r.0 in
             let environment : environment_after_procedures (environment_after_variables (typed_by_name noted) j nb) (constructors_before_procedures j nb) nps ≡ typed_by_name q.last = (λ i. environment_after_procedures (o.named i) (counted i) nps) ∙ q.following in
             let body-written : rename_fields (renaming_by_record l) (meanings naming_by_spelling (environment_after_procedures (environment_after_variables (typed_by_name noted) j nb) (constructors_before_procedures j nb) nps)) None (mapped_tree text value st) ≡ mapped_tree (λ i. renaming_by_record l (at i) (text i)) value st =
             ap (λ e. rename_fields (renaming_by_record l) (meanings naming_by_spelling e) None (mapped_tree text value st)) environment
-            ∙ statements-written noted q.last (ordinal_after_procedures kp nps) q.below r.1 (declare_procedure_names kp nps (scope_before_procedures k nb scope)) following_all st q.fits (ap block_statements numbered) s0.1 in
+            ∙ statements-written noted q.last (ordinal_after_procedure_list kp nps) q.below r.1 (declare_procedure_names kp nps (scope_before_procedures k nb scope)) following_all st q.fits (ap block_statements numbered) s0.1 in
             λ i. forms_block (declares (identifiers_without_owners-all l at text value cs s1.0 i) (type_section-identifier_owners_in_tree l at text value j ts s2.0 i) (variables-written i) (procedures-written i)) (body-written i);
       }
 
@@ -269,14 +269,14 @@ module _ (l : ℕ → Name → Name) (at : ℕ → Option ℕ) (text : ℕ → N
     pub inner_below : TypedBelow (ordinal_after_names (suc k) (formal_names (formal_sections (mapped_tree text value fs)))) (inside_of noted k (text x) listed)
     pub front : Descends (ordinal_after_names (suc k) (formal_names (formal_sections (mapped_tree text value fs)))) (bind_typed_parameters (label_typed (suc k) listed) (bind_procedure (declared k) (label_typed (suc k) listed) [])) k
     pub block_right : block_is_well_typed naming_by_label (typed_by_ordinal (inside_of noted k (text x) listed)) (constructors_before_procedure_block j (declares_procedure x fs b closing)) (relabel_block naming_by_spelling (label_from_ordinal naming_by_spelling) (typed_scope (inside_of noted k (text x) listed)) (ordinal_after_names (suc k) (formal_names (formal_sections (mapped_tree text value fs)))) (mapped_tree text value b)) ≡ true
-    pub rest_right : procedures_are_well_typed naming_by_label (typed_by_ordinal (own_of noted k (text x) listed)) (j + procedure_constructor_count (declares_procedure x fs b closing)) statements (relabel_procedures naming_by_spelling (label_from_ordinal naming_by_spelling) ((text x, k) ∷ typed_scope noted) (ordinal_after_procedure (suc k) (mapped_tree text value (declares_procedure x fs b closing))) (mapped_tree text value rest)) ≡ true
-    pub all_listed : procedures_bindings naming_by_label (typed_by_ordinal noted) j (relabel_procedures naming_by_spelling (label_from_ordinal naming_by_spelling) (typed_scope noted) k (mapped_tree text value (more (declares_procedure x fs b closing) rest)))
-        ≡ procedures_bindings naming_by_label (typed_by_ordinal (own_of noted k (text x) listed)) (j + procedure_constructor_count (declares_procedure x fs b closing)) (relabel_procedures naming_by_spelling (label_from_ordinal naming_by_spelling) ((text x, k) ∷ typed_scope noted) (ordinal_after_procedure (suc k) (mapped_tree text value (declares_procedure x fs b closing))) (mapped_tree text value rest))
+    pub rest_right : procedures_are_well_typed naming_by_label (typed_by_ordinal (own_of noted k (text x) listed)) (j + procedure_constructor_count (declares_procedure x fs b closing)) statements (relabel_procedure_list naming_by_spelling (label_from_ordinal naming_by_spelling) ((text x, k) ∷ typed_scope noted) (ordinal_after_procedure (suc k) (mapped_tree text value (declares_procedure x fs b closing))) (mapped_tree text value rest)) ≡ true
+    pub all_listed : procedures_bindings naming_by_label (typed_by_ordinal noted) j (relabel_procedure_list naming_by_spelling (label_from_ordinal naming_by_spelling) (typed_scope noted) k (mapped_tree text value (more (declares_procedure x fs b closing) rest)))
+        ≡ procedures_bindings naming_by_label (typed_by_ordinal (own_of noted k (text x) listed)) (j + procedure_constructor_count (declares_procedure x fs b closing)) (relabel_procedure_list naming_by_spelling (label_from_ordinal naming_by_spelling) ((text x, k) ∷ typed_scope noted) (ordinal_after_procedure (suc k) (mapped_tree text value (declares_procedure x fs b closing))) (mapped_tree text value rest))
         ++ (block_bindings naming_by_label (typed_by_ordinal (inside_of noted k (text x) listed)) (constructors_before_procedure_block j (declares_procedure x fs b closing)) (relabel_block naming_by_spelling (label_from_ordinal naming_by_spelling) (typed_scope (inside_of noted k (text x) listed)) (ordinal_after_names (suc k) (formal_names (formal_sections (mapped_tree text value fs)))) (mapped_tree text value b))
         ++ bind_typed_parameters (label_typed (suc k) listed) (bind_procedure (declared k) (label_typed (suc k) listed) []))
 
   entry : (noted : TypeNoted Name) (j k : ℕ) → TypedBelow k noted → (statements : Tree Label (maybe body)) (x : ℕ) (fs : Tree ℕ (maybe formals)) (b : Tree ℕ block) (closing : ℕ) (rest : Tree ℕ (items procedure))
-      → procedures_are_well_typed naming_by_label (typed_by_ordinal noted) j statements (relabel_procedures naming_by_spelling (label_from_ordinal naming_by_spelling) (typed_scope noted) k (mapped_tree text value (more (declares_procedure x fs b closing) rest))) ≡ true
+      → procedures_are_well_typed naming_by_label (typed_by_ordinal noted) j statements (relabel_procedure_list naming_by_spelling (label_from_ordinal naming_by_spelling) (typed_scope noted) k (mapped_tree text value (more (declares_procedure x fs b closing) rest))) ≡ true
       → Entry noted j k statements x fs b closing rest
   entry noted j k below statements x fs b closing rest h =
       let p : Tree ℕ (item procedure) = declares_procedure x fs b closing in
@@ -291,7 +291,7 @@ module _ (l : ℕ → Name → Name) (at : ℕ → Option ℕ) (text : ℕ → N
       let n : ℕ = ordinal_after_procedure (suc k) np in
       let fs' : Tree Label (maybe formals) = relabel_formals naming_by_spelling (label_from_ordinal naming_by_spelling) scope (suc k) nfs in
       let b' : Tree Label block = relabel_block naming_by_spelling (label_from_ordinal naming_by_spelling) (declare_names (suc k) xs ((text x, k) ∷ scope)) m nb in
-      let rest' : Tree Label (items procedure) = relabel_procedures naming_by_spelling (label_from_ordinal naming_by_spelling) ((text x, k) ∷ scope) n nrest in
+      let rest' : Tree Label (items procedure) = relabel_procedure_list naming_by_spelling (label_from_ordinal naming_by_spelling) ((text x, k) ∷ scope) n nrest in
       let e : Entered noted j k statements nfs fs' b' (declared k) rest' = entered noted j k below statements nfs b' (declared k) rest' h in
       let qs : List (TypedParameter Label) = label_typed (suc k) e.listed in
       let H : TypeEnvironment Label = bind_typed_parameters qs (bind_procedure (declared k) qs []) in
@@ -330,11 +330,11 @@ module _ (l : ℕ → Name → Name) (at : ℕ → Option ℕ) (text : ℕ → N
       let qs : List (TypedParameter Label) = label_typed (suc k) t.listed in
       let own : TypeNoted Name = own_of noted k (text x) t.listed in
       let inner : TypeNoted Name = inside_of noted k (text x) t.listed in
-      let R : TypeEnvironment Label = procedures_bindings naming_by_label (typed_by_ordinal own) (j + procedure_constructor_count p) (relabel_procedures naming_by_spelling (label_from_ordinal naming_by_spelling) ((text x, k) ∷ typed_scope noted) n nrest) in
+      let R : TypeEnvironment Label = procedures_bindings naming_by_label (typed_by_ordinal own) (j + procedure_constructor_count p) (relabel_procedure_list naming_by_spelling (label_from_ordinal naming_by_spelling) ((text x, k) ∷ typed_scope noted) n nrest) in
       let B : TypeEnvironment Label = block_bindings naming_by_label (typed_by_ordinal inner) (constructors_before_procedure_block j p) (relabel_block naming_by_spelling (label_from_ordinal naming_by_spelling) (typed_scope inner) m nb) in
       let H : TypeEnvironment Label = bind_typed_parameters qs (bind_procedure (declared k) qs []) in
       record {
-        descends = subst (λ z. Descends (ordinal_after_procedures k (more np nrest)) z k) (sym t.all_listed) (descends_join (ordinal_after_procedures n nrest) n k R (B ++ H) later.descends (descends_join n m k B H inside.descends t.front));
+        descends = subst (λ z. Descends (ordinal_after_procedure_list k (more np nrest)) z k) (sym t.all_listed) (descends_join (ordinal_after_procedure_list n nrest) n k R (B ++ H) later.descends (descends_join n m k B H inside.descends t.front));
         last = later.last;
         following = (λ i. environment_after_procedures (bind_procedure (text x) (t.pars i) (typed_by_name noted)) (j + counted_procedure text value p i) nrest) ∙ later.following;
         below = later.below;
@@ -354,8 +354,8 @@ module _ (l : ℕ → Name → Name) (at : ℕ → Option ℕ) (text : ℕ → N
             (λ i. rename_fields_in_block (renaming_by_record l) (bind_typed_parameters (t.pars i) (bind_procedure (text x) (t.pars i) (typed_by_name noted))) (j + counted_formals_section text value fs i) nb)
             ∙ (ap (λ z. rename_fields_in_block (renaming_by_record l) z (constructors_before_procedure_block j p) nb) (bind_typed_parameters-by_name (suc k) t.listed own)
             ∙ inside.written right_inner three.0 (ap (λ s. relabel_block naming_by_spelling (label_from_ordinal naming_by_spelling) s m nb) t.inner_scope ∙ ap (λ z. procedure_block (first_item (mapped_tree label value p) z)) numbered) s2.0) in
-            let rest-written : rename_fields_in_procedures (renaming_by_record l) (environment_after_heading (typed_by_name noted) j np) (j + procedure_constructor_count np) nrest ≡ mapped_tree (λ i. renaming_by_record l (at i) (text i)) value rest =
-            (λ i. rename_fields_in_procedures (renaming_by_record l) (bind_procedure (text x) (t.pars i) (typed_by_name noted)) (j + counted_procedure text value p i) nrest) ∙ w.0 in (
+            let rest-written : rename_fields_in_procedure_list (renaming_by_record l) (environment_after_heading (typed_by_name noted) j np) (j + procedure_constructor_count np) nrest ≡ mapped_tree (λ i. renaming_by_record l (at i) (text i)) value rest =
+            (λ i. rename_fields_in_procedure_list (renaming_by_record l) (bind_procedure (text x) (t.pars i) (typed_by_name noted)) (j + counted_procedure text value p i) nrest) ∙ w.0 in (
               λ i. more (declares_procedure (renaming_by_record l (sym s0.0.0 i) (text x)) (formals-identifier_owners_in_tree l at text value j fs s1.0 i) (block-written i) (renaming_by_record l (sym s2.1.0 i) (text closing))) (rest-written i),
               w.1,
             );
@@ -371,10 +371,10 @@ module _ (l : ℕ → Name → Name) (at : ℕ → Option ℕ) (text : ℕ → N
         let o : Opened noted j k nb = opened noted j k below nb h in
         block-joined noted j k cs ts vs ps st o
         (procedures-held o.last (constructors_before_procedures j b) (first_procedure_ordinal k nb) o.within.1 (block_statements lb) ps
-        ((λ i. procedures_are_well_typed naming_by_label (typed_by_ordinal o.last) (sym (labelled_count (typed_scope noted) j k nb ∙ named_count j cs ts vs ps st) i) (block_statements lb) (relabel_procedures naming_by_spelling (label_from_ordinal naming_by_spelling) (o.within.0 i) (first_procedure_ordinal k nb) (mapped_tree text value ps))) ∙ o.fits))
+        ((λ i. procedures_are_well_typed naming_by_label (typed_by_ordinal o.last) (sym (labelled_count (typed_scope noted) j k nb ∙ named_count j cs ts vs ps st) i) (block_statements lb) (relabel_procedure_list naming_by_spelling (label_from_ordinal naming_by_spelling) (o.within.0 i) (first_procedure_ordinal k nb) (mapped_tree text value ps))) ∙ o.fits))
 
     procedures-held : (noted : TypeNoted Name) (j k : ℕ) → TypedBelow k noted → (statements : Tree Label (maybe body)) (ps : Tree ℕ (items procedure))
-        → procedures_are_well_typed naming_by_label (typed_by_ordinal noted) j statements (relabel_procedures naming_by_spelling (label_from_ordinal naming_by_spelling) (typed_scope noted) k (mapped_tree text value ps)) ≡ true → ProceduresHeld noted j k statements ps
+        → procedures_are_well_typed naming_by_label (typed_by_ordinal noted) j statements (relabel_procedure_list naming_by_spelling (label_from_ordinal naming_by_spelling) (typed_scope noted) k (mapped_tree text value ps)) ≡ true → ProceduresHeld noted j k statements ps
     procedures-held noted j k below statements end h = no-procedures noted j k below statements h
     procedures-held noted j k below statements (more (declares_procedure x fs b closing) rest) h =
         let t : Entry noted j k statements x fs b closing rest = entry noted j k below statements x fs b closing rest h in
@@ -412,4 +412,4 @@ agreeing_table_is_owner_table-holds r owners named fits has = λ l.
     let two = right_split objects all (outermost_environment naming_by_label) right in
     let s = owners_split (ordinal_in owners) (identifier_owners_in_block (meanings_by_token objects r) 0 b) ((p.closing, None) ∷ []) has.1 in
     let block-written = held.written two.1 two.0 (ap module_block named.numbering) s.0 in
-    λ i. is_module (renaming_by_record l (sym has.0 i) (text p.name)) (block-written i) (renaming_by_record l (sym s.1.0 i) (text p.closing))
+    λ i. forms_module (renaming_by_record l (sym has.0 i) (text p.name)) (block-written i) (renaming_by_record l (sym s.1.0 i) (text p.closing))

@@ -3,15 +3,15 @@
 use Rattle.std.proofs.Common.{◌≡◌, ℕ, List, [], ◌∷◌, ◌++◌, None, Option, option_and_then, refl, ap, ◌∙◌, sym}
 use Rattle.ob0_tree.specs.declared.tree.Role.{Role}
 use Rattle.ob0_tree.specs.declared.tree.Role.TheVariants as role
-use Rattle.ob0_tree.specs.Tree.{Sort, Tree, GrammarItem, item, adds, array_type, assigns, begins, branches, calls, compares, declares, declares_constant, declares_constants, declares_procedure, declares_type, declares_types, declares_variable, declares_variables, designator, else_branch, elsif_branch, empty, end, field, forms_block, identifiers, index, integer, is_module, listed, mapped_tree, more, multiplies, named_type, negation, no_arguments, no_fields, no_formals, none, occurrences, one, parenthesised, product, record_type, relates, repeat_loop, runs, some_arguments, some_fields, some_formals, sum, then_argument, then_fields, then_name, then_section, then_statement, value_section, variable_section, while_loop}
+use Rattle.ob0_tree.specs.Tree.{Sort, Tree, GrammarItem, item, adds, array_type, assigns, begins, branches, calls, compares, declares, declares_constant, declares_const_section, declares_procedure, declares_type, declares_type_section, declares_variable, declares_var_section, designator, else_branch, elsif_branch, empty, end, field, forms_block, identifiers, index, integer, forms_module, listed, mapped_tree, more, multiplies, named_type, negation, no_arguments, no_fields, no_formals, none, occurrences, one, parenthesised, product, record_type, relates, repeat_loop, runs, some_arguments, some_fields, some_formals, sum, comma_then_argument, semicolon_then_fields, comma_then_name, semicolon_then_section, semicolon_then_statement, value_section, variable_section, while_loop}
 use Rattle.ob0_language_names.specs.Names.{Name}
 use Rattle.ob0_language_types.specs.Expressions.{Meanings}
 use Rattle.ob0_language_types.specs.Typing.{field_type, type_of_variable_or_constant}
 use Rattle.ob0_language_types.specs.WellTyped.{TypeMeanings}
 use Rattle.ob0_language_values.specs.Values.{Shape}
-use Rattle.ob0_language_fields.specs.Fields.{type_including_selector, record_ordinal, rename_fields}
-use Rattle.ob0_types_fields.specs.Owners.{renaming_by_record}
-use Rattle.ob0_types_fields.specs.Owned.{AgreesWithOwnerList, identifier_owners_in_tree, owner, type_after_selector, identifiers_without_owners, unowned_identifiers}
+use Rattle.ob0_language_fields.specs.Fields.{shape_after_selector, record_ordinal, rename_fields}
+use Rattle.ob0_types_fields.specs.OwnerTables.{renaming_by_record}
+use Rattle.ob0_types_fields.specs.IdentifierOwners.{AgreesWithOwnerList, identifier_owners_in_tree, owner, type_after_selector, identifiers_without_owners, unowned_identifiers}
 
 pub owners_split : (at : ℕ → Option ℕ) (xs ys : List (ℕ × Option ℕ)) → AgreesWithOwnerList at (xs ++ ys) → AgreesWithOwnerList at xs × AgreesWithOwnerList at ys
 owners_split at [] ys h = (tt, h)
@@ -75,17 +75,17 @@ identifiers_without_owners-mapped_tree l at text value r no_arguments h = refl
 identifiers_without_owners-mapped_tree l at text value r (some_arguments a b) h =
     let s0 = none_split at (identifiers r a) (identifiers r b) h in
     λ i. some_arguments (identifiers_without_owners-mapped_tree l at text value r a s0.0 i) (identifiers_without_owners-mapped_tree l at text value r b s0.1 i)
-identifiers_without_owners-mapped_tree l at text value r (then_argument a) h = λ i. then_argument (identifiers_without_owners-mapped_tree l at text value r a h i)
+identifiers_without_owners-mapped_tree l at text value r (comma_then_argument a) h = λ i. comma_then_argument (identifiers_without_owners-mapped_tree l at text value r a h i)
 identifiers_without_owners-mapped_tree l at text value r (runs a b) h =
     let s0 = none_split at (identifiers r a) (identifiers r b) h in
     λ i. runs (identifiers_without_owners-mapped_tree l at text value r a s0.0 i) (identifiers_without_owners-mapped_tree l at text value r b s0.1 i)
-identifiers_without_owners-mapped_tree l at text value r (then_statement a) h = λ i. then_statement (identifiers_without_owners-mapped_tree l at text value r a h i)
+identifiers_without_owners-mapped_tree l at text value r (semicolon_then_statement a) h = λ i. semicolon_then_statement (identifiers_without_owners-mapped_tree l at text value r a h i)
 identifiers_without_owners-mapped_tree l at text value r (elsif_branch a b) h =
     let s0 = none_split at (identifiers r a) (identifiers r b) h in
     λ i. elsif_branch (identifiers_without_owners-mapped_tree l at text value r a s0.0 i) (identifiers_without_owners-mapped_tree l at text value r b s0.1 i)
 identifiers_without_owners-mapped_tree l at text value r (else_branch a) h = λ i. else_branch (identifiers_without_owners-mapped_tree l at text value r a h i)
 identifiers_without_owners-mapped_tree l at text value r (listed a b) h = λ i. listed (renaming_by_record l (sym h.0 i) (text a)) (identifiers_without_owners-mapped_tree l at text value r b h.1 i)
-identifiers_without_owners-mapped_tree l at text value r (then_name a) h = λ i. then_name (renaming_by_record l (sym h.0 i) (text a))
+identifiers_without_owners-mapped_tree l at text value r (comma_then_name a) h = λ i. comma_then_name (renaming_by_record l (sym h.0 i) (text a))
 identifiers_without_owners-mapped_tree l at text value r (named_type a) h = λ i. named_type (renaming_by_record l (sym h.0 i) (text a))
 identifiers_without_owners-mapped_tree l at text value r (array_type a b) h =
     let s0 = none_split at (identifiers r a) (identifiers r b) h in
@@ -97,7 +97,7 @@ identifiers_without_owners-mapped_tree l at text value r no_fields h = refl
 identifiers_without_owners-mapped_tree l at text value r (some_fields a b) h =
     let s0 = none_split at (identifiers role.FieldName a) (identifiers r b) h in
     λ i. some_fields (identifiers_without_owners-mapped_tree l at text value role.FieldName a s0.0 i) (identifiers_without_owners-mapped_tree l at text value r b s0.1 i)
-identifiers_without_owners-mapped_tree l at text value r (then_fields a) h = λ i. then_fields (identifiers_without_owners-mapped_tree l at text value r a h i)
+identifiers_without_owners-mapped_tree l at text value r (semicolon_then_fields a) h = λ i. semicolon_then_fields (identifiers_without_owners-mapped_tree l at text value r a h i)
 identifiers_without_owners-mapped_tree l at text value r no_formals h = refl
 identifiers_without_owners-mapped_tree l at text value r (some_formals a b) h =
     let s0 = none_split at (identifiers r a) (identifiers r b) h in
@@ -108,15 +108,15 @@ identifiers_without_owners-mapped_tree l at text value r (value_section a b) h =
 identifiers_without_owners-mapped_tree l at text value r (variable_section a b) h =
     let s0 = none_split at (identifiers role.Declaring a) (identifiers r b) h in
     λ i. variable_section (identifiers_without_owners-mapped_tree l at text value role.Declaring a s0.0 i) (identifiers_without_owners-mapped_tree l at text value r b s0.1 i)
-identifiers_without_owners-mapped_tree l at text value r (then_section a) h = λ i. then_section (identifiers_without_owners-mapped_tree l at text value r a h i)
+identifiers_without_owners-mapped_tree l at text value r (semicolon_then_section a) h = λ i. semicolon_then_section (identifiers_without_owners-mapped_tree l at text value r a h i)
 identifiers_without_owners-mapped_tree l at text value r (declares_constant a b) h = λ i. declares_constant (renaming_by_record l (sym h.0 i) (text a)) (identifiers_without_owners-mapped_tree l at text value r b h.1 i)
-identifiers_without_owners-mapped_tree l at text value r (declares_constants a) h = λ i. declares_constants (identifiers_without_owners-mapped_tree l at text value r a h i)
+identifiers_without_owners-mapped_tree l at text value r (declares_const_section a) h = λ i. declares_const_section (identifiers_without_owners-mapped_tree l at text value r a h i)
 identifiers_without_owners-mapped_tree l at text value r (declares_type a b) h = λ i. declares_type (renaming_by_record l (sym h.0 i) (text a)) (identifiers_without_owners-mapped_tree l at text value r b h.1 i)
-identifiers_without_owners-mapped_tree l at text value r (declares_types a) h = λ i. declares_types (identifiers_without_owners-mapped_tree l at text value r a h i)
+identifiers_without_owners-mapped_tree l at text value r (declares_type_section a) h = λ i. declares_type_section (identifiers_without_owners-mapped_tree l at text value r a h i)
 identifiers_without_owners-mapped_tree l at text value r (declares_variable a b) h =
     let s0 = none_split at (identifiers role.Declaring a) (identifiers r b) h in
     λ i. declares_variable (identifiers_without_owners-mapped_tree l at text value role.Declaring a s0.0 i) (identifiers_without_owners-mapped_tree l at text value r b s0.1 i)
-identifiers_without_owners-mapped_tree l at text value r (declares_variables a) h = λ i. declares_variables (identifiers_without_owners-mapped_tree l at text value r a h i)
+identifiers_without_owners-mapped_tree l at text value r (declares_var_section a) h = λ i. declares_var_section (identifiers_without_owners-mapped_tree l at text value r a h i)
 identifiers_without_owners-mapped_tree l at text value r (declares_procedure a b c d) h =
     let s0 = none_split at (identifiers r b) (identifiers r c ++ ((role.ClosingName, d) ∷ [])) h.1 in
     let s1 = none_split at (identifiers r c) ((role.ClosingName, d) ∷ []) s0.1 in
@@ -130,9 +130,9 @@ identifiers_without_owners-mapped_tree l at text value r (begins a) h = λ i. be
 identifiers_without_owners-mapped_tree l at text value r (forms_block a b) h =
     let s0 = none_split at (identifiers r a) (identifiers r b) h in
     λ i. forms_block (identifiers_without_owners-mapped_tree l at text value r a s0.0 i) (identifiers_without_owners-mapped_tree l at text value r b s0.1 i)
-identifiers_without_owners-mapped_tree l at text value r (is_module a b c) h =
+identifiers_without_owners-mapped_tree l at text value r (forms_module a b c) h =
     let s0 = none_split at (identifiers r b) ((role.ModuleName, c) ∷ []) h.1 in
-    λ i. is_module (renaming_by_record l (sym h.0 i) (text a)) (identifiers_without_owners-mapped_tree l at text value r b s0.0 i) (renaming_by_record l (sym s0.1.0 i) (text c))
+    λ i. forms_module (renaming_by_record l (sym h.0 i) (text a)) (identifiers_without_owners-mapped_tree l at text value r b s0.0 i) (renaming_by_record l (sym s0.1.0 i) (text c))
 
 -- Rewriting a part without fields changes nothing.
 pub identifiers_without_owners-all : (l : ℕ → Name → Name) (at : ℕ → Option ℕ) (text : ℕ → Name) (value : ℕ → ℕ) {s : Sort} (t : Tree ℕ s) → AgreesWithOwnerList at (identifiers_without_owners t) → mapped_tree text value t ≡ mapped_tree (λ j. renaming_by_record l (at j) (text j)) value t
@@ -147,7 +147,7 @@ alike_split : {P : Type 0} (meaning : TypeMeanings Name) (m : Meanings ℕ Shape
 alike_split meaning m [] ys h = (tt, h)
 alike_split meaning m (x ∷ xs) ys h = let rest = alike_split meaning m xs ys h.1 in ((h.0, rest.0), rest.1)
 
-following-mapped_tree : {P : Type 0} {i : GrammarItem} (m : Meanings ℕ Shape P) (value : ℕ → ℕ) (s : Option Shape) (t : Tree ℕ (item i)) → type_including_selector s (mapped_tree m.written value t) ≡ type_after_selector m s t
+following-mapped_tree : {P : Type 0} {i : GrammarItem} (m : Meanings ℕ Shape P) (value : ℕ → ℕ) (s : Option Shape) (t : Tree ℕ (item i)) → shape_after_selector s (mapped_tree m.written value t) ≡ type_after_selector m s t
 following-mapped_tree m value s (relates a b) = refl
 following-mapped_tree m value s (adds a b) = refl
 following-mapped_tree m value s (multiplies a b) = refl
@@ -155,21 +155,21 @@ following-mapped_tree m value s (field a) = refl
 following-mapped_tree m value s (index a) = refl
 following-mapped_tree m value s no_arguments = refl
 following-mapped_tree m value s (some_arguments a b) = refl
-following-mapped_tree m value s (then_argument a) = refl
-following-mapped_tree m value s (then_statement a) = refl
+following-mapped_tree m value s (comma_then_argument a) = refl
+following-mapped_tree m value s (semicolon_then_statement a) = refl
 following-mapped_tree m value s (elsif_branch a b) = refl
 following-mapped_tree m value s (else_branch a) = refl
-following-mapped_tree m value s (then_name a) = refl
-following-mapped_tree m value s (then_fields a) = refl
+following-mapped_tree m value s (comma_then_name a) = refl
+following-mapped_tree m value s (semicolon_then_fields a) = refl
 following-mapped_tree m value s no_formals = refl
 following-mapped_tree m value s (some_formals a b) = refl
-following-mapped_tree m value s (then_section a) = refl
+following-mapped_tree m value s (semicolon_then_section a) = refl
 following-mapped_tree m value s (declares_constant a b) = refl
-following-mapped_tree m value s (declares_constants a) = refl
+following-mapped_tree m value s (declares_const_section a) = refl
 following-mapped_tree m value s (declares_type a b) = refl
-following-mapped_tree m value s (declares_types a) = refl
+following-mapped_tree m value s (declares_type_section a) = refl
 following-mapped_tree m value s (declares_variable a b) = refl
-following-mapped_tree m value s (declares_variables a) = refl
+following-mapped_tree m value s (declares_var_section a) = refl
 following-mapped_tree m value s (declares_procedure a b c d) = refl
 following-mapped_tree m value s (begins a) = refl
 
@@ -199,9 +199,9 @@ recorded m s (while_loop a b) = recorded m None a ++ (recorded m None b)
 recorded m s (repeat_loop a b) = recorded m None a ++ (recorded m None b)
 recorded m s no_arguments = []
 recorded m s (some_arguments a b) = recorded m None a ++ (recorded m None b)
-recorded m s (then_argument a) = recorded m None a
+recorded m s (comma_then_argument a) = recorded m None a
 recorded m s (runs a b) = recorded m None a ++ (recorded m None b)
-recorded m s (then_statement a) = recorded m None a
+recorded m s (semicolon_then_statement a) = recorded m None a
 recorded m s (elsif_branch a b) = recorded m None a ++ (recorded m None b)
 recorded m s (else_branch a) = recorded m None a
 recorded m s (begins a) = recorded m None a
@@ -266,41 +266,41 @@ recorded-mapped_tree l at meaning m value s (some_arguments a b) h e =
     let p0 = owners_split at (recorded m None a) (recorded m None b) h in
     let q0 = alike_split meaning m (occurrences a) (occurrences b) e in
     λ i. some_arguments (recorded-mapped_tree l at meaning m value None a p0.0 q0.0 i) (recorded-mapped_tree l at meaning m value None b p0.1 q0.1 i)
-recorded-mapped_tree l at meaning m value s (then_argument a) h e = λ i. then_argument (recorded-mapped_tree l at meaning m value None a h e i)
+recorded-mapped_tree l at meaning m value s (comma_then_argument a) h e = λ i. comma_then_argument (recorded-mapped_tree l at meaning m value None a h e i)
 recorded-mapped_tree l at meaning m value s (runs a b) h e =
     let p0 = owners_split at (recorded m None a) (recorded m None b) h in
     let q0 = alike_split meaning m (occurrences a) (occurrences b) e in
     λ i. runs (recorded-mapped_tree l at meaning m value None a p0.0 q0.0 i) (recorded-mapped_tree l at meaning m value None b p0.1 q0.1 i)
-recorded-mapped_tree l at meaning m value s (then_statement a) h e = λ i. then_statement (recorded-mapped_tree l at meaning m value None a h e i)
+recorded-mapped_tree l at meaning m value s (semicolon_then_statement a) h e = λ i. semicolon_then_statement (recorded-mapped_tree l at meaning m value None a h e i)
 recorded-mapped_tree l at meaning m value s (elsif_branch a b) h e =
     let p0 = owners_split at (recorded m None a) (recorded m None b) h in
     let q0 = alike_split meaning m (occurrences a) (occurrences b) e in
     λ i. elsif_branch (recorded-mapped_tree l at meaning m value None a p0.0 q0.0 i) (recorded-mapped_tree l at meaning m value None b p0.1 q0.1 i)
 recorded-mapped_tree l at meaning m value s (else_branch a) h e = λ i. else_branch (recorded-mapped_tree l at meaning m value None a h e i)
 recorded-mapped_tree l at meaning m value s (listed a b) h e = identifiers_without_owners-all l at m.written value (listed a b) h
-recorded-mapped_tree l at meaning m value s (then_name a) h e = identifiers_without_owners-all l at m.written value (then_name a) h
+recorded-mapped_tree l at meaning m value s (comma_then_name a) h e = identifiers_without_owners-all l at m.written value (comma_then_name a) h
 recorded-mapped_tree l at meaning m value s (named_type a) h e = identifiers_without_owners-all l at m.written value (named_type a) h
 recorded-mapped_tree l at meaning m value s (array_type a b) h e = identifiers_without_owners-all l at m.written value (array_type a b) h
 recorded-mapped_tree l at meaning m value s (record_type a b) h e = identifiers_without_owners-all l at m.written value (record_type a b) h
 recorded-mapped_tree l at meaning m value s no_fields h e = identifiers_without_owners-all l at m.written value no_fields h
 recorded-mapped_tree l at meaning m value s (some_fields a b) h e = identifiers_without_owners-all l at m.written value (some_fields a b) h
-recorded-mapped_tree l at meaning m value s (then_fields a) h e = identifiers_without_owners-all l at m.written value (then_fields a) h
+recorded-mapped_tree l at meaning m value s (semicolon_then_fields a) h e = identifiers_without_owners-all l at m.written value (semicolon_then_fields a) h
 recorded-mapped_tree l at meaning m value s no_formals h e = identifiers_without_owners-all l at m.written value no_formals h
 recorded-mapped_tree l at meaning m value s (some_formals a b) h e = identifiers_without_owners-all l at m.written value (some_formals a b) h
 recorded-mapped_tree l at meaning m value s (value_section a b) h e = identifiers_without_owners-all l at m.written value (value_section a b) h
 recorded-mapped_tree l at meaning m value s (variable_section a b) h e = identifiers_without_owners-all l at m.written value (variable_section a b) h
-recorded-mapped_tree l at meaning m value s (then_section a) h e = identifiers_without_owners-all l at m.written value (then_section a) h
+recorded-mapped_tree l at meaning m value s (semicolon_then_section a) h e = identifiers_without_owners-all l at m.written value (semicolon_then_section a) h
 recorded-mapped_tree l at meaning m value s (declares_constant a b) h e = identifiers_without_owners-all l at m.written value (declares_constant a b) h
-recorded-mapped_tree l at meaning m value s (declares_constants a) h e = identifiers_without_owners-all l at m.written value (declares_constants a) h
+recorded-mapped_tree l at meaning m value s (declares_const_section a) h e = identifiers_without_owners-all l at m.written value (declares_const_section a) h
 recorded-mapped_tree l at meaning m value s (declares_type a b) h e = identifiers_without_owners-all l at m.written value (declares_type a b) h
-recorded-mapped_tree l at meaning m value s (declares_types a) h e = identifiers_without_owners-all l at m.written value (declares_types a) h
+recorded-mapped_tree l at meaning m value s (declares_type_section a) h e = identifiers_without_owners-all l at m.written value (declares_type_section a) h
 recorded-mapped_tree l at meaning m value s (declares_variable a b) h e = identifiers_without_owners-all l at m.written value (declares_variable a b) h
-recorded-mapped_tree l at meaning m value s (declares_variables a) h e = identifiers_without_owners-all l at m.written value (declares_variables a) h
+recorded-mapped_tree l at meaning m value s (declares_var_section a) h e = identifiers_without_owners-all l at m.written value (declares_var_section a) h
 recorded-mapped_tree l at meaning m value s (declares_procedure a b c d) h e = identifiers_without_owners-all l at m.written value (declares_procedure a b c d) h
 recorded-mapped_tree l at meaning m value s (declares a b c d) h e = identifiers_without_owners-all l at m.written value (declares a b c d) h
 recorded-mapped_tree l at meaning m value s (begins a) h e = λ i. begins (recorded-mapped_tree l at meaning m value None a h e i)
 recorded-mapped_tree l at meaning m value s (forms_block a b) h e = identifiers_without_owners-all l at m.written value (forms_block a b) h
-recorded-mapped_tree l at meaning m value s (is_module a b c) h e = identifiers_without_owners-all l at m.written value (is_module a b c) h
+recorded-mapped_tree l at meaning m value s (forms_module a b c) h e = identifiers_without_owners-all l at m.written value (forms_module a b c) h
 
 -- holds if the values of names have the same types in both meanings
 abbrev pub SameTypes : {P Q : Type 0} → Meanings ℕ Shape P → Meanings ℕ Shape Q → List ℕ → Type 0
@@ -319,21 +319,21 @@ type_after_selector-same m n same s (field a) = λ i. option_and_then (λ t. fie
 type_after_selector-same m n same s (index a) = refl
 type_after_selector-same m n same s no_arguments = refl
 type_after_selector-same m n same s (some_arguments a b) = refl
-type_after_selector-same m n same s (then_argument a) = refl
-type_after_selector-same m n same s (then_statement a) = refl
+type_after_selector-same m n same s (comma_then_argument a) = refl
+type_after_selector-same m n same s (semicolon_then_statement a) = refl
 type_after_selector-same m n same s (elsif_branch a b) = refl
 type_after_selector-same m n same s (else_branch a) = refl
-type_after_selector-same m n same s (then_name a) = refl
-type_after_selector-same m n same s (then_fields a) = refl
+type_after_selector-same m n same s (comma_then_name a) = refl
+type_after_selector-same m n same s (semicolon_then_fields a) = refl
 type_after_selector-same m n same s no_formals = refl
 type_after_selector-same m n same s (some_formals a b) = refl
-type_after_selector-same m n same s (then_section a) = refl
+type_after_selector-same m n same s (semicolon_then_section a) = refl
 type_after_selector-same m n same s (declares_constant a b) = refl
-type_after_selector-same m n same s (declares_constants a) = refl
+type_after_selector-same m n same s (declares_const_section a) = refl
 type_after_selector-same m n same s (declares_type a b) = refl
-type_after_selector-same m n same s (declares_types a) = refl
+type_after_selector-same m n same s (declares_type_section a) = refl
 type_after_selector-same m n same s (declares_variable a b) = refl
-type_after_selector-same m n same s (declares_variables a) = refl
+type_after_selector-same m n same s (declares_var_section a) = refl
 type_after_selector-same m n same s (declares_procedure a b c d) = refl
 type_after_selector-same m n same s (begins a) = refl
 
@@ -382,39 +382,39 @@ identifier_owners_in_tree-alike m n same s no_arguments e = refl
 identifier_owners_in_tree-alike m n same s (some_arguments a b) e =
     let q0 = types_split m n (occurrences a) (occurrences b) e in
     λ i. identifier_owners_in_tree-alike m n same None a q0.0 i ++ (identifier_owners_in_tree-alike m n same None b q0.1 i)
-identifier_owners_in_tree-alike m n same s (then_argument a) e = λ i. identifier_owners_in_tree-alike m n same None a e i
+identifier_owners_in_tree-alike m n same s (comma_then_argument a) e = λ i. identifier_owners_in_tree-alike m n same None a e i
 identifier_owners_in_tree-alike m n same s (runs a b) e =
     let q0 = types_split m n (occurrences a) (occurrences b) e in
     λ i. identifier_owners_in_tree-alike m n same None a q0.0 i ++ (identifier_owners_in_tree-alike m n same None b q0.1 i)
-identifier_owners_in_tree-alike m n same s (then_statement a) e = λ i. identifier_owners_in_tree-alike m n same None a e i
+identifier_owners_in_tree-alike m n same s (semicolon_then_statement a) e = λ i. identifier_owners_in_tree-alike m n same None a e i
 identifier_owners_in_tree-alike m n same s (elsif_branch a b) e =
     let q0 = types_split m n (occurrences a) (occurrences b) e in
     λ i. identifier_owners_in_tree-alike m n same None a q0.0 i ++ (identifier_owners_in_tree-alike m n same None b q0.1 i)
 identifier_owners_in_tree-alike m n same s (else_branch a) e = λ i. identifier_owners_in_tree-alike m n same None a e i
 identifier_owners_in_tree-alike m n same s (listed a b) e = refl
-identifier_owners_in_tree-alike m n same s (then_name a) e = refl
+identifier_owners_in_tree-alike m n same s (comma_then_name a) e = refl
 identifier_owners_in_tree-alike m n same s (named_type a) e = refl
 identifier_owners_in_tree-alike m n same s (array_type a b) e = refl
 identifier_owners_in_tree-alike m n same s (record_type a b) e = refl
 identifier_owners_in_tree-alike m n same s no_fields e = refl
 identifier_owners_in_tree-alike m n same s (some_fields a b) e = refl
-identifier_owners_in_tree-alike m n same s (then_fields a) e = refl
+identifier_owners_in_tree-alike m n same s (semicolon_then_fields a) e = refl
 identifier_owners_in_tree-alike m n same s no_formals e = refl
 identifier_owners_in_tree-alike m n same s (some_formals a b) e = refl
 identifier_owners_in_tree-alike m n same s (value_section a b) e = refl
 identifier_owners_in_tree-alike m n same s (variable_section a b) e = refl
-identifier_owners_in_tree-alike m n same s (then_section a) e = refl
+identifier_owners_in_tree-alike m n same s (semicolon_then_section a) e = refl
 identifier_owners_in_tree-alike m n same s (declares_constant a b) e = refl
-identifier_owners_in_tree-alike m n same s (declares_constants a) e = refl
+identifier_owners_in_tree-alike m n same s (declares_const_section a) e = refl
 identifier_owners_in_tree-alike m n same s (declares_type a b) e = refl
-identifier_owners_in_tree-alike m n same s (declares_types a) e = refl
+identifier_owners_in_tree-alike m n same s (declares_type_section a) e = refl
 identifier_owners_in_tree-alike m n same s (declares_variable a b) e = refl
-identifier_owners_in_tree-alike m n same s (declares_variables a) e = refl
+identifier_owners_in_tree-alike m n same s (declares_var_section a) e = refl
 identifier_owners_in_tree-alike m n same s (declares_procedure a b c d) e = refl
 identifier_owners_in_tree-alike m n same s (declares a b c d) e = refl
 identifier_owners_in_tree-alike m n same s (begins a) e = λ i. identifier_owners_in_tree-alike m n same None a e i
 identifier_owners_in_tree-alike m n same s (forms_block a b) e = refl
-identifier_owners_in_tree-alike m n same s (is_module a b c) e = refl
+identifier_owners_in_tree-alike m n same s (forms_module a b c) e = refl
 
 pub recorded-alike : {P Q : Type 0} {sort : Sort} (m : Meanings ℕ Shape P) (n : Meanings ℕ Shape Q) (same : (x : ℕ) → m.written x ≡ n.written x) (s : Option Shape) (t : Tree ℕ sort) → SameTypes m n (occurrences t) → recorded m s t ≡ recorded n s t
 recorded-alike m n same s none e = refl
@@ -461,36 +461,36 @@ recorded-alike m n same s no_arguments e = refl
 recorded-alike m n same s (some_arguments a b) e =
     let q0 = types_split m n (occurrences a) (occurrences b) e in
     λ i. recorded-alike m n same None a q0.0 i ++ (recorded-alike m n same None b q0.1 i)
-recorded-alike m n same s (then_argument a) e = λ i. recorded-alike m n same None a e i
+recorded-alike m n same s (comma_then_argument a) e = λ i. recorded-alike m n same None a e i
 recorded-alike m n same s (runs a b) e =
     let q0 = types_split m n (occurrences a) (occurrences b) e in
     λ i. recorded-alike m n same None a q0.0 i ++ (recorded-alike m n same None b q0.1 i)
-recorded-alike m n same s (then_statement a) e = λ i. recorded-alike m n same None a e i
+recorded-alike m n same s (semicolon_then_statement a) e = λ i. recorded-alike m n same None a e i
 recorded-alike m n same s (elsif_branch a b) e =
     let q0 = types_split m n (occurrences a) (occurrences b) e in
     λ i. recorded-alike m n same None a q0.0 i ++ (recorded-alike m n same None b q0.1 i)
 recorded-alike m n same s (else_branch a) e = λ i. recorded-alike m n same None a e i
 recorded-alike m n same s (listed a b) e = refl
-recorded-alike m n same s (then_name a) e = refl
+recorded-alike m n same s (comma_then_name a) e = refl
 recorded-alike m n same s (named_type a) e = refl
 recorded-alike m n same s (array_type a b) e = refl
 recorded-alike m n same s (record_type a b) e = refl
 recorded-alike m n same s no_fields e = refl
 recorded-alike m n same s (some_fields a b) e = refl
-recorded-alike m n same s (then_fields a) e = refl
+recorded-alike m n same s (semicolon_then_fields a) e = refl
 recorded-alike m n same s no_formals e = refl
 recorded-alike m n same s (some_formals a b) e = refl
 recorded-alike m n same s (value_section a b) e = refl
 recorded-alike m n same s (variable_section a b) e = refl
-recorded-alike m n same s (then_section a) e = refl
+recorded-alike m n same s (semicolon_then_section a) e = refl
 recorded-alike m n same s (declares_constant a b) e = refl
-recorded-alike m n same s (declares_constants a) e = refl
+recorded-alike m n same s (declares_const_section a) e = refl
 recorded-alike m n same s (declares_type a b) e = refl
-recorded-alike m n same s (declares_types a) e = refl
+recorded-alike m n same s (declares_type_section a) e = refl
 recorded-alike m n same s (declares_variable a b) e = refl
-recorded-alike m n same s (declares_variables a) e = refl
+recorded-alike m n same s (declares_var_section a) e = refl
 recorded-alike m n same s (declares_procedure a b c d) e = refl
 recorded-alike m n same s (declares a b c d) e = refl
 recorded-alike m n same s (begins a) e = λ i. recorded-alike m n same None a e i
 recorded-alike m n same s (forms_block a b) e = refl
-recorded-alike m n same s (is_module a b c) e = refl
+recorded-alike m n same s (forms_module a b c) e = refl

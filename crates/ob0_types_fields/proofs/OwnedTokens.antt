@@ -5,17 +5,17 @@ use Rattle.std.proofs.Math.ListN.{length-set}
 use Rattle.std.proofs.lemmas.List.{get_or-replicate, length-replicate, map-append}
 use Rattle.ob0_tree.specs.declared.tree.Role.{Role}
 use Rattle.ob0_tree.specs.declared.tree.Role.TheVariants as role
-use Rattle.ob0_tree.specs.Order.{AreAscendingWithin, identifier_names, names_without_roles}
+use Rattle.ob0_tree.specs.IdentifierIndexes.{AreAscendingWithin, identifier_names, names_without_roles}
 use Rattle.ob0_tree.specs.ParsedModule.{tree_of}
-use Rattle.ob0_tree.specs.Tree.{Sort, Tree, item, adds, array_type, assigns, begins, branches, calls, compares, declares, declares_constant, declares_constants, declares_procedure, declares_type, declares_types, declares_variable, declares_variables, designator, else_branch, elsif_branch, empty, end, field, forms_block, identifiers, index, integer, is_module, listed, more, multiplies, named_type, negation, no_arguments, no_fields, no_formals, none, one, parenthesised, product, record_type, relates, repeat_loop, runs, some_arguments, some_fields, some_formals, sum, then_argument, then_fields, then_name, then_section, then_statement, value_section, variable_section, while_loop, block, names, written_type, fields, further_name, further_fields, section, further_section, formals, type_definition, type_definitions, variable, variables, procedure, module_text, items, maybe}
+use Rattle.ob0_tree.specs.Tree.{Sort, Tree, item, adds, array_type, assigns, begins, branches, calls, compares, declares, declares_constant, declares_const_section, declares_procedure, declares_type, declares_type_section, declares_variable, declares_var_section, designator, else_branch, elsif_branch, empty, end, field, forms_block, identifiers, index, integer, forms_module, listed, more, multiplies, named_type, negation, no_arguments, no_fields, no_formals, none, one, parenthesised, product, record_type, relates, repeat_loop, runs, some_arguments, some_fields, some_formals, sum, comma_then_argument, semicolon_then_fields, comma_then_name, semicolon_then_section, semicolon_then_statement, value_section, variable_section, while_loop, block, names, written_type, fields, name_after_comma, fields_after_semicolon, section, section_after_semicolon, formals, type_definition, type_definitions, variable, variables, procedure, module_text, items, maybe}
 use Rattle.ob0_tree.proofs.Leaves.{ascending_bounds, leaves_ascend}
-use Rattle.ob0_language_names.specs.Parts.{further_names, names_in_list, parameter_section_type}
+use Rattle.ob0_language_names.specs.BlockParts.{names_after_first, names_in_list, parameter_section_type}
 use Rattle.ob0_scope_table.specs.Resolution.{IsResolution, Resolution, ordinal_in}
 use Rattle.ob0_language_types.specs.Declarations.{constructors_before_procedure_block, constructors_before_variables, constructors_before_procedures, procedure_constructor_count}
 use Rattle.ob0_language_types.specs.Expressions.{Meanings}
 use Rattle.ob0_language_types.specs.Typing.{constructor_count, group_constructor_count, type_of_variable_or_constant}
 use Rattle.ob0_language_values.specs.Values.{Shape}
-use Rattle.ob0_types_fields.specs.Owned.{AgreesWithOwnerList, TableWithEnteredOwnersIsOwnerTable, fields_with_owners, identifier_owners_in_tree, identifier_owners_in_block, identifier_owners_in_formals, identifier_owners_in_group, identifier_owners_in_groups, identifier_owners_in_module, identifier_owners_in_procedure, identifier_owners_in_procedures, identifier_owners_in_parameter_section, identifier_owners_in_parameter_sections, identifier_owners_in_resolution, identifier_owners_in_type, identifier_owners_in_type_section, identifier_owners_in_types, identifier_owners_in_variable_section, identifier_owners_in_variables, type_after_selector, identifiers_without_owners, unowned_identifiers, table_with_owners}
+use Rattle.ob0_types_fields.specs.IdentifierOwners.{AgreesWithOwnerList, TableWithEnteredOwnersIsOwnerTable, fields_with_owners, identifier_owners_in_tree, identifier_owners_in_block, identifier_owners_in_formals, identifier_owners_in_group, identifier_owners_in_groups, identifier_owners_in_module, identifier_owners_in_procedure, identifier_owners_in_procedures, identifier_owners_in_parameter_section, identifier_owners_in_parameter_sections, identifier_owners_in_resolution, identifier_owners_in_type, identifier_owners_in_type_section, identifier_owners_in_types, identifier_owners_in_variable_section, identifier_owners_in_variables, type_after_selector, identifiers_without_owners, unowned_identifiers, table_with_owners}
 use Rattle.ob0_types_fields.proofs.OwnedModules.{agreeing_table_is_owner_table-holds}
 
 abbrev pub tokens : List (ℕ × Option ℕ) → List ℕ
@@ -56,39 +56,39 @@ identifier_owners_in_tree-tokens m s (while_loop a b) = both-tokens (identifier_
 identifier_owners_in_tree-tokens m s (repeat_loop a b) = both-tokens (identifier_owners_in_tree m None a) (identifier_owners_in_tree m None b) (identifiers role.Declaring a) (identifiers role.Declaring b) (identifier_owners_in_tree-tokens m None a) (identifier_owners_in_tree-tokens m None b)
 identifier_owners_in_tree-tokens m s no_arguments = refl
 identifier_owners_in_tree-tokens m s (some_arguments a b) = both-tokens (identifier_owners_in_tree m None a) (identifier_owners_in_tree m None b) (identifiers role.Declaring a) (identifiers role.Declaring b) (identifier_owners_in_tree-tokens m None a) (identifier_owners_in_tree-tokens m None b)
-identifier_owners_in_tree-tokens m s (then_argument a) = identifier_owners_in_tree-tokens m None a
+identifier_owners_in_tree-tokens m s (comma_then_argument a) = identifier_owners_in_tree-tokens m None a
 identifier_owners_in_tree-tokens m s (runs a b) = both-tokens (identifier_owners_in_tree m None a) (identifier_owners_in_tree m None b) (identifiers role.Declaring a) (identifiers role.Declaring b) (identifier_owners_in_tree-tokens m None a) (identifier_owners_in_tree-tokens m None b)
-identifier_owners_in_tree-tokens m s (then_statement a) = identifier_owners_in_tree-tokens m None a
+identifier_owners_in_tree-tokens m s (semicolon_then_statement a) = identifier_owners_in_tree-tokens m None a
 identifier_owners_in_tree-tokens m s (elsif_branch a b) = both-tokens (identifier_owners_in_tree m None a) (identifier_owners_in_tree m None b) (identifiers role.Declaring a) (identifiers role.Declaring b) (identifier_owners_in_tree-tokens m None a) (identifier_owners_in_tree-tokens m None b)
 identifier_owners_in_tree-tokens m s (else_branch a) = identifier_owners_in_tree-tokens m None a
 identifier_owners_in_tree-tokens m s (listed a b) = identifiers_without_owners-tokens (identifiers role.Declaring (listed a b))
-identifier_owners_in_tree-tokens m s (then_name a) = identifiers_without_owners-tokens (identifiers role.Declaring (then_name a))
+identifier_owners_in_tree-tokens m s (comma_then_name a) = identifiers_without_owners-tokens (identifiers role.Declaring (comma_then_name a))
 identifier_owners_in_tree-tokens m s (named_type a) = identifiers_without_owners-tokens (identifiers role.Declaring (named_type a))
 identifier_owners_in_tree-tokens m s (array_type a b) = identifiers_without_owners-tokens (identifiers role.Declaring (array_type a b))
 identifier_owners_in_tree-tokens m s (record_type a b) = identifiers_without_owners-tokens (identifiers role.Declaring (record_type a b))
 identifier_owners_in_tree-tokens m s no_fields = identifiers_without_owners-tokens (identifiers role.Declaring no_fields)
 identifier_owners_in_tree-tokens m s (some_fields a b) = identifiers_without_owners-tokens (identifiers role.Declaring (some_fields a b))
-identifier_owners_in_tree-tokens m s (then_fields a) = identifiers_without_owners-tokens (identifiers role.Declaring (then_fields a))
+identifier_owners_in_tree-tokens m s (semicolon_then_fields a) = identifiers_without_owners-tokens (identifiers role.Declaring (semicolon_then_fields a))
 identifier_owners_in_tree-tokens m s no_formals = identifiers_without_owners-tokens (identifiers role.Declaring no_formals)
 identifier_owners_in_tree-tokens m s (some_formals a b) = identifiers_without_owners-tokens (identifiers role.Declaring (some_formals a b))
 identifier_owners_in_tree-tokens m s (value_section a b) = identifiers_without_owners-tokens (identifiers role.Declaring (value_section a b))
 identifier_owners_in_tree-tokens m s (variable_section a b) = identifiers_without_owners-tokens (identifiers role.Declaring (variable_section a b))
-identifier_owners_in_tree-tokens m s (then_section a) = identifiers_without_owners-tokens (identifiers role.Declaring (then_section a))
+identifier_owners_in_tree-tokens m s (semicolon_then_section a) = identifiers_without_owners-tokens (identifiers role.Declaring (semicolon_then_section a))
 identifier_owners_in_tree-tokens m s (declares_constant a b) = identifiers_without_owners-tokens (identifiers role.Declaring (declares_constant a b))
-identifier_owners_in_tree-tokens m s (declares_constants a) = identifiers_without_owners-tokens (identifiers role.Declaring (declares_constants a))
+identifier_owners_in_tree-tokens m s (declares_const_section a) = identifiers_without_owners-tokens (identifiers role.Declaring (declares_const_section a))
 identifier_owners_in_tree-tokens m s (declares_type a b) = identifiers_without_owners-tokens (identifiers role.Declaring (declares_type a b))
-identifier_owners_in_tree-tokens m s (declares_types a) = identifiers_without_owners-tokens (identifiers role.Declaring (declares_types a))
+identifier_owners_in_tree-tokens m s (declares_type_section a) = identifiers_without_owners-tokens (identifiers role.Declaring (declares_type_section a))
 identifier_owners_in_tree-tokens m s (declares_variable a b) = identifiers_without_owners-tokens (identifiers role.Declaring (declares_variable a b))
-identifier_owners_in_tree-tokens m s (declares_variables a) = identifiers_without_owners-tokens (identifiers role.Declaring (declares_variables a))
+identifier_owners_in_tree-tokens m s (declares_var_section a) = identifiers_without_owners-tokens (identifiers role.Declaring (declares_var_section a))
 identifier_owners_in_tree-tokens m s (declares_procedure a b c d) = identifiers_without_owners-tokens (identifiers role.Declaring (declares_procedure a b c d))
 identifier_owners_in_tree-tokens m s (declares a b c d) = identifiers_without_owners-tokens (identifiers role.Declaring (declares a b c d))
 identifier_owners_in_tree-tokens m s (begins a) = identifier_owners_in_tree-tokens m None a
 identifier_owners_in_tree-tokens m s (forms_block a b) = identifiers_without_owners-tokens (identifiers role.Declaring (forms_block a b))
-identifier_owners_in_tree-tokens m s (is_module a b c) = identifiers_without_owners-tokens (identifiers role.Declaring (is_module a b c))
+identifier_owners_in_tree-tokens m s (forms_module a b c) = identifiers_without_owners-tokens (identifiers role.Declaring (forms_module a b c))
 
-further-tokens : (k : ℕ) (ns : Tree ℕ (items further_name)) → tokens (map (λ x. (x, Some k)) (further_names ns)) ≡ names_without_roles (identifiers role.FieldName ns)
+further-tokens : (k : ℕ) (ns : Tree ℕ (items name_after_comma)) → tokens (map (λ x. (x, Some k)) (names_after_first ns)) ≡ names_without_roles (identifiers role.FieldName ns)
 further-tokens k end = refl
-further-tokens k (more (then_name x) rest) = ap (λ z. x ∷ z) (further-tokens k rest)
+further-tokens k (more (comma_then_name x) rest) = ap (λ z. x ∷ z) (further-tokens k rest)
 
 names-tokens : (k : ℕ) (ns : Tree ℕ names) → tokens (map (λ x. (x, Some k)) (names_in_list ns)) ≡ names_without_roles (identifiers role.FieldName ns)
 names-tokens k (listed x rest) = ap (λ z. x ∷ z) (further-tokens k rest)
@@ -107,9 +107,9 @@ mutual
   group-tokens r k no_fields = refl
   group-tokens r k (some_fields ns t) = both-tokens (map (λ x. (x, Some r)) (names_in_list ns)) (identifier_owners_in_type k t) (identifiers role.FieldName ns) (identifiers role.Declaring t) (names-tokens r ns) (type-tokens k t)
 
-  groups-tokens : (r k : ℕ) (gs : Tree ℕ (items further_fields)) → tokens (identifier_owners_in_groups r k gs) ≡ names_without_roles (identifiers role.Declaring gs)
+  groups-tokens : (r k : ℕ) (gs : Tree ℕ (items fields_after_semicolon)) → tokens (identifier_owners_in_groups r k gs) ≡ names_without_roles (identifiers role.Declaring gs)
   groups-tokens r k end = refl
-  groups-tokens r k (more (then_fields g) rest) =
+  groups-tokens r k (more (semicolon_then_fields g) rest) =
       both-tokens (identifier_owners_in_group r k g) (identifier_owners_in_groups r (k + group_constructor_count g) rest) (identifiers role.Declaring g) (identifiers role.Declaring rest) (group-tokens r k g) (groups-tokens r (k + group_constructor_count g) rest)
 
 types-tokens : (k : ℕ) (ds : Tree ℕ (items type_definition)) → tokens (identifier_owners_in_types k ds) ≡ names_without_roles (identifiers role.Declaring ds)
@@ -119,7 +119,7 @@ types-tokens k (more (declares_type x u) ds) =
 
 type_section-tokens : (k : ℕ) (ts : Tree ℕ (maybe type_definitions)) → tokens (identifier_owners_in_type_section k ts) ≡ names_without_roles (identifiers role.Declaring ts)
 type_section-tokens k none = refl
-type_section-tokens k (one (declares_types ts)) = types-tokens k ts
+type_section-tokens k (one (declares_type_section ts)) = types-tokens k ts
 
 typed-tokens : (k : ℕ) (ns : Tree ℕ names) (u : Tree ℕ written_type) → tokens (identifiers_without_owners ns ++ identifier_owners_in_type k u) ≡ names_without_roles (identifiers role.Declaring ns ++ identifiers role.Declaring u)
 typed-tokens k ns u = both-tokens (identifiers_without_owners ns) (identifier_owners_in_type k u) (identifiers role.Declaring ns) (identifiers role.Declaring u) (plain-tokens ns) (type-tokens k u)
@@ -131,15 +131,15 @@ variables-tokens k (more (declares_variable ns u) gs) =
 
 variable_section-tokens : (k : ℕ) (vs : Tree ℕ (maybe variables)) → tokens (identifier_owners_in_variable_section k vs) ≡ names_without_roles (identifiers role.Declaring vs)
 variable_section-tokens k none = refl
-variable_section-tokens k (one (declares_variables vs)) = variables-tokens k vs
+variable_section-tokens k (one (declares_var_section vs)) = variables-tokens k vs
 
 section-tokens : (k : ℕ) (f : Tree ℕ section) → tokens (identifier_owners_in_parameter_section k f) ≡ names_without_roles (identifiers role.Declaring f)
 section-tokens k (value_section ns u) = typed-tokens k ns u
 section-tokens k (variable_section ns u) = typed-tokens k ns u
 
-sections-tokens : (k : ℕ) (fs : Tree ℕ (items further_section)) → tokens (identifier_owners_in_parameter_sections k fs) ≡ names_without_roles (identifiers role.Declaring fs)
+sections-tokens : (k : ℕ) (fs : Tree ℕ (items section_after_semicolon)) → tokens (identifier_owners_in_parameter_sections k fs) ≡ names_without_roles (identifiers role.Declaring fs)
 sections-tokens k end = refl
-sections-tokens k (more (then_section f) fs) =
+sections-tokens k (more (semicolon_then_section f) fs) =
     both-tokens (identifier_owners_in_parameter_section k f) (identifier_owners_in_parameter_sections (k + constructor_count (parameter_section_type f)) fs) (identifiers role.Declaring f) (identifiers role.Declaring fs) (section-tokens k f) (sections-tokens (k + constructor_count (parameter_section_type f)) fs)
 
 formals-tokens : (k : ℕ) (fs : Tree ℕ (maybe formals)) → tokens (identifier_owners_in_formals k fs) ≡ names_without_roles (identifiers role.Declaring fs)
@@ -171,7 +171,7 @@ mutual
       (procedures-tokens m (k + procedure_constructor_count p) rest)
 
 pub module-tokens : {P : Type 0} (m : Meanings ℕ Shape P) (t : Tree ℕ module_text) → tokens (identifier_owners_in_module m t) ≡ identifier_names t
-module-tokens m (is_module x b closing) =
+module-tokens m (forms_module x b closing) =
     ap (λ z. x ∷ z) (both-tokens (identifier_owners_in_block m 0 b) ((closing, None) ∷ []) (identifiers role.Declaring b) ((role.ModuleName, closing) ∷ []) (block-tokens m 0 b) refl)
 
 -- ---- the table

@@ -1,15 +1,15 @@
 -- Rewriting the fields in declarations is the same as rewriting each token according to a table of
 -- owners.
 use Rattle.std.proofs.Common.{◌≡◌, ℕ, suc, ◌+◌, ◌++◌, map, Some, Option, refl, ap, ◌∙◌, sym}
-use Rattle.ob0_tree.specs.Tree.{Tree, item, items, maybe, array_type, block, declares, declares_procedure, declares_type, declares_types, declares_variable, declares_variables, end, fields, formals, further_fields, further_name, further_section, forms_block, listed, mapped_tree, more, named_type, names, no_fields, no_formals, none, one, procedure, record_type, section, some_fields, some_formals, then_fields, then_name, then_section, type_definition, type_definitions, value_section, variable, variable_section, variables, written_type}
-use Rattle.ob0_language_names.specs.Mapping.{map_names}
+use Rattle.ob0_tree.specs.Tree.{Tree, item, items, maybe, array_type, block, declares, declares_procedure, declares_type, declares_type_section, declares_variable, declares_var_section, end, fields, formals, fields_after_semicolon, name_after_comma, section_after_semicolon, forms_block, listed, mapped_tree, more, named_type, names, no_fields, no_formals, none, one, procedure, record_type, section, some_fields, some_formals, semicolon_then_fields, comma_then_name, semicolon_then_section, type_definition, type_definitions, value_section, variable, variable_section, variables, written_type}
+use Rattle.ob0_language_names.specs.MappedNames.{map_names}
 use Rattle.ob0_language_names.specs.Names.{Name}
-use Rattle.ob0_language_names.specs.Parts.{formal_sections, further_names, names_in_list, parameter_section_type, section_types, section_variables}
+use Rattle.ob0_language_names.specs.BlockParts.{formal_sections, names_after_first, names_in_list, parameter_section_type, section_types, section_variables}
 use Rattle.ob0_language_types.specs.Declarations.{block_constructor_count, formals_constructor_count, procedure_constructor_count, procedures_constructor_count, types_constructor_count, variables_constructor_count}
 use Rattle.ob0_language_types.specs.Typing.{constructor_count, group_constructor_count, groups_constructor_count}
-use Rattle.ob0_language_fields.specs.Fields.{rename_fields_in_formals, rename_fields_in_group, rename_fields_in_groups, rename_fields_in_parameter_section, rename_fields_in_parameter_sections, rename_fields_in_type, rename_fields_in_type_section, rename_fields_in_types, rename_fields_in_variable_section, rename_fields_in_variables}
-use Rattle.ob0_types_fields.specs.Owners.{renaming_by_record}
-use Rattle.ob0_types_fields.specs.Owned.{AgreesWithOwnerList, identifier_owners_in_formals, identifier_owners_in_group, identifier_owners_in_groups, identifier_owners_in_parameter_section, identifier_owners_in_parameter_sections, identifier_owners_in_type, identifier_owners_in_type_section, identifier_owners_in_types, identifier_owners_in_variable_section, identifier_owners_in_variables, identifiers_without_owners}
+use Rattle.ob0_language_fields.specs.Fields.{rename_fields_in_formals, rename_fields_in_group, rename_fields_in_further_groups, rename_fields_in_parameter_section, rename_fields_in_further_parameter_sections, rename_fields_in_type, rename_fields_in_type_section, rename_fields_in_type_definitions, rename_fields_in_variable_section, rename_fields_in_variables}
+use Rattle.ob0_types_fields.specs.OwnerTables.{renaming_by_record}
+use Rattle.ob0_types_fields.specs.IdentifierOwners.{AgreesWithOwnerList, identifier_owners_in_formals, identifier_owners_in_group, identifier_owners_in_groups, identifier_owners_in_parameter_section, identifier_owners_in_parameter_sections, identifier_owners_in_type, identifier_owners_in_type_section, identifier_owners_in_types, identifier_owners_in_variable_section, identifier_owners_in_variables, identifiers_without_owners}
 use Rattle.ob0_types_fields.proofs.OwnedStatements.{owners_split, identifiers_without_owners-all}
 
 -- The number of words ARRAY and RECORD in a tree doesn't depend on the representation of its names.
@@ -24,9 +24,9 @@ module _ {M : Type 0} (f : ℕ → M) (g : ℕ → ℕ) where
     counted_group no_fields = refl
     counted_group (some_fields ns t) = counted_type t
 
-    pub counted_groups : (t : Tree ℕ (items further_fields)) → groups_constructor_count (mapped_tree f g t) ≡ groups_constructor_count t
+    pub counted_groups : (t : Tree ℕ (items fields_after_semicolon)) → groups_constructor_count (mapped_tree f g t) ≡ groups_constructor_count t
     counted_groups end = refl
-    counted_groups (more (then_fields group) rest) = λ i. counted_group group i + counted_groups rest i
+    counted_groups (more (semicolon_then_fields group) rest) = λ i. counted_group group i + counted_groups rest i
 
   pub counted_types : (ts : Tree ℕ (items type_definition)) → types_constructor_count (mapped_tree f g ts) ≡ types_constructor_count ts
   counted_types end = refl
@@ -40,9 +40,9 @@ module _ {M : Type 0} (f : ℕ → M) (g : ℕ → ℕ) where
   counted_section (value_section ns t) = counted_type t
   counted_section (variable_section ns t) = counted_type t
 
-  pub counted_formals : (fs : Tree ℕ (items further_section)) → formals_constructor_count (mapped_tree f g fs) ≡ formals_constructor_count fs
+  pub counted_formals : (fs : Tree ℕ (items section_after_semicolon)) → formals_constructor_count (mapped_tree f g fs) ≡ formals_constructor_count fs
   counted_formals end = refl
-  counted_formals (more (then_section s) fs) = λ i. counted_section s i + counted_formals fs i
+  counted_formals (more (semicolon_then_section s) fs) = λ i. counted_section s i + counted_formals fs i
 
   pub sections_mapped : (fs : Tree ℕ (maybe formals)) → formal_sections (mapped_tree f g fs) ≡ mapped_tree f g (formal_sections fs)
   sections_mapped none = refl
@@ -51,11 +51,11 @@ module _ {M : Type 0} (f : ℕ → M) (g : ℕ → ℕ) where
 
   pub types_mapped : (ts : Tree ℕ (maybe type_definitions)) → section_types (mapped_tree f g ts) ≡ mapped_tree f g (section_types ts)
   types_mapped none = refl
-  types_mapped (one (declares_types ts)) = refl
+  types_mapped (one (declares_type_section ts)) = refl
 
   pub variables_mapped : (vs : Tree ℕ (maybe variables)) → section_variables (mapped_tree f g vs) ≡ mapped_tree f g (section_variables vs)
   variables_mapped none = refl
-  variables_mapped (one (declares_variables vs)) = refl
+  variables_mapped (one (declares_var_section vs)) = refl
 
   pub counted_type_section : (ts : Tree ℕ (maybe type_definitions)) → types_constructor_count (section_types (mapped_tree f g ts)) ≡ types_constructor_count (section_types ts)
   counted_type_section ts = ap types_constructor_count (types_mapped ts) ∙ counted_types (section_types ts)
@@ -78,9 +78,9 @@ module _ {M : Type 0} (f : ℕ → M) (g : ℕ → ℕ) where
     counted_procedure (declares_procedure x fs b closing) = λ i. counted_formals_section fs i + counted_block b i
 
 module _ (l : ℕ → Name → Name) (at : ℕ → Option ℕ) (text : ℕ → Name) (value : ℕ → ℕ) where
-  further-identifier_owners_in_tree : (r : ℕ) (ns : Tree ℕ (items further_name)) → AgreesWithOwnerList at (map (λ x. (x, Some r)) (further_names ns)) → map_names (λ x. x) (renaming_by_record l (Some r)) (mapped_tree text value ns) ≡ mapped_tree (λ j. renaming_by_record l (at j) (text j)) value ns
+  further-identifier_owners_in_tree : (r : ℕ) (ns : Tree ℕ (items name_after_comma)) → AgreesWithOwnerList at (map (λ x. (x, Some r)) (names_after_first ns)) → map_names (λ x. x) (renaming_by_record l (Some r)) (mapped_tree text value ns) ≡ mapped_tree (λ j. renaming_by_record l (at j) (text j)) value ns
   further-identifier_owners_in_tree r end h = refl
-  further-identifier_owners_in_tree r (more (then_name x) rest) h = λ i. more (then_name (renaming_by_record l (sym h.0 i) (text x))) (further-identifier_owners_in_tree r rest h.1 i)
+  further-identifier_owners_in_tree r (more (comma_then_name x) rest) h = λ i. more (comma_then_name (renaming_by_record l (sym h.0 i) (text x))) (further-identifier_owners_in_tree r rest h.1 i)
 
   names-identifier_owners_in_tree : (r : ℕ) (ns : Tree ℕ names) → AgreesWithOwnerList at (map (λ x. (x, Some r)) (names_in_list ns)) → map_names (λ x. x) (renaming_by_record l (Some r)) (mapped_tree text value ns) ≡ mapped_tree (λ j. renaming_by_record l (at j) (text j)) value ns
   names-identifier_owners_in_tree r (listed x rest) h = λ i. listed (renaming_by_record l (sym h.0 i) (text x)) (further-identifier_owners_in_tree r rest h.1 i)
@@ -94,7 +94,7 @@ module _ (l : ℕ → Name → Name) (at : ℕ → Option ℕ) (text : ℕ → N
     type-identifier_owners_in_tree k (record_type g rest) h =
         let p = owners_split at (identifier_owners_in_group k (suc k) g) (identifier_owners_in_groups k (suc k + group_constructor_count g) rest) h in
         λ i. record_type (group-identifier_owners_in_tree k (suc k) g p.0 i)
-        ((ap (λ n. rename_fields_in_groups (renaming_by_record l) k (suc k + n) (mapped_tree text value rest)) (counted_group text value g) ∙ groups-identifier_owners_in_tree k (suc k + group_constructor_count g) rest p.1) i)
+        ((ap (λ n. rename_fields_in_further_groups (renaming_by_record l) k (suc k + n) (mapped_tree text value rest)) (counted_group text value g) ∙ groups-identifier_owners_in_tree k (suc k + group_constructor_count g) rest p.1) i)
 
     group-identifier_owners_in_tree : (r k : ℕ) (g : Tree ℕ fields) → AgreesWithOwnerList at (identifier_owners_in_group r k g) → rename_fields_in_group (renaming_by_record l) r k (mapped_tree text value g) ≡ mapped_tree (λ j. renaming_by_record l (at j) (text j)) value g
     group-identifier_owners_in_tree r k no_fields h = refl
@@ -102,23 +102,23 @@ module _ (l : ℕ → Name → Name) (at : ℕ → Option ℕ) (text : ℕ → N
         let p = owners_split at (map (λ x. (x, Some r)) (names_in_list ns)) (identifier_owners_in_type k t) h in
         λ i. some_fields (names-identifier_owners_in_tree r ns p.0 i) (type-identifier_owners_in_tree k t p.1 i)
 
-    groups-identifier_owners_in_tree : (r k : ℕ) (gs : Tree ℕ (items further_fields)) → AgreesWithOwnerList at (identifier_owners_in_groups r k gs) → rename_fields_in_groups (renaming_by_record l) r k (mapped_tree text value gs) ≡ mapped_tree (λ j. renaming_by_record l (at j) (text j)) value gs
+    groups-identifier_owners_in_tree : (r k : ℕ) (gs : Tree ℕ (items fields_after_semicolon)) → AgreesWithOwnerList at (identifier_owners_in_groups r k gs) → rename_fields_in_further_groups (renaming_by_record l) r k (mapped_tree text value gs) ≡ mapped_tree (λ j. renaming_by_record l (at j) (text j)) value gs
     groups-identifier_owners_in_tree r k end h = refl
-    groups-identifier_owners_in_tree r k (more (then_fields g) rest) h =
+    groups-identifier_owners_in_tree r k (more (semicolon_then_fields g) rest) h =
         let p = owners_split at (identifier_owners_in_group r k g) (identifier_owners_in_groups r (k + group_constructor_count g) rest) h in
-        λ i. more (then_fields (group-identifier_owners_in_tree r k g p.0 i))
-        ((ap (λ n. rename_fields_in_groups (renaming_by_record l) r (k + n) (mapped_tree text value rest)) (counted_group text value g) ∙ groups-identifier_owners_in_tree r (k + group_constructor_count g) rest p.1) i)
+        λ i. more (semicolon_then_fields (group-identifier_owners_in_tree r k g p.0 i))
+        ((ap (λ n. rename_fields_in_further_groups (renaming_by_record l) r (k + n) (mapped_tree text value rest)) (counted_group text value g) ∙ groups-identifier_owners_in_tree r (k + group_constructor_count g) rest p.1) i)
 
-  types-identifier_owners_in_tree : (k : ℕ) (ds : Tree ℕ (items type_definition)) → AgreesWithOwnerList at (identifier_owners_in_types k ds) → rename_fields_in_types (renaming_by_record l) k (mapped_tree text value ds) ≡ mapped_tree (λ j. renaming_by_record l (at j) (text j)) value ds
+  types-identifier_owners_in_tree : (k : ℕ) (ds : Tree ℕ (items type_definition)) → AgreesWithOwnerList at (identifier_owners_in_types k ds) → rename_fields_in_type_definitions (renaming_by_record l) k (mapped_tree text value ds) ≡ mapped_tree (λ j. renaming_by_record l (at j) (text j)) value ds
   types-identifier_owners_in_tree k end h = refl
   types-identifier_owners_in_tree k (more (declares_type x u) ds) h =
       let p = owners_split at (identifier_owners_in_type k u) (identifier_owners_in_types (k + constructor_count u) ds) h.1 in
       λ i. more (declares_type (renaming_by_record l (sym h.0 i) (text x)) (type-identifier_owners_in_tree k u p.0 i))
-      ((ap (λ n. rename_fields_in_types (renaming_by_record l) (k + n) (mapped_tree text value ds)) (counted_type text value u) ∙ types-identifier_owners_in_tree (k + constructor_count u) ds p.1) i)
+      ((ap (λ n. rename_fields_in_type_definitions (renaming_by_record l) (k + n) (mapped_tree text value ds)) (counted_type text value u) ∙ types-identifier_owners_in_tree (k + constructor_count u) ds p.1) i)
 
   pub type_section-identifier_owners_in_tree : (k : ℕ) (ts : Tree ℕ (maybe type_definitions)) → AgreesWithOwnerList at (identifier_owners_in_type_section k ts) → rename_fields_in_type_section (renaming_by_record l) k (mapped_tree text value ts) ≡ mapped_tree (λ j. renaming_by_record l (at j) (text j)) value ts
   type_section-identifier_owners_in_tree k none h = refl
-  type_section-identifier_owners_in_tree k (one (declares_types ts)) h = λ i. one (declares_types (types-identifier_owners_in_tree k ts h i))
+  type_section-identifier_owners_in_tree k (one (declares_type_section ts)) h = λ i. one (declares_type_section (types-identifier_owners_in_tree k ts h i))
 
   variables-identifier_owners_in_tree : (k : ℕ) (gs : Tree ℕ (items variable)) → AgreesWithOwnerList at (identifier_owners_in_variables k gs) → rename_fields_in_variables (renaming_by_record l) k (mapped_tree text value gs) ≡ mapped_tree (λ j. renaming_by_record l (at j) (text j)) value gs
   variables-identifier_owners_in_tree k end h = refl
@@ -130,7 +130,7 @@ module _ (l : ℕ → Name → Name) (at : ℕ → Option ℕ) (text : ℕ → N
 
   pub variable_section-identifier_owners_in_tree : (k : ℕ) (vs : Tree ℕ (maybe variables)) → AgreesWithOwnerList at (identifier_owners_in_variable_section k vs) → rename_fields_in_variable_section (renaming_by_record l) k (mapped_tree text value vs) ≡ mapped_tree (λ j. renaming_by_record l (at j) (text j)) value vs
   variable_section-identifier_owners_in_tree k none h = refl
-  variable_section-identifier_owners_in_tree k (one (declares_variables vs)) h = λ i. one (declares_variables (variables-identifier_owners_in_tree k vs h i))
+  variable_section-identifier_owners_in_tree k (one (declares_var_section vs)) h = λ i. one (declares_var_section (variables-identifier_owners_in_tree k vs h i))
 
   section-identifier_owners_in_tree : (k : ℕ) (f : Tree ℕ section) → AgreesWithOwnerList at (identifier_owners_in_parameter_section k f) → rename_fields_in_parameter_section (renaming_by_record l) k (mapped_tree text value f) ≡ mapped_tree (λ j. renaming_by_record l (at j) (text j)) value f
   section-identifier_owners_in_tree k (value_section ns u) h =
@@ -140,12 +140,12 @@ module _ (l : ℕ → Name → Name) (at : ℕ → Option ℕ) (text : ℕ → N
       let p = owners_split at (identifiers_without_owners ns) (identifier_owners_in_type k u) h in
       λ i. variable_section (identifiers_without_owners-all l at text value ns p.0 i) (type-identifier_owners_in_tree k u p.1 i)
 
-  sections-identifier_owners_in_tree : (k : ℕ) (fs : Tree ℕ (items further_section)) → AgreesWithOwnerList at (identifier_owners_in_parameter_sections k fs) → rename_fields_in_parameter_sections (renaming_by_record l) k (mapped_tree text value fs) ≡ mapped_tree (λ j. renaming_by_record l (at j) (text j)) value fs
+  sections-identifier_owners_in_tree : (k : ℕ) (fs : Tree ℕ (items section_after_semicolon)) → AgreesWithOwnerList at (identifier_owners_in_parameter_sections k fs) → rename_fields_in_further_parameter_sections (renaming_by_record l) k (mapped_tree text value fs) ≡ mapped_tree (λ j. renaming_by_record l (at j) (text j)) value fs
   sections-identifier_owners_in_tree k end h = refl
-  sections-identifier_owners_in_tree k (more (then_section f) fs) h =
+  sections-identifier_owners_in_tree k (more (semicolon_then_section f) fs) h =
       let p = owners_split at (identifier_owners_in_parameter_section k f) (identifier_owners_in_parameter_sections (k + constructor_count (parameter_section_type f)) fs) h in
-      λ i. more (then_section (section-identifier_owners_in_tree k f p.0 i))
-      ((ap (λ n. rename_fields_in_parameter_sections (renaming_by_record l) (k + n) (mapped_tree text value fs)) (counted_section text value f) ∙ sections-identifier_owners_in_tree (k + constructor_count (parameter_section_type f)) fs p.1) i)
+      λ i. more (semicolon_then_section (section-identifier_owners_in_tree k f p.0 i))
+      ((ap (λ n. rename_fields_in_further_parameter_sections (renaming_by_record l) (k + n) (mapped_tree text value fs)) (counted_section text value f) ∙ sections-identifier_owners_in_tree (k + constructor_count (parameter_section_type f)) fs p.1) i)
 
   pub formals-identifier_owners_in_tree : (k : ℕ) (fs : Tree ℕ (maybe formals)) → AgreesWithOwnerList at (identifier_owners_in_formals k fs) → rename_fields_in_formals (renaming_by_record l) k (mapped_tree text value fs) ≡ mapped_tree (λ j. renaming_by_record l (at j) (text j)) value fs
   formals-identifier_owners_in_tree k none h = refl
@@ -153,4 +153,4 @@ module _ (l : ℕ → Name → Name) (at : ℕ → Option ℕ) (text : ℕ → N
   formals-identifier_owners_in_tree k (one (some_formals f fs)) h =
       let p = owners_split at (identifier_owners_in_parameter_section k f) (identifier_owners_in_parameter_sections (k + constructor_count (parameter_section_type f)) fs) h in
       λ i. one (some_formals (section-identifier_owners_in_tree k f p.0 i)
-      ((ap (λ n. rename_fields_in_parameter_sections (renaming_by_record l) (k + n) (mapped_tree text value fs)) (counted_section text value f) ∙ sections-identifier_owners_in_tree (k + constructor_count (parameter_section_type f)) fs p.1) i))
+      ((ap (λ n. rename_fields_in_further_parameter_sections (renaming_by_record l) (k + n) (mapped_tree text value fs)) (counted_section text value f) ∙ sections-identifier_owners_in_tree (k + constructor_count (parameter_section_type f)) fs p.1) i))

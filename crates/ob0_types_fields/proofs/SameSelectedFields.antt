@@ -1,14 +1,14 @@
 -- Statements select the same fields if the names at their tokens have the same meanings and
 -- spellings.
 use Rattle.std.proofs.Common.{◌≡◌, ℕ, ◌+◌, List, ◌++◌, Option, option_and_then, refl, ap}
-use Rattle.ob0_tree.specs.Tree.{Sort, Tree, adds, array_type, assigns, begins, block, branches, calls, compares, declares, declares_constant, declares_constants, declares_procedure, declares_type, declares_types, declares_variable, declares_variables, designator, else_branch, elsif_branch, empty, end, field, forms_block, index, integer, is_module, item, items, listed, more, multiplies, named_type, negation, no_arguments, no_fields, no_formals, none, one, parenthesised, procedure, product, record_type, relates, repeat_loop, runs, selector, some_arguments, some_fields, some_formals, sum, then_argument, then_fields, then_name, then_section, then_statement, value_section, variable_section, while_loop}
-use Rattle.ob0_language_names.specs.Parts.{formal_sections, section_types, section_variables}
+use Rattle.ob0_tree.specs.Tree.{Sort, Tree, adds, array_type, assigns, begins, block, branches, calls, compares, declares, declares_constant, declares_const_section, declares_procedure, declares_type, declares_type_section, declares_variable, declares_var_section, designator, else_branch, elsif_branch, empty, end, field, forms_block, index, integer, forms_module, item, items, listed, more, multiplies, named_type, negation, no_arguments, no_fields, no_formals, none, one, parenthesised, procedure, product, record_type, relates, repeat_loop, runs, selector, some_arguments, some_fields, some_formals, sum, comma_then_argument, semicolon_then_fields, comma_then_name, semicolon_then_section, semicolon_then_statement, value_section, variable_section, while_loop}
+use Rattle.ob0_language_names.specs.BlockParts.{formal_sections, section_types, section_variables}
 use Rattle.ob0_language_types.specs.Declarations.{constructors_before_procedure_block, constructors_before_variables, constructors_before_procedures, procedure_constructor_count}
 use Rattle.ob0_language_types.specs.Expressions.{Meanings}
 use Rattle.ob0_language_types.specs.Typing.{element_type, field_type, type_of_variable_or_constant}
 use Rattle.ob0_language_values.specs.Values.{Shape, integer_shape}
 use Rattle.ob0_scope_table.specs.TokenProperty.{EachTokenHas}
-use Rattle.ob0_types_fields.specs.Owned.{fields_in_block, field_if_owned, fields_in_path, fields_in_procedure, fields_in_procedures, fields_in_parameter_sections, fields_in_tree, fields_in_types, fields_in_variables, owner}
+use Rattle.ob0_types_fields.specs.IdentifierOwners.{fields_in_block, field_if_owned, fields_in_path, fields_in_procedure, fields_in_procedures, fields_in_parameter_sections, fields_in_tree, fields_in_types, fields_in_variables, owner}
 
 -- holds if the names at a token have the same meaning and spelling
 pub record MeansSame {Q : Type 0} (m n : Meanings ℕ Shape Q) (token : ℕ) : Type 0 where
@@ -48,35 +48,35 @@ module _ {Q : Type 0} (m n : Meanings ℕ Shape Q) where
     tree_same (repeat_loop a b) h = both_same (tree_same a h.0) (tree_same b h.1)
     tree_same no_arguments h = refl
     tree_same (some_arguments a b) h = both_same (tree_same a h.0) (tree_same b h.1)
-    tree_same (then_argument a) h = tree_same a h
+    tree_same (comma_then_argument a) h = tree_same a h
     tree_same (runs a b) h = both_same (tree_same a h.0) (tree_same b h.1)
-    tree_same (then_statement a) h = tree_same a h
+    tree_same (semicolon_then_statement a) h = tree_same a h
     tree_same (elsif_branch a b) h = both_same (tree_same a h.0) (tree_same b h.1)
     tree_same (else_branch a) h = tree_same a h
     tree_same (listed a b) h = refl
-    tree_same (then_name a) h = refl
+    tree_same (comma_then_name a) h = refl
     tree_same (named_type a) h = refl
     tree_same (array_type a b) h = refl
     tree_same (record_type a b) h = refl
     tree_same no_fields h = refl
     tree_same (some_fields a b) h = refl
-    tree_same (then_fields a) h = refl
+    tree_same (semicolon_then_fields a) h = refl
     tree_same no_formals h = refl
     tree_same (some_formals a b) h = refl
     tree_same (value_section a b) h = refl
     tree_same (variable_section a b) h = refl
-    tree_same (then_section a) h = refl
+    tree_same (semicolon_then_section a) h = refl
     tree_same (declares_constant a b) h = refl
-    tree_same (declares_constants a) h = refl
+    tree_same (declares_const_section a) h = refl
     tree_same (declares_type a b) h = refl
-    tree_same (declares_types a) h = refl
+    tree_same (declares_type_section a) h = refl
     tree_same (declares_variable a b) h = refl
-    tree_same (declares_variables a) h = refl
+    tree_same (declares_var_section a) h = refl
     tree_same (declares_procedure a b c d) h = refl
     tree_same (declares a b c d) h = refl
     tree_same (begins a) h = tree_same a h
     tree_same (forms_block a b) h = refl
-    tree_same (is_module a b c) h = refl
+    tree_same (forms_module a b c) h = refl
 
     -- Selectors select the same fields from a value of the same type.
     path_same : (s t : Option Shape) → s ≡ t → (path : Tree ℕ (items selector)) → EachTokenHas Same path → fields_in_path m s path ≡ fields_in_path n t path

@@ -2,19 +2,19 @@
 -- record before it, whether or not that record has the field. The list of owners requires the field. In statements that
 -- fit, both lists are the same.
 use Rattle.std.proofs.Common.{◌≡◌, ℕ, suc, true, false, ◌&&◌, [], ◌∷◌, ◌++◌, if◌then◌else◌, Some, None, Option, option_and_then, option_map, sym, refl, ap, subst}
-use Rattle.ob0_tree.specs.Tree.{Tree, addend, adds, arguments, assigns, begins, body, branches, calls, compares, designator, else_branch, else_part, elsif_branch, elsif_part, empty, end, expression, factor, field, further_argument, further_statement, index, integer, items, mapped_tree, maybe, more, multiplier, multiplies, negation, no_arguments, none, one, parenthesised, product, relates, repeat_loop, runs, selector, sequence, simple, some_arguments, statement, sum, term, then_argument, then_statement, while_loop}
+use Rattle.ob0_tree.specs.Tree.{Tree, addend, adds, arguments, assigns, begins, body, branches, calls, compares, designator, else_branch, else_part, elsif_branch, elsif_part, empty, end, expression, factor, field, argument_after_comma, statement_after_semicolon, index, integer, items, mapped_tree, maybe, more, multiplier, multiplies, negation, no_arguments, none, one, parenthesised, product, relates, repeat_loop, runs, selector, sequence, simple, some_arguments, statement, sum, term, comma_then_argument, semicolon_then_statement, while_loop}
 use Rattle.ob0_language_names.specs.Names.{Name, naming_by_spelling, same_name}
 use Rattle.ob0_language_types.specs.Arguments.{call_arguments, further_arguments}
 use Rattle.ob0_types_table.specs.declared.known.FieldId.{FieldId}
 use Rattle.ob0_language_types.specs.Expressions.{Meanings, Object}
 use Rattle.ob0_types_table.specs.FieldPlaces.{position_of_field}
 use Rattle.ob0_language_types.specs.Typing.{addition_type, negation_type, lone_designator, element_type, field_type, multiplication_type, type_of_variable_or_constant, relation_type, shape_of_field, sign_type, type_after_selectors, type_of, type_of_addends, type_of_factor, type_of_multipliers, type_of_simple, type_of_term}
-use Rattle.ob0_language_types.specs.WellTyped.{FormalParameter, Mode, Signature, TypeEnvironment, same_known_shape, argument_matches, arguments_match, body_is_well_typed, by_place, by_value, condition_is_boolean, else_is_well_typed, elsifs_are_well_typed, sequence_is_well_typed, signature_of, statement_is_well_typed, further_statements_are_well_typed, variable_type}
+use Rattle.ob0_language_types.specs.WellTyped.{FormalParameter, ParameterMode, Signature, TypeEnvironment, same_known_shape, argument_matches, arguments_match, body_is_well_typed, by_place, by_value, condition_is_boolean, else_is_well_typed, elsifs_are_well_typed, sequence_is_well_typed, signature_of, statement_is_well_typed, further_statements_are_well_typed, variable_type}
 use Rattle.ob0_language_types.proofs.Conditions.{same_known_shape-true, both_true, call-typed, variable-typed}
 use Rattle.ob0_language_types.proofs.TypedElsewhere.{then_some}
 use Rattle.ob0_language_values.specs.Values.{FieldShapes, Shape, array_shape, boolean_shape, integer_shape, next_field_shape, no_field_shape, record_shape}
 use Rattle.ob0_language_fields.specs.Fields.{record_ordinal}
-use Rattle.ob0_types_fields.specs.Owned.{identifier_owners_in_tree, owner}
+use Rattle.ob0_types_fields.specs.IdentifierOwners.{identifier_owners_in_tree, owner}
 use Rattle.ob0_language_fields.proofs.AgreeingFields.{lone_designator-typed}
 use Rattle.ob0_language_fields.proofs.MeaningsByName.{named, object_in}
 use Rattle.ob0_types_fields.proofs.OwnedStatements.{recorded}
@@ -101,15 +101,15 @@ module _ (objects : Name → Option (Object Shape Signature)) (text : ℕ → Na
   unfolding argument_matches
   argument-selects f e h = go f.mode h
     where
-      go : (m : Mode) → same_known_shape (Some f.shape) (elim m [ by_value ↦ type_of (named objects) (mapped_tree text value e) | by_place ↦ variable_type (named objects) (lone_designator (mapped_tree text value e)) ]) ≡ true → identifier_owners_in_tree here None e ≡ recorded here None e
+      go : (m : ParameterMode) → same_known_shape (Some f.shape) (elim m [ by_value ↦ type_of (named objects) (mapped_tree text value e) | by_place ↦ variable_type (named objects) (lone_designator (mapped_tree text value e)) ]) ≡ true → identifier_owners_in_tree here None e ≡ recorded here None e
       go by_value h = let (t, et, ht) = same_known_shape-true (Some f.shape) (type_of (named objects) (mapped_tree text value e)) h in expression-selects e t ht
       go by_place h = let (t, et, ht) = same_known_shape-true (Some f.shape) (variable_type (named objects) (lone_designator (mapped_tree text value e))) h in expression-selects e t (lone_designator-typed objects (mapped_tree text value e) t ht)
 
-  further-select : (fs : Signature) (es : Tree ℕ (items further_argument)) → arguments_match (named objects) fs (further_arguments (mapped_tree text value es)) ≡ true → identifier_owners_in_tree here None es ≡ recorded here None es
+  further-select : (fs : Signature) (es : Tree ℕ (items argument_after_comma)) → arguments_match (named objects) fs (further_arguments (mapped_tree text value es)) ≡ true → identifier_owners_in_tree here None es ≡ recorded here None es
   unfolding arguments_match
   further-select fs end h = refl
-  further-select [] (more (then_argument e) es) h = absurd (cc)
-  further-select (f ∷ fs) (more (then_argument e) es) h =
+  further-select [] (more (comma_then_argument e) es) h = absurd (cc)
+  further-select (f ∷ fs) (more (comma_then_argument e) es) h =
       let g = both_true (argument_matches (named objects) f (mapped_tree text value e)) (arguments_match (named objects) fs (further_arguments (mapped_tree text value es))) h in
       λ i. argument-selects f e g.0 i ++ further-select fs es g.1 i
 
@@ -154,9 +154,9 @@ module _ (objects : Name → Option (Object Shape Signature)) (text : ℕ → Na
     sequence-selects (runs a rest) h =
         let h₁ = both_true (statement_is_well_typed (named objects) (mapped_tree text value a)) (further_statements_are_well_typed (named objects) (mapped_tree text value rest)) h in λ i. statement-selects a h₁.0 i ++ statements-select rest h₁.1 i
 
-    statements-select : (a : Tree ℕ (items further_statement)) → further_statements_are_well_typed (named objects) (mapped_tree text value a) ≡ true → identifier_owners_in_tree here None a ≡ recorded here None a
+    statements-select : (a : Tree ℕ (items statement_after_semicolon)) → further_statements_are_well_typed (named objects) (mapped_tree text value a) ≡ true → identifier_owners_in_tree here None a ≡ recorded here None a
     statements-select end h = refl
-    statements-select (more (then_statement a) rest) h =
+    statements-select (more (semicolon_then_statement a) rest) h =
         let h₁ = both_true (statement_is_well_typed (named objects) (mapped_tree text value a)) (further_statements_are_well_typed (named objects) (mapped_tree text value rest)) h in λ i. statement-selects a h₁.0 i ++ statements-select rest h₁.1 i
 
     elsifs-select : (a : Tree ℕ (items elsif_part)) → elsifs_are_well_typed (named objects) (mapped_tree text value a) ≡ true → identifier_owners_in_tree here None a ≡ recorded here None a

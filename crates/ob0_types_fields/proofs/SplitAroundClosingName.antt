@@ -4,12 +4,12 @@ use Rattle.std.proofs.lemmas.List.Elements.{filter-append}
 use Rattle.std.proofs.lemmas.Bool.{le-leb}
 use Rattle.std.specs.List.{AllByRecursion, filter}
 use Rattle.ob0_tree.specs.declared.tree.Role.{Role}
-use Rattle.ob0_tree.specs.Order.{AreAscendingWithin, names_without_roles}
+use Rattle.ob0_tree.specs.IdentifierIndexes.{AreAscendingWithin, names_without_roles}
 use Rattle.ob0_tree.specs.FirstIdentifier.{token_of_first_identifier}
 use Rattle.ob0_tree.proofs.Leaves.{ascending_bounds}
 use Rattle.ob0_types_fields.specs.declared.field_name.FieldName.{FieldName}
 use Rattle.ob0_types_fields.specs.FieldLists.{fields_at_or_after_token}
-use Rattle.ob0_types_fields.specs.Owned.{fields_with_owners}
+use Rattle.ob0_types_fields.specs.IdentifierOwners.{fields_with_owners}
 use Rattle.ob0_types_fields.proofs.WalkFindsAllFields.{among-append}
 use Rattle.ob0_types_fields.proofs.OwnedTokens.{tokens}
 

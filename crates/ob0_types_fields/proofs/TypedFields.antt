@@ -10,10 +10,10 @@ use Rattle.std.proofs.lemmas.Slice.Eq.{bytes_eq-Decides}
 use Rattle.std.specs.List.{AllByRecursion}
 use Rattle.ob0_tree.specs.ParsedModule.{named_tree_of, tree_of}
 use Rattle.ob0_tree.specs.Places.{token_text_at, token_value_at}
-use Rattle.ob0_tree.specs.Tree.{Tree, array_type, block, declares, declares_procedure, declares_type, declares_types, declares_variable, declares_variables, end, fields, formals, further_fields, further_name, further_section, forms_block, item, items, listed, mapped_tree, maybe, module_text, more, named_type, names, no_fields, no_formals, none, one, procedure, record_type, some_fields, some_formals, then_fields, then_name, then_section, type_definition, type_definitions, value_section, variable, variable_section, variables, written_type}
-use Rattle.ob0_language_names.specs.ConsistentNames.{are_distinct, block_has_consistent_names, has_distinct_fields, formals_have_distinct_fields, group_field_names, group_has_distinct_fields, further_field_names, groups_have_distinct_fields, is_among, procedure_has_consistent_names, procedures_have_consistent_names, types_have_distinct_fields, variables_have_distinct_fields}
+use Rattle.ob0_tree.specs.Tree.{Tree, array_type, block, declares, declares_procedure, declares_type, declares_type_section, declares_variable, declares_var_section, end, fields, formals, fields_after_semicolon, name_after_comma, section_after_semicolon, forms_block, item, items, listed, mapped_tree, maybe, module_text, more, named_type, names, no_fields, no_formals, none, one, procedure, record_type, some_fields, some_formals, semicolon_then_fields, comma_then_name, semicolon_then_section, type_definition, type_definitions, value_section, variable, variable_section, variables, written_type}
+use Rattle.ob0_language_names.specs.ConsistentNames.{are_distinct, block_has_consistent_names, has_distinct_fields, formals_have_distinct_fields, group_field_names, group_has_distinct_fields, field_names_after_first_group, later_groups_have_distinct_fields, is_among, procedure_has_consistent_names, procedure_list_has_consistent_names, types_have_distinct_fields, variables_have_distinct_fields}
 use Rattle.ob0_language_names.specs.Names.{Label, Name, naming_by_label, naming_by_spelling, label_text, same_name}
-use Rattle.ob0_language_names.specs.Parts.{formal_names, formal_sections, further_names, module_block, names_in_list, section_types, section_variables}
+use Rattle.ob0_language_names.specs.BlockParts.{formal_names, formal_sections, names_after_first, module_block, names_in_list, section_types, section_variables}
 use Rattle.ob0_scope_table.specs.Resolution.{IsResolution, Resolution, ordinal_in}
 use Rattle.ob0_language_names.specs.Scopes.{label_from_ordinal}
 use Rattle.ob0_language_names.proofs.NameEquality.{same_name-refl}
@@ -30,7 +30,7 @@ use Rattle.ob0_language_values.specs.Values.{FieldShapes, Shape, array_shape, in
 use Rattle.ob0_types_fields.specs.FieldTypes.{FieldsHaveTypes, TypedField, constructed_types, typed_field_with_name, first_name_listed, typed_field}
 use Rattle.ob0_types_fields.specs.declared.field_name.FieldName.{FieldName}
 use Rattle.ob0_types_fields.specs.Identifiers.{declared_fields, fields_declared_in_block, fields_declared_in_procedure, fields_declared_in_procedures, field_declaring_token, field_identifiers, first_token, belongs_to_field, tokens_of_field}
-use Rattle.ob0_types_fields.specs.Owned.{fields_in_group, fields_in_groups, fields_at_tokens, fields_in_parameter_sections, fields_in_type, fields_in_types, fields_in_variables}
+use Rattle.ob0_types_fields.specs.IdentifierOwners.{fields_in_group, fields_in_groups, fields_at_tokens, fields_in_parameter_sections, fields_in_type, fields_in_types, fields_in_variables}
 use Rattle.ob0_types_fields.proofs.DeclaredTypes.{BlockIsTyped, Denotes, FormalsAreTyped, ProcedureIsTyped, ProceduresAreTyped, TypesAreTyped, VariablesAreTyped, meaning, module-typed}
 use Rattle.ob0_types_fields.proofs.FieldLabels.{AllWritten, BlockPlain, GroupPlain, GroupsPlain, IsWritten, ProcedurePlain, ProceduresPlain, SectionsPlain, TypePlain, TypesPlain, VariablesPlain, numbered-plain}
 use Rattle.ob0_types_fields.proofs.FieldsAreDeclared.{fields_are_declared-holds}
@@ -118,9 +118,9 @@ module _ (r : Resolution) where
     group-counted t no_fields = refl
     group-counted t (some_fields ns u) = type-counted _ u
 
-    groups-counted : (t : Option Shape) (gs : Tree ℕ (items further_fields)) → length (constructed_types (meaning r) t gs) ≡ groups_constructor_count gs
+    groups-counted : (t : Option Shape) (gs : Tree ℕ (items fields_after_semicolon)) → length (constructed_types (meaning r) t gs) ≡ groups_constructor_count gs
     groups-counted t end = refl
-    groups-counted t (more (then_fields g) rest) =
+    groups-counted t (more (semicolon_then_fields g) rest) =
         length-append (constructed_types (meaning r) t g) (constructed_types (meaning r) t rest) ∙ (λ i. group-counted t g i + groups-counted t rest i)
 
   types-counted : (ds : Tree ℕ (items type_definition)) → length (constructed_types (meaning r) None ds) ≡ types_constructor_count ds
@@ -133,26 +133,26 @@ module _ (r : Resolution) where
   variables-counted (more (declares_variable ns u) gs) =
       length-append (constructed_types (meaning r) None (declares_variable ns u)) (constructed_types (meaning r) None gs) ∙ (λ i. type-counted (type_of_object ((meaning r).object_for (first_name_listed ns))) u i + variables-counted gs i)
 
-  sections-counted : (fs : Tree ℕ (items further_section)) → length (constructed_types (meaning r) None fs) ≡ formals_constructor_count fs
+  sections-counted : (fs : Tree ℕ (items section_after_semicolon)) → length (constructed_types (meaning r) None fs) ≡ formals_constructor_count fs
   sections-counted end = refl
-  sections-counted (more (then_section (value_section ns u)) fs) =
+  sections-counted (more (semicolon_then_section (value_section ns u)) fs) =
       length-append (constructed_types (meaning r) None (value_section ns u)) (constructed_types (meaning r) None fs) ∙ (λ i. type-counted (type_of_object ((meaning r).object_for (first_name_listed ns))) u i + sections-counted fs i)
-  sections-counted (more (then_section (variable_section ns u)) fs) =
+  sections-counted (more (semicolon_then_section (variable_section ns u)) fs) =
       length-append (constructed_types (meaning r) None (variable_section ns u)) (constructed_types (meaning r) None fs) ∙ (λ i. type-counted (type_of_object ((meaning r).object_for (first_name_listed ns))) u i + sections-counted fs i)
 
   type_section-counted : (ts : Tree ℕ (maybe type_definitions)) → length (constructed_types (meaning r) None ts) ≡ types_constructor_count (section_types ts)
   type_section-counted none = refl
-  type_section-counted (one (declares_types ts)) = types-counted ts
+  type_section-counted (one (declares_type_section ts)) = types-counted ts
 
   variable_section-counted : (vs : Tree ℕ (maybe variables)) → length (constructed_types (meaning r) None vs) ≡ variables_constructor_count (section_variables vs)
   variable_section-counted none = refl
-  variable_section-counted (one (declares_variables vs)) = variables-counted vs
+  variable_section-counted (one (declares_var_section vs)) = variables-counted vs
 
   formal_section-counted : (fs : Tree ℕ (maybe formals)) → length (constructed_types (meaning r) None fs) ≡ formals_constructor_count (formal_sections fs)
   formal_section-counted none = refl
   formal_section-counted (one no_formals) = refl
-  formal_section-counted (one (some_formals (value_section ns u) fs)) = sections-counted (more (then_section (value_section ns u)) fs)
-  formal_section-counted (one (some_formals (variable_section ns u) fs)) = sections-counted (more (then_section (variable_section ns u)) fs)
+  formal_section-counted (one (some_formals (value_section ns u) fs)) = sections-counted (more (semicolon_then_section (value_section ns u)) fs)
+  formal_section-counted (one (some_formals (variable_section ns u) fs)) = sections-counted (more (semicolon_then_section (variable_section ns u)) fs)
 
   mutual
     block-counted : (b : Tree ℕ block) → length (constructed_types (meaning r) None b) ≡ block_constructor_count b
@@ -224,9 +224,9 @@ module _ (r : Resolution) where
       go None h = refl
       go (Some k) h = absurd h
 
-  further-texts : (ns : Tree ℕ (items further_name)) → AllWritten (further_names (tree_with_labels r ns)) → map label_text (further_names (tree_with_labels r ns)) ≡ further_names (mapped_tree text value ns)
+  further-texts : (ns : Tree ℕ (items name_after_comma)) → AllWritten (names_after_first (tree_with_labels r ns)) → map label_text (names_after_first (tree_with_labels r ns)) ≡ names_after_first (mapped_tree text value ns)
   further-texts end h = refl
-  further-texts (more (then_name x) rest) h = λ i. written-text x h.0 i ∷ further-texts rest h.1 i
+  further-texts (more (comma_then_name x) rest) h = λ i. written-text x h.0 i ∷ further-texts rest h.1 i
 
   texts : (ns : Tree ℕ names) → AllWritten (names_in_list (tree_with_labels r ns)) → map label_text (names_in_list (tree_with_labels r ns)) ≡ names_in_list (mapped_tree text value ns)
   texts (listed x rest) h = λ i. written-text x h.0 i ∷ further-texts rest h.1 i
@@ -276,18 +276,18 @@ module _ (r : Resolution) where
     own-names j k made [] h = tt
     own-names j k made (x ∷ xs) h = (inl (refl, h.0), own-names j k made xs h.1)
 
-    further-have : (ns : Tree ℕ (items further_name)) (before : List Name) (s : Shape) → ((y : Name) → is_among y (before ++ further_names (mapped_tree text value ns)) ≡ true → shape_of_field all y ≡ Some s)
-        → AllByRecursion (λ x. is_some (typed_field_with_name (record_shape o all) (text x)) ≡ true) (further_names ns)
+    further-have : (ns : Tree ℕ (items name_after_comma)) (before : List Name) (s : Shape) → ((y : Name) → is_among y (before ++ names_after_first (mapped_tree text value ns)) ≡ true → shape_of_field all y ≡ Some s)
+        → AllByRecursion (λ x. is_some (typed_field_with_name (record_shape o all) (text x)) ≡ true) (names_after_first ns)
     further-have end before s has = tt
-    further-have (more (then_name x) rest) before s has = (
-      name-typed (text x) s (has (text x) (among-right (text x) before (text x ∷ further_names (mapped_tree text value rest)) (ap (λ b. b || is_among (text x) (further_names (mapped_tree text value rest))) (same_name-refl (text x))))),
-      further-have rest [] s (λ y among. has y (among-right y before (text x ∷ further_names (mapped_tree text value rest)) (or_right (same_name y (text x)) (is_among y (further_names (mapped_tree text value rest))) among))),
+    further-have (more (comma_then_name x) rest) before s has = (
+      name-typed (text x) s (has (text x) (among-right (text x) before (text x ∷ names_after_first (mapped_tree text value rest)) (ap (λ b. b || is_among (text x) (names_after_first (mapped_tree text value rest))) (same_name-refl (text x))))),
+      further-have rest [] s (λ y among. has y (among-right y before (text x ∷ names_after_first (mapped_tree text value rest)) (or_right (same_name y (text x)) (is_among y (names_after_first (mapped_tree text value rest))) among))),
     )
 
     names-have : (ns : Tree ℕ names) (s : Shape) → ((y : Name) → is_among y (names_in_list (mapped_tree text value ns)) ≡ true → shape_of_field all y ≡ Some s)
         → AllByRecursion (λ x. is_some (typed_field_with_name (record_shape o all) (text x)) ≡ true) (names_in_list ns)
     names-have (listed x rest) s has = (
-      name-typed (text x) s (has (text x) (ap (λ b. b || is_among (text x) (further_names (mapped_tree text value rest))) (same_name-refl (text x)))),
+      name-typed (text x) s (has (text x) (ap (λ b. b || is_among (text x) (names_after_first (mapped_tree text value rest))) (same_name-refl (text x)))),
       further-have rest (text x ∷ []) s has,
     )
 
@@ -321,13 +321,13 @@ module _ (r : Resolution) where
     type-have env k (record_type g rest) s h plain once j =
         let n : ℕ = suc k + group_constructor_count (tree_with_labels r g) in
         let own : List Name = group_field_names (mapped_tree text value g) in
-        let others : List Name = further_field_names (mapped_tree text value rest) in
+        let others : List Name = field_names_after_first_group (mapped_tree text value rest) in
         let one = then_some (denoted_further_fields (meanings naming_by_label env) n (tree_with_labels r rest)) (λ later. option_and_then (λ fs. type_within_limits (record_shape k fs)) (denoted_group_fields (meanings naming_by_label env) (suc k) later (tree_with_labels r g))) s h in
         let two = then_some (denoted_group_fields (meanings naming_by_label env) (suc k) one.0 (tree_with_labels r g)) (λ fs. type_within_limits (record_shape k fs)) s one.2 in
         let all : FieldShapes = two.0 in
         let z : Shape = record_shape k all in
-        let o1 = and_parts (are_distinct (own ++ others)) (group_has_distinct_fields (mapped_tree text value g) && groups_have_distinct_fields (mapped_tree text value rest)) once in
-        let o2 = and_parts (group_has_distinct_fields (mapped_tree text value g)) (groups_have_distinct_fields (mapped_tree text value rest)) o1.1 in
+        let o1 = and_parts (are_distinct (own ++ others)) (group_has_distinct_fields (mapped_tree text value g) && later_groups_have_distinct_fields (mapped_tree text value rest)) once in
+        let o2 = and_parts (group_has_distinct_fields (mapped_tree text value g)) (later_groups_have_distinct_fields (mapped_tree text value rest)) o1.1 in
         let first : List (Option Shape) = constructed_types (meaning r) (Some z) g in
         let later : List (Option Shape) = constructed_types (meaning r) (Some z) rest in
         let xs : List FieldName = fields_in_group j (suc j) g in
@@ -347,21 +347,21 @@ module _ (r : Resolution) where
         let one = then_some (denoted_type (meanings naming_by_label env) k (tree_with_labels r t)) (λ s. Some (prepend_fields (map label_text (names_in_list (tree_with_labels r ns))) s later)) fs h in
         let is : fs ≡ prepend_fields own one.0 later = sym (some_inverse one.2) ∙ ap (λ xs. prepend_fields xs one.0 later) (texts ns plain.0) in
         let has : (y : Name) → is_among y own ≡ true → shape_of_field all y ≡ Some one.0 = λ y among. agree y among ∙ (ap (λ z. shape_of_field z y) is ∙ with-among y own one.0 later among) in
-        let first : shape_of_field all (text x) ≡ Some one.0 = has (text x) (ap (λ b. b || is_among (text x) (further_names (mapped_tree text value rest))) (same_name-refl (text x))) in
+        let first : shape_of_field all (text x) ≡ Some one.0 = has (text x) (ap (λ b. b || is_among (text x) (names_after_first (mapped_tree text value rest))) (same_name-refl (text x))) in
         let made : List (Option Shape) = constructed_types (meaning r) (Some one.0) t in
         subst (λ z. AllByRecursion (InRecord (record_shape o all) j (constructed_types (meaning r) z t) n) (fields_at_tokens j (names_in_list ns) ++ fields_in_type n t)) (sym first)
         (each-both (InRecord (record_shape o all) j made n) (fields_at_tokens j (names_in_list ns)) (fields_in_type n t)
         (own-names o all j n made (names_in_list ns) (names-have o all ns one.0 has))
         (each-weaker (HasField made n) (InRecord (record_shape o all) j made n) (λ y e. inr e) (fields_in_type n t) (type-have env k t one.0 one.1 plain.1 once n)))
 
-    groups-all : (env : TypeEnvironment Label) (k o : ℕ) (all fs : FieldShapes) (gs : Tree ℕ (items further_fields)) → denoted_further_fields (meanings naming_by_label env) k (tree_with_labels r gs) ≡ Some fs → GroupsPlain (tree_with_labels r gs) → groups_have_distinct_fields (mapped_tree text value gs) ≡ true
-        → are_distinct (further_field_names (mapped_tree text value gs)) ≡ true → Agree o all (further_field_names (mapped_tree text value gs)) fs → (j n : ℕ) → AllByRecursion (InRecord (record_shape o all) j (constructed_types (meaning r) (Some (record_shape o all)) gs) n) (fields_in_groups j n gs)
+    groups-all : (env : TypeEnvironment Label) (k o : ℕ) (all fs : FieldShapes) (gs : Tree ℕ (items fields_after_semicolon)) → denoted_further_fields (meanings naming_by_label env) k (tree_with_labels r gs) ≡ Some fs → GroupsPlain (tree_with_labels r gs) → later_groups_have_distinct_fields (mapped_tree text value gs) ≡ true
+        → are_distinct (field_names_after_first_group (mapped_tree text value gs)) ≡ true → Agree o all (field_names_after_first_group (mapped_tree text value gs)) fs → (j n : ℕ) → AllByRecursion (InRecord (record_shape o all) j (constructed_types (meaning r) (Some (record_shape o all)) gs) n) (fields_in_groups j n gs)
     groups-all env k o all fs end h plain once distinct agree j n = tt
-    groups-all env k o all fs (more (then_fields g) rest) h plain once distinct agree j n =
+    groups-all env k o all fs (more (semicolon_then_fields g) rest) h plain once distinct agree j n =
         let own : List Name = group_field_names (mapped_tree text value g) in
-        let others : List Name = further_field_names (mapped_tree text value rest) in
+        let others : List Name = field_names_after_first_group (mapped_tree text value rest) in
         let one = then_some (denoted_further_fields (meanings naming_by_label env) (k + group_constructor_count (tree_with_labels r g)) (tree_with_labels r rest)) (λ later. denoted_group_fields (meanings naming_by_label env) k later (tree_with_labels r g)) fs h in
-        let o1 = and_parts (group_has_distinct_fields (mapped_tree text value g)) (groups_have_distinct_fields (mapped_tree text value rest)) once in
+        let o1 = and_parts (group_has_distinct_fields (mapped_tree text value g)) (later_groups_have_distinct_fields (mapped_tree text value rest)) once in
         let z : Shape = record_shape o all in
         groups-have z j (constructed_types (meaning r) (Some z) g) (constructed_types (meaning r) (Some z) rest) n (n + group_constructor_count g) (fields_in_group j n g) (fields_in_groups j (n + group_constructor_count g) rest) (ap (λ c. n + c) (sym (group-counted r (Some z) g)))
         (group-has env k o all one.0 fs g one.2 plain.0 o1.0 (λ y among. agree y (among-left y own others among)) j n)
@@ -392,14 +392,14 @@ module _ (r : Resolution) where
       parts-have (constructed_types (meaning r) t u) (constructed_types (meaning r) None gs) k (k + constructor_count u) (fields_in_type k u) (fields_in_variables (k + constructor_count u) gs) (ap (λ c. k + c) (sym (type-counted r t u)))
       (declared-have t u are_typed.0.0 (ap type_of_object are_typed.0.1) are_typed.0.2 plain.0 o.0 k) (variables-have gs are_typed.1 plain.1 o.1 (k + constructor_count u))
 
-  sections-have : (fs : Tree ℕ (items further_section)) → FormalsAreTyped r fs → SectionsPlain (tree_with_labels r fs) → formals_have_distinct_fields (mapped_tree text value fs) ≡ true → (k : ℕ) → AllByRecursion (HasField (constructed_types (meaning r) None fs) k) (fields_in_parameter_sections k fs)
+  sections-have : (fs : Tree ℕ (items section_after_semicolon)) → FormalsAreTyped r fs → SectionsPlain (tree_with_labels r fs) → formals_have_distinct_fields (mapped_tree text value fs) ≡ true → (k : ℕ) → AllByRecursion (HasField (constructed_types (meaning r) None fs) k) (fields_in_parameter_sections k fs)
   sections-have end are_typed plain once k = tt
-  sections-have (more (then_section (value_section (listed x others) u)) fs) are_typed plain once k =
+  sections-have (more (semicolon_then_section (value_section (listed x others) u)) fs) are_typed plain once k =
       let o = and_parts (has_distinct_fields (mapped_tree text value u)) (formals_have_distinct_fields (mapped_tree text value fs)) once in
       let t : Option Shape = type_of_object ((meaning r).object_for x) in
       parts-have (constructed_types (meaning r) t u) (constructed_types (meaning r) None fs) k (k + constructor_count u) (fields_in_type k u) (fields_in_parameter_sections (k + constructor_count u) fs) (ap (λ c. k + c) (sym (type-counted r t u)))
       (declared-have t u are_typed.0.0 (ap type_of_object are_typed.0.1) are_typed.0.2 plain.0 o.0 k) (sections-have fs are_typed.1 plain.1 o.1 (k + constructor_count u))
-  sections-have (more (then_section (variable_section (listed x others) u)) fs) are_typed plain once k =
+  sections-have (more (semicolon_then_section (variable_section (listed x others) u)) fs) are_typed plain once k =
       let o = and_parts (has_distinct_fields (mapped_tree text value u)) (formals_have_distinct_fields (mapped_tree text value fs)) once in
       let t : Option Shape = type_of_object ((meaning r).object_for x) in
       parts-have (constructed_types (meaning r) t u) (constructed_types (meaning r) None fs) k (k + constructor_count u) (fields_in_type k u) (fields_in_parameter_sections (k + constructor_count u) fs) (ap (λ c. k + c) (sym (type-counted r t u)))
@@ -408,19 +408,19 @@ module _ (r : Resolution) where
   type_section-have : (ts : Tree ℕ (maybe type_definitions)) → TypesAreTyped r (section_types ts) → TypesPlain (section_types (tree_with_labels r ts)) → types_have_distinct_fields (section_types (mapped_tree text value ts)) ≡ true → (k : ℕ)
       → AllByRecursion (HasField (constructed_types (meaning r) None ts) k) (fields_in_types k (section_types ts))
   type_section-have none are_typed plain once k = tt
-  type_section-have (one (declares_types ts)) are_typed plain once k = types-have ts are_typed plain once k
+  type_section-have (one (declares_type_section ts)) are_typed plain once k = types-have ts are_typed plain once k
 
   variable_section-have : (vs : Tree ℕ (maybe variables)) → VariablesAreTyped r (section_variables vs) → VariablesPlain (section_variables (tree_with_labels r vs)) → variables_have_distinct_fields (section_variables (mapped_tree text value vs)) ≡ true → (k : ℕ)
       → AllByRecursion (HasField (constructed_types (meaning r) None vs) k) (fields_in_variables k (section_variables vs))
   variable_section-have none are_typed plain once k = tt
-  variable_section-have (one (declares_variables vs)) are_typed plain once k = variables-have vs are_typed plain once k
+  variable_section-have (one (declares_var_section vs)) are_typed plain once k = variables-have vs are_typed plain once k
 
   formal_section-have : (fs : Tree ℕ (maybe formals)) → FormalsAreTyped r (formal_sections fs) → SectionsPlain (formal_sections (tree_with_labels r fs)) → formals_have_distinct_fields (formal_sections (mapped_tree text value fs)) ≡ true → (k : ℕ)
       → AllByRecursion (HasField (constructed_types (meaning r) None fs) k) (fields_in_parameter_sections k (formal_sections fs))
   formal_section-have none are_typed plain once k = tt
   formal_section-have (one no_formals) are_typed plain once k = tt
-  formal_section-have (one (some_formals (value_section ns u) fs)) are_typed plain once k = sections-have (more (then_section (value_section ns u)) fs) are_typed plain once k
-  formal_section-have (one (some_formals (variable_section ns u) fs)) are_typed plain once k = sections-have (more (then_section (variable_section ns u)) fs) are_typed plain once k
+  formal_section-have (one (some_formals (value_section ns u) fs)) are_typed plain once k = sections-have (more (semicolon_then_section (value_section ns u)) fs) are_typed plain once k
+  formal_section-have (one (some_formals (variable_section ns u) fs)) are_typed plain once k = sections-have (more (semicolon_then_section (variable_section ns u)) fs) are_typed plain once k
 
   mutual
     block-has : (own : List Name) (b : Tree ℕ block) → BlockIsTyped r b → BlockPlain (tree_with_labels r b) → block_has_consistent_names own (mapped_tree text value b) ≡ true → (k : ℕ) → AllByRecursion (HasField (constructed_types (meaning r) None b) k) (fields_declared_in_block k b)
@@ -428,7 +428,7 @@ module _ (r : Resolution) where
         let b : Tree ℕ block = forms_block (declares cs ts vs ps) statements in
         let T : Bool = types_have_distinct_fields (section_types (mapped_tree text value ts)) in
         let V : Bool = variables_have_distinct_fields (section_variables (mapped_tree text value vs)) in
-        let P : Bool = procedures_have_consistent_names (mapped_tree text value ps) in
+        let P : Bool = procedure_list_has_consistent_names (mapped_tree text value ps) in
         let o1 = and_parts _ (T && (V && P)) once in
         let o2 = and_parts T (V && P) o1.1 in
         let o3 = and_parts V P o2.1 in
@@ -439,10 +439,10 @@ module _ (r : Resolution) where
         (fields_in_variables (constructors_before_variables k b) (section_variables vs)) (fields_declared_in_procedures (constructors_before_procedures k b) ps) (ap (λ c. constructors_before_variables k b + c) (sym (variable_section-counted r vs)))
         (variable_section-have vs are_typed.0.1 plain.0.1 o3.0 (constructors_before_variables k b)) (procedures-have ps are_typed.1 plain.1 o3.1 (constructors_before_procedures k b)))
 
-    procedures-have : (ps : Tree ℕ (items procedure)) → ProceduresAreTyped r ps → ProceduresPlain (tree_with_labels r ps) → procedures_have_consistent_names (mapped_tree text value ps) ≡ true → (k : ℕ) → AllByRecursion (HasField (constructed_types (meaning r) None ps) k) (fields_declared_in_procedures k ps)
+    procedures-have : (ps : Tree ℕ (items procedure)) → ProceduresAreTyped r ps → ProceduresPlain (tree_with_labels r ps) → procedure_list_has_consistent_names (mapped_tree text value ps) ≡ true → (k : ℕ) → AllByRecursion (HasField (constructed_types (meaning r) None ps) k) (fields_declared_in_procedures k ps)
     procedures-have end are_typed plain once k = tt
     procedures-have (more q rest) are_typed plain once k =
-        let o = and_parts (procedure_has_consistent_names (mapped_tree text value q)) (procedures_have_consistent_names (mapped_tree text value rest)) once in
+        let o = and_parts (procedure_has_consistent_names (mapped_tree text value q)) (procedure_list_has_consistent_names (mapped_tree text value rest)) once in
         parts-have (constructed_types (meaning r) None q) (constructed_types (meaning r) None rest) k (k + procedure_constructor_count q)
         (fields_declared_in_procedure k q) (fields_declared_in_procedures (k + procedure_constructor_count q) rest) (ap (λ c. k + c) (sym (procedure-counted r q)))
         (procedure-has q are_typed.0 plain.0 o.0 k) (procedures-have rest are_typed.1 plain.1 o.1 (k + procedure_constructor_count q))

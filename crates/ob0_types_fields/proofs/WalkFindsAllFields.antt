@@ -2,14 +2,14 @@
 use Rattle.std.proofs.Common.{◌≡◌, ℕ, suc, ◌+◌, List, [], ◌∷◌, ◌++◌, map, Some, None, Option, option_and_then, refl, ap, ◌∙◌, append-nil}
 use Rattle.ob0_tree.specs.declared.tree.Role.{Role}
 use Rattle.ob0_tree.specs.declared.tree.Role.TheVariants as role
-use Rattle.ob0_tree.specs.Tree.{Sort, Tree, item, adds, array_type, assigns, begins, branches, calls, compares, declares, declares_constant, declares_constants, declares_procedure, declares_type, declares_types, declares_variable, declares_variables, designator, else_branch, elsif_branch, empty, end, field, forms_block, identifiers, index, integer, is_module, listed, more, multiplies, named_type, negation, no_arguments, no_fields, no_formals, none, one, parenthesised, product, record_type, relates, repeat_loop, runs, some_arguments, some_fields, some_formals, sum, then_argument, then_fields, then_name, then_section, then_statement, value_section, variable_section, while_loop, block, written_type, fields, further_fields, section, further_section, formals, type_definition, type_definitions, variable, variables, procedure, module_text, items, maybe, selector, GrammarItem}
-use Rattle.ob0_language_names.specs.Parts.{formal_sections, names_in_list, parameter_section_type, section_types, section_variables}
+use Rattle.ob0_tree.specs.Tree.{Sort, Tree, item, adds, array_type, assigns, begins, branches, calls, compares, declares, declares_constant, declares_const_section, declares_procedure, declares_type, declares_type_section, declares_variable, declares_var_section, designator, else_branch, elsif_branch, empty, end, field, forms_block, identifiers, index, integer, forms_module, listed, more, multiplies, named_type, negation, no_arguments, no_fields, no_formals, none, one, parenthesised, product, record_type, relates, repeat_loop, runs, some_arguments, some_fields, some_formals, sum, comma_then_argument, semicolon_then_fields, comma_then_name, semicolon_then_section, semicolon_then_statement, value_section, variable_section, while_loop, block, written_type, fields, fields_after_semicolon, section, section_after_semicolon, formals, type_definition, type_definitions, variable, variables, procedure, module_text, items, maybe, selector, GrammarItem}
+use Rattle.ob0_language_names.specs.BlockParts.{formal_sections, names_in_list, parameter_section_type, section_types, section_variables}
 use Rattle.ob0_language_types.specs.Declarations.{constructors_before_procedure_block, constructors_before_variables, constructors_before_procedures, procedure_constructor_count}
 use Rattle.ob0_language_types.specs.Expressions.{Meanings}
 use Rattle.ob0_language_types.specs.Typing.{constructor_count, element_type, field_type, group_constructor_count, type_of_variable_or_constant}
 use Rattle.ob0_language_values.specs.Values.{Shape, integer_shape}
 use Rattle.ob0_types_fields.specs.declared.field_name.FieldName.{FieldName}
-use Rattle.ob0_types_fields.specs.Owned.{fields_with_owners, field_if_owned, fields_in_tree, fields_in_block, fields_in_group, fields_in_groups, fields_in_module, fields_at_tokens, fields_in_path, fields_in_procedures, fields_in_parameter_sections, fields_in_type, fields_in_types, fields_in_variables, identifier_owners_in_tree, identifier_owners_in_block, identifier_owners_in_formals, identifier_owners_in_group, identifier_owners_in_groups, identifier_owners_in_module, identifier_owners_in_procedure, identifier_owners_in_procedures, identifier_owners_in_parameter_section, identifier_owners_in_parameter_sections, identifier_owners_in_type, identifier_owners_in_type_section, identifier_owners_in_types, identifier_owners_in_variable_section, identifier_owners_in_variables, owner, type_after_selector, identifiers_without_owners, unowned_identifiers}
+use Rattle.ob0_types_fields.specs.IdentifierOwners.{fields_with_owners, field_if_owned, fields_in_tree, fields_in_block, fields_in_group, fields_in_groups, fields_in_module, fields_at_tokens, fields_in_path, fields_in_procedures, fields_in_parameter_sections, fields_in_type, fields_in_types, fields_in_variables, identifier_owners_in_tree, identifier_owners_in_block, identifier_owners_in_formals, identifier_owners_in_group, identifier_owners_in_groups, identifier_owners_in_module, identifier_owners_in_procedure, identifier_owners_in_procedures, identifier_owners_in_parameter_section, identifier_owners_in_parameter_sections, identifier_owners_in_type, identifier_owners_in_type_section, identifier_owners_in_types, identifier_owners_in_variable_section, identifier_owners_in_variables, owner, type_after_selector, identifiers_without_owners, unowned_identifiers}
 
 pub among-append : (xs ys : List (ℕ × Option ℕ)) → fields_with_owners (xs ++ ys) ≡ fields_with_owners xs ++ fields_with_owners ys
 among-append [] ys = refl
@@ -35,21 +35,21 @@ type_after_selector-none m (field a) = refl
 type_after_selector-none m (index a) = refl
 type_after_selector-none m no_arguments = refl
 type_after_selector-none m (some_arguments a b) = refl
-type_after_selector-none m (then_argument a) = refl
-type_after_selector-none m (then_statement a) = refl
+type_after_selector-none m (comma_then_argument a) = refl
+type_after_selector-none m (semicolon_then_statement a) = refl
 type_after_selector-none m (elsif_branch a b) = refl
 type_after_selector-none m (else_branch a) = refl
-type_after_selector-none m (then_name a) = refl
-type_after_selector-none m (then_fields a) = refl
+type_after_selector-none m (comma_then_name a) = refl
+type_after_selector-none m (semicolon_then_fields a) = refl
 type_after_selector-none m no_formals = refl
 type_after_selector-none m (some_formals a b) = refl
-type_after_selector-none m (then_section a) = refl
+type_after_selector-none m (semicolon_then_section a) = refl
 type_after_selector-none m (declares_constant a b) = refl
-type_after_selector-none m (declares_constants a) = refl
+type_after_selector-none m (declares_const_section a) = refl
 type_after_selector-none m (declares_type a b) = refl
-type_after_selector-none m (declares_types a) = refl
+type_after_selector-none m (declares_type_section a) = refl
 type_after_selector-none m (declares_variable a b) = refl
-type_after_selector-none m (declares_variables a) = refl
+type_after_selector-none m (declares_var_section a) = refl
 type_after_selector-none m (declares_procedure a b c d) = refl
 type_after_selector-none m (begins a) = refl
 
@@ -79,35 +79,35 @@ mutual
   fields_in_tree-fields m (repeat_loop a b) = among-both (identifier_owners_in_tree m None a) (identifier_owners_in_tree m None b) (fields_in_tree-fields m a) (fields_in_tree-fields m b)
   fields_in_tree-fields m no_arguments = refl
   fields_in_tree-fields m (some_arguments a b) = among-both (identifier_owners_in_tree m None a) (identifier_owners_in_tree m None b) (fields_in_tree-fields m a) (fields_in_tree-fields m b)
-  fields_in_tree-fields m (then_argument a) = fields_in_tree-fields m a
+  fields_in_tree-fields m (comma_then_argument a) = fields_in_tree-fields m a
   fields_in_tree-fields m (runs a b) = among-both (identifier_owners_in_tree m None a) (identifier_owners_in_tree m None b) (fields_in_tree-fields m a) (fields_in_tree-fields m b)
-  fields_in_tree-fields m (then_statement a) = fields_in_tree-fields m a
+  fields_in_tree-fields m (semicolon_then_statement a) = fields_in_tree-fields m a
   fields_in_tree-fields m (elsif_branch a b) = among-both (identifier_owners_in_tree m None a) (identifier_owners_in_tree m None b) (fields_in_tree-fields m a) (fields_in_tree-fields m b)
   fields_in_tree-fields m (else_branch a) = fields_in_tree-fields m a
   fields_in_tree-fields m (listed a b) = none-among (identifiers role.Declaring (listed a b))
-  fields_in_tree-fields m (then_name a) = none-among (identifiers role.Declaring (then_name a))
+  fields_in_tree-fields m (comma_then_name a) = none-among (identifiers role.Declaring (comma_then_name a))
   fields_in_tree-fields m (named_type a) = none-among (identifiers role.Declaring (named_type a))
   fields_in_tree-fields m (array_type a b) = none-among (identifiers role.Declaring (array_type a b))
   fields_in_tree-fields m (record_type a b) = none-among (identifiers role.Declaring (record_type a b))
   fields_in_tree-fields m no_fields = none-among (identifiers role.Declaring no_fields)
   fields_in_tree-fields m (some_fields a b) = none-among (identifiers role.Declaring (some_fields a b))
-  fields_in_tree-fields m (then_fields a) = none-among (identifiers role.Declaring (then_fields a))
+  fields_in_tree-fields m (semicolon_then_fields a) = none-among (identifiers role.Declaring (semicolon_then_fields a))
   fields_in_tree-fields m no_formals = none-among (identifiers role.Declaring no_formals)
   fields_in_tree-fields m (some_formals a b) = none-among (identifiers role.Declaring (some_formals a b))
   fields_in_tree-fields m (value_section a b) = none-among (identifiers role.Declaring (value_section a b))
   fields_in_tree-fields m (variable_section a b) = none-among (identifiers role.Declaring (variable_section a b))
-  fields_in_tree-fields m (then_section a) = none-among (identifiers role.Declaring (then_section a))
+  fields_in_tree-fields m (semicolon_then_section a) = none-among (identifiers role.Declaring (semicolon_then_section a))
   fields_in_tree-fields m (declares_constant a b) = none-among (identifiers role.Declaring (declares_constant a b))
-  fields_in_tree-fields m (declares_constants a) = none-among (identifiers role.Declaring (declares_constants a))
+  fields_in_tree-fields m (declares_const_section a) = none-among (identifiers role.Declaring (declares_const_section a))
   fields_in_tree-fields m (declares_type a b) = none-among (identifiers role.Declaring (declares_type a b))
-  fields_in_tree-fields m (declares_types a) = none-among (identifiers role.Declaring (declares_types a))
+  fields_in_tree-fields m (declares_type_section a) = none-among (identifiers role.Declaring (declares_type_section a))
   fields_in_tree-fields m (declares_variable a b) = none-among (identifiers role.Declaring (declares_variable a b))
-  fields_in_tree-fields m (declares_variables a) = none-among (identifiers role.Declaring (declares_variables a))
+  fields_in_tree-fields m (declares_var_section a) = none-among (identifiers role.Declaring (declares_var_section a))
   fields_in_tree-fields m (declares_procedure a b c d) = none-among (identifiers role.Declaring (declares_procedure a b c d))
   fields_in_tree-fields m (declares a b c d) = none-among (identifiers role.Declaring (declares a b c d))
   fields_in_tree-fields m (begins a) = fields_in_tree-fields m a
   fields_in_tree-fields m (forms_block a b) = none-among (identifiers role.Declaring (forms_block a b))
-  fields_in_tree-fields m (is_module a b c) = none-among (identifiers role.Declaring (is_module a b c))
+  fields_in_tree-fields m (forms_module a b c) = none-among (identifiers role.Declaring (forms_module a b c))
 
   path-fields : {P : Type 0} (m : Meanings ℕ Shape P) (s : Option Shape) (path : Tree ℕ (items selector)) → fields_with_owners (identifier_owners_in_tree m s path) ≡ fields_in_path m s path
   path-fields m s end = refl
@@ -139,9 +139,9 @@ mutual
   group-fields r k no_fields = refl
   group-fields r k (some_fields ns t) = among-both (map (λ x. (x, Some r)) (names_in_list ns)) (identifier_owners_in_type k t) (names-fields r (names_in_list ns)) (type-fields k t)
 
-  groups-fields : (r k : ℕ) (gs : Tree ℕ (items further_fields)) → fields_with_owners (identifier_owners_in_groups r k gs) ≡ fields_in_groups r k gs
+  groups-fields : (r k : ℕ) (gs : Tree ℕ (items fields_after_semicolon)) → fields_with_owners (identifier_owners_in_groups r k gs) ≡ fields_in_groups r k gs
   groups-fields r k end = refl
-  groups-fields r k (more (then_fields g) rest) = among-both (identifier_owners_in_group r k g) (identifier_owners_in_groups r (k + group_constructor_count g) rest) (group-fields r k g) (groups-fields r (k + group_constructor_count g) rest)
+  groups-fields r k (more (semicolon_then_fields g) rest) = among-both (identifier_owners_in_group r k g) (identifier_owners_in_groups r (k + group_constructor_count g) rest) (group-fields r k g) (groups-fields r (k + group_constructor_count g) rest)
 
 types-fields : (k : ℕ) (ds : Tree ℕ (items type_definition)) → fields_with_owners (identifier_owners_in_types k ds) ≡ fields_in_types k ds
 types-fields k end = refl
@@ -149,7 +149,7 @@ types-fields k (more (declares_type x u) ds) = among-both (identifier_owners_in_
 
 type_section-fields : (k : ℕ) (ts : Tree ℕ (maybe type_definitions)) → fields_with_owners (identifier_owners_in_type_section k ts) ≡ fields_in_types k (section_types ts)
 type_section-fields k none = refl
-type_section-fields k (one (declares_types ts)) = types-fields k ts
+type_section-fields k (one (declares_type_section ts)) = types-fields k ts
 
 variables-fields : (k : ℕ) (gs : Tree ℕ (items variable)) → fields_with_owners (identifier_owners_in_variables k gs) ≡ fields_in_variables k gs
 variables-fields k end = refl
@@ -158,15 +158,15 @@ variables-fields k (more (declares_variable ns u) gs) =
 
 variable_section-fields : (k : ℕ) (vs : Tree ℕ (maybe variables)) → fields_with_owners (identifier_owners_in_variable_section k vs) ≡ fields_in_variables k (section_variables vs)
 variable_section-fields k none = refl
-variable_section-fields k (one (declares_variables vs)) = variables-fields k vs
+variable_section-fields k (one (declares_var_section vs)) = variables-fields k vs
 
 section-fields : (k : ℕ) (f : Tree ℕ section) → fields_with_owners (identifier_owners_in_parameter_section k f) ≡ fields_in_type k (parameter_section_type f)
 section-fields k (value_section ns u) = after-plain ns (identifier_owners_in_type k u) (type-fields k u)
 section-fields k (variable_section ns u) = after-plain ns (identifier_owners_in_type k u) (type-fields k u)
 
-sections-fields : (k : ℕ) (fs : Tree ℕ (items further_section)) → fields_with_owners (identifier_owners_in_parameter_sections k fs) ≡ fields_in_parameter_sections k fs
+sections-fields : (k : ℕ) (fs : Tree ℕ (items section_after_semicolon)) → fields_with_owners (identifier_owners_in_parameter_sections k fs) ≡ fields_in_parameter_sections k fs
 sections-fields k end = refl
-sections-fields k (more (then_section f) fs) = among-both (identifier_owners_in_parameter_section k f) (identifier_owners_in_parameter_sections (k + constructor_count (parameter_section_type f)) fs) (section-fields k f) (sections-fields (k + constructor_count (parameter_section_type f)) fs)
+sections-fields k (more (semicolon_then_section f) fs) = among-both (identifier_owners_in_parameter_section k f) (identifier_owners_in_parameter_sections (k + constructor_count (parameter_section_type f)) fs) (section-fields k f) (sections-fields (k + constructor_count (parameter_section_type f)) fs)
 
 formals-fields : (k : ℕ) (fs : Tree ℕ (maybe formals)) → fields_with_owners (identifier_owners_in_formals k fs) ≡ fields_in_parameter_sections k (formal_sections fs)
 formals-fields k none = refl
@@ -195,5 +195,5 @@ mutual
       (procedures-fields m (k + procedure_constructor_count p) rest)
 
 pub module-fields : {P : Type 0} (m : Meanings ℕ Shape P) (t : Tree ℕ module_text) → fields_with_owners (identifier_owners_in_module m t) ≡ fields_in_module m t
-module-fields m (is_module x b closing) =
+module-fields m (forms_module x b closing) =
     among-both (identifier_owners_in_block m 0 b) ((closing, None) ∷ []) (block-fields m 0 b) refl ∙ append-nil (fields_in_block m 0 b)

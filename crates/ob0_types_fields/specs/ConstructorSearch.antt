@@ -5,7 +5,7 @@ use Rattle.std.specs.Prelude.{ℕ, ◌-◌, ◌==◌, List, [], ◌∷◌, Optio
 use Rattle.ob0_language_types.specs.Expressions.{Meanings}
 use Rattle.ob0_language_types.specs.WellTyped.{Signature}
 use Rattle.ob0_types_table.specs.declared.types.TypeId.{TypeId}
-use Rattle.ob0_types_table.specs.KnownTables.{declared_object_in, shapes_of}
+use Rattle.ob0_types_table.specs.DeclarationTables.{declared_object_in, shapes_of}
 use Rattle.ob0_types_table.specs.DeclarationTableView.{type_shape}
 use Rattle.ob0_language_values.specs.Values.{Shape}
 use Rattle.ob0_types_fields.specs.declared.field_types.ConstructorWalk.{ConstructorWalk}
@@ -13,7 +13,7 @@ use Rattle.ob0_types_fields.specs.declared.field_types.ConstructorSearch.{Constr
 use Rattle.ob0_types_fields.specs.declared.field_types.ConstructorSearch.TheVariants as search
 use Rattle.ob0_types_fields.specs.declared.field_types.TypedField as code
 use Rattle.ob0_types_fields.specs.FieldTypes.{TypedField}
-use Rattle.ob0_types_fields.specs.Owned.{meanings_by_token}
+use Rattle.ob0_types_fields.specs.IdentifierOwners.{meanings_by_token}
 
 -- the state of a search: the type that was found (None if it is unknown), or the number of words ARRAY and RECORD still
 -- to skip

@@ -3,14 +3,14 @@
 use Rattle.std.specs.Prelude.{◌≡◌, ◌==◌, ◌+◌, ◌-◌, ◌^◌, ℕ, List, [], ◌∷◌, ◌++◌, length, min, nat_le, nat_lt, set, if◌then◌else◌}
 use Rattle.std.specs.List.{filter}
 use Rattle.ob0_scan.specs.declared.tokens.CommonPrefixAndSuffix.{CommonPrefixAndSuffix}
-use Rattle.ob0_tree.specs.Order.{AreAscendingWithin}
+use Rattle.ob0_tree.specs.IdentifierIndexes.{AreAscendingWithin}
 use Rattle.ob0_tree.specs.ParsedModule.{tree_of}
-use Rattle.ob0_scope_table.specs.BodyReplaced.{shifted_token_index}
+use Rattle.ob0_scope_table.specs.BodyReplacement.{shifted_token_index}
 use Rattle.ob0_scope_table.specs.Resolution.{Resolution}
-use Rattle.ob0_types_table.specs.KnownTables.{DeclarationTableView, declared_object_in}
+use Rattle.ob0_types_table.specs.DeclarationTables.{DeclarationTableView, declared_object_in}
 use Rattle.ob0_types_fields.specs.declared.field_name.FieldName.{FieldName}
 use Rattle.ob0_types_fields.specs.Identifiers.{declared_fields, field_identifiers, token_indexes}
-use Rattle.ob0_types_fields.specs.Owned.{fields_in_module, meanings_by_token}
+use Rattle.ob0_types_fields.specs.IdentifierOwners.{fields_in_module, meanings_by_token}
 
 -- two lists of field identifiers of a module: `declared` has the identifiers that declare a field,
 -- `all` also has the identifiers that select a field

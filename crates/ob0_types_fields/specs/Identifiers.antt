@@ -6,19 +6,19 @@ use Rattle.std.specs.List.{All, list_any, position_from}
 use Rattle.ob0_scan.specs.TextWithTokens.{TextWithTokens}
 use Rattle.ob0_tree.specs.declared.tree.Role.{Role}
 use Rattle.ob0_tree.specs.declared.tree.Role.TheVariants as role
-use Rattle.ob0_tree.specs.Order.{AreAscendingWithin}
+use Rattle.ob0_tree.specs.IdentifierIndexes.{AreAscendingWithin}
 use Rattle.ob0_tree.specs.Tree.{Tree, block, declares, declares_procedure, end, forms_block, identifiers, item, items, mapped_tree, more, procedure}
 use Rattle.ob0_tree.specs.ParsedModule.{ParsedModule, named_tree_of, tree_of}
 use Rattle.ob0_tree.specs.Places.{token_text_at, token_value_at}
 use Rattle.ob0_language_names.specs.Names.{Name, same_name}
-use Rattle.ob0_language_names.specs.Parts.{formal_sections, module_block, section_types, section_variables}
+use Rattle.ob0_language_names.specs.BlockParts.{formal_sections, module_block, section_types, section_variables}
 use Rattle.ob0_scope_table.specs.Resolution.{IsResolution, Resolution, span_at}
 use Rattle.ob0_scope_table.specs.Spans.{is_in_span_or_at_end}
 use Rattle.ob0_language_types.specs.Declarations.{constructors_before_procedure_block, constructors_before_variables, constructors_before_procedures, procedure_constructor_count}
 use Rattle.ob0_language_types.specs.WellTyped.{WellTyped}
 use Rattle.ob0_types_fields.specs.declared.field_name.FieldName.{FieldName}
-use Rattle.ob0_types_fields.specs.Owned.{fields_with_owners, fields_in_parameter_sections, fields_in_types, fields_in_variables, identifier_owners_in_resolution}
-use Rattle.ob0_language_fields.specs.Renaming.{with_renamed_field, is_duplicate_field}
+use Rattle.ob0_types_fields.specs.IdentifierOwners.{fields_with_owners, fields_in_parameter_sections, fields_in_types, fields_in_variables, identifier_owners_in_resolution}
+use Rattle.ob0_language_fields.specs.Renaming.{module_with_renamed_field, is_duplicate_field_name}
 
 -- returns the identifiers in a module that declare or select a field, in text order
 abbrev pub field_identifiers : Resolution → List FieldName
@@ -126,7 +126,7 @@ RenamingChangesFieldTokens =
     (r : Resolution) (k : ℕ) (f new : Name)
     → IsResolution r
     → WellTyped (named_tree_of r.module_read)
-    → with_renamed_field (named_tree_of r.module_read) k f new
+    → module_with_renamed_field (named_tree_of r.module_read) k f new
     ≡ mapped_tree (λ i. if list_any (λ token. i == token) (field_tokens r k f)
     then new
     else token_text_at r.module_read.source i) (token_value_at r.module_read.source) (tree_of r.module_read)
@@ -136,7 +136,7 @@ RenamingChangesFieldTokens =
 abbrev pub DuplicateFieldNameHasDeclaringToken : Type 0
 DuplicateFieldNameHasDeclaringToken =
     (m : ParsedModule) (k : ℕ) (f new : Name)
-    → is_duplicate_field (named_tree_of m) k f new
+    → is_duplicate_field_name (named_tree_of m) k f new
     ≡ (not (same_name new f) && is_some (field_declaring_token m k new))
 
 -- States that each field identifier of a well-typed module has a declaration: a token declares a field with the same

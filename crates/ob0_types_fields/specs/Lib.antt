@@ -1,7 +1,7 @@
-pub mod Owners
-pub mod Owned
+pub mod OwnerTables
+pub mod IdentifierOwners
 pub mod Identifiers
 pub mod FieldLists
-pub mod Walk
+pub mod FieldWalks
 pub mod FieldTypes
 pub mod ConstructorSearch

@@ -1,11 +1,11 @@
 //! Walks written types to find the fields that records declare.
 
 ghost use Rattle.std.specs.Prelude.{◌≡◌, ◌≤◌, ◌++◌, ◌+◌, ◌^◌, IfOk, MatchResult};
-ghost use Rattle.ob0_language_names.specs.Parts.{formal_sections, names_in_list, section_types, section_variables};
+ghost use Rattle.ob0_language_names.specs.BlockParts.{formal_sections, names_in_list, section_types, section_variables};
 ghost use Rattle.ob0_tree.specs.View.{optional_field_group_of, formals_of, names_of, record_type_of, type_of, type_section_of, variable_section_of};
 ghost use Rattle.ob0_language_types.specs.Declarations.{formals_constructor_count, types_constructor_count, variables_constructor_count};
 ghost use Rattle.ob0_language_types.specs.Typing.{constructor_count, group_constructor_count};
-ghost use Rattle.ob0_types_fields.specs.Owned.{fields_in_group, fields_at_tokens, fields_in_parameter_sections, fields_in_type, fields_in_types, fields_in_variables};
+ghost use Rattle.ob0_types_fields.specs.IdentifierOwners.{fields_in_group, fields_at_tokens, fields_in_parameter_sections, fields_in_type, fields_in_types, fields_in_variables};
 
 use crate::field_name::{FieldName, FieldNameList};
 use ob0_tree::{

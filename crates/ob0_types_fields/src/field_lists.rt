@@ -17,7 +17,7 @@
 //!
 //! A list has token indexes but not the text, so a caller may use the list with another text. If
 //! that text has no token with such an index, the code treats the field as an empty span at the
-//! text's start. Therefore, the contract of `ModuleFields::identifier_at` has a premise: the
+//! text's start. Therefore, the contract of `ModuleFields::field_identifier_at_offset` has a premise: the
 //! indexes ascend and are indexes of the text's tokens (`AreInTextOrder`). If `ModuleFields` was
 //! made from a text, its lists satisfy this premise for that text (`fields_ascend`).
 
@@ -28,11 +28,11 @@ ghost use Rattle.ob0_tree.specs.ParsedModule.{tree_of};
 ghost use Rattle.ob0_tree.specs.Places.{token_text_at};
 ghost use Rattle.ob0_tree.specs.View.{body_of};
 ghost use Rattle.ob0_language_names.specs.Names.{same_name};
-ghost use Rattle.ob0_types_table.specs.KnownTables.{declared_object_in};
+ghost use Rattle.ob0_types_table.specs.DeclarationTables.{declared_object_in};
 ghost use Rattle.ob0_types_fields.specs.declared.field_name.FieldName.{FieldName};
 ghost use Rattle.ob0_types_fields.specs.Identifiers.{AreInTextOrder, declared_fields, field_at_offset, first_token, field_tokens_of_record, tokens_of_field};
 ghost use Rattle.ob0_types_fields.specs.FieldLists.{HasSameTokensIfReplaced, field_with_shifted_token, fields_before_token, fields_at_or_after_token, all_fields_if_any_declared, field_lists_of, old_token_index, new_token_index, overwritten_fields};
-ghost use Rattle.ob0_types_fields.specs.Owned.{fields_in_module, fields_in_tree, meanings_by_token};
+ghost use Rattle.ob0_types_fields.specs.IdentifierOwners.{fields_in_module, fields_in_tree, meanings_by_token};
 
 use crate::declaring::add_block_declared_fields;
 use crate::field_lookups::{
@@ -156,7 +156,7 @@ impl ModuleFields {
     /// Returns the first field identifier in the list `all` that contains the byte offset `offset`
     /// or ends there. Returns None if there is none. `tokens` must be the tokens of the text for
     /// which the list was made.
-    pub fn identifier_at(&self, tokens: &Tokens, offset: usize) -> Option<FieldName>
+    pub fn field_identifier_at_offset(&self, tokens: &Tokens, offset: usize) -> Option<FieldName>
         ensures { AreInTextOrder tokens.now self.now.all
             → result ≡ field_at_offset tokens.now offset self.now.all }
     {
@@ -183,7 +183,7 @@ impl ModuleFields {
     /// Returns the index of the token that declares the field `name` of the record with ordinal
     /// `owner`. A record's ordinal is the number of words ARRAY and RECORD before the record in the
     /// text. Returns None if the record has no such field.
-    pub fn declaring_token_of(&self, tokens: &Tokens, owner: usize, name: &str) -> Option<usize>
+    pub fn field_declaring_token(&self, tokens: &Tokens, owner: usize, name: &str) -> Option<usize>
         ensures { result ≡ first_token (tokens_of_field tokens.now owner name.now self.now.declared) }
     {
         first_token_of_field(tokens, &self.declared, owner, name)
@@ -193,7 +193,7 @@ impl ModuleFields {
     /// `owner` declares. Positions are counted from 0. A record's ordinal is the number of words
     /// ARRAY and RECORD before the record in the text. Returns None if the record has no such
     /// field.
-    pub fn index_in_record(&self, tokens: &Tokens, owner: usize, name: &str) -> Option<usize>
+    pub fn field_index_in_record(&self, tokens: &Tokens, owner: usize, name: &str) -> Option<usize>
         ensures { result
             ≡ position_from (λ token. same_name (token_text_at tokens.now token) name.now) 0
             (field_tokens_of_record owner self.now.declared) }

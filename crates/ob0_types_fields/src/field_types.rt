@@ -17,10 +17,10 @@
 ghost use Rattle.std.specs.Prelude.{◌≡◌, List, None, option_and_then, option_map};
 ghost use Rattle.ob0_tree.specs.View.{block_of, optional_field_group_of, formals_of, procedure_of, record_type_of, parameter_section_of, type_of, type_section_of, variable_section_of};
 ghost use Rattle.ob0_language_types.specs.Typing.{element_type, field_type, type_of_object};
-ghost use Rattle.ob0_types_table.specs.KnownTables.{declared_object_in, shapes_of};
+ghost use Rattle.ob0_types_table.specs.DeclarationTables.{declared_object_in, shapes_of};
 ghost use Rattle.ob0_types_table.specs.DeclarationTableView.{type_shape};
 ghost use Rattle.ob0_language_values.specs.Values.{Shape, integer_shape};
-ghost use Rattle.ob0_types_fields.specs.FieldTypes.{constructed_types, constructed_type_by_objects, typed_field_by_objects};
+ghost use Rattle.ob0_types_fields.specs.FieldTypes.{constructed_types, constructed_type_from_objects, typed_field_from_objects};
 ghost use Rattle.ob0_types_fields.specs.ConstructorSearch.{state_after_constructors, state_after_constructor, constructor_walk_meanings, search_view, search_view_in_walk, shape_in_walk, typed_field_view};
 
 use crate::field_name::FieldName;
@@ -47,7 +47,7 @@ pub fn typed_field<'a, 't>(
     identifier: FieldName,
 ) -> Option<TypedField>
     ensures { option_map (typed_field_view (shapes_of table.now)) result
-        ≡ typed_field_by_objects (declared_object_in table.now) resolved.now identifier }
+        ≡ typed_field_from_objects (declared_object_in table.now) resolved.now identifier }
 {
     let base = constructed_type(table, resolved, identifier.owner)?;
     let name = token_text_at(resolved.tokens(), identifier.token);
@@ -65,7 +65,7 @@ fn constructed_type<'a, 't>(
     ordinal: usize,
 ) -> Option<TypeId>
     ensures { option_map (type_shape (shapes_of table.now)) result
-        ≡ constructed_type_by_objects (declared_object_in table.now) resolved.now ordinal }
+        ≡ constructed_type_from_objects (declared_object_in table.now) resolved.now ordinal }
 {
     let walk = ConstructorWalk { table, resolved };
     match walk.search_block(

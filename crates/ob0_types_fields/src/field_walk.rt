@@ -13,12 +13,12 @@
 ghost use Rattle.std.specs.Prelude.{◌≡◌, ◌++◌, ◌+◌, IfOk, Some, option_and_then, option_map};
 ghost use Rattle.ob0_tree.specs.View.{expression_of, compound_expression_of, simple_expression_of, term_of, factor_of, designator_of, selector_of, assignment_of, call_of, arguments_of_vec, statement_of, if_of, elsifs_of_vec, sequence_of_vec, body_of, block_of, procedure_of};
 ghost use Rattle.ob0_language_types.specs.Declarations.{block_constructor_count, procedure_constructor_count};
-ghost use Rattle.ob0_types_table.specs.KnownTables.{shapes_of};
+ghost use Rattle.ob0_types_table.specs.DeclarationTables.{shapes_of};
 ghost use Rattle.ob0_types_table.specs.DeclarationTableView.{type_shape};
 ghost use Rattle.ob0_language_types.specs.Typing.{element_type, field_type, type_of_variable_or_constant};
 ghost use Rattle.ob0_language_values.specs.Values.{integer_shape};
-ghost use Rattle.ob0_types_fields.specs.Owned.{field_if_owned, fields_in_tree, fields_in_block, fields_in_procedure, owner, type_after_selector};
-ghost use Rattle.ob0_types_fields.specs.Walk.{fields_in_selector, field_walk_meanings, record_shape_in_walk};
+ghost use Rattle.ob0_types_fields.specs.IdentifierOwners.{field_if_owned, fields_in_tree, fields_in_block, fields_in_procedure, owner, type_after_selector};
+ghost use Rattle.ob0_types_fields.specs.FieldWalks.{fields_in_selector, field_walk_meanings, record_shape_in_walk};
 
 use crate::declared::{add_formal_fields, add_type_section_fields, add_variable_section_fields};
 use crate::field_name::{FieldName, FieldNameList};
@@ -106,7 +106,7 @@ impl<'a, 't> FieldWalk<'a, 't> {
     {
         match shape
             .fields
-            .find(token_text_at(self.resolved.tokens(), name))
+            .type_of_field(token_text_at(self.resolved.tokens(), name))
         {
             None => Ok(None),
             Some(of) => {

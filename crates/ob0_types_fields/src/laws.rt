@@ -5,8 +5,8 @@
 
 ghost use Rattle.ob0_types_fields.specs.FieldTypes.{FieldsHaveTypes};
 ghost use Rattle.ob0_types_fields.specs.Identifiers.{DuplicateFieldNameHasDeclaringToken, FieldsAreDeclared, FieldsMatchGrammar, RenamingChangesFieldTokens};
-ghost use Rattle.ob0_types_fields.specs.Owned.{WalkFindsAllFields, AgreeingTableIsOwnerTable, TableWithEnteredOwnersIsOwnerTable};
-ghost use Rattle.ob0_types_fields.specs.Owners.{RenamingFollowsOwners};
+ghost use Rattle.ob0_types_fields.specs.IdentifierOwners.{WalkFindsAllFields, AgreeingTableIsOwnerTable, TableWithEnteredOwnersIsOwnerTable};
+ghost use Rattle.ob0_types_fields.specs.OwnerTables.{RenamingFollowsOwners};
 
 /// Proves that a table is an owner table (`IsOwnerTable`) of a well-typed module if it agrees with
 /// the list `identifier_owners_in_resolution`. For each identifier of the module, this list gives

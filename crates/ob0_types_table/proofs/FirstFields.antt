@@ -13,7 +13,7 @@ use Rattle.ob0_language_names.proofs.NameEquality.{same_name-comm}
 use Rattle.ob0_types_table.specs.declared.field_table.FirstField.{FirstField}
 use Rattle.ob0_types_table.specs.declared.known.Field.{Field}
 use Rattle.ob0_types_table.specs.declared.types.TypeId.{TypeId}
-use Rattle.ob0_types_table.specs.FieldIndex.{IsFirstFieldMapFrom, first_field_named_from, type_of_first_field_named}
+use Rattle.ob0_types_table.specs.FirstFieldMaps.{IsFirstFieldMapFrom, first_field_named_from, type_of_first_field_named}
 use Rattle.ob0_types_table.specs.FieldPlaces.{position_of_field}
 use Rattle.ob0_types_table.specs.DeclarationTableView.{field_shapes, type_shape}
 use Rattle.ob0_language_types.specs.Typing.{shape_of_field}

@@ -5,13 +5,13 @@ use Rattle.ob0_tree.specs.declared.tree.Expression.{Expression}
 use Rattle.ob0_tree.specs.declared.tree.ParameterSection.{ParameterSection}
 use Rattle.ob0_tree.specs.Tree.{one, value_section, variable_section}
 use Rattle.ob0_tree.specs.View as view
-use Rattle.ob0_tree.specs.View.{expression_of, further_argument_of, items_of, names_of, parameter_section_of, type_of}
-use Rattle.ob0_language_names.specs.Parts.{names_in_list, parameter_section_names}
+use Rattle.ob0_tree.specs.View.{expression_of, argument_after_comma_of, items_of, names_of, parameter_section_of, type_of}
+use Rattle.ob0_language_names.specs.BlockParts.{names_in_list, parameter_section_names}
 use Rattle.ob0_scope_table.specs.Resolution.{Resolution}
 use Rattle.ob0_types_table.specs.Designators.{labelled_expressions}
 use Rattle.ob0_scope_table.specs.LabelledTrees.{tree_with_labels}
 use Rattle.ob0_language_types.specs.Arguments.{call_arguments, further_arguments}
-use Rattle.ob0_language_types.specs.WellTyped.{Mode, by_place, by_value, parameter_section_mode}
+use Rattle.ob0_language_types.specs.WellTyped.{ParameterMode, by_place, by_value, parameter_section_mode}
 
 pub section-names : (r : Resolution) (s : ParameterSection) → parameter_section_names (tree_with_labels r (parameter_section_of s)) ≡ names_in_list (tree_with_labels r (names_of s.names))
 section-names r s = by_mode s.by_reference
@@ -21,7 +21,7 @@ section-names r s = by_mode s.by_reference
     by_mode false = refl
 
 -- The mode of a section follows from its VAR mark, for any function from this mark to modes.
-pub section-mode : (mode_from_flag : Bool → Mode) → mode_from_flag true ≡ by_place → mode_from_flag false ≡ by_value → (r : Resolution) (s : ParameterSection) → parameter_section_mode (tree_with_labels r (parameter_section_of s)) ≡ mode_from_flag s.by_reference
+pub section-mode : (mode_from_flag : Bool → ParameterMode) → mode_from_flag true ≡ by_place → mode_from_flag false ≡ by_value → (r : Resolution) (s : ParameterSection) → parameter_section_mode (tree_with_labels r (parameter_section_of s)) ≡ mode_from_flag s.by_reference
 section-mode mode_from_flag marked unmarked r s = by_mode s.by_reference
   where
     by_mode : (b : Bool) → parameter_section_mode (tree_with_labels r (cond b (variable_section (names_of s.names) (type_of s.written)) (value_section (names_of s.names) (type_of s.written)))) ≡ mode_from_flag b
@@ -29,7 +29,7 @@ section-mode mode_from_flag marked unmarked r s = by_mode s.by_reference
     by_mode false = sym unmarked
 
 -- A list of arguments has its expressions in order.
-further_listed : (r : Resolution) (es : List Expression) → further_arguments (tree_with_labels r (items_of further_argument_of es)) ≡ labelled_expressions r es
+further_listed : (r : Resolution) (es : List Expression) → further_arguments (tree_with_labels r (items_of argument_after_comma_of es)) ≡ labelled_expressions r es
 further_listed r [] = refl
 further_listed r (e ∷ es) = ap (λ z. tree_with_labels r (expression_of e) ∷ z) (further_listed r es)
 

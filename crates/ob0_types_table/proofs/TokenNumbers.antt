@@ -7,7 +7,7 @@ use Rattle.ob0_scan.specs.declared.lexeme.TokenKind.{TokenKind}
 use Rattle.ob0_scan.specs.declared.lexeme.TokenKind.TheVariants as token
 use Rattle.ob0_scan.specs.declared.lexeme.LexemeKind.{LexemeKind}
 use Rattle.ob0_scan.specs.declared.lexeme.LexemeKind.TheVariants as lexeme
-use Rattle.ob0_scan.specs.Classes.{IsLexemeOfKind}
+use Rattle.ob0_scan.specs.LexemeClasses.{IsLexemeOfKind}
 use Rattle.ob0_scan.specs.Lexed.{AreLeadingLexemes, Lexeme}
 use Rattle.ob0_scan.specs.TextWithTokens.{IsScan, TextWithTokens, span_from, tokens_of_lexeme, tokens_of_lexemes_from}
 use Rattle.ob0_tree.specs.Places.{token_value_at, token_value_or_zero, integer_value_or_zero}

@@ -15,9 +15,9 @@ use Rattle.ob0_types_table.specs.declared.known.StandardProcedure as standard
 use Rattle.ob0_types_table.specs.declared.known.StandardProcedure.TheVariants as standards
 use Rattle.ob0_types_table.specs.declared.known.Object as declaration
 use Rattle.ob0_types_table.specs.declared.known.Object.TheVariants as kind
-use Rattle.ob0_language_types.specs.Expressions.{Object, StandardProcedure, a_constant, a_procedure, a_standard, a_type, a_variable, read_procedure, write_procedure, write_line_procedure}
+use Rattle.ob0_language_types.specs.Expressions.{Object, StandardProcedure, a_constant, a_procedure, a_standard_procedure, a_type, a_variable, read_procedure, write_procedure, write_line_procedure}
 use Rattle.ob0_language_types.specs.Typing.{depth, scalars}
-use Rattle.ob0_language_types.specs.WellTyped.{FormalParameter, Mode, Signature, by_place, by_value}
+use Rattle.ob0_language_types.specs.WellTyped.{FormalParameter, ParameterMode, Signature, by_place, by_value}
 
 -- Returns the shape of a faulty type: a record without fields, whose ordinal is the greatest length of a text in bytes.
 -- No text has so many words ARRAY and RECORD, so no type of a module has this shape.
@@ -55,15 +55,15 @@ entry_shape shapes (made.Array a) = array_shape a.ordinal a.length (type_shape s
 entry_shape shapes (made.Record r) = record_shape r.ordinal (field_shapes shapes r.fields)
 
 -- returns the `TypeId` of an entry that has the index `place` in the table
-abbrev pub type_of_entry : code.TypeEntry → ℕ → TypeId
-type_of_entry (made.Array a) place = type.Array place
-type_of_entry (made.Record r) place = type.Record place
+abbrev pub type_id_of_entry : code.TypeEntry → ℕ → TypeId
+type_id_of_entry (made.Array a) place = type.Array place
+type_id_of_entry (made.Record r) place = type.Record place
 
 -- returns the shapes `known` of a table's first entries, followed by the shapes of the further entries in the list;
 -- each entry may refer only to entries before it
-abbrev pub extended_shapes : List Shape → List code.TypeEntry → List Shape
-extended_shapes known [] = known
-extended_shapes known (m ∷ ms) = extended_shapes (known ++ entry_shape known m ∷ []) ms
+abbrev pub shapes_after_entries : List Shape → List code.TypeEntry → List Shape
+shapes_after_entries known [] = known
+shapes_after_entries known (m ∷ ms) = shapes_after_entries (known ++ entry_shape known m ∷ []) ms
 
 -- states that the type refers to no entry of the table, or to one of the first `n` entries
 abbrev pub RefersOnlyToFirstEntries : ℕ → TypeId → Type 0
@@ -96,7 +96,7 @@ AreEntriesInOrder known (m ∷ ms) =
     IsValidEntry known m × AreEntriesInOrder (known ++ entry_shape known m ∷ []) ms
 
 -- returns the mode of a parameter: by reference (`by_place`) if the Bool is true, otherwise by value
-abbrev pub mode_from_flag : Bool → Mode
+abbrev pub mode_from_flag : Bool → ParameterMode
 mode_from_flag true = by_place
 mode_from_flag false = by_value
 
@@ -118,4 +118,4 @@ object_view shapes (kind.Constant v) = Some (a_constant (scalar_value v))
 object_view shapes kind.FaultyConstant = None
 object_view shapes (kind.Variable t) = Some (a_variable (type_shape shapes t))
 object_view shapes (kind.Procedure fs) = Some (a_procedure (map (formal_view shapes) fs.items))
-object_view shapes (kind.StandardProcedure s) = Some (a_standard (standard_procedure_of s))
+object_view shapes (kind.StandardProcedure s) = Some (a_standard_procedure (standard_procedure_of s))

@@ -9,7 +9,7 @@ use Rattle.ob0_tree.specs.declared.tree.Expression.{Expression}
 use Rattle.ob0_language_names.specs.Names.{Label}
 use Rattle.ob0_scope_table.specs.Resolution.{Resolution}
 use Rattle.ob0_scope_table.specs.LabelledTrees.{tree_with_labels}
-use Rattle.ob0_language_types.specs.Selected.{selectors_of_designator}
+use Rattle.ob0_language_types.specs.DesignatorSelectors.{selectors_of_designator}
 
 -- returns a designator's name and its selectors
 abbrev pub designator_parts : Designator → ℕ × Tree ℕ (items selector)

@@ -1,7 +1,7 @@
-pub mod FieldIndex
+pub mod FirstFieldMaps
 pub mod FieldPlaces
 pub mod DeclarationTableView
-pub mod KnownTables
+pub mod DeclarationTables
 pub mod TypeWithParts
 pub mod Operators
 pub mod Designators

@@ -6,7 +6,7 @@
 
 ghost use Rattle.std.specs.Prelude.{◌≡◌, List, IfOk, option_map};
 ghost use Rattle.ob0_language_values.specs.Values as shape;
-ghost use Rattle.ob0_types_table.specs.FieldIndex.{IsFirstFieldMap, type_of_first_field_named};
+ghost use Rattle.ob0_types_table.specs.FirstFieldMaps.{IsFirstFieldMap, type_of_first_field_named};
 ghost use Rattle.ob0_types_table.specs.FieldPlaces.{position_of_field};
 ghost use Rattle.ob0_types_table.specs.DeclarationTableView.{field_shapes, type_shape};
 ghost use Rattle.ob0_language_types.specs.Typing.{shape_of_field};
@@ -38,7 +38,7 @@ impl Model for FieldTable {
 
     ghost Value = { List Field };
 
-    ghost use Rattle.ob0_types_table.specs.FieldIndex.{IsFirstFieldMap};
+    ghost use Rattle.ob0_types_table.specs.FirstFieldMaps.{IsFirstFieldMap};
 
     ghost view = { λ t. t.fields.items };
 
@@ -87,7 +87,7 @@ impl FieldTable {
     }
 
     /// Returns the type of the first field with this name. Returns None if there is no such field.
-    pub fn find(&self, name: &str) -> Option<TypeId>
+    pub fn type_of_field(&self, name: &str) -> Option<TypeId>
         ensures first { result ≡ type_of_first_field_named self.now name.now }
         ensures shape { (shapes : List shape.Shape)
             → option_map (type_shape shapes) result

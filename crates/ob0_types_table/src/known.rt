@@ -129,7 +129,7 @@ impl RecordShape {
 
 impl Model for DeclarationTable {
     ghost use Rattle.std.specs.Prelude.{[]};
-    ghost use Rattle.ob0_types_table.specs.KnownTables.{DeclarationTableView};
+    ghost use Rattle.ob0_types_table.specs.DeclarationTables.{DeclarationTableView};
     ghost use Rattle.ob0_types_table.specs.DeclarationTableView.{AreEntriesInOrder};
 
     ghost Value = { DeclarationTableView };
@@ -141,7 +141,7 @@ impl Model for DeclarationTable {
 
 impl DeclarationTable {
     ghost use Rattle.std.specs.Prelude.{◌≡◌, [], length, option_map, option_and_then, slice_get, slice_index_or, MatchOption};
-    ghost use Rattle.ob0_types_table.specs.KnownTables.{declared_object_in, shapes_of};
+    ghost use Rattle.ob0_types_table.specs.DeclarationTables.{declared_object_in, shapes_of};
     ghost use Rattle.ob0_types_table.specs.DeclarationTableView.{AreEntriesInOrder, HasSizeOfShape, entry_shape, faulty_shape, object_view, type_shape};
     ghost use Rattle.ob0_language_types.specs.Typing.{constant_of, element_type, field_type, type_of_object};
     ghost use Rattle.ob0_language_values.specs.Scalars.{scalar_value};
@@ -259,7 +259,7 @@ impl DeclarationTable {
     {
         match base {
             TypeId::Record(i) => match self.entry(i)? {
-                TypeEntry::Record(record) => record.fields.find(name),
+                TypeEntry::Record(record) => record.fields.type_of_field(name),
                 TypeEntry::Array(_) => None,
             },
             TypeId::Integer => None,

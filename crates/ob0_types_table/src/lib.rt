@@ -2,21 +2,21 @@
 //! expressions that are only a designator.
 #![tactic(auto)]
 
-pub mod designated;
 mod entries;
 mod field_table;
+mod integer_tokens;
 mod known;
-mod numbers;
+pub mod lone_designators;
 pub mod operators;
 mod type_parts;
 mod types;
 
 pub use entries::add_entry;
 pub use field_table::FieldTable;
+pub use integer_tokens::integer_value_at_token;
 pub use known::{
     ArrayShape, DeclarationTable, Field, FieldId, FormalParameter, MAX_SCALARS, MAX_TYPE_DEPTH,
     Object, RecordShape, StandardProcedure, TypeEntry,
 };
-pub use numbers::integer_value_at_token;
 pub use type_parts::TypeWithParts;
 pub use types::{TypeId, scalar_type};

@@ -6,12 +6,13 @@ ghost use Rattle.std.specs.Prelude.{◌≡◌, Some, option_and_then, option_map
 ghost use Rattle.ob0_language_values.specs.Scalars.{scalar_value};
 ghost use Rattle.ob0_language_values.specs.Values as values;
 ghost use Rattle.ob0_types_table.specs.Operators.{product_value, sum_value};
-ghost use Rattle.ob0_language_types.specs.Selected.{apply_to_both_options};
+ghost use Rattle.ob0_language_types.specs.DesignatorSelectors.{apply_to_both_options};
 ghost use Rattle.ob0_language_types.specs.Typing.{outcome_value};
 
 use ob0_language_values::Scalar;
 use ob0_language_values::scalar::{
-    add, add_short_circuits, apply_relation, apply_sign, multiply, multiply_short_circuits, negate,
+    add, add_operator_short_circuits, apply_relation, apply_sign, multiply,
+    multiply_operator_short_circuits, negate,
 };
 use ob0_tree::{AddOperator, MultiplyOperator, Relation, Sign};
 
@@ -75,7 +76,7 @@ pub fn value_of_sum(
     match left {
         None => None,
         Some(left) => {
-            if add_short_circuits(operator, left) {
+            if add_operator_short_circuits(operator, left) {
                 return Some(left);
             }
             match right {
@@ -101,7 +102,7 @@ pub fn value_of_product(
     match left {
         None => None,
         Some(left) => {
-            if multiply_short_circuits(operator, left) {
+            if multiply_operator_short_circuits(operator, left) {
                 return Some(left);
             }
             match right {

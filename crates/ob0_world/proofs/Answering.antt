@@ -1,6 +1,6 @@
 -- Proves that the replies of a session, by its contract, are the replies of the model's server. The main lemma is
 -- `served`. `request_served` has a case for each request with edits, which uses `about_document` and a lemma for a text
--- in step: `formatted`, `renamed` or `inlined`. Answers are stated in the session's own words (`GivesEdits`, `Refuses`
+-- in step: `formatted`, `renamed` or `inlined`. Answers are stated in the session's own words (`AreRequestedEdits`, `RefusesAsk`
 -- by cases of the ask), so they are passed on unchanged. Both asks to inline send the same request. The editor reads
 -- the action with the title that it asked for (`actions_read_back`), if that is offered.
 use Rattle.std.proofs.Common.{◌≡◌, ◌∙◌, ℕ, Bool, true, false, cond, List, [], ◌∷◌, length, refl, sym, ap, subst, inl, inr, arith, ◌<◌}
@@ -25,37 +25,37 @@ use Rattle.ob0_text.specs.OpenDocuments.{OpenDocuments, Document, InStep, OutOfS
 use Rattle.ob0_text.specs.RefusalTexts.{refusal_text}
 use Rattle.ob0_text.specs.declared.refusals.EditRefusal.TheVariants.{TooLong}
 use Rattle.ob0_text.proofs.EntryLaws.{updated-some, updated-none}
-use Rattle.ob0_rpc.specs.Requesting.{code_action, request_by_method}
+use Rattle.ob0_rpc.specs.Requests.{code_action, request_by_method}
 use Rattle.ob0_rpc.specs.Faults.{negative_of}
 use Rattle.ob0_rpc.specs.Messages.{ReadsContent, meaning_of_content, meaning_of_message}
 use Rattle.ob0_rpc.specs.Shapes.{result_message, error_response_message}
 use Rattle.ob0_rpc.specs.declared.clients.ClientFeatures.{ClientFeatures}
-use Rattle.ob0_edits.specs.Inlinings.{OffersOrRefusesInlining}
-use Rattle.ob0_session_answers.specs.Actions.{VersionedActionsRequest, ListsActions, kinds_include_inlining, wants_inlining, actions_offset, actions_array}
+use Rattle.ob0_edits.specs.InliningEdits.{IsInlineResultInText}
+use Rattle.ob0_session_answers.specs.Actions.{VersionedActionsRequest, ListsActions, requested_kinds_include_inlining, wants_inlining, first_offset_in_range, actions_array}
 use Rattle.ob0_session_server.specs.Answers as answers_of
-use Rattle.ob0_session_server.specs.Answers.{ServerState, Reply, AreContentsOfReply, SendsMessage, Reaction, react, apply_notification, react_to_notification, react_to_method, react_to_request as requested_in, react_to_known_request, react_about_document, formatting_reply, renames, actions_reply, publication_reply, Answers, AnswersInPhase, AnswersBeforeEnd, says}
-use Rattle.ob0_analysis.specs.Diagnosed.{ReportedDiagnosis, IsWellTypedModule, ReportsErrorsOf, ReportsFaults, reported_diagnosis_of_fault}
+use Rattle.ob0_session_server.specs.Answers.{ServerState, Reply, AreContentsOfReply, SendsMessage, Reaction, react_to_message, apply_notification, react_to_notification, react_to_allowed_request, react_to_request as requested_in, react_to_parsed_request, react_to_document_request, formatting_reply, rename_reply, actions_reply, publication_reply, Answers, AnswersInPhase, AnswersBeforeEnd, says}
+use Rattle.ob0_analysis.specs.ReportedErrors.{ReportedDiagnosis, IsWellTypedModule, ReportsErrorsOf, ReportsFaults, reported_diagnosis_of_fault}
 use Rattle.ob0_session_answers.specs.Diagnostics.{AreDiagnosticsOf, diagnostic_of}
 use Rattle.ob0_analysis.specs.Texts.{utf8}
-use Rattle.ob0_session_answers.specs.Formatted.{AnswersFormatting}
-use Rattle.ob0_session_answers.specs.Renamed.{VersionedRenameRequest, AnswersRenaming}
-use Rattle.ob0_session_json.specs.Shapes.{Diagnostic, diagnostic_value, edit_value, edits_value, document_edit_value, workspace_edit, publication}
+use Rattle.ob0_session_answers.specs.FormattingAnswers.{AnswersFormattingRequest}
+use Rattle.ob0_session_answers.specs.RenamingAnswers.{VersionedRenameRequest, AnswersRenameRequest}
+use Rattle.ob0_session_json.specs.Shapes.{Diagnostic, diagnostic_value, edit_value, edit_list_value, document_edit_value, workspace_edit, publication}
 use Rattle.ob0_world_rules.specs.Answers.{Inlining, OneUse, Everywhere}
 use Rattle.ob0_session_server.specs.declared.session.Phase.TheVariants.{Running}
 use Rattle.ob0_world_editor.specs.MessagesToServer as heard_as
 use Rattle.ob0_world_editor.specs.MessagesToServer.{request_number_from_id, notification_for, HasVersionInRange, SentRequestAsksFor, client_request_for}
 use Rattle.ob0_world_editor.specs.Shapes.{method_of_ask, empty_range_at}
-use Rattle.ob0_world_editor.specs.MessagesToEditor.{answer_to_ask, message_to_editor_of, message_to_editor_by, edits_in, workspace_edit_items, edits_for, has_no_items}
+use Rattle.ob0_world_editor.specs.MessagesToEditor.{answer_to_ask, message_to_editor_of, message_to_editor_by_numbering, edits_of_items, workspace_edit_items, edits_in_answer, has_no_items}
 use Rattle.ob0_world_editor.proofs.Hearing.{read_as}
-use Rattle.ob0_world_rules.specs.Edited.{Replacement, replacement_of, replacements}
+use Rattle.ob0_world_rules.specs.TextEdits.{Replacement, replacement_of, replacements}
 use Rattle.ob0_world_rules.specs.Asks.{Ask, rename, inline_here, inline_all, format, clamped_indent}
 use Rattle.ob0_world_rules.specs.Answers.{position_offset, IsAnswerForText, IsAnswerForDocument, IsEmptyExactlyIfWellTyped}
 use Rattle.ob0_world_rules.specs.ClientAndServer.{SentAsk, MessageToServer, notifies, requests, MessageToEditor, publishes, answers, documents_after_message}
-use Rattle.ob0_world_rules.specs.Serving.{SendsDiagnostics, Replies}
+use Rattle.ob0_world_rules.specs.ServerReplies.{SendsDiagnostics, RepliesToMessage}
 use Rattle.ob0_world_rules.proofs.ModuleTexts.{well_typed_text, well_typed_module}
 use Rattle.ob0_world_rules.proofs.UriLaws.{get_put, uri_itself}
 use Rattle.ob0_world.specs.Queues.{RunsWithModelEditor, publication_with_text, publication_in_first_message}
-use Rattle.ob0_world.specs.Exchanges.{IsActionsRequest, AcceptsLiteralActions, AcceptsEditsFor}
+use Rattle.ob0_world.specs.Exchanges.{IsCodeActionRequest, AcceptsLiteralActions, AcceptsEditsFor}
 use Rattle.ob0_world.proofs.Places.{place_of_range}
 
 -- ---- contents that are read
@@ -69,9 +69,9 @@ pub going_on : (before after : ServerState) (content : List ℕ) (sent : List (L
 going_on before after content sent running h = subst (λ phase. AnswersInPhase phase before content sent after) running h
 
 -- A content with this meaning has the reaction to that meaning.
-pub reacts_so : (before after : ServerState) (content : List ℕ) (sent : List (List ℕ)) (d : Data) → AnswersBeforeEnd before content sent after → ReadsContent content (Some d) → (after ≡ (react before (meaning_of_message d)).after) × AreContentsOfReply (react before (meaning_of_message d)).reply sent
+pub reacts_so : (before after : ServerState) (content : List ℕ) (sent : List (List ℕ)) (d : Data) → AnswersBeforeEnd before content sent after → ReadsContent content (Some d) → (after ≡ (react_to_message before (meaning_of_message d)).after) × AreContentsOfReply (react_to_message before (meaning_of_message d)).reply sent
 reacts_so before after content sent d (json, reads, answer) known =
-    subst (λ j. (after ≡ (react before (meaning_of_content j)).after) × AreContentsOfReply (react before (meaning_of_content j)).reply sent) (same_json content json d reads known) answer
+    subst (λ j. (after ≡ (react_to_message before (meaning_of_content j)).after) × AreContentsOfReply (react_to_message before (meaning_of_content j)).reply sent) (same_json content json d reads known) answer
 
 -- ---- diagnostics
 
@@ -125,7 +125,7 @@ opened_at held uri version text =
 
 -- ---- edits
 
-edits_read_back : (edits : List Edit) → edits_in (items_of (map edit_value edits)) ≡ Some (replacements edits)
+edits_read_back : (edits : List Edit) → edits_of_items (items_of (map edit_value edits)) ≡ Some (replacements edits)
 edits_read_back [] = refl
 edits_read_back (e ∷ edits) = ap (option_map (λ es. replacement_of e ∷ es)) (edits_read_back edits)
 
@@ -138,17 +138,17 @@ own_member : (key : List ℕ) (d : Data) → get key (object (member key d no_me
 own_member key d = ap (λ o. match_ordering o None (Some d) None) (tied_itself nat_list_cmp_total key)
 
 -- The edits of a document are read back from the WorkspaceEdit that has them, with a version or without.
-workspace_read_back : (client : ClientFeatures) (uri : List ℕ) (version : ℤ) (edits : List Edit) → option_and_then edits_in (workspace_edit_items uri (workspace_edit client uri version edits)) ≡ Some (replacements edits)
+workspace_read_back : (client : ClientFeatures) (uri : List ℕ) (version : ℤ) (edits : List Edit) → option_and_then edits_of_items (workspace_edit_items uri (workspace_edit client uri version edits)) ≡ Some (replacements edits)
 workspace_read_back client uri version edits = go client.accepts_document_changes
   where
     go : (b : Bool)
-        → option_and_then edits_in (workspace_edit_items uri (cond b (object (member (codes "documentChanges") (array (item (document_edit_value uri version edits) no_items)) no_members)) (object (member (codes "changes") (object (member uri (edits_value edits) no_members)) no_members))))
+        → option_and_then edits_of_items (workspace_edit_items uri (cond b (object (member (codes "documentChanges") (array (item (document_edit_value uri version edits) no_items)) no_members)) (object (member (codes "changes") (object (member uri (edit_list_value edits) no_members)) no_members))))
         ≡ Some (replacements edits)
     go true = edits_read_back edits
-    go false = ap (λ o. option_and_then edits_in (option_and_then as_array o)) (own_member uri (edits_value edits)) ∙ edits_read_back edits
+    go false = ap (λ o. option_and_then edits_of_items (option_and_then as_array o)) (own_member uri (edit_list_value edits)) ∙ edits_read_back edits
 
 renames_read_back : (id : Data) (position : Position) (name uri : List ℕ) (version : ℤ) (edits : List Edit) (client : ClientFeatures)
-    → edits_for uri (rename position name) (result_message id (workspace_edit client uri version edits)) ≡ replacements edits
+    → edits_in_answer uri (rename position name) (result_message id (workspace_edit client uri version edits)) ≡ replacements edits
 renames_read_back id position name uri version edits client = ap (λ o. unwrap_or o []) (workspace_read_back client uri version edits)
 
 -- returns a rename request in the session's words
@@ -174,7 +174,7 @@ edits_offered None = []
 
 -- The editor reads the edits of the action that it asked for from the list of offered actions.
 actions_read_back : (how : Inlining) (position : Position) (requested : VersionedActionsRequest) (here everywhere : Option (Vec Edit Global))
-    → edits_for requested.uri (inlining_at how position) (result_message requested.id (actions_array requested here everywhere)) ≡ edits_offered (requested_for how here everywhere)
+    → edits_in_answer requested.uri (inlining_at how position) (result_message requested.id (actions_array requested here everywhere)) ≡ edits_offered (requested_for how here everywhere)
 actions_read_back OneUse position requested (Some edits) everywhere = ap (λ o. unwrap_or o []) (workspace_read_back requested.client requested.uri requested.version edits.items)
 actions_read_back OneUse position requested None (Some other) = refl
 actions_read_back OneUse position requested None None = refl
@@ -183,16 +183,16 @@ actions_read_back Everywhere position requested None (Some edits) = ap (λ o. un
 actions_read_back Everywhere position requested (Some other) None = refl
 actions_read_back Everywhere position requested None None = refl
 
-pub none_read_back : (how : Inlining) (position : Position) (uri : List ℕ) (id : Data) → edits_for uri (inlining_at how position) (result_message id (array no_items)) ≡ []
+pub none_read_back : (how : Inlining) (position : Position) (uri : List ℕ) (id : Data) → edits_in_answer uri (inlining_at how position) (result_message id (array no_items)) ≡ []
 none_read_back OneUse position uri id = refl
 none_read_back Everywhere position uri id = refl
 
 -- An inlining that is offered, or not offered for a reason, is the answer to the ask.
-offered_here : (unit : Unit) (text : List ℕ) (position : Position) (o : Option (Vec Edit Global)) → OffersOrRefusesInlining OneUse unit text (position_offset unit text position) o → IsAnswerForText unit text (inline_here position) (edits_offered o)
+offered_here : (unit : Unit) (text : List ℕ) (position : Position) (o : Option (Vec Edit Global)) → IsInlineResultInText OneUse unit text (position_offset unit text position) o → IsAnswerForText unit text (inline_here position) (edits_offered o)
 offered_here unit text position None refused = inr (inl refused, refl)
 offered_here unit text position (Some found) inlines = inl (found.items, (found, inlines, refl), refl)
 
-offered_everywhere : (unit : Unit) (text : List ℕ) (position : Position) (o : Option (Vec Edit Global)) → OffersOrRefusesInlining Everywhere unit text (position_offset unit text position) o → IsAnswerForText unit text (inline_all position) (edits_offered o)
+offered_everywhere : (unit : Unit) (text : List ℕ) (position : Position) (o : Option (Vec Edit Global)) → IsInlineResultInText Everywhere unit text (position_offset unit text position) o → IsAnswerForText unit text (inline_all position) (edits_offered o)
 offered_everywhere unit text position None refused = inr (inl refused, refl)
 offered_everywhere unit text position (Some found) inlines = inl (found.items, (found, inlines, refl), refl)
 
@@ -200,13 +200,13 @@ least : (n : ℕ) → min n n ≡ n
 least n = omega arith
 
 -- The offset of an empty range is the offset of its position.
-place_is : (unit : Unit) (text : List ℕ) (position : Position) → actions_offset unit text (empty_range_at position) ≡ position_offset unit text position
+place_is : (unit : Unit) (text : List ℕ) (position : Position) → first_offset_in_range unit text (empty_range_at position) ≡ position_offset unit text position
 place_is unit text position = least (position_offset unit text position)
 
-requested_offered : (how : Inlining) (unit : Unit) (text : List ℕ) (position : Position) (offset : ℕ) (here everywhere : Option (Vec Edit Global)) → offset ≡ position_offset unit text position → OffersOrRefusesInlining OneUse unit text offset here
-    → OffersOrRefusesInlining Everywhere unit text offset everywhere → IsAnswerForText unit text (inlining_at how position) (edits_offered (requested_for how here everywhere))
-requested_offered OneUse unit text position offset here everywhere is one other = offered_here unit text position here (subst (λ place. OffersOrRefusesInlining OneUse unit text place here) is one)
-requested_offered Everywhere unit text position offset here everywhere is one other = offered_everywhere unit text position everywhere (subst (λ place. OffersOrRefusesInlining Everywhere unit text place everywhere) is other)
+requested_offered : (how : Inlining) (unit : Unit) (text : List ℕ) (position : Position) (offset : ℕ) (here everywhere : Option (Vec Edit Global)) → offset ≡ position_offset unit text position → IsInlineResultInText OneUse unit text offset here
+    → IsInlineResultInText Everywhere unit text offset everywhere → IsAnswerForText unit text (inlining_at how position) (edits_offered (requested_for how here everywhere))
+requested_offered OneUse unit text position offset here everywhere is one other = offered_here unit text position here (subst (λ place. IsInlineResultInText OneUse unit text place here) is one)
+requested_offered Everywhere unit text position offset here everywhere is one other = offered_everywhere unit text position everywhere (subst (λ place. IsInlineResultInText Everywhere unit text place everywhere) is other)
 
 -- returns the request for actions at a position, of all kinds, in the session's words
 abbrev pub actions_requested_at : ClientFeatures → Data → List ℕ → Position → ℤ → VersionedActionsRequest
@@ -219,18 +219,18 @@ actions_requested_in client id uri range only version =
     record { id = id; client = client; uri = uri; version = version; range = range; only = only }
 
 -- A running session answers a request of this editor by its method.
-begun : (ask : Ask) (s : ServerState) (params id : Data) → requested_in Running s id (method_of_ask ask) params ≡ react_to_method s id (method_of_ask ask) params
+begun : (ask : Ask) (s : ServerState) (params id : Data) → requested_in Running s id (method_of_ask ask) params ≡ react_to_allowed_request s id (method_of_ask ask) params
 begun (rename position name) s params id = refl
 begun (inline_here position) s params id = refl
 begun (inline_all position) s params id = refl
 begun (format indent) s params id = refl
 
 pub request_reaction : (id : Data) (uri : List ℕ) (ask : Ask) (before after : ServerState) (content : List ℕ) (sent : List (List ℕ)) → before.phase ≡ Running → (is : heard_as.IsRequestWithId id uri ask content) → Answers before content sent after
-    → (after ≡ (react_to_method before id (method_of_ask ask) is.params).after) × AreContentsOfReply (react_to_method before id (method_of_ask ask) is.params).reply sent
+    → (after ≡ (react_to_allowed_request before id (method_of_ask ask) is.params).after) × AreContentsOfReply (react_to_allowed_request before id (method_of_ask ask) is.params).reply sent
 request_reaction id uri ask before after content sent running is h =
     let answer = reacts_so before after content sent is.json (going_on before after content sent running h) is.reads in
-    let so : react before (meaning_of_message is.json) ≡ react_to_method before id (method_of_ask ask) is.params =
-    ap (react before) is.means ∙ ap (λ phase. requested_in phase before id (method_of_ask ask) is.params) running ∙ begun ask before is.params id in
+    let so : react_to_message before (meaning_of_message is.json) ≡ react_to_allowed_request before id (method_of_ask ask) is.params =
+    ap (react_to_message before) is.means ∙ ap (λ phase. requested_in phase before id (method_of_ask ask) is.params) running ∙ begun ask before is.params id in
     (answer.0 ∙ ap (λ (x : Reaction). x.after) so, subst (λ (x : Reaction). AreContentsOfReply x.reply sent) so answer.1)
 
 -- ---- what the editor reads
@@ -238,20 +238,20 @@ request_reaction id uri ask before after content sent running is h =
 module _ (number_of : Data → Option ℕ) (requested : List SentAsk) where
   -- states that the editor understands all these contents, and that these are their messages
   pub record MessagesToServer (sent : List (List ℕ)) (said : List MessageToEditor) : Type 0 where
-    pub each : All (λ content. (m : MessageToEditor) × (message_to_editor_by number_of requested content ≡ Some m)) sent
-    pub all : filter_map (message_to_editor_by number_of requested) sent ≡ said
+    pub each : All (λ content. (m : MessageToEditor) × (message_to_editor_by_numbering number_of requested content ≡ Some m)) sent
+    pub all : filter_map (message_to_editor_by_numbering number_of requested) sent ≡ said
     pub count : length sent ≡ length said
 
   heard_none : (sent : List (List ℕ)) → sent ≡ [] → MessagesToServer sent []
   heard_none sent none =
-      subst (λ s. MessagesToServer s []) (sym none) (record { each = All-nil (λ content. (m : MessageToEditor) × (message_to_editor_by number_of requested content ≡ Some m)); all = refl; count = refl })
+      subst (λ s. MessagesToServer s []) (sym none) (record { each = All-nil (λ content. (m : MessageToEditor) × (message_to_editor_by_numbering number_of requested content ≡ Some m)); all = refl; count = refl })
 
   heard_one : (sent : List (List ℕ)) (message : Data) (m : MessageToEditor) → SendsMessage message sent → message_to_editor_of number_of requested message ≡ Some m → MessagesToServer sent (m ∷ [])
   heard_one sent message m (content, is, writes) means =
-      let said : message_to_editor_by number_of requested content ≡ Some m = read_as number_of requested content message writes.reads ∙ means in
+      let said : message_to_editor_by_numbering number_of requested content ≡ Some m = read_as number_of requested content message writes.reads ∙ means in
       subst (λ s. MessagesToServer s (m ∷ [])) (sym is)
       (record {
-        each = All-push (λ c. (m : MessageToEditor) × (message_to_editor_by number_of requested c ≡ Some m)) [] content (All-nil (λ c. (m : MessageToEditor) × (message_to_editor_by number_of requested c ≡ Some m))) (m, said);
+        each = All-push (λ c. (m : MessageToEditor) × (message_to_editor_by_numbering number_of requested c ≡ Some m)) [] content (All-nil (λ c. (m : MessageToEditor) × (message_to_editor_by_numbering number_of requested c ≡ Some m))) (m, said);
         all = ap (λ o. cons_option o []) said;
         count = refl;
       })
@@ -294,7 +294,7 @@ module _ (number_of : Data → Option ℕ) (requested : List SentAsk) where
     pub held : after.held ≡ documents_after_message before.held m
     pub said : List MessageToEditor
     pub message_to_server_in : MessagesToServer sent said
-    pub replies : Replies before.held m said (option_to_list (publication_in_first_message after.held said))
+    pub replies : RepliesToMessage before.held m said (option_to_list (publication_in_first_message after.held said))
 
   -- The reaction to a notification sends the replies of the model's server.
   note_served : (note : DocumentEvent) (before after : ServerState) (sent : List (List ℕ)) → before.phase ≡ Running → HasVersionInRange note → after ≡ (apply_notification before (notification_for note)).after → AreContentsOfReply (apply_notification before (notification_for note)).reply sent
@@ -339,10 +339,10 @@ module _ (number_of : Data → Option ℕ) (requested : List SentAsk) where
     is : SentRequestAsksFor requested k uri ask
 
   -- The editor reads the answer with this id as the answer to ask k.
-  answered : (id : Data) (k : ℕ) (uri : List ℕ) (ask : Ask) (answer : Data) → Asks id k uri ask → option_and_then (answer_to_ask requested answer) (number_of id) ≡ Some (answers k (edits_for uri ask answer))
+  answered : (id : Data) (k : ℕ) (uri : List ℕ) (ask : Ask) (answer : Data) → Asks id k uri ask → option_and_then (answer_to_ask requested answer) (number_of id) ≡ Some (answers k (edits_in_answer uri ask answer))
   answered id k uri ask answer of =
       ap (option_and_then (answer_to_ask requested answer)) of.numbered
-      ∙ ap (option_map (λ (a : SentAsk). answers k (edits_for a.uri a.ask answer))) of.is.is ∙ (λ i. Some (answers k (edits_for (of.is.about i) (of.is.same_ask i) answer)))
+      ∙ ap (option_map (λ (a : SentAsk). answers k (edits_in_answer a.uri a.ask answer))) of.is.is ∙ (λ i. Some (answers k (edits_in_answer (of.is.about i) (of.is.same_ask i) answer)))
 
   -- states that the contents are the answer to ask k about this document
   record Answered (k : ℕ) (ask : Ask) (unit : Unit) (o : Option Document) (sent : List (List ℕ)) : Type 0 where
@@ -364,10 +364,10 @@ module _ (number_of : Data → Option ℕ) (requested : List SentAsk) where
       → AreContentsOfReply (formatting_reply unit id (clamped_indent indent) text) sent → Answered k (format indent) unit (Some (InStep version text)) sent
   formatted id k uri indent unit version text sent of (message, how, sends) = go how
     where
-      go : AnswersFormatting unit id (clamped_indent indent) text message → Answered k (format indent) unit (Some (InStep version text)) sent
+      go : AnswersFormattingRequest unit id (clamped_indent indent) text message → Answered k (format indent) unit (Some (InStep version text)) sent
       go (inl (edits, laid, is)) =
-          let answer : Data = result_message id (edits_value edits) in
-          let these : edits_for uri (format indent) answer ≡ replacements edits = ap (λ o. unwrap_or o []) (edits_read_back edits) in
+          let answer : Data = result_message id (edit_list_value edits) in
+          let these : edits_in_answer uri (format indent) answer ≡ replacements edits = ap (λ o. unwrap_or o []) (edits_read_back edits) in
           record {
             edits = replacements edits;
             message_to_server_in = heard_one sent answer (answers k (replacements edits)) (subst (λ m. SendsMessage m sent) is sends) (answered id k uri (format indent) answer of ∙ ap (λ es. Some (answers k es)) these);
@@ -377,13 +377,13 @@ module _ (number_of : Data → Option ℕ) (requested : List SentAsk) where
       go (inr (inr (unfit, is))) = refused id k uri (format indent) unit (Some (InStep version text)) (negative_of 32803) (codes "ill-typed") sent of (subst (λ m. SendsMessage m sent) is sends) (unfit_answer unit text (format indent) unfit)
 
   renamed : (id : Data) (k : ℕ) (uri : List ℕ) (position : Position) (name : List ℕ) (client : ClientFeatures) (unit : Unit) (version : ℤ) (text : List ℕ) (sent : List (List ℕ)) → Asks id k uri (rename position name)
-      → AreContentsOfReply (renames unit (rename_requested client id uri position name version) text) sent → Answered k (rename position name) unit (Some (InStep version text)) sent
+      → AreContentsOfReply (rename_reply unit (rename_requested client id uri position name version) text) sent → Answered k (rename position name) unit (Some (InStep version text)) sent
   renamed id k uri position name client unit version text sent of (message, how, sends) = go how
     where
-      go : AnswersRenaming unit (rename_requested client id uri position name version) text message → Answered k (rename position name) unit (Some (InStep version text)) sent
+      go : AnswersRenameRequest unit (rename_requested client id uri position name version) text message → Answered k (rename position name) unit (Some (InStep version text)) sent
       go (inl (edits, found, is)) =
           let answer : Data = result_message id (workspace_edit client uri version edits) in
-          let these : edits_for uri (rename position name) answer ≡ replacements edits = renames_read_back id position name uri version edits client in
+          let these : edits_in_answer uri (rename position name) answer ≡ replacements edits = renames_read_back id position name uri version edits client in
           record {
             edits = replacements edits;
             message_to_server_in = heard_one sent answer (answers k (replacements edits)) (subst (λ m. SendsMessage m sent) is sends) (answered id k uri (rename position name) answer of ∙ ap (λ es. Some (answers k es)) these);
@@ -393,14 +393,14 @@ module _ (number_of : Data → Option ℕ) (requested : List SentAsk) where
       go (inr (inr (unfit, is))) = refused id k uri (rename position name) unit (Some (InStep version text)) (negative_of 32803) (codes "ill-typed") sent of (subst (λ m. SendsMessage m sent) is sends) (unfit_answer unit text (rename position name) unfit)
 
   inlined_in : (how : Inlining) (id : Data) (k : ℕ) (uri : List ℕ) (position : Position) (range : Range) (only : Option (List (List ℕ))) (client : ClientFeatures) (unit : Unit) (version : ℤ) (text : List ℕ) (sent : List (List ℕ))
-      → client.accepts_literal_actions ≡ true → kinds_include_inlining only ≡ true → actions_offset unit text range ≡ position_offset unit text position → Asks id k uri (inlining_at how position)
+      → client.accepts_literal_actions ≡ true → requested_kinds_include_inlining only ≡ true → first_offset_in_range unit text range ≡ position_offset unit text position → Asks id k uri (inlining_at how position)
       → AreContentsOfReply (actions_reply unit (actions_requested_in client id uri range only version) text) sent → Answered k (inlining_at how position) unit (Some (InStep version text)) sent
   inlined_in how id k uri position range only client unit version text sent literal allowed place of (message, (value, how_listed, is), sends) = go how_listed
     where
       request : VersionedActionsRequest
       request = actions_requested_in client id uri range only version
 
-      editing_result : (edits : List Replacement) → edits_for uri (inlining_at how position) (result_message id value) ≡ edits → IsAnswerForText unit text (inlining_at how position) edits
+      editing_result : (edits : List Replacement) → edits_in_answer uri (inlining_at how position) (result_message id value) ≡ edits → IsAnswerForText unit text (inlining_at how position) edits
           → Answered k (inlining_at how position) unit (Some (InStep version text)) sent
       editing_result edits these answer_is =
           let answer : Data = result_message id value in
@@ -417,16 +417,16 @@ module _ (number_of : Data → Option ℕ) (requested : List SentAsk) where
       wants false c is also not = cc
 
       unfit : (wants_inlining request ≡ false) ⊎ ¬ IsWellTypedModule (utf8 text) → ¬ IsWellTypedModule (utf8 text)
-      unfit (inl unwanted) = absurd (wants client.accepts_literal_actions (kinds_include_inlining only) literal allowed unwanted)
+      unfit (inl unwanted) = absurd (wants client.accepts_literal_actions (requested_kinds_include_inlining only) literal allowed unwanted)
       unfit (inr ill_typed) = ill_typed
 
       go : ListsActions unit request text value → Answered k (inlining_at how position) unit (Some (InStep version text)) sent
       go (inl h) =
           editing_result (edits_offered (requested_for how h.here h.everywhere))
-          (ap (λ v. edits_for uri (inlining_at how position) (result_message id v)) h.listed ∙ actions_read_back how position request h.here h.everywhere)
-          (requested_offered how unit text position (actions_offset unit text range) h.here h.everywhere place h.offers_here h.offers_everywhere)
+          (ap (λ v. edits_in_answer uri (inlining_at how position) (result_message id v)) h.listed ∙ actions_read_back how position request h.here h.everywhere)
+          (requested_offered how unit text position (first_offset_in_range unit text range) h.here h.everywhere place h.offers_here h.offers_everywhere)
       go (inr (why, listed)) =
-          editing_result [] (ap (λ v. edits_for uri (inlining_at how position) (result_message id v)) listed ∙ none_read_back how position uri id) (unfit_answer unit text (inlining_at how position) (unfit why))
+          editing_result [] (ap (λ v. edits_in_answer uri (inlining_at how position) (result_message id v)) listed ∙ none_read_back how position uri id) (unfit_answer unit text (inlining_at how position) (unfit why))
 
   inlined : (how : Inlining) (id : Data) (k : ℕ) (uri : List ℕ) (position : Position) (client : ClientFeatures) (unit : Unit) (version : ℤ) (text : List ℕ) (sent : List (List ℕ)) → client.accepts_literal_actions ≡ true
       → Asks id k uri (inlining_at how position)
@@ -445,7 +445,7 @@ module _ (number_of : Data → Option ℕ) (requested : List SentAsk) where
   -- An ask about a document is answered if its answer is known for the text of a document in step.
   about_document : (id : Data) (k : ℕ) (uri : List ℕ) (ask : Ask) (say : ℤ → List ℕ → Reply) (before after : ServerState) (sent : List (List ℕ)) → before.phase ≡ Running → Asks id k uri ask
       → ((version : ℤ) (text : List ℕ) → AreContentsOfReply (say version text) sent → Answered k ask before.held.unit (Some (InStep version text)) sent)
-      → (o : Option Document) → document_at before.held uri ≡ o → after ≡ (react_about_document before id o say).after → AreContentsOfReply (react_about_document before id o say).reply sent → Served (requests k uri ask) before after sent
+      → (o : Option Document) → document_at before.held uri ≡ o → after ≡ (react_to_document_request before id o say).after → AreContentsOfReply (react_to_document_request before id o say).reply sent → Served (requests k uri ask) before after sent
   about_document id k uri ask say before after sent running of in_step None at same saying =
       asks_served k uri ask before after sent running same (refused id k uri ask before.held.unit (document_at before.held uri) (negative_of 32803) (codes "unopened") sent of saying (subst (λ o. IsAnswerForDocument before.held.unit o ask []) (sym at) refl))
   about_document id k uri ask say before after sent running of in_step (Some OutOfStep) at same saying =
@@ -455,40 +455,40 @@ module _ (number_of : Data → Option ℕ) (requested : List SentAsk) where
 
   -- A running session replies to a request of this editor as the model's server does.
   request_served : (id : Data) (k : ℕ) (uri : List ℕ) (ask : Ask) (params : Data) (before after : ServerState) (sent : List (List ℕ)) → before.phase ≡ Running → AcceptsEditsFor before.client ask → Asks id k uri ask → request_by_method (method_of_ask ask) params ≡ Ok (client_request_for uri ask)
-      → after ≡ (react_to_method before id (method_of_ask ask) params).after → AreContentsOfReply (react_to_method before id (method_of_ask ask) params).reply sent → Served (requests k uri ask) before after sent
+      → after ≡ (react_to_allowed_request before id (method_of_ask ask) params).after → AreContentsOfReply (react_to_allowed_request before id (method_of_ask ask) params).reply sent → Served (requests k uri ask) before after sent
   request_served id k uri (rename position name) params before after sent running takes of call is saying =
-      let say : ℤ → List ℕ → Reply = λ version. renames before.held.unit (rename_requested before.client id uri position name version) in
-      let so : react_to_method before id (method_of_ask (rename position name)) params ≡ react_about_document before id (document_at before.held uri) say = ap (react_to_known_request before id) call in
+      let say : ℤ → List ℕ → Reply = λ version. rename_reply before.held.unit (rename_requested before.client id uri position name version) in
+      let so : react_to_allowed_request before id (method_of_ask (rename position name)) params ≡ react_to_document_request before id (document_at before.held uri) say = ap (react_to_parsed_request before id) call in
       about_document id k uri (rename position name) say before after sent running of
       (λ version text. renamed id k uri position name before.client before.held.unit version text sent of) (document_at before.held uri) refl
       (is ∙ ap (λ (x : Reaction). x.after) so) (subst (λ (x : Reaction). AreContentsOfReply x.reply sent) so saying)
   request_served id k uri (inline_here position) params before after sent running takes of call is saying =
       let say : ℤ → List ℕ → Reply = λ version. actions_reply before.held.unit (actions_requested_at before.client id uri position version) in
-      let so : react_to_method before id (method_of_ask (inline_here position)) params ≡ react_about_document before id (document_at before.held uri) say = ap (react_to_known_request before id) call in
+      let so : react_to_allowed_request before id (method_of_ask (inline_here position)) params ≡ react_to_document_request before id (document_at before.held uri) say = ap (react_to_parsed_request before id) call in
       about_document id k uri (inline_here position) say before after sent running of
       (λ version text. inlined OneUse id k uri position before.client before.held.unit version text sent takes of) (document_at before.held uri) refl
       (is ∙ ap (λ (x : Reaction). x.after) so) (subst (λ (x : Reaction). AreContentsOfReply x.reply sent) so saying)
   request_served id k uri (inline_all position) params before after sent running takes of call is saying =
       let say : ℤ → List ℕ → Reply = λ version. actions_reply before.held.unit (actions_requested_at before.client id uri position version) in
-      let so : react_to_method before id (method_of_ask (inline_all position)) params ≡ react_about_document before id (document_at before.held uri) say = ap (react_to_known_request before id) call in
+      let so : react_to_allowed_request before id (method_of_ask (inline_all position)) params ≡ react_to_document_request before id (document_at before.held uri) say = ap (react_to_parsed_request before id) call in
       about_document id k uri (inline_all position) say before after sent running of
       (λ version text. inlined Everywhere id k uri position before.client before.held.unit version text sent takes of) (document_at before.held uri) refl
       (is ∙ ap (λ (x : Reaction). x.after) so) (subst (λ (x : Reaction). AreContentsOfReply x.reply sent) so saying)
   request_served id k uri (format indent) params before after sent running takes of call is saying =
       let say : ℤ → List ℕ → Reply = λ version. formatting_reply before.held.unit id (clamped_indent indent) in
-      let so : react_to_method before id (method_of_ask (format indent)) params ≡ react_about_document before id (document_at before.held uri) say = ap (react_to_known_request before id) call in
+      let so : react_to_allowed_request before id (method_of_ask (format indent)) params ≡ react_to_document_request before id (document_at before.held uri) say = ap (react_to_parsed_request before id) call in
       about_document id k uri (format indent) say before after sent running of
       (λ version text. formatted id k uri indent before.held.unit version text sent of) (document_at before.held uri) refl
       (is ∙ ap (λ (x : Reaction). x.after) so) (subst (λ (x : Reaction). AreContentsOfReply x.reply sent) so saying)
 
   -- A request for the actions in a range is answered as an inlining if the range and the position have the same offset.
   inline_served : (how : Inlining) (id : Data) (k : ℕ) (uri : List ℕ) (position : Position) (range : Range) (only : Option (List (List ℕ))) (params : Data) (before after : ServerState) (sent : List (List ℕ)) → before.phase ≡ Running → AcceptsLiteralActions before.client
-      → Asks id k uri (inlining_at how position) → kinds_include_inlining only ≡ true → ((unit : Unit) (text : List ℕ) → actions_offset unit text range ≡ position_offset unit text position) → request_by_method (codes "textDocument/codeAction") params ≡ Ok (code_action uri range only)
-      → after ≡ (react_to_method before id (codes "textDocument/codeAction") params).after → AreContentsOfReply (react_to_method before id (codes "textDocument/codeAction") params).reply sent
+      → Asks id k uri (inlining_at how position) → requested_kinds_include_inlining only ≡ true → ((unit : Unit) (text : List ℕ) → first_offset_in_range unit text range ≡ position_offset unit text position) → request_by_method (codes "textDocument/codeAction") params ≡ Ok (code_action uri range only)
+      → after ≡ (react_to_allowed_request before id (codes "textDocument/codeAction") params).after → AreContentsOfReply (react_to_allowed_request before id (codes "textDocument/codeAction") params).reply sent
       → Served (requests k uri (inlining_at how position)) before after sent
   inline_served how id k uri position range only params before after sent running takes of allowed place call is saying =
       let say : ℤ → List ℕ → Reply = λ version. actions_reply before.held.unit (actions_requested_in before.client id uri range only version) in
-      let so : react_to_method before id (codes "textDocument/codeAction") params ≡ react_about_document before id (document_at before.held uri) say = ap (react_to_known_request before id) call in
+      let so : react_to_allowed_request before id (codes "textDocument/codeAction") params ≡ react_to_document_request before id (document_at before.held uri) say = ap (react_to_parsed_request before id) call in
       about_document id k uri (inlining_at how position) say before after sent running of
       (λ version text. inlined_in how id k uri position range only before.client before.held.unit version text sent takes allowed (place before.held.unit text) of) (document_at before.held uri) refl
       (is ∙ ap (λ (x : Reaction). x.after) so) (subst (λ (x : Reaction). AreContentsOfReply x.reply sent) so saying)
@@ -499,8 +499,8 @@ module _ (number_of : Data → Option ℕ) (requested : List SentAsk) where
   pub note_answered : (note : DocumentEvent) (before after : ServerState) (content : List ℕ) (sent : List (List ℕ)) → before.phase ≡ Running → heard_as.IsNotificationFor note content → Answers before content sent after → Served (notifies note) before after sent
   note_answered note before after content sent running is h =
       let answer = reacts_so before after content sent is.json (going_on before after content sent running h) is.reads in
-      let so : react before (meaning_of_message is.json) ≡ apply_notification before (notification_for note) =
-      ap (react before) is.means ∙ ap (λ phase. react_to_notification phase before is.method is.params) running ∙ ap (apply_notification before) is.reported in
+      let so : react_to_message before (meaning_of_message is.json) ≡ apply_notification before (notification_for note) =
+      ap (react_to_message before) is.means ∙ ap (λ phase. react_to_notification phase before is.method is.params) running ∙ ap (apply_notification before) is.reported in
       note_served note before after sent running is.fits (answer.0 ∙ ap (λ (x : Reaction). x.after) so) (subst (λ (x : Reaction). AreContentsOfReply x.reply sent) so answer.1)
 
   -- A running session replies to an ask as the model's server does.
@@ -512,11 +512,11 @@ module _ (number_of : Data → Option ℕ) (requested : List SentAsk) where
 
   -- A running session replies to a request for the actions in a range as the model's server does to an inlining.
   pub actions_answered : (how : Inlining) (id : Data) (k : ℕ) (uri : List ℕ) (position : Position) (before after : ServerState) (content : List ℕ) (sent : List (List ℕ)) → before.phase ≡ Running → AcceptsLiteralActions before.client → number_of id ≡ Some k
-      → SentRequestAsksFor requested k uri (inlining_at how position) → IsActionsRequest id uri position content → Answers before content sent after → Served (requests k uri (inlining_at how position)) before after sent
+      → SentRequestAsksFor requested k uri (inlining_at how position) → IsCodeActionRequest id uri position content → Answers before content sent after → Served (requests k uri (inlining_at how position)) before after sent
   actions_answered how id k uri position before after content sent running takes numbered of is h =
       let answer = reacts_so before after content sent is.json (going_on before after content sent running h) is.reads in
-      let so : react before (meaning_of_message is.json) ≡ react_to_method before id (codes "textDocument/codeAction") is.params =
-      ap (react before) is.means ∙ ap (λ phase. requested_in phase before id (codes "textDocument/codeAction") is.params) running in
+      let so : react_to_message before (meaning_of_message is.json) ≡ react_to_allowed_request before id (codes "textDocument/codeAction") is.params =
+      ap (react_to_message before) is.means ∙ ap (λ phase. requested_in phase before id (codes "textDocument/codeAction") is.params) running in
       inline_served how id k uri position is.range is.only is.params before after sent running takes (record { numbered = numbered; is = of }) is.allowed (place_of_range is.range position is.from is.ordered) is.calls
       (answer.0 ∙ ap (λ (x : Reaction). x.after) so) (subst (λ (x : Reaction). AreContentsOfReply x.reply sent) so answer.1)
 

@@ -8,14 +8,14 @@ use Rattle.std.proofs.lemmas.Option.{none-some}
 use Rattle.std.proofs.lemmas.List.{length-append}
 use Rattle.ob0_text.specs.OpenDocuments.{TextChange}
 use Rattle.ob0_text.specs.declared.position_types.Unit.{Unit}
-use Rattle.ob0_world_rules.specs.Edited.{whole_text_change}
+use Rattle.ob0_world_rules.specs.TextEdits.{whole_text_change}
 use Rattle.ob0_world_rules.specs.Asks.{Ask}
-use Rattle.ob0_world_rules.specs.ClientAndServer.{OpenDocument, SentAsk, Editor, open_document_at, MessageToServer, MessageToEditor, publishes, answers, Applied, ClientAndServer, new_editor}
-use Rattle.ob0_world_rules.specs.EditorActs.{Act, version_as_natural, next_version, opening_result, rewriting_result, closing_result, asking_result, without_answer, act_result, editor_after_reading}
-use Rattle.ob0_world_rules.specs.Happens.{Event, editor_acts, serve, take_message, state_after_editor_takes, ServerTakes, Happens}
+use Rattle.ob0_world_rules.specs.ClientAndServer.{OpenDocument, SentAsk, Editor, editor_document_at, MessageToServer, MessageToEditor, publishes, answers, Applied, ClientAndServer, new_editor}
+use Rattle.ob0_world_rules.specs.EditorActs.{Act, version_as_natural, next_version, opening_result, rewriting_result, closing_result, asking_result, editor_without_answer, act_result, editor_after_reading}
+use Rattle.ob0_world_rules.specs.Happens.{Event, editor_acts, serve, take_message, state_after_editor_takes_message, ServerTakesFirstMessage, Happens}
 use Rattle.ob0_world_rules.proofs.PerformsAct.{edit_of, of_each}
 use Rattle.ob0_world_rules.proofs.SameDocument.{found, left}
-use Rattle.ob0_world_editor.specs.Moves.{CountsCanGrow}
+use Rattle.ob0_world_editor.specs.EditorCalls.{CountsCanGrow}
 use Rattle.ob0_world.specs.Queues.{CountsAreAtMost}
 
 pub few : (n : ℕ) (e : Editor) → CountsAreAtMost n e → n < 2 ^ 63 - 1 → CountsCanGrow e
@@ -47,7 +47,7 @@ put n e uri new openings within version few_openings =
           (λ was. let a : version_as_natural d.version ≤ n = within.versions q d was in omega arith);
     }
 
-rewritten_within : (n : ℕ) (e : Editor) (uri : List ℕ) (d : OpenDocument) (text : List ℕ) (how : List TextChange) (applied : List Applied) → open_document_at e uri ≡ Some d → CountsAreAtMost n e → CountsAreAtMost (n + 1) (rewriting_result e uri d text how applied).editor
+rewritten_within : (n : ℕ) (e : Editor) (uri : List ℕ) (d : OpenDocument) (text : List ℕ) (how : List TextChange) (applied : List Applied) → editor_document_at e uri ≡ Some d → CountsAreAtMost n e → CountsAreAtMost (n + 1) (rewriting_result e uri d text how applied).editor
 rewritten_within n e uri d text how applied at within =
     let a : version_as_natural d.version ≤ n = within.versions uri d at in
     let b : e.openings ≤ n = within.openings in
@@ -78,7 +78,7 @@ module _ (n : ℕ) (e : Editor) (within : CountsAreAtMost n e) where
       longer : (xs : List SentAsk) (x : SentAsk) → length xs ≤ n → length (xs ++ x ∷ []) ≤ n + 1
       longer xs x h = rw (length-append xs (x ∷ [])) (omega arith)
 
-  without : (k : ℕ) → CountsAreAtMost n (without_answer e k)
+  without : (k : ℕ) → CountsAreAtMost n (editor_without_answer e k)
   without k = record { openings = within.openings; asks = within.asks; versions = within.versions }
 
   act_within : (act : Act) → CountsAreAtMost (n + 1) (act_result e act).editor
@@ -88,8 +88,8 @@ module _ (n : ℕ) (e : Editor) (within : CountsAreAtMost n e) where
     changed = λ uri d how text at made. rewritten_within n e uri d text how [] at within;
     closed = λ uri d at. close_within uri;
     asked = λ uri ask d at. ask_within uri ask d;
-    made = λ k edits a d text held numbered same makes. rewritten_within n (without_answer e k) a.uri d text (whole_text_change text ∷ []) (edit_of a.uri d text ∷ []) same.at (without k);
-    dropped = λ k. more n (without_answer e k) (without k);
+    made = λ k edits a d text held numbered same makes. rewritten_within n (editor_without_answer e k) a.uri d text (whole_text_change text ∷ []) (edit_of a.uri d text ∷ []) same.at (without k);
+    dropped = λ k. more n (editor_without_answer e k) (without k);
   })
 
   read_within : (m : MessageToEditor) → CountsAreAtMost (n + 1) (editor_after_reading e m)
@@ -98,11 +98,11 @@ module _ (n : ℕ) (e : Editor) (within : CountsAreAtMost n e) where
   read_within (answers k (edit ∷ edits)) = let m : CountsAreAtMost (n + 1) e = more n e within in record { openings = m.openings; asks = m.asks; versions = m.versions }
 
 module _ (n : ℕ) (w : ClientAndServer) (within : CountsAreAtMost n w.editor) where
-  take_within : (queue : List MessageToEditor) → CountsAreAtMost (n + 1) (state_after_editor_takes w queue).editor
+  take_within : (queue : List MessageToEditor) → CountsAreAtMost (n + 1) (state_after_editor_takes_message w queue).editor
   take_within [] = more n w.editor within
   take_within (m ∷ rest) = read_within n w.editor within m
 
-  same_editor : (queue : List MessageToServer) (new : ClientAndServer) → ServerTakes w queue new → new.editor ≡ w.editor
+  same_editor : (queue : List MessageToServer) (new : ClientAndServer) → ServerTakesFirstMessage w queue new → new.editor ≡ w.editor
   same_editor [] new h = ap (λ (x : ClientAndServer). x.editor) h
   same_editor (m ∷ rest) new (said, made, may, is) = ap (λ (x : ClientAndServer). x.editor) is
 

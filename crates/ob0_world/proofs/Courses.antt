@@ -18,10 +18,10 @@ use Rattle.ob0_world_rules.specs.ClientAndServer.{ClientAndServer, start}
 use Rattle.ob0_world_rules.specs.Happens.{Event, editor_acts, serve, take_message, IsCourse}
 use Rattle.ob0_world_rules.specs.Headline.{Headline}
 use Rattle.ob0_world_rules.specs.PublicationsInOrder.{PublicationsFollowAnnouncements}
-use Rattle.ob0_world_rules.proofs.ModelEditor.{holds_in_every_interleaving, publications_in_order}
+use Rattle.ob0_world_rules.proofs.ModelEditor.{guarantees_hold_in_every_interleaving, publications_in_order}
 use Rattle.ob0_world_rules.proofs.CourseIsDetermined.{course_is_determined}
-use Rattle.ob0_world.specs.Code.{event_of, played_edits, played_publications}
-use Rattle.ob0_world.specs.Worlds.{Wire, Connection, IsInitialConnection, SessionTakesFirst, EditorTakesFirstContent, WritesContent, ChangesWire, ConnectionSteps, IsConnectionCourse, ResultsMatch, ContentsMatch, Plays, PlaysPrefix, HaveSameHistory}
+use Rattle.ob0_world.specs.ModelValues.{event_of, played_edits, played_publications}
+use Rattle.ob0_world.specs.Worlds.{Wire, Connection, IsInitialConnection, SessionTakesFirstContent, EditorTakesFirstContent, QueuesAtMostOneContent, ChangesWire, ConnectionSteps, IsConnectionCourse, ResultsMatch, ContentsMatch, Plays, PlaysPrefix, HaveSameHistory}
 
 -- ---- one event more
 
@@ -46,7 +46,7 @@ model_course begin (e ∷ events) end (between, step, rest) = (between.model, st
 pub Conversed : Wire → Type 0
 Conversed w = IsConversation server.start w.taken (w.got ++ w.to_editor) w.session
 
-pub takes_conversed : (q : List (List ℕ)) (old new : Wire) → SessionTakesFirst q old new → Conversed old → Conversed new
+pub takes_conversed : (q : List (List ℕ)) (old new : Wire) → SessionTakesFirstContent q old new → Conversed old → Conversed new
 unfolding Conversed
 takes_conversed [] old new is h = subst Conversed (sym is) h
 takes_conversed (content ∷ rest) old new (after, sent, answers, is) h =
@@ -59,7 +59,7 @@ gets_conversed [] old new waits is h = subst Conversed (sym is) h
 gets_conversed (content ∷ rest) old new waits is h =
     subst Conversed (sym is) (subst (λ x. IsConversation server.start old.taken x old.session) (ap (λ x. old.got ++ x) waits ∙ sym (append_assoc old.got (content ∷ []) rest)) h)
 
-writes_conversed : (old new : Wire) → WritesContent old new → Conversed old → Conversed new
+writes_conversed : (old new : Wire) → QueuesAtMostOneContent old new → Conversed old → Conversed new
 unfolding Conversed
 writes_conversed old new (content, is) h = subst Conversed (sym is) h
 
@@ -101,7 +101,7 @@ headline unit events w p course results_match =
       only = λ other also. course_is_determined (start unit) (map event_of events) other w also course;
       applied_at_end = results_match.0;
       made_at_end = results_match.1;
-      holds = holds_in_every_interleaving unit (map event_of events) w course;
+      holds = guarantees_hold_in_every_interleaving unit (map event_of events) w course;
       made_in_order = subst (PublicationsFollowAnnouncements unit (map event_of events)) (sym results_match.1) (publications_in_order unit (map event_of events) w course);
     }
 

@@ -5,7 +5,7 @@ use Rattle.serde_json.specs.Data.{Data, null}
 use Rattle.ob0_rpc.specs.Messages.{meaning_of_message}
 use Rattle.ob0_rpc.specs.Shapes.{result_message}
 use Rattle.ob0_session_server.specs.declared.session.Phase.TheVariants.{Running, ShutDown, Ended}
-use Rattle.ob0_session_server.specs.Answers.{ServerState, AreContentsOfReply, SendsMessage, Reaction, react, react_to_request, react_to_notification, react_to_method, exit_status_in_phase, react_to_exit, Answers, AnswersInPhase, AnswersBeforeEnd, IsConversation}
+use Rattle.ob0_session_server.specs.Answers.{ServerState, AreContentsOfReply, SendsMessage, Reaction, react_to_message, react_to_request, react_to_notification, react_to_allowed_request, exit_status_in_phase, react_to_exit, Answers, AnswersInPhase, AnswersBeforeEnd, IsConversation}
 use Rattle.ob0_world.specs.Exchanges.{IsShutdownRequest, IsExitNotification, EndsAfterShutdown}
 use Rattle.ob0_world.proofs.Answering.{going_on, reacts_so}
 
@@ -18,8 +18,8 @@ record IsShut (id : Data) (before : ServerState) (sent : List (List ℕ)) (after
 shuts : (id : Data) (before after : ServerState) (content : List ℕ) (sent : List (List ℕ)) → before.phase ≡ Running → IsShutdownRequest id content → Answers before content sent after → IsShut id before sent after
 shuts id before after content sent running is h =
     let answer = reacts_so before after content sent is.json (going_on before after content sent running h) is.reads in
-    let so : react before (meaning_of_message is.json) ≡ react_to_method before id (codes "shutdown") is.params =
-    ap (react before) is.means ∙ ap (λ phase. react_to_request phase before id (codes "shutdown") is.params) running in
+    let so : react_to_message before (meaning_of_message is.json) ≡ react_to_allowed_request before id (codes "shutdown") is.params =
+    ap (react_to_message before) is.means ∙ ap (λ phase. react_to_request phase before id (codes "shutdown") is.params) running in
     let now : after ≡ record before { phase = ShutDown } = answer.0 ∙ ap (λ (x : Reaction). x.after) so in
     record {
       answer = subst (λ (x : Reaction). AreContentsOfReply x.reply sent) so answer.1;
@@ -31,8 +31,8 @@ exits : (before after : ServerState) (content : List ℕ) (sent : List (List ℕ
 exits before after content sent shut is h =
     let going : AnswersBeforeEnd before content sent after = subst (λ phase. AnswersInPhase phase before content sent after) shut h in
     let answer = reacts_so before after content sent is.json going is.reads in
-    let so : react before (meaning_of_message is.json) ≡ react_to_exit before =
-    ap (react before) is.means ∙ ap (λ phase. react_to_notification phase before (codes "exit") is.params) shut in
+    let so : react_to_message before (meaning_of_message is.json) ≡ react_to_exit before =
+    ap (react_to_message before) is.means ∙ ap (λ phase. react_to_notification phase before (codes "exit") is.params) shut in
     let now : after ≡ (react_to_exit before).after = answer.0 ∙ ap (λ (x : Reaction). x.after) so in
     (subst (λ (x : Reaction). AreContentsOfReply x.reply sent) so answer.1, now ∙ ap (λ status. record before { phase = Ended status }) (ap exit_status_in_phase shut))
 

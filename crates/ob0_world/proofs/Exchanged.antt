@@ -7,24 +7,24 @@ use Rattle.ob0_text.specs.declared.position_types.Position.{Position}
 use Rattle.ob0_text.specs.declared.position_types.Unit.{Unit}
 use Rattle.ob0_text.specs.declared.position_types.Unit.TheVariants.{Utf16, Utf8}
 use Rattle.ob0_rpc.specs.Messages.{request}
-use Rattle.ob0_rpc.specs.Requesting as asked
-use Rattle.ob0_rpc.specs.Requesting.{request_by_method}
+use Rattle.ob0_rpc.specs.Requests as asked
+use Rattle.ob0_rpc.specs.Requests.{request_by_method}
 use Rattle.ob0_session_server.specs.Answers as server
 use Rattle.ob0_session_server.specs.Answers.{state_after_initialize}
-use Rattle.ob0_session_server.specs.Units.{unit_for}
+use Rattle.ob0_session_server.specs.Units.{unit_for_client}
 use Rattle.ob0_world_editor.specs.InitializeRequest.{client_features_for}
 use Rattle.ob0_world_editor.specs.MessagesToServer.{request_number_from_id, client_request_for, IsRequestWithId, IsMessageToServer}
 use Rattle.ob0_world_editor.specs.Shapes.{method_of_ask, empty_range_at}
-use Rattle.ob0_world_editor.specs.MessagesToEditor.{message_to_editor_in, message_to_editor_by}
+use Rattle.ob0_world_editor.specs.MessagesToEditor.{message_to_editor_in, message_to_editor_by_numbering}
 use Rattle.ob0_world_rules.specs.Asks.{Ask, rename, inline_here, inline_all, format}
-use Rattle.ob0_world_rules.specs.ClientAndServer.{SentAsk, Editor, request_numbered, MessageToServer, notifies, requests, MessageToEditor, publishes, answers, Applied, ClientAndServer, start}
-use Rattle.ob0_world_rules.specs.EditorActs.{Act, ActResult, silent_result, act_result, editor_after_reading}
-use Rattle.ob0_world_rules.specs.Happens.{Event, editor_acts, serve, take_message, state_after_editor_takes, ServerTakes}
-use Rattle.ob0_world_rules.specs.EveryEditor.{Turn, editor_moves, server_takes, editor_takes}
+use Rattle.ob0_world_rules.specs.ClientAndServer.{SentAsk, Editor, request_with_number, MessageToServer, notifies, requests, MessageToEditor, publishes, answers, Applied, ClientAndServer, start}
+use Rattle.ob0_world_rules.specs.EditorActs.{Act, ActResult, result_without_messages, act_result, editor_after_reading}
+use Rattle.ob0_world_rules.specs.Happens.{Event, editor_acts, serve, take_message, state_after_editor_takes_message, ServerTakesFirstMessage}
+use Rattle.ob0_world_rules.specs.EveryEditor.{ExchangeTurn, editor_moves, server_takes_message, editor_takes_message}
 use Rattle.ob0_world_rules.specs.PublicationsInOrder.{AnnouncedDocument, documents_announced_in}
 use Rattle.ob0_world_rules.proofs.ModelEditor.{IsMove, act_may, knows_event}
-use Rattle.ob0_world.specs.Worlds.{Wire, Connection, SessionTakesFirst, EditorTakesFirstContent, ChangesWire, AreMessagesToServer, ConnectionSteps, IsConnectionCourse}
-use Rattle.ob0_world.specs.Exchanges.{SentRequestId, number_id, ask_number_of_request_id, ask_number_by_id, AssignsAskIds, Exchange, IsInitialExchange, IsActionsRequest, IsRequestFor, AcceptsLiteralActions, AcceptsEditsFor, IsMessageToSession, AreMessagesToSession, message_to_editor_by_ids, editor_after_reading_if_any, EditorReadsFirst, wire_with_queued_contents, IsExchangeCourse, ACourseIsAnExchange}
+use Rattle.ob0_world.specs.Worlds.{Wire, Connection, SessionTakesFirstContent, EditorTakesFirstContent, ChangesWire, AreMessagesToServer, ConnectionSteps, IsConnectionCourse}
+use Rattle.ob0_world.specs.Exchanges.{SentRequestId, number_id, ask_number_of_request_id, ask_number_of_json_id, AssignsAskIds, Exchange, IsInitialExchange, IsCodeActionRequest, IsRequestForAsk, AcceptsLiteralActions, AcceptsEditsFor, IsMessageToSession, AreMessagesToSession, message_to_editor_by_ids, editor_after_reading_if_any, EditorReadsFirstContent, wire_with_queued_contents, IsExchangeCourse, ACourseIsAnExchange}
 use Rattle.ob0_world.proofs.Conversing.{answered_once}
 use Rattle.std.proofs.lemmas.Bool.{eqb-true, eqb-false}
 use Rattle.std.proofs.lemmas.Option.{same_Some, none-some}
@@ -76,15 +76,15 @@ has_id (b ∷ list) n (suc i) a h = go (n == n + suc i) refl (has_id list (suc n
     go false is later = subst (λ m. ask_number_of_request_id (ids_from (suc n) list) (number_id m) ≡ Some (Some m)) on later
 
 -- The number of an ask is its id.
-numbered_so : (requested : List SentAsk) (k : ℕ) (a : SentAsk) → request_numbered requested k ≡ Some a → ask_number_by_id (ids_from 1 requested) (number (unsigned k)) ≡ Some k
+numbered_so : (requested : List SentAsk) (k : ℕ) (a : SentAsk) → request_with_number requested k ≡ Some a → ask_number_of_json_id (ids_from 1 requested) (number (unsigned k)) ≡ Some k
 numbered_so requested zero a h = absurd (none-some a h)
 numbered_so requested (suc k) a h = ap (option_and_then (λ ask. ask)) (subst (λ m. ask_number_of_request_id (ids_from 1 requested) (number_id m) ≡ Some (Some m)) (omega arith) (has_id requested 1 k a h))
 
 -- A JSON number that is the number of an ask is read as that ask's id.
-named_so : (requested : List SentAsk) (d : Data) (k : ℕ) (a : SentAsk) → request_numbered requested k ≡ Some a → request_number_from_id d ≡ Some k → ask_number_by_id (ids_from 1 requested) d ≡ Some k
+named_so : (requested : List SentAsk) (d : Data) (k : ℕ) (a : SentAsk) → request_with_number requested k ≡ Some a → request_number_from_id d ≡ Some k → ask_number_of_json_id (ids_from 1 requested) d ≡ Some k
 named_so requested (number (unsigned n)) k a h is =
     let same : n ≡ k = same_Some n k is in
-    subst (λ j. ask_number_by_id (ids_from 1 requested) (number (unsigned n)) ≡ Some j) same (numbered_so requested n a (subst (λ j. request_numbered requested j ≡ Some a) (sym same) h))
+    subst (λ j. ask_number_of_json_id (ids_from 1 requested) (number (unsigned n)) ≡ Some j) same (numbered_so requested n a (subst (λ j. request_with_number requested j ≡ Some a) (sym same) h))
 named_so requested (number (negative z)) k a h is = absurd (none-some k is)
 named_so requested (number (float x)) k a h is = absurd (none-some k is)
 named_so requested null k a h is = absurd (none-some k is)
@@ -95,7 +95,7 @@ named_so requested (object ms) k a h is = absurd (none-some k is)
 
 -- states that some turns may lead from x to this editor, this wire and these applied edits
 record ComesTo (x : Exchange) (editor : Editor) (wire : Wire) (applied : List Applied) : Type 0 where
-  turns : List Turn
+  turns : List ExchangeTurn
   announced : List AnnouncedDocument
   leads : IsExchangeCourse x turns (record { editor = editor; ids = ids_from 1 editor.requested; wire = wire; announced = announced; applied = applied })
 
@@ -117,7 +117,7 @@ last_say requested now (m ∷ messages) more [] others h k = absurd h
 
 -- An ask to inline sends a request for the actions at an empty range, of all kinds.
 inline_said : (id : Data) (uri : List ℕ) (position : Position) (ask : Ask) (content : List ℕ) → method_of_ask ask ≡ codes "textDocument/codeAction" → client_request_for uri ask ≡ asked.code_action uri (empty_range_at position) None → IsRequestWithId id uri ask content
-    → IsActionsRequest id uri position content
+    → IsCodeActionRequest id uri position content
 inline_said id uri position ask content method call is =
     record {
       json = is.json;
@@ -132,7 +132,7 @@ inline_said id uri position ask content method call is =
       allowed = refl;
     }
 
-request_said : (id : Data) (uri : List ℕ) (ask : Ask) (content : List ℕ) → IsRequestWithId id uri ask content → IsRequestFor id uri ask content
+request_said : (id : Data) (uri : List ℕ) (ask : Ask) (content : List ℕ) → IsRequestWithId id uri ask content → IsRequestForAsk id uri ask content
 request_said id uri (rename position name) content is = is
 request_said id uri (inline_here position) content is = inline_said id uri position (inline_here position) content refl refl is
 request_said id uri (inline_all position) content is = inline_said id uri position (inline_all position) content refl refl is
@@ -184,7 +184,7 @@ record Goes (c : Connection) : Type 0 where
   running : RunsWithModelEditor c.wire.session
   knows : Knows c.model.editor
 
-taken_running : (requested : List SentAsk) (q : List MessageToServer) (contents : List (List ℕ)) (old new : Wire) → AreMessagesToServer requested q contents → SessionTakesFirst contents old new → RunsWithModelEditor old.session → RunsWithModelEditor new.session
+taken_running : (requested : List SentAsk) (q : List MessageToServer) (contents : List (List ℕ)) (old new : Wire) → AreMessagesToServer requested q contents → SessionTakesFirstContent contents old new → RunsWithModelEditor old.session → RunsWithModelEditor new.session
 taken_running requested [] [] old new says is running = subst (λ (v : Wire). RunsWithModelEditor v.session) (sym is) running
 taken_running requested (m ∷ q) (c ∷ rest) old new says (after, sent, answer, is) running =
     subst (λ (v : Wire). RunsWithModelEditor v.session) (sym is) (runs_on requested m old.session after sent running (served requested m old.session after c sent running says.0 answer))
@@ -210,7 +210,7 @@ module _ (c : Connection) (announced : List AnnouncedDocument) (goes : Goes c) w
   abbrev Comes : Editor → Wire → List Applied → Type 0
   Comes editor wire applied = ComesTo (exchange_of c announced) editor wire applied
 
-  still : (contents : List (List ℕ)) (done : ActResult) → done ≡ silent_result c.model.editor → AreMessagesToServer done.editor.requested done.sent contents → Comes done.editor (wire_with_queued_contents c.wire contents) (c.model.applied ++ done.applied)
+  still : (contents : List (List ℕ)) (done : ActResult) → done ≡ result_without_messages c.model.editor → AreMessagesToServer done.editor.requested done.sent contents → Comes done.editor (wire_with_queued_contents c.wire contents) (c.model.applied ++ done.applied)
   still contents done is says =
       let none : contents ≡ [] = none_said c.model.editor.requested contents (subst (λ (d : ActResult). AreMessagesToServer d.editor.requested d.sent contents) is says) in
       record {
@@ -255,7 +255,7 @@ module _ (c : Connection) (announced : List AnnouncedDocument) (goes : Goes c) w
             );
           }
 
-serve_same : (w : ClientAndServer) (queue : List MessageToServer) (new : ClientAndServer) → ServerTakes w queue new → (new.editor ≡ w.editor) × (new.applied ≡ w.applied)
+serve_same : (w : ClientAndServer) (queue : List MessageToServer) (new : ClientAndServer) → ServerTakesFirstMessage w queue new → (new.editor ≡ w.editor) × (new.applied ≡ w.applied)
 serve_same w [] new is = (ap (λ (v : ClientAndServer). v.editor) is, ap (λ (v : ClientAndServer). v.applied) is)
 serve_same w (m ∷ rest) new (said, made, replies, is) = (ap (λ (v : ClientAndServer). v.editor) is, ap (λ (v : ClientAndServer). v.applied) is)
 
@@ -266,11 +266,11 @@ reads_asks e (answers k (edit ∷ edits)) = refl
 
 -- An answer is read the same if the ids of asks are their numbers.
 read_so_too : (requested : List SentAsk) (content : List ℕ) (m : MessageToEditor) → message_to_editor_in requested content ≡ Some m → message_to_editor_by_ids (ids_from 1 requested) requested content ≡ Some m
-read_so_too requested content m h = subst (λ asks. message_to_editor_by (ask_number_by_id (ids_from 1 requested)) asks content ≡ Some m) (append-nil requested) (read_still request_number_from_id (ask_number_by_id (ids_from 1 requested)) requested [] (named_so requested) content m h)
+read_so_too requested content m h = subst (λ asks. message_to_editor_by_numbering (ask_number_of_json_id (ids_from 1 requested)) asks content ≡ Some m) (append-nil requested) (read_still request_number_from_id (ask_number_of_json_id (ids_from 1 requested)) requested [] (named_so requested) content m h)
 
 take_comes : (c : Connection) (announced : List AnnouncedDocument) (wire : Wire) (queue : List MessageToEditor) (contents : List (List ℕ)) → c.wire.to_editor ≡ contents
     → map (message_to_editor_in c.model.editor.requested) contents ≡ map Some queue → EditorTakesFirstContent contents c.wire wire
-    → ComesTo (exchange_of c announced) (state_after_editor_takes c.model queue).editor wire (state_after_editor_takes c.model queue).applied
+    → ComesTo (exchange_of c announced) (state_after_editor_takes_message c.model queue).editor wire (state_after_editor_takes_message c.model queue).applied
 take_comes c announced wire [] [] waits means is = record { turns = []; announced = announced; leads = λ i. record (exchange_of c announced) { wire = is i } }
 take_comes c announced wire (m ∷ queue) (content ∷ rest) waits means is =
     let e : Editor = c.model.editor in
@@ -278,11 +278,11 @@ take_comes c announced wire (m ∷ queue) (content ∷ rest) waits means is =
     let so : message_to_editor_by_ids (ids_from 1 e.requested) e.requested content ≡ Some m = read_so_too e.requested content m first in
     let x : Exchange = exchange_of c announced in
     let y : Exchange = record { editor = editor_after_reading e m; ids = ids_from 1 (editor_after_reading e m).requested; wire = wire; announced = announced; applied = c.model.applied } in
-    let gets : EditorReadsFirst (content ∷ rest) x y = λ i. record x { editor = editor_after_reading_if_any x.editor (sym so i); ids = ids_from 1 (reads_asks e m i); wire = is i } in
+    let gets : EditorReadsFirstContent (content ∷ rest) x y = λ i. record x { editor = editor_after_reading_if_any x.editor (sym so i); ids = ids_from 1 (reads_asks e m i); wire = is i } in
     record {
-      turns = editor_takes ∷ [];
+      turns = editor_takes_message ∷ [];
       announced = announced;
-      leads = (y, subst (λ cs. EditorReadsFirst cs x y) (sym waits) gets, refl);
+      leads = (y, subst (λ cs. EditorReadsFirstContent cs x y) (sym waits) gets, refl);
     }
 take_comes c announced wire [] (content ∷ rest) waits means is = absurd (cc)
 take_comes c announced wire (m ∷ queue) [] waits means is = absurd (cc)
@@ -302,7 +302,7 @@ event_comes serve old new announced goes step =
     let same = serve_same old.model old.model.to_server new.model step.happens in
     let y : Exchange = exchange_of new announced in
     record {
-      turns = server_takes ∷ [];
+      turns = server_takes_message ∷ [];
       announced = announced;
       leads = (y, (new.wire, step.moves, λ i. record y { editor = same.0 i; ids = ids_from 1 (same.0 i).requested; applied = same.1 i }), refl);
     }
@@ -312,7 +312,7 @@ event_comes take_message old new announced goes step =
 
 -- ---- all events
 
-leads_append : (turns more : List Turn) (x between y : Exchange) → IsExchangeCourse x turns between → IsExchangeCourse between more y → IsExchangeCourse x (turns ++ more) y
+leads_append : (turns more : List ExchangeTurn) (x between y : Exchange) → IsExchangeCourse x turns between → IsExchangeCourse between more y → IsExchangeCourse x (turns ++ more) y
 leads_append [] more x between y is leads = subst (λ v. IsExchangeCourse v more y) is leads
 leads_append (turn ∷ turns) more x between y (mid, exchanges, rest) leads = (mid, exchanges, leads_append turns more mid between y rest leads)
 
@@ -327,7 +327,7 @@ course_comes (event ∷ events) begin end announced goes (between, step, rest) =
       leads = leads_append first.turns more.turns (exchange_of begin announced) (exchange_of between first.announced) (exchange_of end more.announced) first.leads more.leads;
     }
 
-same_unit : (unit : Unit) → unit_for (client_features_for unit) ≡ unit
+same_unit : (unit : Unit) → unit_for_client (client_features_for unit) ≡ unit
 same_unit Utf16 = refl
 same_unit Utf8 = refl
 

@@ -19,36 +19,36 @@ use Rattle.ob0_rpc.specs.declared.incoming.RpcFault.TheVariants.{NotAMessage}
 use Rattle.ob0_rpc.specs.Faults.{negative_of, error_code, error_text}
 use Rattle.ob0_rpc.specs.Messages.{ReadsContent, MessageMeaning, not_json, not_a_message, response, request, notice, meaning_of_message}
 use Rattle.ob0_rpc.specs.Notifications.{other}
-use Rattle.ob0_rpc.specs.Requesting as asked
-use Rattle.ob0_rpc.specs.Requesting.{DocumentPlace, ClientRequest, request_by_method}
+use Rattle.ob0_rpc.specs.Requests as asked
+use Rattle.ob0_rpc.specs.Requests.{DocumentPlace, ClientRequest, request_by_method}
 use Rattle.ob0_rpc.specs.Shapes.{result_message, error_response_message}
 use Rattle.ob0_session_answers.specs.Questions.{NameQuestion, hover_question, definition_question, references_question, prepare_rename_question}
 use Rattle.ob0_session_answers.specs.Actions.{VersionedActionsRequest}
-use Rattle.ob0_session_json.specs.Shapes.{edits_value, workspace_edit}
-use Rattle.ob0_session_server.specs.Answers.{ServerState, Reply, AreContentsOfReply, SendsMessage, Reaction, react, react_to_request, react_to_notification, apply_notification, react_to_known_request, react_to_method, react_about_document, question_reply, react_to_question, renames, actions_reply, formatting_reply, react_with_error, Answers}
+use Rattle.ob0_session_json.specs.Shapes.{edit_list_value, workspace_edit}
+use Rattle.ob0_session_server.specs.Answers.{ServerState, Reply, AreContentsOfReply, SendsMessage, Reaction, react_to_message, react_to_request, react_to_notification, apply_notification, react_to_parsed_request, react_to_allowed_request, react_to_document_request, question_reply, react_to_question, rename_reply, actions_reply, formatting_reply, react_with_error, Answers}
 use Rattle.ob0_world_editor.specs.MessagesToServer.{request_number_from_id, message_of_sent_ask, message_of_notification, message_to_server_of, message_to_server_in}
-use Rattle.ob0_world_editor.specs.MessagesToEditor.{message_to_editor_in, publication_of_notification, answer_of_response, message_to_editor_of, message_to_editor_by, answer_to_ask, edits_for}
+use Rattle.ob0_world_editor.specs.MessagesToEditor.{message_to_editor_in, publication_of_notification, answer_of_response, message_to_editor_of, message_to_editor_by_numbering, answer_to_ask, edits_in_answer}
 use Rattle.ob0_world_editor.proofs.Hearing.{said, says_heard, read_as}
 use Rattle.ob0_world_rules.specs.Asks.{Ask, rename, inline_here, inline_all, format}
-use Rattle.ob0_world_rules.specs.ClientAndServer.{OpenDocument, SentAsk, Editor, request_numbered, MessageToServer, notifies, requests, MessageToEditor, publishes, answers, PublicationWithText, documents_after_message}
-use Rattle.ob0_world_rules.specs.EditorActs.{ActResult, editor_after_reading, without_answer}
-use Rattle.ob0_world_rules.specs.Editors.{Revision, Move, to_open, to_revise, to_close, to_ask, to_apply, to_discard, revised_document, with_document, Revises, IsAllowedMove}
-use Rattle.ob0_world_rules.specs.EveryEditor.{EditorAndServer, initial_editor_and_server, modeled_messages, notifications_among, Turn, editor_moves, editor_sends_unmodeled, server_takes, editor_takes, MayHappen, MayLeadTo, HoldsForEditorAndServer}
+use Rattle.ob0_world_rules.specs.ClientAndServer.{OpenDocument, SentAsk, Editor, request_with_number, MessageToServer, notifies, requests, MessageToEditor, publishes, answers, PublicationWithText, documents_after_message}
+use Rattle.ob0_world_rules.specs.EditorActs.{ActResult, editor_after_reading, editor_without_answer}
+use Rattle.ob0_world_rules.specs.EditorMoves.{Revision, Move, editor_opens, editor_revises, editor_closes, editor_asks, editor_applies, editor_discards, revised_document, editor_with_document, RevisesDocument, IsAllowedMove}
+use Rattle.ob0_world_rules.specs.EveryEditor.{EditorAndServer, initial_editor_and_server, modeled_messages, notifications_among, ExchangeTurn, editor_moves, editor_sends_unmodeled_message, server_takes_message, editor_takes_message, MayHappen, MayLeadTo, GuaranteesHoldForEditorAndServer}
 use Rattle.ob0_world_rules.specs.Answers.{OneUse, Everywhere, IsEmptyExactlyIfWellTyped}
-use Rattle.ob0_world_rules.specs.Serving.{SendsDiagnostics, Replies}
+use Rattle.ob0_world_rules.specs.ServerReplies.{SendsDiagnostics, RepliesToMessage}
 use Rattle.ob0_world_rules.specs.Headline.{IsCorrectPublication, last_publication}
-use Rattle.ob0_world_rules.specs.PublicationsInOrder.{AnnouncedDocument, AreMadeForDocuments, uris_and_versions_announced_by, uris_and_versions_announced_in}
+use Rattle.ob0_world_rules.specs.PublicationsInOrder.{AnnouncedDocument, AreMadeForDocumentsInOrder, uris_and_versions_announced_by, uris_and_versions_announced_in}
 use Rattle.ob0_world_rules.proofs.UriLaws.{mapped_choice}
-use Rattle.ob0_world_rules.proofs.EveryEditor.{holds_for_every_editor}
-use Rattle.ob0_world.specs.Worlds.{Wire, SessionTakesFirst}
+use Rattle.ob0_world_rules.proofs.EveryEditor.{guarantees_hold_for_every_editor}
+use Rattle.ob0_world.specs.Worlds.{Wire, SessionTakesFirstContent}
 use Rattle.ob0_session_server.specs.declared.session.Phase.TheVariants.{Running}
 use Rattle.ob0_world.specs.Queues.{publication_in_first_message}
-use Rattle.ob0_world.specs.Exchanges.{RequestId, id_of_value, is_same_id, SentRequestId, ask_number_of_request_id, ask_number_by_id, AssignsAskIds, with_non_ask_id, IsNonAskId, Exchange, IsInitialExchange, IsMessageToSession, IsRequestFor, IsReadOnlyRequest, IsUnmodeledMessage, IsUnmodeledContent, message_to_editor_by_ids, editor_after_reading_if_any, EditorReadsFirst, wire_with_queued_contents, Exchanges, IsExchangeCourse, AreMessagesToSession, AreMessagesToEditor, EveryExchangeFollowsModel, VersionedPublication, versioned_publications_of, versioned_publications_in, AreCorrectForDocuments, last_versioned_publication, notifications_in, HoldsForEveryExchange}
+use Rattle.ob0_world.specs.Exchanges.{RequestId, id_of_value, is_same_id, SentRequestId, ask_number_of_request_id, ask_number_of_json_id, AssignsAskIds, ids_with_non_ask_id, IsNonAskId, Exchange, IsInitialExchange, IsMessageToSession, IsRequestForAsk, IsReadOnlyRequest, IsUnmodeledMessage, IsUnmodeledContent, message_to_editor_by_ids, editor_after_reading_if_any, EditorReadsFirstContent, wire_with_queued_contents, Exchanges, IsExchangeCourse, AreMessagesToSession, AreMessagesToEditor, EveryExchangeFollowsModel, VersionedPublication, versioned_publications_of, versioned_publications_in, AreCorrectForDocuments, last_versioned_publication, notifications_in, GuaranteesHoldForEveryExchange}
 use Rattle.ob0_world.proofs.Answering.{Served, note_answered, ask_answered, actions_answered, going_on, reacts_so}
 use Rattle.ob0_world.proofs.Waiting.{read_still}
 use Rattle.ob0_world.proofs.Ending.{ends_well}
 use Rattle.ob0_world.proofs.Courses.{Conversed, takes_conversed, gets_conversed, written_conversed, initialized_conversed, as_conversation}
-use Rattle.ob0_session_answers.specs.Renamed.{VersionedRenameRequest}
+use Rattle.ob0_session_answers.specs.RenamingAnswers.{VersionedRenameRequest}
 use Rattle.ob0_rpc.specs.declared.clients.ClientFeatures.{ClientFeatures}
 use Rattle.ob0_world_rules.proofs.Asked.{numbered_push}
 use Rattle.std.proofs.lemmas.Option.{none-some}
@@ -63,7 +63,7 @@ sent_still (s ∷ ids) later id o h = go (is_same_id s.id id) h (sent_still ids 
     go true is next = is
     go false is next = next is
 
-ask_with_still : (ids later : List SentRequestId) (d : Data) (k : ℕ) → ask_number_by_id ids d ≡ Some k → ask_number_by_id (ids ++ later) d ≡ Some k
+ask_with_still : (ids later : List SentRequestId) (d : Data) (k : ℕ) → ask_number_of_json_id ids d ≡ Some k → ask_number_of_json_id (ids ++ later) d ≡ Some k
 ask_with_still ids later d k h = go (id_of_value d) h
   where
     at : (id : RequestId) (o : Option (Option ℕ)) → ask_number_of_request_id ids id ≡ o → option_and_then (λ ask. ask) o ≡ Some k → option_and_then (λ ask. ask) (ask_number_of_request_id (ids ++ later) id) ≡ Some k
@@ -111,7 +111,7 @@ module _ (client : ClientFeatures) (ids later : List SentRequestId) (requested m
 
   means_on : (r : List (Option MessageToEditor)) (contents : List (List ℕ)) → AreMessagesToEditor ids requested r contents → AreMessagesToEditor (ids ++ later) (requested ++ more) r contents
   means_on [] [] h = tt
-  means_on (Some m ∷ r) (c ∷ contents) h = (read_still (ask_number_by_id ids) (ask_number_by_id (ids ++ later)) requested more (λ d k a is named. ask_with_still ids later d k named) c m h.0, means_on r contents h.1)
+  means_on (Some m ∷ r) (c ∷ contents) h = (read_still (ask_number_of_json_id ids) (ask_number_of_json_id (ids ++ later)) requested more (λ d k a is named. ask_with_still ids later d k named) c m h.0, means_on r contents h.1)
   means_on (None ∷ r) (c ∷ contents) h = (λ further all. subst (λ more. message_to_editor_by_ids more all c ≡ None) (sym (append_assoc ids later further)) (h.0 (later ++ further) all), means_on r contents h.1)
   means_on [] (c ∷ contents) h = absurd h
   means_on (Some m ∷ r) [] h = absurd h
@@ -143,9 +143,9 @@ module _ (client : ClientFeatures) (ids : List SentRequestId) (requested : List 
 
 -- ---- what a move asks
 
-revises_asks : (revisions : List Revision) (e : Editor) (uri : List ℕ) (new : Editor) (announced : List AnnouncedDocument) → Revises e uri revisions new announced → new.requested ≡ e.requested
+revises_asks : (revisions : List Revision) (e : Editor) (uri : List ℕ) (new : Editor) (announced : List AnnouncedDocument) → RevisesDocument e uri revisions new announced → new.requested ≡ e.requested
 revises_asks [] e uri new announced h = ap (λ (x : Editor). x.requested) h.0
-revises_asks (r ∷ more) e uri new announced (d, later, at, makes, rest, is) = revises_asks more (with_document e uri (revised_document d r)) uri new later rest
+revises_asks (r ∷ more) e uri new announced (d, later, at, makes, rest, is) = revises_asks more (editor_with_document e uri (revised_document d r)) uri new later rest
 
 abbrev AsksMore : Editor → ActResult → Type 0
 AsksMore e done = (more : List SentAsk) × (done.editor.requested ≡ e.requested ++ more)
@@ -154,12 +154,12 @@ asks_none : (e : Editor) (done : ActResult) → done.editor.requested ≡ e.requ
 asks_none e done same = ([], same ∙ sym (append-nil e.requested))
 
 asks_more : (e : Editor) (move : Move) (done : ActResult) (announced : List AnnouncedDocument) → IsAllowedMove e move done announced → AsksMore e done
-asks_more e (to_open uri version text) done announced (is, are) = asks_none e done (ap (λ (x : ActResult). x.editor.requested) is)
-asks_more e (to_revise uri revisions) done announced (new, revises, is) = asks_none e done (ap (λ (x : ActResult). x.editor.requested) is ∙ revises_asks revisions e uri new announced revises)
-asks_more e (to_close uri) done announced (is, are) = asks_none e done (ap (λ (x : ActResult). x.editor.requested) is)
-asks_more e (to_ask uri ask) done announced (d, at, is, are) = (record { ask = ask; uri = uri; text = d.text; opening = d.opening; version = d.version } ∷ [], ap (λ (x : ActResult). x.editor.requested) is)
-asks_more e (to_apply k revisions) done announced a = asks_none e done (ap (λ (x : ActResult). x.editor.requested) a.is ∙ revises_asks revisions (without_answer e k) a.requested.uri a.new announced a.revises)
-asks_more e (to_discard k) done announced (is, are) = asks_none e done (ap (λ (x : ActResult). x.editor.requested) is)
+asks_more e (editor_opens uri version text) done announced (is, are) = asks_none e done (ap (λ (x : ActResult). x.editor.requested) is)
+asks_more e (editor_revises uri revisions) done announced (new, revises, is) = asks_none e done (ap (λ (x : ActResult). x.editor.requested) is ∙ revises_asks revisions e uri new announced revises)
+asks_more e (editor_closes uri) done announced (is, are) = asks_none e done (ap (λ (x : ActResult). x.editor.requested) is)
+asks_more e (editor_asks uri ask) done announced (d, at, is, are) = (record { ask = ask; uri = uri; text = d.text; opening = d.opening; version = d.version } ∷ [], ap (λ (x : ActResult). x.editor.requested) is)
+asks_more e (editor_applies k revisions) done announced a = asks_none e done (ap (λ (x : ActResult). x.editor.requested) a.is ∙ revises_asks revisions (editor_without_answer e k) a.requested.uri a.new announced a.revises)
+asks_more e (editor_discards k) done announced (is, are) = asks_none e done (ap (λ (x : ActResult). x.editor.requested) is)
 
 names_more : (ids : List SentRequestId) (sent : List MessageToServer) (new : List SentRequestId) → AssignsAskIds ids sent new → (later : List SentRequestId) × (new ≡ ids ++ later)
 names_more ids [] new is = ([], is ∙ sym (append-nil ids))
@@ -170,7 +170,7 @@ names_more ids (requests k uri ask ∷ sent) new (id, fresh, names) =
     (s ∷ more.0, more.1 ∙ append_assoc ids (s ∷ []) more.0)
 
 -- The ids after another request are the old ids and perhaps one more.
-others_more : (ids : List SentRequestId) (id : Option RequestId) → (later : List SentRequestId) × (with_non_ask_id ids id ≡ ids ++ later)
+others_more : (ids : List SentRequestId) (id : Option RequestId) → (later : List SentRequestId) × (ids_with_non_ask_id ids id ≡ ids ++ later)
 others_more ids None = ([], sym (append-nil ids))
 others_more ids (Some id) = (record { id = id; ask = None } ∷ [], refl)
 
@@ -181,10 +181,10 @@ abbrev IsReply : Data → Data → Type 0
 IsReply id message = (is_some (get (codes "method") message) ≡ false) × (get (codes "id") message ≡ Some id)
 
 -- A reply to a request that isn't an ask is no answer to an ask.
-no_answer_to : (ids : List SentRequestId) (id message : Data) → IsReply id message → IsNonAskId ids (id_of_value id) → (later : List SentRequestId) (requested : List SentAsk) → message_to_editor_of (ask_number_by_id (ids ++ later)) requested message ≡ None
+no_answer_to : (ids : List SentRequestId) (id message : Data) → IsReply id message → IsNonAskId ids (id_of_value id) → (later : List SentRequestId) (requested : List SentAsk) → message_to_editor_of (ask_number_of_json_id (ids ++ later)) requested message ≡ None
 no_answer_to ids id message (no_method, has_id) own later requested =
-    ap (λ b. cond b (publication_of_notification message) (answer_of_response (ask_number_by_id (ids ++ later)) requested message)) no_method
-    ∙ ap (λ o. option_and_then (answer_to_ask requested message) (option_and_then (ask_number_by_id (ids ++ later)) o)) has_id
+    ap (λ b. cond b (publication_of_notification message) (answer_of_response (ask_number_of_json_id (ids ++ later)) requested message)) no_method
+    ∙ ap (λ o. option_and_then (answer_to_ask requested message) (option_and_then (ask_number_of_json_id (ids ++ later)) o)) has_id
     ∙ go (id_of_value id) own
   where
     go : (o : Option RequestId) → IsNonAskId ids o → option_and_then (answer_to_ask requested message) (option_and_then (λ ask. ask) (option_and_then (ask_number_of_request_id (ids ++ later)) o)) ≡ None
@@ -212,7 +212,7 @@ module _ (ids : List SentRequestId) (requested : List SentAsk) (before after : S
         said = None ∷ [];
         none = refl;
         means = subst (AreMessagesToEditor ids requested (None ∷ [])) (sym is)
-            (λ later all. read_as (ask_number_by_id (ids ++ later)) all content message writes.reads ∙ no_answer_to ids id message reply own later all, tt);
+            (λ later all. read_as (ask_number_of_json_id (ids ++ later)) all content message writes.reads ∙ no_answer_to ids id message reply own later all, tt);
       }
 
   refused_other : (id : Data) (code : ℤ) (why : List ℕ) → IsNonAskId ids (id_of_value id) → after ≡ before → SendsMessage (error_response_message id code why) sent → OtherServed ids requested before after sent
@@ -220,7 +220,7 @@ module _ (ids : List SentRequestId) (requested : List SentAsk) (before after : S
 
   -- A request about a document changes nothing and gets one reply or a refusal.
   about_served : (id : Data) (say : ℤ → List ℕ → Reply) → IsNonAskId ids (id_of_value id) → ((version : ℤ) (text : List ℕ) → AreContentsOfReply (say version text) sent → Replied id) → (o : Option Document)
-      → after ≡ (react_about_document before id o say).after → AreContentsOfReply (react_about_document before id o say).reply sent → OtherServed ids requested before after sent
+      → after ≡ (react_to_document_request before id o say).after → AreContentsOfReply (react_to_document_request before id o say).reply sent → OtherServed ids requested before after sent
   about_served id say own in_step None same saying = refused_other id (negative_of 32803) (codes "unopened") own same saying
   about_served id say own in_step (Some OutOfStep) same saying = refused_other id (negative_of 32803) (codes "out of step") own same saying
   about_served id say own in_step (Some (InStep version text)) same saying = reply_is_determined id own same (in_step version text saying)
@@ -228,7 +228,7 @@ module _ (ids : List SentRequestId) (requested : List SentAsk) (before after : S
   named_replied : (unit : Unit) (id : Data) (at : DocumentPlace) (question : NameQuestion) (text : List ℕ) → AreContentsOfReply (question_reply unit id at question text) sent → Replied id
   named_replied unit id at question text (value, answers_it, sends) = (result_message id value, sends, (refl, refl))
 
-  rename_replied : (unit : Unit) (r : VersionedRenameRequest) (text : List ℕ) → AreContentsOfReply (renames unit r text) sent → Replied r.id
+  rename_replied : (unit : Unit) (r : VersionedRenameRequest) (text : List ℕ) → AreContentsOfReply (rename_reply unit r text) sent → Replied r.id
   rename_replied unit r text (message, inl (edits, found, is), sends) = (result_message r.id (workspace_edit r.client r.at.uri r.version edits), subst (λ m. SendsMessage m sent) is sends, (refl, refl))
   rename_replied unit r text (message, inr (inl (refusal, why, is)), sends) = (error_response_message r.id (negative_of 32803) (refusal_text refusal), subst (λ m. SendsMessage m sent) is sends, (refl, refl))
   rename_replied unit r text (message, inr (inr (unfit, is)), sends) = (error_response_message r.id (negative_of 32803) (codes "ill-typed"), subst (λ m. SendsMessage m sent) is sends, (refl, refl))
@@ -237,7 +237,7 @@ module _ (ids : List SentRequestId) (requested : List SentAsk) (before after : S
   actions_replied unit r text (message, (value, how, is), sends) = (result_message r.id value, subst (λ m. SendsMessage m sent) is sends, (refl, refl))
 
   layout_replied : (unit : Unit) (id : Data) (indent : Indent) (text : List ℕ) → AreContentsOfReply (formatting_reply unit id indent text) sent → Replied id
-  layout_replied unit id indent text (message, inl (edits, laid, is), sends) = (result_message id (edits_value edits), subst (λ m. SendsMessage m sent) is sends, (refl, refl))
+  layout_replied unit id indent text (message, inl (edits, laid, is), sends) = (result_message id (edit_list_value edits), subst (λ m. SendsMessage m sent) is sends, (refl, refl))
   layout_replied unit id indent text (message, inr (inl (long, is)), sends) = (error_response_message id (negative_of 32803) (refusal_text TooLong), subst (λ m. SendsMessage m sent) is sends, (refl, refl))
   layout_replied unit id indent text (message, inr (inr (unfit, is)), sends) = (error_response_message id (negative_of 32803) (codes "ill-typed"), subst (λ m. SendsMessage m sent) is sends, (refl, refl))
 
@@ -246,7 +246,7 @@ module _ (ids : List SentRequestId) (requested : List SentAsk) (before after : S
   name_served id at question own same saying =
       about_served id (λ version. question_reply before.held.unit id at question) own (λ version text. named_replied before.held.unit id at question text) (document_at before.held at.uri) same saying
 
-  question_served : (id : Data) → IsNonAskId ids (id_of_value id) → (q : Result ClientRequest RpcFault) → IsReadOnlyRequest q → after ≡ (react_to_known_request before id q).after → AreContentsOfReply (react_to_known_request before id q).reply sent → OtherServed ids requested before after sent
+  question_served : (id : Data) → IsNonAskId ids (id_of_value id) → (q : Result ClientRequest RpcFault) → IsReadOnlyRequest q → after ≡ (react_to_parsed_request before id q).after → AreContentsOfReply (react_to_parsed_request before id q).reply sent → OtherServed ids requested before after sent
   question_served id own (Ok (asked.initialize client)) h same saying = absurd h
   question_served id own (Ok asked.shutdown) h same saying = absurd h
   question_served id own (Ok (asked.hover at)) h same saying = name_served id at hover_question own same saying
@@ -254,7 +254,7 @@ module _ (ids : List SentRequestId) (requested : List SentAsk) (before after : S
   question_served id own (Ok (asked.references at include)) h same saying = name_served id at (references_question include) own same saying
   question_served id own (Ok (asked.prepare_rename at)) h same saying = name_served id at prepare_rename_question own same saying
   question_served id own (Ok (asked.rename at name)) h same saying =
-      about_served id (λ version. renames before.held.unit (record { id = id; client = before.client; at = at; version = version; new = name })) own
+      about_served id (λ version. rename_reply before.held.unit (record { id = id; client = before.client; at = at; version = version; new = name })) own
       (λ version text. rename_replied before.held.unit (record { id = id; client = before.client; at = at; version = version; new = name }) text) (document_at before.held at.uri) same saying
   question_served id own (Ok (asked.code_action uri range only)) h same saying =
       about_served id (λ version. actions_reply before.held.unit (record { id = id; client = before.client; uri = uri; version = version; range = range; only = only })) own
@@ -263,18 +263,18 @@ module _ (ids : List SentRequestId) (requested : List SentAsk) (before after : S
       about_served id (λ version. formatting_reply before.held.unit id indent) own (λ version text. layout_replied before.held.unit id indent text) (document_at before.held uri) same saying
   question_served id own (Err fault) h same saying = refused_other id (error_code fault) (error_text fault) own same saying
 
-  message_served : before.phase ≡ Running → (m : MessageMeaning) → IsUnmodeledMessage ids m → after ≡ (react before m).after → AreContentsOfReply (react before m).reply sent → OtherServed ids requested before after sent
+  message_served : before.phase ≡ Running → (m : MessageMeaning) → IsUnmodeledMessage ids m → after ≡ (react_to_message before m).after → AreContentsOfReply (react_to_message before m).reply sent → OtherServed ids requested before after sent
   message_served running not_json h same saying = absurd h
   message_served running not_a_message h same saying = refused_other null (error_code NotAMessage) (error_text NotAMessage) tt same saying
   message_served running response h same saying = no_reply same saying
   message_served running (request id method params) (first, question, own) same saying =
-      let so : react before (request id method params) ≡ react_to_method before id method params =
+      let so : react_to_message before (request id method params) ≡ react_to_allowed_request before id method params =
       ap (λ phase. react_to_request phase before id method params) running
-      ∙ ap (λ b. cond b (react_with_error before id (negative_of 32600) (codes "already initialized")) (react_to_method before id method params)) first in
+      ∙ ap (λ b. cond b (react_with_error before id (negative_of 32600) (codes "already initialized")) (react_to_allowed_request before id method params)) first in
       question_served id own (request_by_method method params) question
       (same ∙ ap (λ (x : Reaction). x.after) so) (subst (λ (x : Reaction). AreContentsOfReply x.reply sent) so saying)
   message_served running (notice method params) h same saying =
-      let so : react before (notice method params) ≡ apply_notification before other =
+      let so : react_to_message before (notice method params) ≡ apply_notification before other =
       ap (λ phase. react_to_notification phase before method params) running ∙ ap (apply_notification before) h in
       no_reply (same ∙ ap (λ (x : Reaction). x.after) so) (subst (λ (x : Reaction). AreContentsOfReply x.reply sent) so saying)
 
@@ -289,16 +289,16 @@ module _ (ids : List SentRequestId) (requested : List SentAsk) (before after : S
 answer_published : (number_of : Data → Option ℕ) (requested : List SentAsk) (d : Data) → versioned_publications_of (answer_of_response number_of requested d) ≡ []
 answer_published number_of requested d = go (option_and_then number_of (get (codes "id") d))
   where
-    at : (k : ℕ) (o : Option SentAsk) → versioned_publications_of (option_map (λ (a : SentAsk). answers k (edits_for a.uri a.ask d)) o) ≡ []
+    at : (k : ℕ) (o : Option SentAsk) → versioned_publications_of (option_map (λ (a : SentAsk). answers k (edits_in_answer a.uri a.ask d)) o) ≡ []
     at k None = refl
     at k (Some a) = refl
 
     go : (o : Option ℕ) → versioned_publications_of (option_and_then (answer_to_ask requested d) o) ≡ []
     go None = refl
-    go (Some k) = at k (request_numbered requested k)
+    go (Some k) = at k (request_with_number requested k)
 
-any_published : (number_of : Data → Option ℕ) (requested : List SentAsk) (content : List ℕ) → versioned_publications_of (message_to_editor_by number_of requested content) ≡ versioned_publications_of (message_to_editor_in [] content)
-unfolding message_to_editor_by
+any_published : (number_of : Data → Option ℕ) (requested : List SentAsk) (content : List ℕ) → versioned_publications_of (message_to_editor_by_numbering number_of requested content) ≡ versioned_publications_of (message_to_editor_in [] content)
+unfolding message_to_editor_by_numbering
 any_published number_of requested content = go (is_utf8 content) (read content)
   where
     value : (d : Data) (b : Bool) → versioned_publications_of (cond b (publication_of_notification d) (answer_of_response number_of requested d)) ≡ versioned_publications_of (cond b (publication_of_notification d) (answer_of_response request_number_from_id [] d))
@@ -316,9 +316,9 @@ versions (o ∷ r) = versioned_publications_of o ++ versions r
 
 means_published : (ids : List SentRequestId) (requested : List SentAsk) (r : List (Option MessageToEditor)) (contents : List (List ℕ)) → AreMessagesToEditor ids requested r contents → versioned_publications_in contents ≡ versions r
 means_published ids requested [] [] h = refl
-means_published ids requested (Some m ∷ r) (c ∷ contents) h = λ i. (sym (any_published (ask_number_by_id ids) requested c) ∙ ap versioned_publications_of h.0) i ++ means_published ids requested r contents h.1 i
+means_published ids requested (Some m ∷ r) (c ∷ contents) h = λ i. (sym (any_published (ask_number_of_json_id ids) requested c) ∙ ap versioned_publications_of h.0) i ++ means_published ids requested r contents h.1 i
 means_published ids requested (None ∷ r) (c ∷ contents) h =
-    λ i. (sym (any_published (ask_number_by_id (ids ++ [])) requested c) ∙ ap versioned_publications_of (h.0 [] requested)) i ++ means_published ids requested r contents h.1 i
+    λ i. (sym (any_published (ask_number_of_json_id (ids ++ [])) requested c) ∙ ap versioned_publications_of (h.0 [] requested)) i ++ means_published ids requested r contents h.1 i
 means_published ids requested [] (c ∷ contents) h = absurd h
 means_published ids requested (Some m ∷ r) [] h = absurd h
 means_published ids requested (None ∷ r) [] h = absurd h
@@ -341,7 +341,7 @@ publishes_named uri (Some (InStep version text)) said made (empty, right, is_sai
 publishes_named uri (Some OutOfStep) said made h = ap (λ ms. versions (map Some ms)) h.0 ∙ sym (ap (map named) h.1)
 publishes_named uri None said made h = ap (λ ms. versions (map Some ms)) h.0 ∙ sym (ap (map named) h.1)
 
-replies_named : (held : OpenDocuments) (m : MessageToServer) (said : List MessageToEditor) (made : List PublicationWithText) → Replies held m said made → versions (map Some said) ≡ map named made
+replies_named : (held : OpenDocuments) (m : MessageToServer) (said : List MessageToEditor) (made : List PublicationWithText) → RepliesToMessage held m said made → versions (map Some said) ≡ map named made
 replies_named held (notifies (Opened uri version text)) said made h = publishes_named uri (document_at (documents_after_event held (Opened uri version text)) uri) said made h
 replies_named held (notifies (Changed uri version how)) said made h = publishes_named uri (document_at (documents_after_event held (Changed uri version how)) uri) said made h
 replies_named held (notifies (Lost uri)) said made h = ap (λ ms. versions (map Some ms)) h.0 ∙ sym (ap (map named) h.1)
@@ -377,16 +377,16 @@ shown_got got rest content wire made waits h =
 -- ---- what is replied to asks and notifications
 
 session_served : (ids : List SentRequestId) (requested : List SentAsk) (m : MessageToServer) (before after : ServerState) (content : List ℕ) (sent : List (List ℕ)) → before.phase ≡ Running → IsMessageToSession before.client ids requested m content → Answers before content sent after
-    → Served (ask_number_by_id ids) requested m before after sent
-session_served ids requested (notifies note) before after content sent running is answered = note_answered (ask_number_by_id ids) requested note before after content sent running is answered
+    → Served (ask_number_of_json_id ids) requested m before after sent
+session_served ids requested (notifies note) before after content sent running is answered = note_answered (ask_number_of_json_id ids) requested note before after content sent running is answered
 session_served ids requested (requests k uri (rename position name)) before after content sent running (id, is, of, takes) answered =
-    ask_answered (ask_number_by_id ids) requested id k uri (rename position name) before after content sent running takes of.numbered of.is is answered
+    ask_answered (ask_number_of_json_id ids) requested id k uri (rename position name) before after content sent running takes of.numbered of.is is answered
 session_served ids requested (requests k uri (inline_here position)) before after content sent running (id, is, of, takes) answered =
-    actions_answered (ask_number_by_id ids) requested OneUse id k uri position before after content sent running takes of.numbered of.is is answered
+    actions_answered (ask_number_of_json_id ids) requested OneUse id k uri position before after content sent running takes of.numbered of.is is answered
 session_served ids requested (requests k uri (inline_all position)) before after content sent running (id, is, of, takes) answered =
-    actions_answered (ask_number_by_id ids) requested Everywhere id k uri position before after content sent running takes of.numbered of.is is answered
+    actions_answered (ask_number_of_json_id ids) requested Everywhere id k uri position before after content sent running takes of.numbered of.is is answered
 session_served ids requested (requests k uri (format indent)) before after content sent running (id, is, of, takes) answered =
-    ask_answered (ask_number_by_id ids) requested id k uri (format indent) before after content sent running takes of.numbered of.is is answered
+    ask_answered (ask_number_of_json_id ids) requested id k uri (format indent) before after content sent running takes of.numbered of.is is answered
 
 -- ---- turn by turn
 
@@ -410,7 +410,7 @@ record Tied (got : List (List ℕ)) (x : Exchange) (q : List (Option MessageToSe
   conversed : Conversed x.wire
   shown : Shown got x.wire made
 
-record Step (got : List (List ℕ)) (w : EditorAndServer) (turn : Turn) (y : Exchange) : Type 0 where
+record Step (got : List (List ℕ)) (w : EditorAndServer) (turn : ExchangeTurn) (y : Exchange) : Type 0 where
   q : List (Option MessageToServer)
   r : List (Option MessageToEditor)
   made : List PublicationWithText
@@ -443,13 +443,13 @@ module _ (got : List (List ℕ)) (x : Exchange) (made : List PublicationWithText
         };
       })
 
-  says_step : (q : List (Option MessageToServer)) (r : List (Option MessageToEditor)) (y : Exchange) → Tied got x q r made → Exchanges x editor_sends_unmodeled y → Step got (model_of x q r made) editor_sends_unmodeled y
+  says_step : (q : List (Option MessageToServer)) (r : List (Option MessageToEditor)) (y : Exchange) → Tied got x q r made → Exchanges x editor_sends_unmodeled_message y → Step got (model_of x q r made) editor_sends_unmodeled_message y
   says_step q r y tied (id, content, is_other, is) =
       let client : ClientFeatures = x.wire.session.client in
       let known : List SentAsk = x.editor.requested in
-      let ids : List SentRequestId = with_non_ask_id x.ids id in
+      let ids : List SentRequestId = ids_with_non_ask_id x.ids id in
       let later : (later : List SentRequestId) × (ids ≡ x.ids ++ later) = others_more x.ids id in
-      subst (Step got (model_of x q r made) editor_sends_unmodeled) (sym is)
+      subst (Step got (model_of x q r made) editor_sends_unmodeled_message) (sym is)
       (record {
         q = q ++ None ∷ [];
         r = r;
@@ -468,7 +468,7 @@ module _ (got : List (List ℕ)) (x : Exchange) (made : List PublicationWithText
         };
       })
 
-  serve_step : (q : List (Option MessageToServer)) (r : List (Option MessageToEditor)) (contents : List (List ℕ)) (wire : Wire) → x.wire.to_server ≡ contents → Tied got x q r made → SessionTakesFirst contents x.wire wire → Step got (model_of x q r made) server_takes (record x { wire = wire })
+  serve_step : (q : List (Option MessageToServer)) (r : List (Option MessageToEditor)) (contents : List (List ℕ)) (wire : Wire) → x.wire.to_server ≡ contents → Tied got x q r made → SessionTakesFirstContent contents x.wire wire → Step got (model_of x q r made) server_takes_message (record x { wire = wire })
   serve_step [] r [] wire waits tied is =
       record {
         q = [];
@@ -481,12 +481,12 @@ module _ (got : List (List ℕ)) (x : Exchange) (made : List PublicationWithText
       let client : ClientFeatures = x.wire.session.client in
       let known : List SentAsk = x.editor.requested in
       let says : AreMessagesToSession client x.ids known (Some m ∷ q) (c ∷ rest) = subst (AreMessagesToSession client x.ids known (Some m ∷ q)) waits tied.says in
-      let s : Served (ask_number_by_id x.ids) known m x.wire.session after sent = session_served x.ids known m x.wire.session after c sent tied.running says.0 answered in
+      let s : Served (ask_number_of_json_id x.ids) known m x.wire.session after sent = session_served x.ids known m x.wire.session after c sent tied.running says.0 answered in
       let now : Wire = record x.wire { session = after; taken = x.wire.taken ++ c ∷ []; to_server = rest; to_editor = x.wire.to_editor ++ sent } in
       let more : List PublicationWithText = option_to_list (publication_in_first_message after.held s.said) in
       let means : AreMessagesToEditor x.ids known (map Some s.said) sent = subst (λ ms. AreMessagesToEditor x.ids known (map Some ms) sent) s.message_to_server_in.all (each_means client x.ids known sent s.message_to_server_in.each) in
       let y : Exchange = record x { wire = now } in
-      subst (λ v. Step got (model_of x (Some m ∷ q) r made) server_takes (record x { wire = v })) (sym is)
+      subst (λ v. Step got (model_of x (Some m ∷ q) r made) server_takes_message (record x { wire = v })) (sym is)
       (record {
         q = q;
         r = r ++ map Some s.said;
@@ -508,7 +508,7 @@ module _ (got : List (List ℕ)) (x : Exchange) (made : List PublicationWithText
       let s : OtherServed x.ids known x.wire.session after sent = other_served x.ids known x.wire.session after sent c tied.running says.0 answered in
       let now : Wire = record x.wire { session = after; taken = x.wire.taken ++ c ∷ []; to_server = rest; to_editor = x.wire.to_editor ++ sent } in
       let y : Exchange = record x { wire = now } in
-      subst (λ v. Step got (model_of x (None ∷ q) r made) server_takes (record x { wire = v })) (sym is)
+      subst (λ v. Step got (model_of x (None ∷ q) r made) server_takes_message (record x { wire = v })) (sym is)
       (record {
         q = q;
         r = r ++ s.said;
@@ -544,47 +544,47 @@ module _ (got : List (List ℕ)) (x : Exchange) (made : List PublicationWithText
         shown = shown_got got rest content x.wire made waits tied.shown;
       }
 
-  get_step : (q : List (Option MessageToServer)) (r : List (Option MessageToEditor)) (contents : List (List ℕ)) (y : Exchange) → x.wire.to_editor ≡ contents → Tied got x q r made → EditorReadsFirst contents x y → Step got (model_of x q r made) editor_takes y
+  get_step : (q : List (Option MessageToServer)) (r : List (Option MessageToEditor)) (contents : List (List ℕ)) (y : Exchange) → x.wire.to_editor ≡ contents → Tied got x q r made → EditorReadsFirstContent contents x y → Step got (model_of x q r made) editor_takes_message y
   get_step q [] [] y waits tied is =
       record { q = q; r = []; made = made; happens = ap (λ v. model_of v q [] made) is; tied = subst (λ v. Tied got v q [] made) (sym is) tied }
   get_step q (Some m ∷ r) (c ∷ rest) y waits tied is =
       let means : AreMessagesToEditor x.ids x.editor.requested (Some m ∷ r) (c ∷ rest) = subst (AreMessagesToEditor x.ids x.editor.requested (Some m ∷ r)) waits tied.means in
       let now : Wire = record x.wire { got = x.wire.got ++ c ∷ []; to_editor = rest } in
-      subst (Step got (model_of x q (Some m ∷ r) made) editor_takes) (sym (is ∙ (λ i. record x { editor = editor_after_reading_if_any x.editor (means.0 i); wire = now })))
+      subst (Step got (model_of x q (Some m ∷ r) made) editor_takes_message) (sym (is ∙ (λ i. record x { editor = editor_after_reading_if_any x.editor (means.0 i); wire = now })))
       (record { q = q; r = r; made = made; happens = refl; tied = got_so q (Some m ∷ r) r c rest (editor_after_reading x.editor m) waits tied (reads_asks x.editor m) means.1 })
   get_step q (None ∷ r) (c ∷ rest) y waits tied is =
       let means : AreMessagesToEditor x.ids x.editor.requested (None ∷ r) (c ∷ rest) = subst (AreMessagesToEditor x.ids x.editor.requested (None ∷ r)) waits tied.means in
       let now : Wire = record x.wire { got = x.wire.got ++ c ∷ []; to_editor = rest } in
       let none : message_to_editor_by_ids x.ids x.editor.requested c ≡ None = subst (λ all. message_to_editor_by_ids all x.editor.requested c ≡ None) (append-nil x.ids) (means.0 [] x.editor.requested) in
-      subst (Step got (model_of x q (None ∷ r) made) editor_takes) (sym (is ∙ (λ i. record x { editor = editor_after_reading_if_any x.editor (none i); wire = now })))
+      subst (Step got (model_of x q (None ∷ r) made) editor_takes_message) (sym (is ∙ (λ i. record x { editor = editor_after_reading_if_any x.editor (none i); wire = now })))
       (record { q = q; r = r; made = made; happens = refl; tied = got_so q (None ∷ r) r c rest x.editor waits tied refl means.1 })
   get_step q [] (c ∷ rest) y waits tied is = absurd (subst (AreMessagesToEditor x.ids x.editor.requested []) waits tied.means)
   get_step q (Some m ∷ r) [] y waits tied is = absurd (subst (AreMessagesToEditor x.ids x.editor.requested (Some m ∷ r)) waits tied.means)
   get_step q (None ∷ r) [] y waits tied is = absurd (subst (AreMessagesToEditor x.ids x.editor.requested (None ∷ r)) waits tied.means)
 
-  turn_step : (q : List (Option MessageToServer)) (r : List (Option MessageToEditor)) (turn : Turn) (y : Exchange) → Tied got x q r made → Exchanges x turn y → Step got (model_of x q r made) turn y
+  turn_step : (q : List (Option MessageToServer)) (r : List (Option MessageToEditor)) (turn : ExchangeTurn) (y : Exchange) → Tied got x q r made → Exchanges x turn y → Step got (model_of x q r made) turn y
   turn_step q r (editor_moves move) y tied h = does_step q r move y tied h
-  turn_step q r editor_sends_unmodeled y tied h = says_step q r y tied h
-  turn_step q r server_takes y tied (wire, takes, is) = subst (Step got (model_of x q r made) server_takes) (sym is) (serve_step q r x.wire.to_server wire refl tied takes)
-  turn_step q r editor_takes y tied h = get_step q r x.wire.to_editor y refl tied h
+  turn_step q r editor_sends_unmodeled_message y tied h = says_step q r y tied h
+  turn_step q r server_takes_message y tied (wire, takes, is) = subst (Step got (model_of x q r made) server_takes_message) (sym is) (serve_step q r x.wire.to_server wire refl tied takes)
+  turn_step q r editor_takes_message y tied h = get_step q r x.wire.to_editor y refl tied h
 
 -- ---- all turns
 
-record Led (got : List (List ℕ)) (w : EditorAndServer) (turns : List Turn) (y : Exchange) : Type 0 where
+record Led (got : List (List ℕ)) (w : EditorAndServer) (turns : List ExchangeTurn) (y : Exchange) : Type 0 where
   q : List (Option MessageToServer)
   r : List (Option MessageToEditor)
   made : List PublicationWithText
   leads : MayLeadTo w turns (model_of y q r made)
   tied : Tied got y q r made
 
-turns_lead : (got : List (List ℕ)) (turns : List Turn) (x y : Exchange) (q : List (Option MessageToServer)) (r : List (Option MessageToEditor)) (made : List PublicationWithText) → Tied got x q r made → IsExchangeCourse x turns y → Led got (model_of x q r made) turns y
+turns_lead : (got : List (List ℕ)) (turns : List ExchangeTurn) (x y : Exchange) (q : List (Option MessageToServer)) (r : List (Option MessageToEditor)) (made : List PublicationWithText) → Tied got x q r made → IsExchangeCourse x turns y → Led got (model_of x q r made) turns y
 turns_lead got [] x y q r made tied is = record { q = q; r = r; made = made; leads = ap (λ v. model_of v q r made) is; tied = subst (λ v. Tied got v q r made) (sym is) tied }
 turns_lead got (turn ∷ turns) x y q r made tied (between, exchanges, rest) =
     let step : Step got (model_of x q r made) turn between = turn_step got x made q r turn between tied exchanges in
     let led : Led got (model_of between step.q step.r step.made) turns y = turns_lead got turns between y step.q step.r step.made step.tied rest in
     record { q = led.q; r = led.r; made = led.made; leads = (model_of between step.q step.r step.made, step.happens, led.leads); tied = led.tied }
 
-begun_led : (unit : Unit) (begin now : Exchange) (turns : List Turn) → IsInitialExchange unit begin → IsExchangeCourse begin turns now → Led begin.wire.got (initial_editor_and_server unit) turns now
+begun_led : (unit : Unit) (begin now : Exchange) (turns : List ExchangeTurn) → IsInitialExchange unit begin → IsExchangeCourse begin turns now → Led begin.wire.got (initial_editor_and_server unit) turns now
 begun_led unit begin now turns b leads =
     let tied : Tied begin.wire.got begin [] [] [] =
     subst (λ (x : Exchange). Tied x.wire.got x [] [] []) (sym b.is)
@@ -610,14 +610,14 @@ every_exchange_follows_model unit begin now turns b leads =
       applied = refl;
       says = led.tied.says;
       means = led.tied.means;
-      holds = holds_for_every_editor unit turns (model_of now led.q led.r led.made) led.leads;
+      holds = guarantees_hold_for_every_editor unit turns (model_of now led.q led.r led.made) led.leads;
       conversation = as_conversation now.wire led.tied.conversed;
     }
 
 -- ---- the headline of an exchange
 
 -- Publications that are right and made for these documents are right of them when sent.
-right_of : (made : List PublicationWithText) (announced : List AnnouncedDocument) → All IsCorrectPublication made → AreMadeForDocuments made announced → AreCorrectForDocuments (map named made) announced
+right_of : (made : List PublicationWithText) (announced : List AnnouncedDocument) → All IsCorrectPublication made → AreMadeForDocumentsInOrder made announced → AreCorrectForDocuments (map named made) announced
 right_of [] [] all h = tt
 right_of (m ∷ made) (t ∷ announced) all ((uri_is, version_is, text_is), rest) = (
   uri_is,
@@ -662,7 +662,7 @@ unfolding message_to_server_in
 request_unheard content json id params method reads_so means =
     said (λ d. message_to_server_of [] (meaning_of_message d)) content json reads_so ∙ ap (message_to_server_of []) means ∙ none_read (request_number_from_id id)
 
-ask_unheard : (id : Data) (uri : List ℕ) (ask : Ask) (content : List ℕ) → IsRequestFor id uri ask content → message_to_server_in [] content ≡ None
+ask_unheard : (id : Data) (uri : List ℕ) (ask : Ask) (content : List ℕ) → IsRequestForAsk id uri ask content → message_to_server_in [] content ≡ None
 ask_unheard id uri (rename position name) content is = request_unheard content is.json id is.params (codes "textDocument/rename") is.reads is.means
 ask_unheard id uri (inline_here position) content is = request_unheard content is.json id is.params (codes "textDocument/codeAction") is.reads is.means
 ask_unheard id uri (inline_all position) content is = request_unheard content is.json id is.params (codes "textDocument/codeAction") is.reads is.means
@@ -700,11 +700,11 @@ notes_change held [] = refl
 notes_change held (notifies note ∷ q) = notes_change (documents_after_message held (notifies note)) q
 notes_change held (requests k uri ask ∷ q) = notes_change held q
 
-pub holds_for_every_exchange : HoldsForEveryExchange
-holds_for_every_exchange unit begin now turns b leads =
+pub guarantees_hold_for_every_exchange : GuaranteesHoldForEveryExchange
+guarantees_hold_for_every_exchange unit begin now turns b leads =
     let led : Led begin.wire.got (initial_editor_and_server unit) turns now = begun_led unit begin now turns b leads in
     let w : EditorAndServer = model_of now led.q led.r led.made in
-    let holds : HoldsForEditorAndServer w = holds_for_every_editor unit turns w led.leads in
+    let holds : GuaranteesHoldForEditorAndServer w = guarantees_hold_for_every_editor unit turns w led.leads in
     let shown : Shown begin.wire.got now.wire led.made = led.tied.shown in
     let waiting : List MessageToServer = modeled_messages led.q in
     let notes : notifications_in now.wire.to_server ≡ notifications_among waiting = notes_waiting now.wire.session.client now.ids now.editor.requested led.q now.wire.to_server led.tied.says in

@@ -7,25 +7,25 @@ use Rattle.std.proofs.lemmas.List.{append-nil, map-append}
 use Rattle.std.proofs.lemmas.List.Elements.{All-head, All-push, All-tail}
 use Rattle.ob0_text.specs.OpenDocuments.{TextChange}
 use Rattle.ob0_session_server.specs.Answers.{ServerState}
-use Rattle.ob0_world_editor.specs.Code.{applied_of}
+use Rattle.ob0_world_editor.specs.ModelValues.{applied_edit_of}
 use Rattle.ob0_world_editor.specs.MessagesToServer.{message_to_server_in, IsMessageToServer}
-use Rattle.ob0_world_editor.specs.Moves.{IsSentContent, PerformsAct, IsSilentResult, IsApplyOutcome}
+use Rattle.ob0_world_editor.specs.EditorCalls.{IsSentContent, PerformsAct, SendsAndAppliesNothing, IsApplyOutcome}
 use Rattle.ob0_world_editor.specs.MessagesToEditor.{message_to_editor_in}
 use Rattle.ob0_world_editor.specs.declared.applied.Applied as applied
 use Rattle.ob0_world_editor.specs.declared.applied.ApplyOutcome as applying
 use Rattle.ob0_world_editor.proofs.Hearing.{says_heard}
-use Rattle.ob0_world_rules.specs.Edited.{Replacement, text_after_changes}
+use Rattle.ob0_world_rules.specs.TextEdits.{Replacement, text_after_changes}
 use Rattle.ob0_world_rules.specs.Asks.{Ask}
-use Rattle.ob0_world_rules.specs.ClientAndServer.{OpenDocument, SentAsk, Editor, open_document_at, MessageToServer, MessageToEditor, publishes, answers, ClientAndServer}
-use Rattle.ob0_world_rules.specs.EditorActs.{Act, open_document, change_document, close_document, ask_about, apply, discard, ActResult, silent_result, opening_result, rewriting_result, closing_result, asking_result, edits_of_answer, without_answer, act_result, editor_after_reading}
-use Rattle.ob0_world_rules.specs.Happens.{editor_acts, take_message, state_after_act, state_after_editor_takes, Happens}
+use Rattle.ob0_world_rules.specs.ClientAndServer.{OpenDocument, SentAsk, Editor, editor_document_at, MessageToServer, MessageToEditor, publishes, answers, ClientAndServer}
+use Rattle.ob0_world_rules.specs.EditorActs.{Act, open_document, change_document, close_document, ask_about, apply, discard, ActResult, result_without_messages, opening_result, rewriting_result, closing_result, asking_result, edits_of_answer, editor_without_answer, act_result, editor_after_reading}
+use Rattle.ob0_world_rules.specs.Happens.{editor_acts, take_message, state_after_act, state_after_editor_takes_message, Happens}
 use Rattle.ob0_world_rules.proofs.PerformsAct.{of_each}
 use Rattle.ob0_world.specs.declared.events.Seen as seen
 use Rattle.ob0_world.specs.declared.played.Made as made
 use Rattle.ob0_world.specs.Seen.{Seen, nothing, applies, drops, report_if_any, report_on_sending, report_on_act, report_on_take, report_of, HappensWithReport}
 use Rattle.ob0_world.specs.Seen as seen_as
 use Rattle.ob0_world.specs.Queues.{Contents, content_bytes, all_messages_to_server, all_messages_to_editor, MeansMessageToServer, MeansMessageToEditor, ConnectionInvariant, model_from_fields, wire_from_fields, QueuesContent, MovesFirstContent}
-use Rattle.ob0_world.specs.Worlds.{WritesContent}
+use Rattle.ob0_world.specs.Worlds.{QueuesAtMostOneContent}
 use Rattle.ob0_world.proofs.Waiting.{all_heard_still, all_understood_still, heard_still, understood_same, said_push, said_first}
 
 -- ---- the asks of an editor only grow
@@ -83,7 +83,7 @@ heard_acted requested (m ∷ more) (Some c) q says =
 
 -- After an act of the code, the stored state is the model's state after that act.
 pub acted : (e new : Editor) (done : ActResult) (content : Option (Vec ℕ Global)) (q q' r : Contents) (s : ServerState) (ap_list ap_new : List applied.Applied) (md : List made.Made) → Grows e done.editor → PerformsAct done content new → q' ≡ q ++ option_to_list content
-    → map applied_of ap_new ≡ map applied_of ap_list ++ done.applied → ConnectionInvariant e.requested q r s → model_from_fields new q' s r ap_new md ≡ state_after_act (model_from_fields e q s r ap_list md) done
+    → map applied_edit_of ap_new ≡ map applied_edit_of ap_list ++ done.applied → ConnectionInvariant e.requested q r s → model_from_fields new q' s r ap_new md ≡ state_after_act (model_from_fields e q s r ap_list md) done
 acted e new done content q q' r s ap_list ap_new md grows acts is more sound =
     let (since, grew) = grown e new done grows acts.0 in
     let waits : all_messages_to_server new.requested q' ≡ all_messages_to_server e.requested q ++ done.sent =
@@ -112,39 +112,39 @@ seen_sent done requested q q' content shown says sent = go done.sent content say
     go (m ∷ more) None says sent = absurd says
     go (m ∷ more) (Some c) says sent = sent.0
 
-none_applied : (e : Editor) (o : Option ActResult) → ((done : ActResult) → o ≡ Some done → done.applied ≡ []) → (unwrap_or o (silent_result e)).applied ≡ []
+none_applied : (e : Editor) (o : Option ActResult) → ((done : ActResult) → o ≡ Some done → done.applied ≡ []) → (unwrap_or o (result_without_messages e)).applied ≡ []
 none_applied e None none = refl
 none_applied e (Some done) none = none done refl
 
 pub open_applies : (e : Editor) (uri text : List ℕ) → (act_result e (open_document uri text)).applied ≡ []
-open_applies e uri text = go (is_some (open_document_at e uri))
+open_applies e uri text = go (is_some (editor_document_at e uri))
   where
-    go : (b : Bool) → (cond b (silent_result e) (opening_result e uri text)).applied ≡ []
+    go : (b : Bool) → (cond b (result_without_messages e) (opening_result e uri text)).applied ≡ []
     go true = refl
     go false = refl
 
 pub close_applies : (e : Editor) (uri : List ℕ) → (act_result e (close_document uri)).applied ≡ []
-close_applies e uri = go (is_some (open_document_at e uri))
+close_applies e uri = go (is_some (editor_document_at e uri))
   where
-    go : (b : Bool) → (cond b (closing_result e uri) (silent_result e)).applied ≡ []
+    go : (b : Bool) → (cond b (closing_result e uri) (result_without_messages e)).applied ≡ []
     go true = refl
     go false = refl
 
 pub ask_applies : (e : Editor) (uri : List ℕ) (ask : Ask) → (act_result e (ask_about uri ask)).applied ≡ []
-ask_applies e uri ask = go (open_document_at e uri)
+ask_applies e uri ask = go (editor_document_at e uri)
   where
-    go : (o : Option OpenDocument) → (unwrap_or (option_and_then (λ d. Some (asking_result e uri ask d)) o) (silent_result e)).applied ≡ []
+    go : (o : Option OpenDocument) → (unwrap_or (option_and_then (λ d. Some (asking_result e uri ask d)) o) (result_without_messages e)).applied ≡ []
     go None = refl
     go (Some d) = refl
 
 pub change_applies : (e : Editor) (uri : List ℕ) (how : List TextChange) → (act_result e (change_document uri how)).applied ≡ []
-change_applies e uri how = go (open_document_at e uri)
+change_applies e uri how = go (editor_document_at e uri)
   where
-    of_text : (d : OpenDocument) (o : Option (List ℕ)) → (unwrap_or (option_and_then (λ text. Some (rewriting_result e uri d text how [])) o) (silent_result e)).applied ≡ []
+    of_text : (d : OpenDocument) (o : Option (List ℕ)) → (unwrap_or (option_and_then (λ text. Some (rewriting_result e uri d text how [])) o) (result_without_messages e)).applied ≡ []
     of_text d None = refl
     of_text d (Some text) = refl
 
-    go : (o : Option OpenDocument) → (unwrap_or (option_and_then (λ d. option_and_then (λ text. Some (rewriting_result e uri d text how [])) (text_after_changes e.unit (Some d.text) how)) o) (silent_result e)).applied ≡ []
+    go : (o : Option OpenDocument) → (unwrap_or (option_and_then (λ d. option_and_then (λ text. Some (rewriting_result e uri d text how [])) (text_after_changes e.unit (Some d.text) how)) o) (result_without_messages e)).applied ≡ []
     go None = refl
     go (Some d) = of_text d (text_after_changes e.unit (Some d.text) how)
 
@@ -159,7 +159,7 @@ pub sent_shows : {X : Type 0} (act : Act) (old : ClientAndServer) (e new : Edito
     → IfOk result (λ shown. HappensWithReport old (editor_acts act) (report_of shown) (model_from_fields new q' s r ap_list md))
 sent_shows act old e new content q q' r s ap_list md (Ok shown) was none as_sent acts sent sound =
     subst (λ (w : ClientAndServer). HappensWithReport w (editor_acts act) (report_of shown) (model_from_fields new q' s r ap_list md)) was (
-      acted e new (act_result e act) content q q' r s ap_list ap_list md (act_grows e act) acts (put q q' content shown sent) (sym (append-nil (map applied_of ap_list)) ∙ ap (λ x. map applied_of ap_list ++ x) (sym none)) sound,
+      acted e new (act_result e act) content q q' r s ap_list ap_list md (act_grows e act) acts (put q q' content shown sent) (sym (append-nil (map applied_edit_of ap_list)) ∙ ap (λ x. map applied_edit_of ap_list ++ x) (sym none)) sound,
       seen_sent (act_result e act) new.requested q q' content shown acts.1 sent ∙ sym as_sent,
     )
 sent_shows act old e new content q q' r s ap_list md (Err x) was none as_sent acts sent sound = tt
@@ -167,29 +167,29 @@ sent_shows act old e new content q q' r s ap_list md (Err x) was none as_sent ac
 -- ---- answers
 
 -- An answer that isn't applied sends nothing.
-pub silent_acts : (done : ActResult) (new : Editor) → IsSilentResult done new → PerformsAct done None new
+pub silent_acts : (done : ActResult) (new : Editor) → SendsAndAppliesNothing done new → PerformsAct done None new
 silent_acts done new (is, nothing_sent, none) = (is, subst (λ ms. IsSentContent new.requested ms None) (sym nothing_sent) tt)
 
-pub silent_shows : (act : Act) (e new : Editor) (q r : Contents) (s : ServerState) (ap_list : List applied.Applied) (md : List made.Made) → IsSilentResult (act_result e act) new → ConnectionInvariant e.requested q r s
+pub silent_shows : (act : Act) (e new : Editor) (q r : Contents) (s : ServerState) (ap_list : List applied.Applied) (md : List made.Made) → SendsAndAppliesNothing (act_result e act) new → ConnectionInvariant e.requested q r s
     → Happens (model_from_fields e q s r ap_list md) (editor_acts act) (model_from_fields new q s r ap_list md)
 silent_shows act e new q r s ap_list md silent sound =
-    acted e new (act_result e act) None q q r s ap_list ap_list md (act_grows e act) (silent_acts (act_result e act) new silent) (sym (append-nil q)) (sym (append-nil (map applied_of ap_list)) ∙ ap (λ x. map applied_of ap_list ++ x) (sym silent.2)) sound
+    acted e new (act_result e act) None q q r s ap_list ap_list md (act_grows e act) (silent_acts (act_result e act) new silent) (sym (append-nil q)) (sym (append-nil (map applied_edit_of ap_list)) ∙ ap (λ x. map applied_edit_of ap_list ++ x) (sym silent.2)) sound
 
 -- returns the report on an answer that was to be applied
 abbrev pub apply_seen : (e new : Editor) (k : ℕ) (outcome : applying.ApplyOutcome) → IsApplyOutcome (act_result e (apply k)) (is_some (edits_of_answer k e.answers)) outcome new → Seen
-apply_seen e new k applying.TheVariants.NotHeld comes = nothing
+apply_seen e new k applying.TheVariants.NoSuchAnswer comes = nothing
 apply_seen e new k applying.TheVariants.Dropped comes = drops k
 apply_seen e new k (applying.TheVariants.Made a c) comes = applies k
 
 pub apply_seen_so : (e new : Editor) (k : ℕ) (outcome : applying.ApplyOutcome) (comes : IsApplyOutcome (act_result e (apply k)) (is_some (edits_of_answer k e.answers)) outcome new) → apply_seen e new k outcome comes ≡ report_on_act e (apply k)
-apply_seen_so e new k applying.TheVariants.NotHeld comes = sym (ap (λ b. cond b (report_if_any (act_result e (apply k)).applied (applies k) (drops k)) nothing) comes.1)
+apply_seen_so e new k applying.TheVariants.NoSuchAnswer comes = sym (ap (λ b. cond b (report_if_any (act_result e (apply k)).applied (applies k) (drops k)) nothing) comes.1)
 apply_seen_so e new k applying.TheVariants.Dropped comes =
     sym (ap (λ b. cond b (report_if_any (act_result e (apply k)).applied (applies k) (drops k)) nothing) comes.1 ∙ ap (λ xs. report_if_any xs (applies k) (drops k)) comes.0.2)
 apply_seen_so e new k (applying.TheVariants.Made a c) comes =
     sym (ap (λ b. cond b (report_if_any (act_result e (apply k)).applied (applies k) (drops k)) nothing) comes.2 ∙ ap (λ xs. report_if_any xs (applies k) (drops k)) comes.1)
 
 pub apply_requested : (e new : Editor) (k : ℕ) (outcome : applying.ApplyOutcome) → IsApplyOutcome (act_result e (apply k)) (is_some (edits_of_answer k e.answers)) outcome new → new ≡ (act_result e (apply k)).editor
-apply_requested e new k applying.TheVariants.NotHeld comes = comes.0.0
+apply_requested e new k applying.TheVariants.NoSuchAnswer comes = comes.0.0
 apply_requested e new k applying.TheVariants.Dropped comes = comes.0.0
 apply_requested e new k (applying.TheVariants.Made a c) comes = comes.0.0
 
@@ -209,7 +209,7 @@ pub made_happens : (e new : Editor) (k : ℕ) (a : applied.Applied) (c : Vec ℕ
     → q' ≡ q ++ c ∷ [] → ap_new ≡ ap_list ++ a ∷ [] → ConnectionInvariant e.requested q r s → HappensWithReport (model_from_fields e q s r ap_list md) (editor_acts (apply k)) (applies k) (model_from_fields new q' s r ap_new md)
 made_happens e new k a c q q' r s ap_list ap_new md comes is_q is_ap sound = (
   acted e new (act_result e (apply k)) (Some c) q q' r s ap_list ap_new md (act_grows e (apply k)) comes.0 is_q
-      (ap (map applied_of) is_ap ∙ map-append applied_of ap_list (a ∷ []) ∙ ap (λ x. map applied_of ap_list ++ x) (sym comes.1)) sound,
+      (ap (map applied_edit_of) is_ap ∙ map-append applied_edit_of ap_list (a ∷ []) ∙ ap (λ x. map applied_edit_of ap_list ++ x) (sym comes.1)) sound,
   apply_seen_so e new k (applying.TheVariants.Made a c) comes,
 )
 
@@ -217,9 +217,9 @@ pub dropped_happens : (e new : Editor) (k : ℕ) (q r : Contents) (s : ServerSta
     → HappensWithReport (model_from_fields e q s r ap_list md) (editor_acts (apply k)) (drops k) (model_from_fields new q s r ap_list md)
 dropped_happens e new k q r s ap_list md comes sound = (silent_shows (apply k) e new q r s ap_list md comes.0 sound, apply_seen_so e new k applying.TheVariants.Dropped comes)
 
-pub not_held_happens : (e new : Editor) (k : ℕ) (q r : Contents) (s : ServerState) (ap_list : List applied.Applied) (md : List made.Made) → IsApplyOutcome (act_result e (apply k)) (is_some (edits_of_answer k e.answers)) applying.TheVariants.NotHeld new → ConnectionInvariant e.requested q r s
+pub not_held_happens : (e new : Editor) (k : ℕ) (q r : Contents) (s : ServerState) (ap_list : List applied.Applied) (md : List made.Made) → IsApplyOutcome (act_result e (apply k)) (is_some (edits_of_answer k e.answers)) applying.TheVariants.NoSuchAnswer new → ConnectionInvariant e.requested q r s
     → HappensWithReport (model_from_fields e q s r ap_list md) (editor_acts (apply k)) nothing (model_from_fields new q s r ap_list md)
-not_held_happens e new k q r s ap_list md comes sound = (silent_shows (apply k) e new q r s ap_list md comes.0 sound, apply_seen_so e new k applying.TheVariants.NotHeld comes)
+not_held_happens e new k q r s ap_list md comes sound = (silent_shows (apply k) e new q r s ap_list md comes.0 sound, apply_seen_so e new k applying.TheVariants.NoSuchAnswer comes)
 
 -- ---- taking
 
@@ -238,9 +238,9 @@ taken_happens e new q r rest s ap_list md c m first means is =
     let waits : all_messages_to_editor e.requested r ≡ m ∷ all_messages_to_editor e.requested rest = ap (all_messages_to_editor e.requested) first ∙ said_first (message_to_editor_in e.requested) c rest m means in
     let same : new.requested ≡ e.requested = ap (λ (x : Editor). x.requested) is ∙ read_asks e m in
     let w : ClientAndServer = model_from_fields e q s r ap_list md in
-    let after : model_from_fields new q s rest ap_list md ≡ state_after_editor_takes w (m ∷ all_messages_to_editor e.requested rest) =
+    let after : model_from_fields new q s rest ap_list md ≡ state_after_editor_takes_message w (m ∷ all_messages_to_editor e.requested rest) =
     (λ i. record w { editor = is i; to_server = all_messages_to_server (same i) q; to_editor = all_messages_to_editor (same i) rest }) in
-    (after ∙ ap (state_after_editor_takes w) (sym waits), of_message m ∙ ap report_on_take (sym waits))
+    (after ∙ ap (state_after_editor_takes_message w) (sym waits), of_message m ∙ ap report_on_take (sym waits))
   where
     of_message : (m : MessageToEditor) → report_on_take (m ∷ []) ≡ report_on_take (m ∷ all_messages_to_editor e.requested rest)
     of_message (publishes uri version empty) = refl
@@ -249,15 +249,15 @@ taken_happens e new q r rest s ap_list md c m first means is =
 -- ---- waiting contents
 
 module _ (s : ServerState) (tk q gt r : Contents) where
-  pub writes_none : WritesContent (wire_from_fields s tk q gt r) (wire_from_fields s tk q gt r)
+  pub writes_none : QueuesAtMostOneContent (wire_from_fields s tk q gt r) (wire_from_fields s tk q gt r)
   writes_none = (None, λ i. record (wire_from_fields s tk q gt r) { to_server = sym (append-nil (content_bytes q)) i })
 
-  pub writes_one : (q' : Contents) (c : Vec ℕ Global) → q' ≡ q ++ c ∷ [] → WritesContent (wire_from_fields s tk q gt r) (wire_from_fields s tk q' gt r)
+  pub writes_one : (q' : Contents) (c : Vec ℕ Global) → q' ≡ q ++ c ∷ [] → QueuesAtMostOneContent (wire_from_fields s tk q gt r) (wire_from_fields s tk q' gt r)
   writes_one q' c is = (Some c.items, λ i. record (wire_from_fields s tk q gt r) { to_server = (ap content_bytes is ∙ map-append (λ v. v.items) q (c ∷ [])) i })
 
-  pub writes_sent : {X : Type 0} (q' : Contents) (content : Option (Vec ℕ Global)) (result : Result seen.Seen X) → IfOk result (λ shown. QueuesContent q content shown q') → OnOk result (WritesContent (wire_from_fields s tk q gt r) (wire_from_fields s tk q' gt r))
+  pub writes_sent : {X : Type 0} (q' : Contents) (content : Option (Vec ℕ Global)) (result : Result seen.Seen X) → IfOk result (λ shown. QueuesContent q content shown q') → OnOk result (QueuesAtMostOneContent (wire_from_fields s tk q gt r) (wire_from_fields s tk q' gt r))
   writes_sent q' content (Err x) sent = tt
-  writes_sent q' None (Ok shown) sent = subst (λ x. WritesContent (wire_from_fields s tk q gt r) (wire_from_fields s tk x gt r)) (sym sent.1) writes_none
+  writes_sent q' None (Ok shown) sent = subst (λ x. QueuesAtMostOneContent (wire_from_fields s tk q gt r) (wire_from_fields s tk x gt r)) (sym sent.1) writes_none
   writes_sent q' (Some c) (Ok shown) sent = writes_one q' c sent.1
 
 pub taken_sound : (requested : List SentAsk) (q r rest : Contents) (s : ServerState) (c : Vec ℕ Global) → r ≡ c ∷ rest → ConnectionInvariant requested q r s → ConnectionInvariant requested q rest s
@@ -285,7 +285,7 @@ pub maybe_pushed : (requested : List SentAsk) (q q' r : Contents) (s : ServerSta
 maybe_pushed requested q q' r s c true is says sound = subst (λ x. ConnectionInvariant requested x r s) (sym is) (pushed_sound requested q r s c says.0 says.1 sound)
 maybe_pushed requested q q' r s c false is says sound = subst (λ x. ConnectionInvariant requested x r s) (sym is) sound
 
-pub discard_shows : (e new : Editor) (k : ℕ) (q r : Contents) (s : ServerState) (ap_list : List applied.Applied) (md : List made.Made) (held : Bool) → held ≡ is_some (edits_of_answer k e.answers) → new ≡ without_answer e k → ConnectionInvariant e.requested q r s
+pub discard_shows : (e new : Editor) (k : ℕ) (q r : Contents) (s : ServerState) (ap_list : List applied.Applied) (md : List made.Made) (held : Bool) → held ≡ is_some (edits_of_answer k e.answers) → new ≡ editor_without_answer e k → ConnectionInvariant e.requested q r s
     → HappensWithReport (model_from_fields e q s r ap_list md) (editor_acts (discard k)) (cond held (drops k) nothing) (model_from_fields new q s r ap_list md)
 discard_shows e new k q r s ap_list md held is after sound =
     (silent_shows (discard k) e new q r s ap_list md (after, refl, refl) sound, ap (λ b. cond b (drops k) nothing) is)

@@ -9,7 +9,7 @@ use Rattle.ob0_text.specs.declared.position_types.Range.{Range}
 use Rattle.ob0_text.specs.declared.position_types.Unit.{Unit}
 use Rattle.ob0_text.specs.Texts.{Line, lines, text_of_lines, line_body, fitting_prefix, text_before, byte_len, offset_of}
 use Rattle.ob0_text.specs.Units.{width_of}
-use Rattle.ob0_session_answers.specs.Actions.{actions_offset}
+use Rattle.ob0_session_answers.specs.Actions.{first_offset_in_range}
 use Rattle.ob0_world_rules.specs.Answers.{position_offset}
 use Rattle.ob0_world.specs.Exchanges.{IsAtOrBefore}
 
@@ -99,7 +99,7 @@ module _ (width : ℕ → ℕ) where
       omega (arith, one, other, more)
 
 -- The offset for the code actions of a range is the offset of its start.
-pub place_of_range : (range : Range) (position : Position) → range.start ≡ position → IsAtOrBefore range.start range.end → (unit : Unit) (text : List ℕ) → actions_offset unit text range ≡ position_offset unit text position
+pub place_of_range : (range : Range) (position : Position) → range.start ≡ position → IsAtOrBefore range.start range.end → (unit : Unit) (text : List ℕ) → first_offset_in_range unit text range ≡ position_offset unit text position
 place_of_range range position from ordered unit text =
     let more : position_offset unit text range.start ≤ position_offset unit text range.end = place_further (width_of unit) text range.start range.end ordered in
     least (position_offset unit text range.start) (position_offset unit text range.end) more ∙ ap (position_offset unit text) from

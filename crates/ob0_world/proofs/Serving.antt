@@ -12,13 +12,13 @@ use Rattle.ob0_world_editor.specs.MessagesToEditor.{message_to_editor_in}
 use Rattle.ob0_world_editor.specs.declared.applied.Applied as applied
 use Rattle.ob0_world_editor.proofs.Hearing.{says_heard}
 use Rattle.ob0_world_rules.specs.ClientAndServer.{SentAsk, Editor, MessageToServer, MessageToEditor, PublicationWithText, ClientAndServer}
-use Rattle.ob0_world_rules.specs.Happens.{serve, ServerTakes}
+use Rattle.ob0_world_rules.specs.Happens.{serve, ServerTakesFirstMessage}
 use Rattle.ob0_world.specs.Seen as seen
 use Rattle.ob0_world.specs.Seen.{report_on_serve, HappensWithReport}
 use Rattle.ob0_world.specs.declared.played.Made as made
-use Rattle.ob0_world.specs.Code.{publication_of}
+use Rattle.ob0_world.specs.ModelValues.{publication_of}
 use Rattle.ob0_world.specs.Queues.{Contents, content_bytes, all_messages_to_server, all_messages_to_editor, MeansMessageToServer, MeansMessageToEditor, ConnectionInvariant, RunsWithModelEditor, RunsWithModelEditorOrFailed, model_from_fields, wire_from_fields, publication_in_first_message, publication_in_message, publication_in_first_content}
-use Rattle.ob0_world.specs.Worlds.{EditorTakesFirstContent, SessionTakesFirst}
+use Rattle.ob0_world.specs.Worlds.{EditorTakesFirstContent, SessionTakesFirstContent}
 use Rattle.ob0_world.proofs.Answering.{Served, served, runs_on}
 use Rattle.ob0_world.proofs.Waiting.{said_append, said_first, all_appended}
 
@@ -42,13 +42,13 @@ not_failed s s' content sent (inl running) answers = running
 not_failed s s' content sent (inr over) answers = absurd (subst (λ phase. AnswersInPhase phase s content sent s') over answers)
 
 -- states that the session took the first waiting content, which is a message, and replied to it
-pub record Turn (e : Editor) (q rest : Contents) (s s' : ServerState) (content : Vec ℕ Global) (sent : Contents) : Type 0 where
+pub record ExchangeTurn (e : Editor) (q rest : Contents) (s s' : ServerState) (content : Vec ℕ Global) (sent : Contents) : Type 0 where
   pub message : MessageToServer
   pub says : IsMessageToServer e.requested message content.items
   pub served_so : Served request_number_from_id e.requested message s s' (content_bytes sent)
   pub running : RunsWithModelEditor s'
 
-pub turn : (e : Editor) (q rest r : Contents) (s s' : ServerState) (content : Vec ℕ Global) (sent : Contents) → q ≡ content ∷ rest → ConnectionInvariant e.requested q r s → Answers s content.items (content_bytes sent) s' → Turn e q rest s s' content sent
+pub turn : (e : Editor) (q rest r : Contents) (s s' : ServerState) (content : Vec ℕ Global) (sent : Contents) → q ≡ content ∷ rest → ConnectionInvariant e.requested q r s → Answers s content.items (content_bytes sent) s' → ExchangeTurn e q rest s s' content sent
 turn e q rest r s s' content sent first sound h =
     let heard_first : MeansMessageToServer e.requested content = All-head (MeansMessageToServer e.requested) content rest (subst (All (MeansMessageToServer e.requested)) first sound.to_server_are_messages) in
     let running : RunsWithModelEditor s = not_failed s s' content.items (content_bytes sent) sound.running h in
@@ -64,10 +64,10 @@ pub rest_sound : (requested : List SentAsk) (q rest r : Contents) (s s' : Server
 rest_sound requested q rest r s s' content first sound running =
     record { to_server_are_messages = All-tail (MeansMessageToServer requested) content rest (subst (All (MeansMessageToServer requested)) first sound.to_server_are_messages); to_editor_are_messages = sound.to_editor_are_messages; running = running }
 
-pub turn_running : (e : Editor) (q rest : Contents) (s s' : ServerState) (content : Vec ℕ Global) (sent : Contents) → Turn e q rest s s' content sent → RunsWithModelEditorOrFailed s'
+pub turn_running : (e : Editor) (q rest : Contents) (s s' : ServerState) (content : Vec ℕ Global) (sent : Contents) → ExchangeTurn e q rest s s' content sent → RunsWithModelEditorOrFailed s'
 turn_running e q rest s s' content sent t = inl t.running
 
-pub turn_sound : (e : Editor) (q rest r r' : Contents) (s s' : ServerState) (content : Vec ℕ Global) (sent : Contents) (b : Bool) → q ≡ content ∷ rest → ConnectionInvariant e.requested q r s → Turn e q rest s s' content sent → r' ≡ cond b (r ++ sent) r → ConnectionInvariant e.requested rest r' s'
+pub turn_sound : (e : Editor) (q rest r r' : Contents) (s s' : ServerState) (content : Vec ℕ Global) (sent : Contents) (b : Bool) → q ≡ content ∷ rest → ConnectionInvariant e.requested q r s → ExchangeTurn e q rest s s' content sent → r' ≡ cond b (r ++ sent) r → ConnectionInvariant e.requested rest r' s'
 turn_sound e q rest r r' s s' content sent b first sound t grown =
     let rested : ConnectionInvariant e.requested rest r s' = rest_sound e.requested q rest r s s' content first sound (turn_running e q rest s s' content sent t) in
     record {
@@ -81,7 +81,7 @@ as_list None p is = ap option_to_list is
 as_list (Some m) p is = ap option_to_list is
 
 pub turn_happens : (e : Editor) (q rest r r' : Contents) (s s' : ServerState) (ap_list : List applied.Applied) (md md' : List made.Made) (content : Vec ℕ Global) (sent : Contents) (held : OpenDocuments) (o : Option made.Made) (n : ℕ)
-    → q ≡ content ∷ rest → Turn e q rest s s' content sent → held ≡ s'.held → option_map publication_of o ≡ publication_in_first_content held e.requested sent → r' ≡ r ++ sent → md' ≡ md ++ option_to_list o → n ≡ length sent
+    → q ≡ content ∷ rest → ExchangeTurn e q rest s s' content sent → held ≡ s'.held → option_map publication_of o ≡ publication_in_first_content held e.requested sent → r' ≡ r ++ sent → md' ≡ md ++ option_to_list o → n ≡ length sent
     → HappensWithReport (model_from_fields e q s r ap_list md) serve (seen.served n) (model_from_fields e rest s' r' ap_list md')
 turn_happens e q rest r r' s s' ap_list md md' content sent held o n first t here is_made grown more count =
     let w : ClientAndServer = model_from_fields e q s r ap_list md in
@@ -94,7 +94,7 @@ turn_happens e q rest r r' s s' ap_list md md' content sent held o n first t her
     ap (all_messages_to_server e.requested) first ∙ said_first (message_to_server_in e.requested) content rest t.message (says_heard e.requested t.message content.items t.says) in
     let grew : all_messages_to_editor e.requested r' ≡ all_messages_to_editor e.requested r ++ said =
     ap (all_messages_to_editor e.requested) grown ∙ said_append (message_to_editor_in e.requested) r sent ∙ ap (λ x. all_messages_to_editor e.requested r ++ x) all in
-    let this : ServerTakes w (t.message ∷ all_messages_to_server e.requested rest) (model_from_fields e rest s' r' ap_list md') = (
+    let this : ServerTakesFirstMessage w (t.message ∷ all_messages_to_server e.requested rest) (model_from_fields e rest s' r' ap_list md') = (
       said,
       option_to_list (publication_in_first_message s'.held said),
       t.served_so.replies,
@@ -107,7 +107,7 @@ turn_happens e q rest r r' s s' ap_list md md' content sent held o n first t her
     ) in
     let many : n ≡ length (all_messages_to_editor e.requested r') - length (all_messages_to_editor e.requested r) =
     count ∙ sym (length-map sent (λ v. v.items)) ∙ t.served_so.message_to_server_in.count ∙ sym (ap (λ x. length x - length (all_messages_to_editor e.requested r)) grew ∙ ap (λ x. x - length (all_messages_to_editor e.requested r)) (length-append (all_messages_to_editor e.requested r) said) ∙ less (length (all_messages_to_editor e.requested r)) (length said)) in (
-      subst (λ x. ServerTakes w x (model_from_fields e rest s' r' ap_list md')) (sym waits) this,
+      subst (λ x. ServerTakesFirstMessage w x (model_from_fields e rest s' r' ap_list md')) (sym waits) this,
       ap seen.served many ∙ sym (ap (λ x. report_on_serve x (all_messages_to_editor e.requested r) (all_messages_to_editor e.requested r')) waits),
     )
   where
@@ -117,9 +117,9 @@ turn_happens e q rest r r' s s' ap_list md md' content sent held o n first t her
 -- ---- the server is the session
 
 pub turn_taken : (q rest r r' tk tk' gt : Contents) (s s' : ServerState) (content : Vec ℕ Global) (sent : Contents) → q ≡ content ∷ rest → Answers s content.items (content_bytes sent) s' → r' ≡ r ++ sent → tk' ≡ tk ++ content ∷ []
-    → SessionTakesFirst (content_bytes q) (wire_from_fields s tk q gt r) (wire_from_fields s' tk' rest gt r')
+    → SessionTakesFirstContent (content_bytes q) (wire_from_fields s tk q gt r) (wire_from_fields s' tk' rest gt r')
 turn_taken q rest r r' tk tk' gt s s' content sent first answered grown taken =
-    subst (λ x. SessionTakesFirst (content_bytes x) (wire_from_fields s tk q gt r) (wire_from_fields s' tk' rest gt r')) (sym first) (
+    subst (λ x. SessionTakesFirstContent (content_bytes x) (wire_from_fields s tk q gt r) (wire_from_fields s' tk' rest gt r')) (sym first) (
       s',
       content_bytes sent,
       answered,

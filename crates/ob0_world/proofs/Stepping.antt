@@ -2,9 +2,9 @@
 use Rattle.std.proofs.Common.{◌≡◌, ◌+◌, false, [], ◌∷◌, ◌++◌, refl, sym, subst}
 use Rattle.ob0_world_rules.specs.ClientAndServer.{ClientAndServer, start}
 use Rattle.ob0_world_rules.specs.Happens.{Event, Happens}
-use Rattle.ob0_world_rules.specs.Mirror.{WillMirrorEditor}
+use Rattle.ob0_world_rules.specs.MirroredDocuments.{ServerWillMirrorEditor}
 use Rattle.ob0_world_rules.specs.Headline.{GuaranteesHold}
-use Rattle.ob0_world_rules.proofs.ModelEditor.{holds_in_every_interleaving, server_mirrors_editor}
+use Rattle.ob0_world_rules.proofs.ModelEditor.{guarantees_hold_in_every_interleaving, server_mirrors_editor}
 use Rattle.ob0_world_rules.proofs.CourseIsDetermined.{course_push}
 use Rattle.ob0_text.specs.declared.position_types.Unit.{Unit}
 use Rattle.ob0_world.specs.Queues.{IsReachable}
@@ -35,7 +35,7 @@ pub reached_more : (w : ClientAndServer) (event : Event) (new : ClientAndServer)
 reached_more w event new (unit, events, course) happens = (unit, events ++ event ∷ [], course_push (start unit) events w event new course happens)
 
 pub reached_holds : (w : ClientAndServer) → IsReachable w → GuaranteesHold w
-reached_holds w (unit, events, course) = holds_in_every_interleaving unit events w course
+reached_holds w (unit, events, course) = guarantees_hold_in_every_interleaving unit events w course
 
-pub reached_mirrors : (w : ClientAndServer) → IsReachable w → WillMirrorEditor w
+pub reached_mirrors : (w : ClientAndServer) → IsReachable w → ServerWillMirrorEditor w
 reached_mirrors w (unit, events, course) = server_mirrors_editor unit events w course

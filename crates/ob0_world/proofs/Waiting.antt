@@ -12,36 +12,36 @@ use Rattle.serde_json.specs.Data.{Data}
 use Rattle.serde_json.specs.Find.{get}
 use Rattle.serde_json.specs.Read.{read}
 use Rattle.ob0_world_editor.specs.MessagesToServer.{message_to_server_in, IsMessageToServer, request_number_from_id}
-use Rattle.ob0_world_editor.specs.MessagesToEditor.{message_to_editor_in, publication_of_notification, answer_of_response, message_to_editor_of, message_to_editor_by, answer_to_ask, edits_for}
+use Rattle.ob0_world_editor.specs.MessagesToEditor.{message_to_editor_in, publication_of_notification, answer_of_response, message_to_editor_of, message_to_editor_by_numbering, answer_to_ask, edits_in_answer}
 use Rattle.ob0_world_editor.proofs.Hearing.{says_heard}
-use Rattle.ob0_world_rules.specs.ClientAndServer.{SentAsk, request_numbered, MessageToServer, notifies, requests, MessageToEditor, answers}
+use Rattle.ob0_world_rules.specs.ClientAndServer.{SentAsk, request_with_number, MessageToServer, notifies, requests, MessageToEditor, answers}
 use Rattle.ob0_world_rules.proofs.Asked.{numbered_push}
 use Rattle.ob0_world.specs.Queues.{Contents, content_bytes, all_messages_to_server, all_messages_to_editor, MeansMessageToServer, MeansMessageToEditor}
 
 -- ---- more asks
 
 -- A content is read the same after further asks, and with other ids for the same asks.
-module _ (f g : Data → Option ℕ) (requested more : List SentAsk) (grows : (d : Data) (k : ℕ) (a : SentAsk) → request_numbered requested k ≡ Some a → f d ≡ Some k → g d ≡ Some k) where
+module _ (f g : Data → Option ℕ) (requested more : List SentAsk) (grows : (d : Data) (k : ℕ) (a : SentAsk) → request_with_number requested k ≡ Some a → f d ≡ Some k → g d ≡ Some k) where
   answer_still : (d : Data) (o : Option Data) (m : MessageToEditor) → option_and_then (answer_to_ask requested d) (option_and_then f o) ≡ Some m → option_and_then (answer_to_ask (requested ++ more) d) (option_and_then g o) ≡ Some m
   answer_still d None m h = absurd (none-some m h)
   answer_still d (Some id) m h = go (f id) refl h
     where
-      at : (k : ℕ) (o : Option SentAsk) → f id ≡ Some k → request_numbered requested k ≡ o → option_map (λ (a : SentAsk). answers k (edits_for a.uri a.ask d)) o ≡ Some m → option_and_then (answer_to_ask (requested ++ more) d) (g id) ≡ Some m
+      at : (k : ℕ) (o : Option SentAsk) → f id ≡ Some k → request_with_number requested k ≡ o → option_map (λ (a : SentAsk). answers k (edits_in_answer a.uri a.ask d)) o ≡ Some m → option_and_then (answer_to_ask (requested ++ more) d) (g id) ≡ Some m
       at k None named is h = absurd (none-some m h)
       at k (Some a) named is h =
           ap (option_and_then (answer_to_ask (requested ++ more) d)) (grows id k a is named)
-          ∙ ap (option_map (λ (a : SentAsk). answers k (edits_for a.uri a.ask d))) (numbered_push requested more k a is) ∙ h
+          ∙ ap (option_map (λ (a : SentAsk). answers k (edits_in_answer a.uri a.ask d))) (numbered_push requested more k a is) ∙ h
 
       go : (o : Option ℕ) → f id ≡ o → option_and_then (answer_to_ask requested d) o ≡ Some m → option_and_then (answer_to_ask (requested ++ more) d) (g id) ≡ Some m
       go None named h = absurd (none-some m h)
-      go (Some k) named h = at k (request_numbered requested k) named refl h
+      go (Some k) named h = at k (request_with_number requested k) named refl h
 
   value_still : (d : Data) (b : Bool) (m : MessageToEditor) → cond b (publication_of_notification d) (answer_of_response f requested d) ≡ Some m → cond b (publication_of_notification d) (answer_of_response g (requested ++ more) d) ≡ Some m
   value_still d true m h = h
   value_still d false m h = answer_still d (get (codes "id") d) m h
 
-  pub read_still : (content : List ℕ) (m : MessageToEditor) → message_to_editor_by f requested content ≡ Some m → message_to_editor_by g (requested ++ more) content ≡ Some m
-  unfolding message_to_editor_by
+  pub read_still : (content : List ℕ) (m : MessageToEditor) → message_to_editor_by_numbering f requested content ≡ Some m → message_to_editor_by_numbering g (requested ++ more) content ≡ Some m
+  unfolding message_to_editor_by_numbering
   read_still content m h = go (is_utf8 content) (read content) h
     where
       go : (b : Bool) (o : Option Data) → cond b (option_and_then (message_to_editor_of f requested) o) None ≡ Some m → cond b (option_and_then (message_to_editor_of g (requested ++ more)) o) None ≡ Some m

@@ -15,26 +15,26 @@ use Rattle.ob0_rpc.specs.declared.incoming.RpcFault.{RpcFault}
 use Rattle.ob0_rpc.specs.Messages.{ReadsContent, MessageMeaning, not_json, not_a_message, response, request, notice, meaning_of_message}
 use Rattle.ob0_rpc.specs.Notifications.{other, notification_by_method}
 use Rattle.ob0_rpc.specs.Shapes.{result_message}
-use Rattle.ob0_rpc.specs.Requesting as asked
-use Rattle.ob0_rpc.specs.Requesting.{ClientRequest, request_by_method}
-use Rattle.ob0_session_answers.specs.Actions.{kinds_include_inlining}
+use Rattle.ob0_rpc.specs.Requests as asked
+use Rattle.ob0_rpc.specs.Requests.{ClientRequest, request_by_method}
+use Rattle.ob0_session_answers.specs.Actions.{requested_kinds_include_inlining}
 use Rattle.ob0_session_server.specs.Answers as server
 use Rattle.ob0_session_server.specs.Answers.{ServerState, state_after_initialize, SendsMessage, IsConversation}
 use Rattle.ob0_session_server.specs.declared.session.Phase.TheVariants.{Ended}
-use Rattle.ob0_session_server.specs.Units.{unit_for}
+use Rattle.ob0_session_server.specs.Units.{unit_for_client}
 use Rattle.ob0_world_editor.specs.MessagesToServer.{message_to_server_in, IsNotificationFor, IsRequestWithId, SentRequestAsksFor}
-use Rattle.ob0_world_editor.specs.MessagesToEditor.{message_to_editor_in, message_to_editor_by}
+use Rattle.ob0_world_editor.specs.MessagesToEditor.{message_to_editor_in, message_to_editor_by_numbering}
 use Rattle.ob0_world_rules.specs.Asks.{Ask, rename, inline_here, inline_all, format}
-use Rattle.ob0_world_rules.specs.ClientAndServer.{OpenDocument, SentAsk, Editor, new_editor, open_document_at, MessageToServer, notifies, requests, MessageToEditor, publishes, answers, Applied, documents_after_message}
+use Rattle.ob0_world_rules.specs.ClientAndServer.{OpenDocument, SentAsk, Editor, new_editor, editor_document_at, MessageToServer, notifies, requests, MessageToEditor, publishes, answers, Applied, documents_after_message}
 use Rattle.ob0_world_rules.specs.EditorActs.{ActResult, editor_after_reading}
-use Rattle.ob0_world_rules.specs.Editors.{IsAllowedMove}
-use Rattle.ob0_world_rules.specs.EveryEditor.{EditorAndServer, initial_editor_and_server, Turn, editor_moves, editor_sends_unmodeled, server_takes, editor_takes, MayLeadTo, HoldsForEditorAndServer}
+use Rattle.ob0_world_rules.specs.EditorMoves.{IsAllowedMove}
+use Rattle.ob0_world_rules.specs.EveryEditor.{EditorAndServer, initial_editor_and_server, ExchangeTurn, editor_moves, editor_sends_unmodeled_message, server_takes_message, editor_takes_message, MayLeadTo, GuaranteesHoldForEditorAndServer}
 use Rattle.ob0_world_rules.specs.Answers.{IsEmptyExactlyIfWellTyped}
 use Rattle.ob0_world_rules.specs.Headline.{PreservesRun}
-use Rattle.ob0_world_rules.specs.Mirror.{in_step_document}
+use Rattle.ob0_world_rules.specs.MirroredDocuments.{in_step_document}
 use Rattle.ob0_world_rules.specs.PublicationsInOrder.{AnnouncedDocument, uris_and_versions_announced_in, uri_and_version_of}
 use Rattle.ob0_world_rules.specs.Happens.{Event}
-use Rattle.ob0_world.specs.Worlds.{Wire, Connection, IsInitialConnection, IsConnectionCourse, SessionTakesFirst}
+use Rattle.ob0_world.specs.Worlds.{Wire, Connection, IsInitialConnection, IsConnectionCourse, SessionTakesFirstContent}
 
 -- ---- the ids of requests
 
@@ -78,8 +78,8 @@ ask_number_of_request_id (s ∷ sent) id = if is_same_id s.id id then Some s.ask
 
 -- Returns the number of the ask (request for edits) that has this JSON value as its id. Returns
 -- None if no request has this id, or if the first request with this id isn't an ask.
-abbrev pub ask_number_by_id : List SentRequestId → Data → Option ℕ
-ask_number_by_id sent id = option_and_then (λ ask. ask) (option_and_then (ask_number_of_request_id sent) (id_of_value id))
+abbrev pub ask_number_of_json_id : List SentRequestId → Data → Option ℕ
+ask_number_of_json_id sent id = option_and_then (λ ask. ask) (option_and_then (ask_number_of_request_id sent) (id_of_value id))
 
 -- States that each ask (request for edits) among the messages `sent` gets an id that no request in
 -- `ids` and no earlier ask in `sent` has. The list `new` is `ids` with the ids of these asks
@@ -94,9 +94,9 @@ AssignsAskIds ids (requests k uri ask ∷ sent) new =
 
 -- Appends this id to `ids`, as the id of a request that isn't an ask (a request for edits). If the
 -- message has no valid id (None), the list is unchanged.
-abbrev pub with_non_ask_id : List SentRequestId → Option RequestId → List SentRequestId
-with_non_ask_id ids None = ids
-with_non_ask_id ids (Some id) = ids ++ record { id = id; ask = None } ∷ []
+abbrev pub ids_with_non_ask_id : List SentRequestId → Option RequestId → List SentRequestId
+ids_with_non_ask_id ids None = ids
+ids_with_non_ask_id ids (Some id) = ids ++ record { id = id; ask = None } ∷ []
 
 -- States that the first request in `ids` with this id isn't an ask (a request for edits). If no
 -- request in `ids` has the id, this is false. If the message has no valid id (None), it is true.
@@ -121,7 +121,7 @@ pub record Exchange : Type 0 where
 -- the ids of the initialization may be used again.
 pub record IsInitialExchange (unit : Unit) (x : Exchange) : Type 0 where
   pub client : ClientFeatures
-  pub counts : unit_for client ≡ unit
+  pub counts : unit_for_client client ≡ unit
   pub taken : List (List ℕ)
   pub got : List (List ℕ)
   pub initialized : IsConversation server.start taken got (state_after_initialize client)
@@ -185,7 +185,7 @@ IsAtOrBefore p q = (p.line < q.line) ⊎ ((p.line ≡ q.line) × (p.character �
 -- States that the content is a request for code actions, with this id. The requested range begins
 -- at this position and doesn't end before it. The request is for all kinds of actions, or for kinds
 -- that include inlining.
-pub record IsActionsRequest (id : Data) (uri : List ℕ) (position : Position) (content : List ℕ)
+pub record IsCodeActionRequest (id : Data) (uri : List ℕ) (position : Position) (content : List ℕ)
     : Type 0 where
   pub json : Data
   pub reads : ReadsContent content (Some json)
@@ -198,16 +198,16 @@ pub record IsActionsRequest (id : Data) (uri : List ℕ) (position : Position) (
       ≡ Ok (asked.code_action uri range only)
   pub from : range.start ≡ position
   pub ordered : IsAtOrBefore range.start range.end
-  pub allowed : kinds_include_inlining only ≡ true
+  pub allowed : requested_kinds_include_inlining only ≡ true
 
 -- States that the content is the request, with this id, for these edits of the document with this
 -- uri. An inlining is requested by a request for code actions.
-abbrev pub IsRequestFor : Data → List ℕ → Ask → List ℕ → Type 0
-IsRequestFor id uri (rename position name) content =
+abbrev pub IsRequestForAsk : Data → List ℕ → Ask → List ℕ → Type 0
+IsRequestForAsk id uri (rename position name) content =
     IsRequestWithId id uri (rename position name) content
-IsRequestFor id uri (inline_here position) content = IsActionsRequest id uri position content
-IsRequestFor id uri (inline_all position) content = IsActionsRequest id uri position content
-IsRequestFor id uri (format indent) content = IsRequestWithId id uri (format indent) content
+IsRequestForAsk id uri (inline_here position) content = IsCodeActionRequest id uri position content
+IsRequestForAsk id uri (inline_all position) content = IsCodeActionRequest id uri position content
+IsRequestForAsk id uri (format indent) content = IsRequestWithId id uri (format indent) content
 
 -- states that the client accepts literal code actions, which contain their edits
 abbrev pub AcceptsLiteralActions : ClientFeatures → Type 0
@@ -226,7 +226,7 @@ AcceptsEditsFor client (format indent) = ⊤
 -- this uri, and that it has this id
 pub record IsAskWithId (ids : List SentRequestId) (requested : List SentAsk) (id : Data) (k : ℕ)
     (uri : List ℕ) (ask : Ask) : Type 0 where
-  pub numbered : ask_number_by_id ids id ≡ Some k
+  pub numbered : ask_number_of_json_id ids id ≡ Some k
   pub is : SentRequestAsksFor requested k uri ask
 
 -- States that the content is this message, sent to a session whose client has these features. If
@@ -240,7 +240,7 @@ abbrev pub IsMessageToSession : ClientFeatures
 IsMessageToSession client ids requested (notifies note) content = IsNotificationFor note content
 IsMessageToSession client ids requested (requests k uri ask) content =
     (id : Data)
-    × IsRequestFor id uri ask content
+    × IsRequestForAsk id uri ask content
     × IsAskWithId ids requested id k uri ask
     × AcceptsEditsFor client ask
 
@@ -267,7 +267,7 @@ AreMessagesToSession client ids requested (None ∷ messages) [] = ⊥
 -- Returns the message that the editor reads in a content, or None if the content isn't a message to
 -- the editor. The ids of the sent requests (`ids`) decide which request is answered.
 abbrev pub message_to_editor_by_ids : List SentRequestId → List SentAsk → List ℕ → Option MessageToEditor
-message_to_editor_by_ids ids requested content = message_to_editor_by (ask_number_by_id ids) requested content
+message_to_editor_by_ids ids requested content = message_to_editor_by_numbering (ask_number_of_json_id ids) requested content
 
 -- Returns the editor after it has read this message, or the unchanged editor for None (no message).
 -- The editor stores each answer that has edits, and nothing else.
@@ -277,9 +277,9 @@ editor_after_reading_if_any e (Some message) = editor_after_reading e message
 
 -- States that the editor takes the first waiting content, and reads the message in it if there is
 -- one. If no content waits for the editor, nothing changes.
-abbrev pub EditorReadsFirst : List (List ℕ) → Exchange → Exchange → Type 0
-EditorReadsFirst [] old new = new ≡ old
-EditorReadsFirst (content ∷ rest) old new =
+abbrev pub EditorReadsFirstContent : List (List ℕ) → Exchange → Exchange → Type 0
+EditorReadsFirstContent [] old new = new ≡ old
+EditorReadsFirstContent (content ∷ rest) old new =
     new
     ≡ record old {
       editor = editor_after_reading_if_any old.editor (message_to_editor_by_ids old.ids old.editor.requested content);
@@ -290,8 +290,8 @@ EditorReadsFirst (content ∷ rest) old new =
 abbrev pub wire_with_queued_contents : Wire → List (List ℕ) → Wire
 wire_with_queued_contents wire contents = record wire { to_server = wire.to_server ++ contents }
 
--- states that this turn (`Turn`) may lead from the exchange `old` to the exchange `new`
-abbrev pub Exchanges : Exchange → Turn → Exchange → Type 0
+-- states that this turn (`ExchangeTurn`) may lead from the exchange `old` to the exchange `new`
+abbrev pub Exchanges : Exchange → ExchangeTurn → Exchange → Type 0
 Exchanges old (editor_moves move) new =
     (done : ActResult)
     × (announced : List AnnouncedDocument)
@@ -308,24 +308,24 @@ Exchanges old (editor_moves move) new =
       announced = old.announced ++ announced;
       applied = old.applied ++ done.applied;
     })
-Exchanges old editor_sends_unmodeled new =
+Exchanges old editor_sends_unmodeled_message new =
     (id : Option RequestId)
     × (content : List ℕ)
-    × IsUnmodeledContent (with_non_ask_id old.ids id) content
+    × IsUnmodeledContent (ids_with_non_ask_id old.ids id) content
     × (new
     ≡ record old {
-      ids = with_non_ask_id old.ids id;
+      ids = ids_with_non_ask_id old.ids id;
       wire = wire_with_queued_contents old.wire (content ∷ []);
     })
-Exchanges old server_takes new =
+Exchanges old server_takes_message new =
     (wire : Wire)
-    × SessionTakesFirst old.wire.to_server old.wire wire
+    × SessionTakesFirstContent old.wire.to_server old.wire wire
     × (new ≡ record old { wire = wire })
-Exchanges old editor_takes new = EditorReadsFirst old.wire.to_editor old new
+Exchanges old editor_takes_message new = EditorReadsFirstContent old.wire.to_editor old new
 
 -- states that these turns, one after another, may lead from the exchange `old` to the exchange
 -- `new`
-abbrev pub IsExchangeCourse : Exchange → List Turn → Exchange → Type 0
+abbrev pub IsExchangeCourse : Exchange → List ExchangeTurn → Exchange → Type 0
 IsExchangeCourse old [] new = new ≡ old
 IsExchangeCourse old (turn ∷ turns) new =
     (between : Exchange) × Exchanges old turn between × IsExchangeCourse between turns new
@@ -357,8 +357,8 @@ AreMessagesToEditor ids requested (None ∷ messages) [] = ⊥
 -- States that these turns may lead the model (`EditorAndServer`) to a state that matches the
 -- exchange `x`. Both have the same editor, and the session has the documents of the model's server.
 -- The waiting contents are the model's waiting messages. So the model's guarantees hold for the
--- exchange (`HoldsForEditorAndServer`).
-pub record FollowsModel (unit : Unit) (turns : List Turn) (x : Exchange) : Type 0 where
+-- exchange (`GuaranteesHoldForEditorAndServer`).
+pub record FollowsModel (unit : Unit) (turns : List ExchangeTurn) (x : Exchange) : Type 0 where
   pub model : EditorAndServer
   pub leads : MayLeadTo (initial_editor_and_server unit) turns model
   pub editor : model.editor ≡ x.editor
@@ -368,7 +368,7 @@ pub record FollowsModel (unit : Unit) (turns : List Turn) (x : Exchange) : Type 
   pub says : AreMessagesToSession x.wire.session.client x.ids x.editor.requested model.to_server
       x.wire.to_server
   pub means : AreMessagesToEditor x.ids x.editor.requested model.to_editor x.wire.to_editor
-  pub holds : HoldsForEditorAndServer model
+  pub holds : GuaranteesHoldForEditorAndServer model
   -- the session has taken and sent these contents in one conversation, from the session's start
   pub conversation : IsConversation server.start x.wire.taken (x.wire.got ++ x.wire.to_editor)
       x.wire.session
@@ -377,7 +377,7 @@ pub record FollowsModel (unit : Unit) (turns : List Turn) (x : Exchange) : Type 
 -- (`FollowsModel`)
 abbrev pub EveryExchangeFollowsModel : Type 0
 EveryExchangeFollowsModel =
-    (unit : Unit) (begin now : Exchange) (turns : List Turn)
+    (unit : Unit) (begin now : Exchange) (turns : List ExchangeTurn)
     → IsInitialExchange unit begin
     → IsExchangeCourse begin turns now
     → FollowsModel unit turns now
@@ -454,7 +454,7 @@ notifications_in contents = filter_map (message_to_server_in []) contents
 
 -- States the guarantees for an exchange of a session and an editor that keeps ob0's rules, from
 -- `begin` to `now`.
-pub record HoldsForExchange (begin now : Exchange) : Type 0 where
+pub record GuaranteesHoldForExchange (begin now : Exchange) : Type 0 where
   -- each edit that the editor applied keeps the module's run
   pub applied : All PreservesRun now.applied
   -- `since` are the contents that the session has sent after `begin`. The lists of diagnostics with
@@ -472,13 +472,13 @@ pub record HoldsForExchange (begin now : Exchange) : Type 0 where
   -- If no notification about a document waits for the session, the latest list of diagnostics of
   -- each open document is for the document's present version and text.
   pub latest : notifications_in now.wire.to_server ≡ [] → (uri : List ℕ) (d : OpenDocument)
-      → open_document_at now.editor uri ≡ Some d
+      → editor_document_at now.editor uri ≡ Some d
       → MatchOption (last_versioned_publication uri (versioned_publications_in since)) ⊥
       (λ p. (p.version ≡ d.version) × IsEmptyExactlyIfWellTyped d.text p.no_diagnostics)
   -- once the session has taken the waiting contents, the session's documents are the editor's
   pub mirrors : (uri : List ℕ)
       → document_at (fold documents_after_message now.wire.session.held (notifications_in now.wire.to_server)) uri
-      ≡ option_map in_step_document (open_document_at now.editor uri)
+      ≡ option_map in_step_document (editor_document_at now.editor uri)
   -- the session has taken and sent these contents in one conversation, from the session's start
   pub conversation : IsConversation server.start now.wire.taken
       (now.wire.got ++ now.wire.to_editor) now.wire.session
@@ -488,14 +488,14 @@ pub record HoldsForExchange (begin now : Exchange) : Type 0 where
       → IsConversation now.wire.session (shutdown ∷ exit ∷ []) sent end
       → EndsAfterShutdown id now.wire.session sent end
 
--- states that the guarantees (`HoldsForExchange`) hold for every exchange between a
+-- states that the guarantees (`GuaranteesHoldForExchange`) hold for every exchange between a
 -- session and an editor that keeps ob0's rules
-abbrev pub HoldsForEveryExchange : Type 0
-HoldsForEveryExchange =
-    (unit : Unit) (begin now : Exchange) (turns : List Turn)
+abbrev pub GuaranteesHoldForEveryExchange : Type 0
+GuaranteesHoldForEveryExchange =
+    (unit : Unit) (begin now : Exchange) (turns : List ExchangeTurn)
     → IsInitialExchange unit begin
     → IsExchangeCourse begin turns now
-    → HoldsForExchange begin now
+    → GuaranteesHoldForExchange begin now
 
 -- ---- the law that each list of events that `play` plays is an exchange
 
@@ -508,7 +508,7 @@ ACourseIsAnExchange =
     → IsInitialConnection unit begin
     → IsConnectionCourse begin events end
     → (first : Exchange)
-    × (turns : List Turn)
+    × (turns : List ExchangeTurn)
     × (last : Exchange)
     × IsInitialExchange unit first
     × IsExchangeCourse first turns last

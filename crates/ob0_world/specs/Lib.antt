@@ -1,4 +1,4 @@
-pub mod Code
+pub mod ModelValues
 pub mod Queues
 pub mod Seen
 pub mod Versions

@@ -15,15 +15,15 @@ use Rattle.ob0_session_server.specs.Answers.{ServerState}
 use Rattle.ob0_session_server.specs.declared.session.Phase.TheVariants.{Running, Failed}
 use Rattle.ob0_world_editor.specs.MessagesToServer.{message_to_server_in, IsMessageToServer}
 use Rattle.ob0_world_editor.specs.MessagesToEditor.{message_to_editor_in}
-use Rattle.ob0_world_editor.specs.Code.{applied_of}
+use Rattle.ob0_world_editor.specs.ModelValues.{applied_edit_of}
 use Rattle.ob0_world_editor.specs.declared.applied.Applied as applied
-use Rattle.ob0_world_rules.specs.ClientAndServer.{OpenDocument, SentAsk, Editor, open_document_at, MessageToServer, MessageToEditor, publishes, answers, PublicationWithText, ClientAndServer, start}
+use Rattle.ob0_world_rules.specs.ClientAndServer.{OpenDocument, SentAsk, Editor, editor_document_at, MessageToServer, MessageToEditor, publishes, answers, PublicationWithText, ClientAndServer, start}
 use Rattle.ob0_world_rules.specs.EditorActs.{version_as_natural}
 use Rattle.ob0_world_rules.specs.Happens.{Event, IsCourse}
 use Rattle.ob0_world.specs.declared.events.Seen as seen
 use Rattle.ob0_world.specs.declared.played.Made as made
-pub use Rattle.ob0_world.specs.Code.{content_bytes}
-use Rattle.ob0_world.specs.Code.{publication_of}
+pub use Rattle.ob0_world.specs.ModelValues.{content_bytes}
+use Rattle.ob0_world.specs.ModelValues.{publication_of}
 use Rattle.ob0_world.specs.Seen.{nothing, sent, report_of}
 use Rattle.ob0_world.specs.Worlds.{Wire, Connection}
 
@@ -116,7 +116,7 @@ model_from_fields e to_server session to_editor applied made =
       to_server = all_messages_to_server e.requested to_server;
       held = session.held;
       to_editor = all_messages_to_editor e.requested to_editor;
-      applied = map applied_of applied;
+      applied = map applied_edit_of applied;
       made = map publication_of made;
     }
 
@@ -156,7 +156,7 @@ connection_from_fields e to_server session to_editor applied made taken got =
 pub record CountsAreAtMost (n : ℕ) (e : Editor) : Type 0 where
   pub openings : e.openings ≤ n
   pub asks : length e.requested ≤ n
-  pub versions : (uri : List ℕ) (d : OpenDocument) → open_document_at e uri ≡ Some d → version_as_natural d.version ≤ n
+  pub versions : (uri : List ℕ) (d : OpenDocument) → editor_document_at e uri ≡ Some d → version_as_natural d.version ≤ n
 
 -- states that some list of events leads from the initial state (`start`) to this state
 abbrev pub IsReachable : ClientAndServer → Type 0

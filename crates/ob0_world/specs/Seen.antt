@@ -2,7 +2,7 @@
 -- Rule: none; used in the contract of `World::step`, which returns the report.
 use Rattle.std.specs.Prelude.{◌≡◌, ℕ, ◌-◌, List, [], ◌∷◌, Bool, length, is_some, string_bytes, if◌then◌else◌}
 use Rattle.ob0_world.specs.declared.events.Seen as seen
-use Rattle.ob0_world_editor.specs.Moves.{has_edits}
+use Rattle.ob0_world_editor.specs.EditorCalls.{has_edits}
 use Rattle.ob0_world_rules.specs.ClientAndServer.{Editor, MessageToServer, MessageToEditor, publishes, answers, ClientAndServer}
 use Rattle.ob0_world_rules.specs.EditorActs.{Act, open_document, change_document, close_document, ask_about, apply, discard, ActResult, act_result, edits_of_answer}
 use Rattle.ob0_world_rules.specs.Happens.{Event, editor_acts, serve, take_message, Happens}

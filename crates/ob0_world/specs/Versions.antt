@@ -9,11 +9,11 @@ use Rattle.ob0_text.specs.declared.position_types.Unit.{Unit}
 use Rattle.ob0_rpc.specs.Members.{text_member}
 use Rattle.ob0_rpc.specs.Messages.{ReadsContent}
 use Rattle.ob0_world_editor.specs.MessagesToServer.{request_number_from_id}
-use Rattle.ob0_world_editor.specs.MessagesToEditor.{first_action_with_title, edits_for}
+use Rattle.ob0_world_editor.specs.MessagesToEditor.{first_action_with_title, edits_in_answer}
 use Rattle.ob0_world_rules.specs.Asks.{Ask, rename, inline_here, inline_all, format}
-use Rattle.ob0_world_rules.specs.Edited.{Replacement, text_after_edits, whole_text_change}
+use Rattle.ob0_world_rules.specs.TextEdits.{Replacement, text_after_edits, whole_text_change}
 use Rattle.ob0_world_rules.specs.EditorActs.{ActResult, is_same_version, rewriting_result, applying_result}
-use Rattle.ob0_world_rules.specs.ClientAndServer.{OpenDocument, SentAsk, Editor, request_numbered, open_document_at}
+use Rattle.ob0_world_rules.specs.ClientAndServer.{OpenDocument, SentAsk, Editor, request_with_number, editor_document_at}
 use Rattle.ob0_world_rules.specs.Happens.{Event}
 use Rattle.ob0_world.specs.Worlds.{Connection, IsInitialConnection, IsConnectionCourse}
 
@@ -21,8 +21,8 @@ use Rattle.ob0_world.specs.Worlds.{Connection, IsInitialConnection, IsConnection
 
 -- Returns the uri and the version in a document's identifier. Returns None if the uri or the
 -- version is missing.
-abbrev pub uri_and_version_in : Data → Option (List ℕ × ℤ)
-uri_and_version_in d =
+abbrev pub uri_and_version_in_identifier : Data → Option (List ℕ × ℤ)
+uri_and_version_in_identifier d =
     option_and_then
     (λ uri. option_map (λ version. (uri, version))
     (option_and_then as_integer (option_and_then as_number (get (codes "version") d))))
@@ -32,7 +32,7 @@ uri_and_version_in d =
 -- WorkspaceEdit. Returns None if there is no such document, or if its uri or version is missing.
 abbrev pub uri_and_version_in_edit : Data → Option (List ℕ × ℤ)
 uri_and_version_in_edit edit =
-    option_and_then uri_and_version_in (option_and_then (get (codes "textDocument"))
+    option_and_then uri_and_version_in_identifier (option_and_then (get (codes "textDocument"))
     (option_and_then (at 0) (get (codes "documentChanges") edit)))
 
 -- Returns the WorkspaceEdit of the first action with this title in a list of code actions. Returns
@@ -44,18 +44,18 @@ edit_of_action_with_title title value =
 -- Returns the WorkspaceEdit in the result of a request for edits, or None if there is none. The
 -- result of a rename is a WorkspaceEdit. The result of an inlining is a list of actions, each with
 -- a WorkspaceEdit. The result of a formatting is a list of edits, without a WorkspaceEdit.
-abbrev pub edit_in_result : Ask → Data → Option Data
-edit_in_result (rename position name) value = Some value
-edit_in_result (inline_here position) value = edit_of_action_with_title (codes "Inline here") value
-edit_in_result (inline_all position) value = edit_of_action_with_title (codes "Inline everywhere") value
-edit_in_result (format indent) value = None
+abbrev pub workspace_edit_in_result : Ask → Data → Option Data
+workspace_edit_in_result (rename position name) value = Some value
+workspace_edit_in_result (inline_here position) value = edit_of_action_with_title (codes "Inline here") value
+workspace_edit_in_result (inline_all position) value = edit_of_action_with_title (codes "Inline everywhere") value
+workspace_edit_in_result (format indent) value = None
 
 -- Returns the uri and the version that the answer to a request for edits mentions. Returns None if
 -- the answer doesn't mention both.
 abbrev pub uri_and_version_in_answer : Ask → Data → Option (List ℕ × ℤ)
 uri_and_version_in_answer ask answer =
     option_and_then uri_and_version_in_edit
-    (option_and_then (edit_in_result ask) (get (codes "result") answer))
+    (option_and_then (workspace_edit_in_result ask) (get (codes "result") answer))
 
 -- states that this request for edits is for a formatting
 abbrev pub IsFormatting : Ask → Type 0
@@ -70,18 +70,18 @@ IsFormatting (format indent) = ⊤
 abbrev pub MentionsAskedDocument : SentAsk → Data → Type 0
 MentionsAskedDocument a answer =
     (uri_and_version_in_answer a.ask answer ≡ Some (a.uri, a.version))
-    ⊎ ((edits_for a.uri a.ask answer ≡ []) ⊎ IsFormatting a.ask)
+    ⊎ ((edits_in_answer a.uri a.ask answer ≡ []) ⊎ IsFormatting a.ask)
 
 -- States that a content with a number as its id answers the request with this number, and mentions
 -- that request's document (`MentionsAskedDocument`). Nothing is stated about any other content.
-abbrev pub MentionsDocumentOfAsk : List SentAsk → List ℕ → Type 0
-MentionsDocumentOfAsk requested content =
+abbrev pub ContentMentionsAskedDocument : List SentAsk → List ℕ → Type 0
+ContentMentionsAskedDocument requested content =
     (answer : Data) (k : ℕ)
     → ReadsContent content (Some answer)
     → option_and_then request_number_from_id (get (codes "id") answer) ≡ Some k
-    → (a : SentAsk) × (request_numbered requested k ≡ Some a) × MentionsAskedDocument a answer
+    → (a : SentAsk) × (request_with_number requested k ≡ Some a) × MentionsAskedDocument a answer
 
--- States that after any list of events, `MentionsDocumentOfAsk` holds for each content that
+-- States that after any list of events, `ContentMentionsAskedDocument` holds for each content that
 -- waits for the editor. Each content that the editor has taken waited before, so it also holds for
 -- the taken contents.
 abbrev pub AnswersMentionVersions : Type 0
@@ -89,7 +89,7 @@ AnswersMentionVersions =
     (unit : Unit) (begin : Connection) (events : List Event) (now : Connection)
     → IsInitialConnection unit begin
     → IsConnectionCourse begin events now
-    → All (MentionsDocumentOfAsk now.model.editor.requested) now.wire.to_editor
+    → All (ContentMentionsAskedDocument now.model.editor.requested) now.wire.to_editor
 
 -- ---- a client that compares versions
 
@@ -107,12 +107,12 @@ applying_result_by_version e uri version edits =
     (λ text. Some (rewriting_result e uri d text (whole_text_change text ∷ [])
     (record { uri = uri; before = d.text; after = text } ∷ [])))
     (if has_version version d then text_after_edits e.unit d.text edits else None))
-    (open_document_at e uri)
+    (editor_document_at e uri)
 
 -- States that the request's document hasn't been opened again since the request: it is closed, or
 -- has the opening number that is stored with the request.
 abbrev pub IsNotReopened : Editor → SentAsk → Type 0
-IsNotReopened e a = (d : OpenDocument) → open_document_at e a.uri ≡ Some d → d.opening ≡ a.opening
+IsNotReopened e a = (d : OpenDocument) → editor_document_at e a.uri ≡ Some d → d.opening ≡ a.opening
 
 -- States that a client that relies on the version in an answer gets the same result as the model's
 -- editor when it applies the answer's edits. The condition is that the document hasn't been opened
@@ -120,6 +120,6 @@ IsNotReopened e a = (d : OpenDocument) → open_document_at e a.uri ≡ Some d �
 abbrev pub VersionsSufficeForApplying : Type 0
 VersionsSufficeForApplying =
     (e : Editor) (k : ℕ) (a : SentAsk) (edits : List Replacement)
-    → request_numbered e.requested k ≡ Some a
+    → request_with_number e.requested k ≡ Some a
     → IsNotReopened e a
     → applying_result_by_version e a.uri a.version edits ≡ applying_result e k edits

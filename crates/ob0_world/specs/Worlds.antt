@@ -13,7 +13,7 @@ use Rattle.ob0_world_editor.specs.MessagesToEditor.{message_to_editor_in}
 use Rattle.ob0_world_rules.specs.ClientAndServer.{SentAsk, MessageToServer, ClientAndServer, start}
 use Rattle.ob0_world_rules.specs.Happens.{Event, editor_acts, serve, take_message, Happens}
 use Rattle.ob0_world_rules.specs.Headline.{Headline}
-use Rattle.ob0_world.specs.Code.{event_of, content_bytes, played_edits, played_publications}
+use Rattle.ob0_world.specs.ModelValues.{event_of, content_bytes, played_edits, played_publications}
 use Rattle.ob0_world.specs.Seen.{Seen, report_on_event}
 use Rattle.ob0_world.specs.declared.events.Event as event
 use Rattle.ob0_world.specs.declared.faults.PlayFault.{PlayFault}
@@ -59,9 +59,9 @@ pub record IsInitialConnection (unit : Unit) (w : Connection) : Type 0 where
 
 -- States that the session takes the first waiting content, and that its replies are appended to the
 -- contents that wait for the editor. If no content waits for the session, nothing changes.
-abbrev pub SessionTakesFirst : List (List ℕ) → Wire → Wire → Type 0
-SessionTakesFirst [] old new = new ≡ old
-SessionTakesFirst (content ∷ rest) old new =
+abbrev pub SessionTakesFirstContent : List (List ℕ) → Wire → Wire → Type 0
+SessionTakesFirstContent [] old new = new ≡ old
+SessionTakesFirstContent (content ∷ rest) old new =
     (after : ServerState) × (sent : List (List ℕ)) × Answers old.session content sent after
     × (new
     ≡ record old {
@@ -80,16 +80,16 @@ EditorTakesFirstContent (content ∷ rest) old new =
 
 -- states that the editor appends at most one content to the queue to the session, and that nothing
 -- else changes
-abbrev pub WritesContent : Wire → Wire → Type 0
-WritesContent old new =
+abbrev pub QueuesAtMostOneContent : Wire → Wire → Type 0
+QueuesAtMostOneContent old new =
     (content : Option (List ℕ))
     × (new ≡ record old { to_server = old.to_server ++ option_to_list content })
 
 -- States that this event changes the session and the contents from `old` to `new`. Only the event
 -- `serve` changes the session. No waiting content is lost, changed or reordered.
 abbrev pub ChangesWire : Event → Wire → Wire → Type 0
-ChangesWire (editor_acts act) old new = WritesContent old new
-ChangesWire serve old new = SessionTakesFirst old.to_server old new
+ChangesWire (editor_acts act) old new = QueuesAtMostOneContent old new
+ChangesWire serve old new = SessionTakesFirstContent old.to_server old new
 ChangesWire take_message old new = EditorTakesFirstContent old.to_editor old new
 
 -- states that there are as many contents as messages, and that the n-th content is the n-th message

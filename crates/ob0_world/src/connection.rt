@@ -7,23 +7,23 @@ ghost use Rattle.std.specs.Vec.{vec_capacity, vec_len};
 ghost use Rattle.ob0_text.specs.OpenDocuments.{text_change_of, document_at};
 ghost use Rattle.ob0_session_server.specs.Answers.{Answers};
 ghost use Rattle.ob0_session_server.specs.declared.session.Phase.TheVariants.{Failed};
-ghost use Rattle.ob0_world_editor.specs.Code.{ask_of};
-ghost use Rattle.ob0_world_editor.specs.Moves.{CountsCanGrow};
+ghost use Rattle.ob0_world_editor.specs.ModelValues.{ask_of};
+ghost use Rattle.ob0_world_editor.specs.EditorCalls.{CountsCanGrow};
 ghost use Rattle.ob0_world_editor.specs.MessagesToEditor.{message_to_editor_in};
 ghost use Rattle.ob0_world_rules.specs.EditorActs as acts;
 ghost use Rattle.ob0_world_rules.specs.EditorActs.{open_document, change_document, close_document, ask_about};
 ghost use Rattle.ob0_world_rules.specs.Happens as events;
 ghost use Rattle.ob0_world_rules.specs.Happens.{editor_acts, take_message};
-ghost use Rattle.ob0_world.specs.Code.{event_of, publication_of};
+ghost use Rattle.ob0_world.specs.ModelValues.{event_of, publication_of};
 ghost use Rattle.ob0_world.specs.Seen.{report_of, HappensWithReport};
 ghost use Rattle.ob0_world.specs.Queues.{content_bytes, QueuesContent, MovesFirstContent, publication_in_message, publication_with_text, publication_in_first_content};
-ghost use Rattle.ob0_world.specs.Worlds.{IsInitialConnection, EditorTakesFirstContent, ResultsMatch, ContentsMatch, QueuesMatch, ChangesWire, HaveSameHistory, SessionTakesFirst, WritesContent};
+ghost use Rattle.ob0_world.specs.Worlds.{IsInitialConnection, EditorTakesFirstContent, ResultsMatch, ContentsMatch, QueuesMatch, ChangesWire, HaveSameHistory, SessionTakesFirstContent, QueuesAtMostOneContent};
 
 use crate::events::{Event, Seen};
 use crate::played::{Made, Played};
 use ob0_session_server::{Session, SessionFault};
 use ob0_text::{Change, Documents, Held, TextStore, Unit};
-use ob0_world_editor::{Applied, ApplyOutcome, Ask, Editor, Message, initialize};
+use ob0_world_editor::{Applied, ApplyOutcome, Ask, Editor, ServerMessage, initialize};
 use std::alloc::{AllocError, Global};
 use std::collections::VecDeque;
 use std::marker::Model;
@@ -48,7 +48,7 @@ pub struct Connection<T: TextStore> {
 impl<T: TextStore> Model for Connection<T> {
     ghost use Rattle.std.specs.Coded.{codes};
     ghost use Rattle.ob0_text.specs.OpenDocuments.{coded_open_documents};
-    ghost use Rattle.ob0_world_editor.specs.Entries.{coded_editor_documents};
+    ghost use Rattle.ob0_world_editor.specs.StoredDocuments.{coded_editor_documents};
     ghost use Rattle.ob0_world.specs.Queues.{ConnectionInvariant, connection_from_fields};
     ghost use Rattle.ob0_world.specs.Worlds.{Connection};
 
@@ -90,7 +90,7 @@ impl<T: TextStore> Connection<T> {
     /// Changes nothing, and is called only for its contract. By this contract, the queued contents
     /// are the messages that wait in the model (`ClientAndServer`), and the session has the
     /// documents of the model's server.
-    pub(crate) fn contents_match_messages(&self)
+    pub(crate) fn prove_queues_match(&self)
         ensures { QueuesMatch self.now }
     {
         // The proof needs the contract of this call.
@@ -127,7 +127,7 @@ impl<T: TextStore> Connection<T> {
             Event::CloseDoc { uri } => self.close(uri.as_str()),
             Event::Ask { uri, ask } => self.ask(uri.as_str(), ask),
             Event::Serve => self.serve(),
-            Event::Take => self.take(),
+            Event::Take => self.let_editor_take(),
             Event::Apply { k } => self.apply(*k),
             Event::Discard { k } => Ok(self.discard(*k)),
         }
@@ -137,7 +137,7 @@ impl<T: TextStore> Connection<T> {
         requires { CountsCanGrow self.old.model.editor }
         ensures ok { IfOk result (λ seen. HappensWithReport self.old.model
             (editor_acts (open_document uri.now (chars text.now))) (report_of seen) self.new.model) }
-        ensures wire { OnOk result (WritesContent self.old.wire self.new.wire) }
+        ensures wire { OnOk result (QueuesAtMostOneContent self.old.wire self.new.wire) }
         ensures err { OnErr result (HaveSameHistory self.old self.new) }
     {
         let content = self.editor.open(uri, text)?;
@@ -149,7 +149,7 @@ impl<T: TextStore> Connection<T> {
         ensures ok { IfOk result (λ seen. HappensWithReport self.old.model
             (editor_acts (change_document uri.now (map text_change_of changes.now))) (report_of seen)
             self.new.model) }
-        ensures wire { OnOk result (WritesContent self.old.wire self.new.wire) }
+        ensures wire { OnOk result (QueuesAtMostOneContent self.old.wire self.new.wire) }
         ensures err { OnErr result (HaveSameHistory self.old self.new) }
     {
         let content = self.editor.change(uri, changes)?;
@@ -159,7 +159,7 @@ impl<T: TextStore> Connection<T> {
     fn close(&mut self, uri: &str) -> Result<Seen, AllocError>
         ensures ok { IfOk result (λ seen. HappensWithReport self.old.model
             (editor_acts (close_document uri.now)) (report_of seen) self.new.model) }
-        ensures wire { OnOk result (WritesContent self.old.wire self.new.wire) }
+        ensures wire { OnOk result (QueuesAtMostOneContent self.old.wire self.new.wire) }
         ensures err { OnErr result (HaveSameHistory self.old self.new) }
     {
         let content = self.editor.close(uri)?;
@@ -170,7 +170,7 @@ impl<T: TextStore> Connection<T> {
         requires { CountsCanGrow self.old.model.editor }
         ensures ok { IfOk result (λ seen. HappensWithReport self.old.model
             (editor_acts (ask_about uri.now (ask_of ask.now))) (report_of seen) self.new.model) }
-        ensures wire { OnOk result (WritesContent self.old.wire self.new.wire) }
+        ensures wire { OnOk result (QueuesAtMostOneContent self.old.wire self.new.wire) }
         ensures err { OnErr result (HaveSameHistory self.old self.new) }
     {
         let content = self.editor.ask(uri, ask)?;
@@ -184,7 +184,7 @@ impl<T: TextStore> Connection<T> {
         ensures ok { IfOk result
             (λ seen. HappensWithReport self.old.model events.serve (report_of seen) self.new.model) }
         ensures wire { OnOk result
-            (SessionTakesFirst self.old.wire.to_server self.old.wire self.new.wire) }
+            (SessionTakesFirstContent self.old.wire.to_server self.old.wire self.new.wire) }
         ensures err { OnErr result (HaveSameHistory self.old self.new) }
     {
         let Some(content) = self.to_server.pop_front() else {
@@ -208,7 +208,7 @@ impl<T: TextStore> Connection<T> {
         Ok(Seen::Served(count))
     }
 
-    fn take(&mut self) -> Result<Seen, AllocError>
+    fn let_editor_take(&mut self) -> Result<Seen, AllocError>
         ensures ok { IfOk result
             (λ seen. HappensWithReport self.old.model take_message (report_of seen) self.new.model) }
         ensures wire { OnOk result
@@ -223,7 +223,7 @@ impl<T: TextStore> Connection<T> {
         };
         self.got.reserve(1)?;
         match message {
-            Message::Published {
+            ServerMessage::Published {
                 uri,
                 version: _version,
                 empty,
@@ -231,8 +231,8 @@ impl<T: TextStore> Connection<T> {
                 move_first_content(&mut self.to_editor, &mut self.got);
                 Ok(Seen::Published { uri, empty })
             }
-            Message::Answered { number, edits } => {
-                let edits = self.editor.keep(number, edits)?;
+            ServerMessage::Answered { number, edits } => {
+                let edits = self.editor.keep_answer(number, edits)?;
                 move_first_content(&mut self.to_editor, &mut self.got);
                 Ok(Seen::Answered { k: number, edits })
             }
@@ -243,11 +243,11 @@ impl<T: TextStore> Connection<T> {
         requires { CountsCanGrow self.old.model.editor }
         ensures ok { IfOk result
             (λ seen. HappensWithReport self.old.model (editor_acts (acts.apply k)) (report_of seen) self.new.model) }
-        ensures wire { OnOk result (WritesContent self.old.wire self.new.wire) }
+        ensures wire { OnOk result (QueuesAtMostOneContent self.old.wire self.new.wire) }
         ensures err { OnErr result (HaveSameHistory self.old self.new) }
     {
         match self.editor.apply(k)? {
-            ApplyOutcome::NotHeld => Ok(Seen::Nothing),
+            ApplyOutcome::NoSuchAnswer => Ok(Seen::Nothing),
             ApplyOutcome::Dropped => Ok(Seen::Dropped { k }),
             ApplyOutcome::Made { applied, content } => {
                 self.to_server.push_back(content)?;
@@ -259,7 +259,7 @@ impl<T: TextStore> Connection<T> {
 
     fn discard(&mut self, k: u64) -> Seen
         ensures ok { HappensWithReport self.old.model (editor_acts (acts.discard k)) (report_of result) self.new.model }
-        ensures wire { WritesContent self.old.wire self.new.wire }
+        ensures wire { QueuesAtMostOneContent self.old.wire self.new.wire }
     {
         if self.editor.discard(k) {
             Seen::Dropped { k }
@@ -346,7 +346,7 @@ fn publication_in_content<T: TextStore>(
         return Ok(None);
     };
     match message {
-        Message::Published {
+        ServerMessage::Published {
             uri,
             version,
             empty,
@@ -354,7 +354,7 @@ fn publication_in_content<T: TextStore>(
             Some(version) => publication_from_documents(alloc, documents, uri, version, empty),
             None => Ok(None),
         },
-        Message::Answered {
+        ServerMessage::Answered {
             number: _number,
             edits: _edits,
         } => Ok(None),

@@ -1,6 +1,6 @@
 //! Proves laws about an editor and a session: which versions answers mention, and what holds in
 //! every exchange of messages.
-ghost use Rattle.ob0_world.specs.Exchanges.{ACourseIsAnExchange, HoldsForEveryExchange, EveryExchangeFollowsModel};
+ghost use Rattle.ob0_world.specs.Exchanges.{ACourseIsAnExchange, GuaranteesHoldForEveryExchange, EveryExchangeFollowsModel};
 ghost use Rattle.ob0_world.specs.Versions.{AnswersMentionVersions, VersionsSufficeForApplying};
 
 /// Proves that an answer with edits mentions the document that was asked about, and the version
@@ -29,8 +29,8 @@ pub fn every_exchange_follows_model()
 /// same end. The n-th list of diagnostics with a version is correct for the n-th document that the
 /// editor announced by opening or changing it. Once the session has taken the waiting contents, it
 /// will have the editor's documents.
-pub fn holds_for_every_exchange()
-    ensures { HoldsForEveryExchange }
+pub fn guarantees_hold_for_every_exchange()
+    ensures { GuaranteesHoldForEveryExchange }
 {}
 
 /// Proves that each list of events, as `play` plays it with the model's editor and a session, is an

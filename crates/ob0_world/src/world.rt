@@ -5,7 +5,7 @@
 //! contents of all messages in each direction, taken or still waiting.
 //!
 //! `ChangesWire` states how each event changes the session and the contents, and `QueuesMatch`
-//! states that the model and the `Wire` agree. (`Connection::contents_match_messages` is called
+//! states that the model and the `Wire` agree. (`Connection::prove_queues_match` is called
 //! only for its contract.) The contract of `step` has two cases: the step makes its event happen
 //! (`WorldSteps`), or it fails (`WorldFails`).
 //!
@@ -16,8 +16,8 @@
 ghost use Rattle.std.specs.Prelude.{◌≡◌, ◌<◌, ◌-◌, ◌^◌, [], length, IfOk, OnOk, IfErr};
 ghost use Rattle.ob0_text.specs.declared.position_types.Unit.TheVariants.{Utf16};
 ghost use Rattle.ob0_world_rules.specs.Headline.{GuaranteesHold};
-ghost use Rattle.ob0_world_rules.specs.Mirror.{WillMirrorEditor};
-ghost use Rattle.ob0_world.specs.Code.{event_of, played_edits, played_publications};
+ghost use Rattle.ob0_world_rules.specs.MirroredDocuments.{ServerWillMirrorEditor};
+ghost use Rattle.ob0_world.specs.ModelValues.{event_of, played_edits, played_publications};
 ghost use Rattle.ob0_world.specs.Seen.{report_of};
 ghost use Rattle.ob0_world.specs.Worlds.{ResultsMatch, ContentsMatch, IsNewWorld, Plays, PlaysPrefix, WorldSteps, WorldFails};
 ghost use Rattle.ob0_world.specs.declared.faults.WorldFault.TheVariants.{Memory};
@@ -45,7 +45,7 @@ impl<T: TextStore> Model for World<T> {
     ghost use Rattle.std.specs.Prelude.{◌≡◌, false};
     ghost use Rattle.std.specs.Coded.{codes};
     ghost use Rattle.ob0_text.specs.OpenDocuments.{coded_open_documents};
-    ghost use Rattle.ob0_world_editor.specs.Entries.{coded_editor_documents};
+    ghost use Rattle.ob0_world_editor.specs.StoredDocuments.{coded_editor_documents};
     ghost use Rattle.ob0_world.specs.Worlds as worlds;
     ghost use Rattle.ob0_world.specs.Queues.{CountsAreAtMost, IsReachable};
 
@@ -102,7 +102,7 @@ impl<T: TextStore> World<T> {
         ensures ok { IfOk result
             (λ seen. WorldSteps self.old (event_of event.now) (report_of seen) self.new) }
         ensures holds { OnOk result (GuaranteesHold self.new.connection.model) }
-        ensures mirror { OnOk result (WillMirrorEditor self.new.connection.model) }
+        ensures mirror { OnOk result (ServerWillMirrorEditor self.new.connection.model) }
         ensures err { IfErr result (λ fault. WorldFails self.old fault self.new) }
     {
         if self.has_ended {
@@ -110,7 +110,7 @@ impl<T: TextStore> World<T> {
         }
         match self.connection.perform_event(event) {
             Ok(seen) => {
-                self.connection.contents_match_messages();
+                self.connection.prove_queues_match();
                 self.steps += 1;
                 Ok(seen)
             }
@@ -147,7 +147,7 @@ impl<T: TextStore> World<T> {
     /// for every input and every bound on calls and loop turns; and an open document's latest
     /// diagnostics are empty exactly when the text they were made for is a well-typed module.
     ///
-    /// The editor is the model's. The law `holds_for_every_exchange` states the same for every
+    /// The editor is the model's. The law `guarantees_hold_for_every_exchange` states the same for every
     /// editor that keeps ob0's rules.
     pub fn play_in(alloc: Global, unit: Unit, events: &[Event]) -> Result<Played, PlayFault>
         requires few { length events.now < 2 ^ 63 - 1 }

@@ -8,9 +8,9 @@ use Rattle.ob0_rename_answers.specs.RenameAnswers.{RenamingAlwaysHasAnswer}
 use Rattle.ob0_world_rules.specs.Asks.{Ask, format, inline_all, inline_here, rename}
 use Rattle.ob0_world_rules.specs.EditorActs.{apply, ask_about, change_document, close_document, discard, open_document}
 use Rattle.ob0_world_rules.specs.Happens.{Event, editor_acts, serve, take_message}
-use Rattle.ob0_world_rules.specs.Laws.{CourseExistsIfAnswerable, AlwaysHasAnswer, IsAnswerable}
+use Rattle.ob0_world_rules.specs.Laws.{CourseExistsIfAsksHaveAnswers, AlwaysHasAnswer, HasAnswerIfAsk}
 use Rattle.ob0_world_worked.specs.Formatting.{FormattingHasAnswers}
-use Rattle.ob0_world_answers.specs.Answering.{EachAskHasAnswers, EachEventListHasACourse}
+use Rattle.ob0_world_answers.specs.AnswersExist.{EachAskHasAnswers, EachEventListHasACourse}
 use Rattle.ob0_world_answers.proofs.ModuleValues.{each_has_names, each_is_read}
 
 pub each_ask_answered : OneTree → FormattingHasAnswers → RenamingAlwaysHasAnswer → InliningHereAlwaysHasAnswer → InliningEverywhereAlwaysHasAnswer → EachAskHasAnswers
@@ -19,7 +19,7 @@ each_ask_answered tree formats renames here everywhere (inline_here position) = 
 each_ask_answered tree formats renames here everywhere (inline_all position) = everywhere (each_is_read tree) position
 each_ask_answered tree formats renames here everywhere (format indent) = formats indent
 
-event_answered : EachAskHasAnswers → (event : Event) → IsAnswerable event
+event_answered : EachAskHasAnswers → (event : Event) → HasAnswerIfAsk event
 event_answered answered (editor_acts (open_document uri text)) = tt
 event_answered answered (editor_acts (change_document uri how)) = tt
 event_answered answered (editor_acts (close_document uri)) = tt
@@ -29,10 +29,10 @@ event_answered answered (editor_acts (discard k)) = tt
 event_answered answered serve = tt
 event_answered answered take_message = tt
 
-all_answered : EachAskHasAnswers → (events : List Event) → All IsAnswerable events
-all_answered answered [] = All-nil IsAnswerable
+all_answered : EachAskHasAnswers → (events : List Event) → All HasAnswerIfAsk events
+all_answered answered [] = All-nil HasAnswerIfAsk
 all_answered answered (event ∷ events) =
-    All-append IsAnswerable (event ∷ []) events (All-push IsAnswerable [] event (All-nil IsAnswerable) (event_answered answered event)) (all_answered answered events)
+    All-append HasAnswerIfAsk (event ∷ []) events (All-push HasAnswerIfAsk [] event (All-nil HasAnswerIfAsk) (event_answered answered event)) (all_answered answered events)
 
-pub each_list_fits : EachAskHasAnswers → CourseExistsIfAnswerable → EachEventListHasACourse
+pub each_list_fits : EachAskHasAnswers → CourseExistsIfAsksHaveAnswers → EachEventListHasACourse
 each_list_fits answered fits unit events = fits unit events (all_answered answered events)

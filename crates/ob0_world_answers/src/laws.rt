@@ -1,13 +1,13 @@
 //! Proves that each request for edits has an answer, and that each list of events leads to some
 //! state. So a law about every list of events isn't vacuous.
-ghost use Rattle.ob0_world_answers.specs.Answering.{EachAskHasAnswers, EachEventListHasACourse};
+ghost use Rattle.ob0_world_answers.specs.AnswersExist.{EachAskHasAnswers, EachEventListHasACourse};
 
 use ob0_inline_answers::laws::{
     inlining_everywhere_always_has_answer, inlining_here_always_has_answer,
 };
 use ob0_parse::tree_is_unique;
 use ob0_rename_answers::laws::renaming_always_has_answer;
-use ob0_world_rules::laws::course_exists_if_answerable;
+use ob0_world_rules::laws::course_exists_if_asks_have_answers;
 use ob0_world_worked::laws::formatting_has_answers;
 
 /// Proves that each request for edits has an answer for each text.
@@ -26,5 +26,5 @@ pub fn each_event_list_has_a_course()
     ensures { EachEventListHasACourse }
 {
     each_ask_has_answers();
-    course_exists_if_answerable();
+    course_exists_if_asks_have_answers();
 }

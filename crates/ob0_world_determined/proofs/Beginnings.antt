@@ -10,7 +10,7 @@ use Rattle.ob0_session_server.specs.Answers.{ServerState, start, IsConversation}
 use Rattle.ob0_session.specs.Serving.{HasServed}
 use Rattle.ob0_session.specs.declared.serving.ServeFault.{ServeFault}
 use Rattle.ob0_session.specs.declared.serving.ServeFault.TheVariants.{BadHead, Truncated, Read, Write, Memory, TooManyReads}
-use Rattle.ob0_world_determined.specs.Determined.{MayServe, ConversationIsDetermined, OutputIsDetermined}
+use Rattle.ob0_world_determined.specs.DeterminedOutput.{MayServe, ConversationIsDetermined, OutputIsDetermined}
 use Rattle.ob0_world_determined.proofs.Conversations.{Contents}
 use Rattle.ob0_world_determined.proofs.Fronts.{fed_front, front_more}
 use Rattle.ob0_world_determined.proofs.Streams.{Cut, cut, begins_other, longer, Ending, at_exit, with_rest, EndsIn, ending_of, all_written, OneFeed}

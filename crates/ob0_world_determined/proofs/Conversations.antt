@@ -2,10 +2,10 @@
 use Rattle.std.proofs.Common.{◌≡◌, ◌∙◌, ℕ, Option, Some, None, List, [], ◌∷◌, ◌++◌, refl, sym, subst}
 use Rattle.serde_json.specs.Data.{Data}
 use Rattle.ob0_rpc.specs.Messages.{ReadsContent, meaning_of_content}
-use Rattle.ob0_session_server.specs.Answers.{ServerState, AreContentsOfReply, react, AnswersInPhase, AnswersBeforeEnd, IsConversation}
+use Rattle.ob0_session_server.specs.Answers.{ServerState, AreContentsOfReply, react_to_message, AnswersInPhase, AnswersBeforeEnd, IsConversation}
 use Rattle.ob0_session_server.specs.declared.session.Phase.{Phase}
 use Rattle.ob0_session_server.specs.declared.session.Phase.TheVariants.{Starting, Running, ShutDown, Ended, Failed}
-use Rattle.ob0_world_determined.specs.Determined.{AnswerIsDetermined, ConversationIsDetermined, ReplyIsDetermined}
+use Rattle.ob0_world_determined.specs.DeterminedOutput.{AnswerIsDetermined, ConversationIsDetermined, ReplyIsDetermined}
 
 abbrev pub Contents : Type 0
 Contents = List (List ℕ)
@@ -22,8 +22,8 @@ module _ (says : ReplyIsDetermined) where
   going_on_one : (before : ServerState) (content : List ℕ) (sent more : Contents) (after other : ServerState) → AnswersBeforeEnd before content sent after → AnswersBeforeEnd before content more other → (sent ≡ more) × (after ≡ other)
   going_on_one before content sent more after other (json, reads, h) (another, reads_too, k) =
       let same : json ≡ another = one_json content json another reads reads_too in
-      let there = subst (λ j. (other ≡ (react before (meaning_of_content j)).after) × AreContentsOfReply (react before (meaning_of_content j)).reply more) (sym same) k in
-      (says (react before (meaning_of_content json)).reply sent more h.1 there.1, h.0 ∙ sym there.0)
+      let there = subst (λ j. (other ≡ (react_to_message before (meaning_of_content j)).after) × AreContentsOfReply (react_to_message before (meaning_of_content j)).reply more) (sym same) k in
+      (says (react_to_message before (meaning_of_content json)).reply sent more h.1 there.1, h.0 ∙ sym there.0)
 
   in_phase_one : (phase : Phase) (before : ServerState) (content : List ℕ) (sent more : Contents) (after other : ServerState) → AnswersInPhase phase before content sent after → AnswersInPhase phase before content more other → (sent ≡ more) × (after ≡ other)
   in_phase_one (Ended status) before content sent more after other h k = (h.0 ∙ sym k.0, h.1 ∙ sym k.1)

@@ -4,7 +4,7 @@ use Rattle.std.proofs.Common.{◌≡◌, ◌∙◌, ◌<◌, ◌+◌, ℕ, zero,
 use Rattle.std.proofs.lemmas.List.{length-append}
 use Rattle.ob0_frame.specs.Frames.{BeginsWithMessage, Frames}
 use Rattle.ob0_frame.proofs.Heads.{end_takes_room}
-use Rattle.ob0_world_determined.specs.Determined.{FramingExists}
+use Rattle.ob0_world_determined.specs.DeterminedOutput.{FramingExists}
 
 -- A head has at least one byte.
 head_is_some : (bytes head content more : List ℕ) → BeginsWithMessage bytes head content more → 0 < length head

@@ -9,41 +9,41 @@ use Rattle.ob0_text.specs.declared.position_types.Unit.{Unit}
 use Rattle.ob0_tree.specs.Places.{tree_with_names, token_text_at}
 use Rattle.ob0_tree.specs.Tree.{Tree, identifiers, module_text}
 use Rattle.ob0_tree.specs.declared.tree.Role.TheVariants as role
-use Rattle.ob0_language_names.specs.Parts.{module_block}
+use Rattle.ob0_language_names.specs.BlockParts.{module_block}
 use Rattle.ob0_scope_table.specs.Resolution.{Resolution, declaring_names, ordinal_in, span_at, declaration_token}
 use Rattle.ob0_scope.specs.NamesAtPlaces.{is_bound_to}
-use Rattle.ob0_scope.specs.declared.naming.BoundName.{BoundName}
+use Rattle.ob0_scope.specs.declared.bound_names.BoundName.{BoundName}
 use Rattle.ob0_language_types.specs.Bindings.{declared_object}
 use Rattle.ob0_language_values.specs.Values.{Shape}
 use Rattle.ob0_types.specs.IdentifierMeanings.{identifier_meaning_at, meaning_of_name_or_field}
-use Rattle.ob0_types.specs.declared.meant.ResolvedIdentifier.{ResolvedIdentifier}
-use Rattle.ob0_types.specs.declared.meant.IdentifierMeaning.{IdentifierMeaning}
-use Rattle.ob0_types.specs.declared.meant.IdentifierMeaning.TheVariants.{Name, Field}
+use Rattle.ob0_types.specs.declared.identifier_meanings.IdentifierWithMeaning.{IdentifierWithMeaning}
+use Rattle.ob0_types.specs.declared.identifier_meanings.IdentifierMeaning.{IdentifierMeaning}
+use Rattle.ob0_types.specs.declared.identifier_meanings.IdentifierMeaning.TheVariants.{Name, Field}
 use Rattle.ob0_types_fields.specs.FieldTypes.{constructed_types, typed_field_with_name}
 use Rattle.ob0_types_fields.specs.declared.field_name.FieldName.{FieldName}
 use Rattle.ob0_types_fields.specs.Identifiers.{fields_declared_in_block, field_identifiers, field_at_offset, first_token, tokens_of_field}
-use Rattle.ob0_refs.specs.Declarations.{hover_text_of_object}
+use Rattle.ob0_refs.specs.DeclarationTexts.{hover_text_of_object}
 use Rattle.ob0_refs.specs.Hovers.{field_text, predeclared_text, type_text}
-use Rattle.ob0_refs.specs.Questions.{definition_of_identifier, definition_at, field_reference_tokens, hover_at_offset, hover_of_identifier, references_of_optional_identifier, references_of_identifier, tokens_without, references_at, renamable_span_at, renamable_span_of_identifier}
-use Rattle.ob0_refs.specs.NameHovers.{HoverText}
-use Rattle.ob0_rpc.specs.Requesting.{DocumentPlace}
-use Rattle.ob0_analysis.specs.Analysed.{IsResolvedWellTypedModule}
-use Rattle.ob0_analysis.specs.Diagnosed.{IsWellTypedModule}
+use Rattle.ob0_refs.specs.Questions.{definition_of_identifier, definition_at, field_reference_tokens, hover_at_offset, hover_of_identifier, references_of_optional_identifier, references_of_identifier, list_without_optional_token, references_at, renamable_span_at, renamable_span_of_identifier}
+use Rattle.ob0_refs.specs.NameHovers.{HoverTextWithSpan}
+use Rattle.ob0_rpc.specs.Requests.{DocumentPlace}
+use Rattle.ob0_analysis.specs.AnalysisAnswers.{IsResolvedWellTypedModule}
+use Rattle.ob0_analysis.specs.ReportedErrors.{IsWellTypedModule}
 use Rattle.ob0_analysis.specs.Texts.{utf8}
-use Rattle.ob0_session_answers.specs.Questions.{AnswersInModule, AnswersQuestion, NameQuestion, definition_question, hover_question, hover_value_with_range, span_location_value, value_or_null, offset_in, span_range_value, references_question, prepare_rename_question}
+use Rattle.ob0_session_answers.specs.Questions.{AnswersQuestionInModule, AnswersQuestion, NameQuestion, definition_question, hover_question, hover_value_with_range, location_value_of_span, value_or_null, offset_of_place, range_value_of_span, references_question, prepare_rename_question}
 use Rattle.ob0_world_rules.proofs.OneFields.{one_list_of_fields}
 use Rattle.ob0_world_rules.proofs.OneModule.{Same, same_module, one_name, identifiers_of}
-use Rattle.ob0_world_determined.specs.Determined.{ResolutionIsDetermined}
+use Rattle.ob0_world_determined.specs.DeterminedOutput.{ResolutionIsDetermined}
 
 -- returns the hover of a name, by the tokens and the tree over them
-abbrev hover_in_tree : TextWithTokens → Tree ℕ module_text → BoundName → Option HoverText
+abbrev hover_in_tree : TextWithTokens → Tree ℕ module_text → BoundName → Option HoverTextWithSpan
 hover_in_tree s t n =
     option_map (λ text. record { span = span_at s n.token; text = text })
     (if nat_lt n.ordinal 7 then Some (predeclared_text (token_text_at s n.token))
     else option_and_then (hover_text_of_object (token_text_at s n.token) (map (token_text_at s) (drop (n.ordinal + 1 - 7) (declaring_names (identifiers role.Declaring t))))) (declared_object (tree_with_names s t) n.ordinal))
 
 -- returns the hover of a field's identifier, whose type is this one
-abbrev hover_of_shape : TextWithTokens → ℕ → Shape → HoverText
+abbrev hover_of_shape : TextWithTokens → ℕ → Shape → HoverTextWithSpan
 hover_of_shape s token of = record { span = span_at s token; text = field_text (token_text_at s token) (type_text of) }
 
 module _ (r q : Resolution) (e : Same r.module_read q.module_read) (fields : field_identifiers r ≡ field_identifiers q) (tables : (token : ℕ) → ordinal_in r.ordinals token ≡ ordinal_in q.ordinals token) (offset : ℕ) where
@@ -60,7 +60,7 @@ module _ (r q : Resolution) (e : Same r.module_read q.module_read) (fields : fie
       (get_or (constructed_types (record { object_for = λ t. option_and_then (declared_object (tree_with_names (e.source i) (e.tree i))) (tables t i); written = λ t. token_text_at (e.source i) t }) None (e.tree i)) k None))
 
   same_hover : hover_at_offset r offset ≡ hover_at_offset q offset
-  same_hover = λ i. option_and_then (λ (x : ResolvedIdentifier). one_hover x.token x.means i) (same_meant i)
+  same_hover = λ i. option_and_then (λ (x : IdentifierWithMeaning). one_hover x.token x.means i) (same_meant i)
 
   -- ---- the place of its declaration
 
@@ -69,20 +69,20 @@ module _ (r q : Resolution) (e : Same r.module_read q.module_read) (fields : fie
   one_declaration token (Field k) = λ i. option_map (span_at (e.source i)) (first_token (tokens_of_field (e.source i) k (token_text_at (e.source i) token) (fields_declared_in_block 0 (module_block (e.tree i)))))
 
   same_definition : definition_at r offset ≡ definition_at q offset
-  same_definition = λ i. option_and_then (λ (x : ResolvedIdentifier). one_declaration x.token x.means i) (same_meant i)
+  same_definition = λ i. option_and_then (λ (x : IdentifierWithMeaning). one_declaration x.token x.means i) (same_meant i)
 
   -- ---- the places of its uses
 
   field_referred : (x : FieldName) (include : Bool) → field_reference_tokens r x include ≡ field_reference_tokens q x include
   field_referred x true = λ i. tokens_of_field (e.source i) x.owner (token_text_at (e.source i) x.token) (fields i)
   field_referred x false = λ i.
-      tokens_without (first_token (tokens_of_field (e.source i) x.owner (token_text_at (e.source i) x.token) (fields_declared_in_block 0 (module_block (e.tree i))))) (tokens_of_field (e.source i) x.owner (token_text_at (e.source i) x.token) (fields i))
+      list_without_optional_token (first_token (tokens_of_field (e.source i) x.owner (token_text_at (e.source i) x.token) (fields_declared_in_block 0 (module_block (e.tree i))))) (tokens_of_field (e.source i) x.owner (token_text_at (e.source i) x.token) (fields i))
 
   named_one : (include : Bool) (token : ℕ) (x : IdentifierMeaning) → references_of_identifier r include token x ≡ references_of_identifier q include token x
   named_one include token (Name ordinal) = λ i. map (span_at (e.source i)) (map (λ s. s.0.1) (filter (is_bound_to include ordinal) (identifiers_of (e.source i) (e.tree i))))
   named_one include token (Field k) = λ i. map (span_at (e.source i)) (field_referred (record { token = token; owner = k }) include i)
 
-  named_in_one : (include : Bool) (found : Option ResolvedIdentifier) → references_of_optional_identifier r include found ≡ references_of_optional_identifier q include found
+  named_in_one : (include : Bool) (found : Option IdentifierWithMeaning) → references_of_optional_identifier r include found ≡ references_of_optional_identifier q include found
   named_in_one include None = refl
   named_in_one include (Some x) = named_one include x.token x.means
 
@@ -96,12 +96,12 @@ module _ (r q : Resolution) (e : Same r.module_read q.module_read) (fields : fie
   one_renamable token (Field k) = λ i. Some (span_at (e.source i) token)
 
   same_renamable : renamable_span_at r offset ≡ renamable_span_at q offset
-  same_renamable = λ i. option_and_then (λ (x : ResolvedIdentifier). one_renamable x.token x.means i) (same_meant i)
+  same_renamable = λ i. option_and_then (λ (x : IdentifierWithMeaning). one_renamable x.token x.means i) (same_meant i)
 
 -- ---- values
 
 module _ (tables : ResolutionIsDetermined) (unit : Unit) (text : List ℕ) (at : DocumentPlace) where
-  in_one : (question : NameQuestion) (r q : Resolution) (value other : Data) → IsResolvedWellTypedModule (utf8 text) r → IsResolvedWellTypedModule (utf8 text) q → AnswersInModule unit text at question r value → AnswersInModule unit text at question q other → value ≡ other
+  in_one : (question : NameQuestion) (r q : Resolution) (value other : Data) → IsResolvedWellTypedModule (utf8 text) r → IsResolvedWellTypedModule (utf8 text) q → AnswersQuestionInModule unit text at question r value → AnswersQuestionInModule unit text at question q other → value ≡ other
   in_one question r q value other read again = go question
     where
       e : Same r.module_read q.module_read
@@ -113,13 +113,13 @@ module _ (tables : ResolutionIsDetermined) (unit : Unit) (text : List ℕ) (at :
       table : (token : ℕ) → ordinal_in r.ordinals token ≡ ordinal_in q.ordinals token
       table = tables r q read.well_typed.resolved again.well_typed.resolved (e.source, e.tree)
 
-      go : (question : NameQuestion) → AnswersInModule unit text at question r value → AnswersInModule unit text at question q other → value ≡ other
-      go hover_question h k = h ∙ ap (λ o. value_or_null (option_map (hover_value_with_range unit text) o)) (same_hover r q e fields table (offset_in unit text at)) ∙ sym k
-      go definition_question h k = h ∙ ap (λ o. value_or_null (option_map (span_location_value unit at.uri text) o)) (same_definition r q e fields table (offset_in unit text at)) ∙ sym k
+      go : (question : NameQuestion) → AnswersQuestionInModule unit text at question r value → AnswersQuestionInModule unit text at question q other → value ≡ other
+      go hover_question h k = h ∙ ap (λ o. value_or_null (option_map (hover_value_with_range unit text) o)) (same_hover r q e fields table (offset_of_place unit text at)) ∙ sym k
+      go definition_question h k = h ∙ ap (λ o. value_or_null (option_map (location_value_of_span unit at.uri text) o)) (same_definition r q e fields table (offset_of_place unit text at)) ∙ sym k
       go (references_question include) (spans, are, is) (others, are_too, is_too) =
-          let same : spans ≡ others = are ∙ same_references r q e fields table (offset_in unit text at) include ∙ sym are_too in
-          is ∙ ap (λ xs. array (items_of (map (span_location_value unit at.uri text) xs))) same ∙ sym is_too
-      go prepare_rename_question h k = h ∙ ap (λ o. value_or_null (option_map (span_range_value unit text) o)) (same_renamable r q e fields table (offset_in unit text at)) ∙ sym k
+          let same : spans ≡ others = are ∙ same_references r q e fields table (offset_of_place unit text at) include ∙ sym are_too in
+          is ∙ ap (λ xs. array (items_of (map (location_value_of_span unit at.uri text) xs))) same ∙ sym is_too
+      go prepare_rename_question h k = h ∙ ap (λ o. value_or_null (option_map (range_value_of_span unit text) o)) (same_renamable r q e fields table (offset_of_place unit text at)) ∙ sym k
 
   -- A text that has a module is the text of a well-typed module.
   is_module : (r : Resolution) → IsResolvedWellTypedModule (utf8 text) r → IsWellTypedModule (utf8 text)

@@ -12,25 +12,25 @@ use Rattle.ob0_text.specs.declared.edits.Indent.{Indent}
 use Rattle.ob0_text.specs.declared.position_types.Range.{Range}
 use Rattle.ob0_text.specs.declared.position_types.Unit.{Unit}
 use Rattle.ob0_text.specs.declared.refusals.EditRefusal.{EditRefusal}
-use Rattle.ob0_edits_tokens.specs.Replaced.{range_and_text}
+use Rattle.ob0_edits_tokens.specs.Replacements.{range_and_text}
 use Rattle.ob0_rpc.specs.declared.clients.ClientFeatures.{ClientFeatures}
 use Rattle.ob0_rpc.specs.Shapes.{range_value, result_message, text as text_value}
 use Rattle.ob0_edits.specs.Renamings.{IsRenameRefusedInText}
-use Rattle.ob0_analysis.specs.Diagnosed.{IsWellTypedModule}
+use Rattle.ob0_analysis.specs.ReportedErrors.{IsWellTypedModule}
 use Rattle.ob0_analysis.specs.Texts.{utf8}
-use Rattle.ob0_edits.specs.Inlinings.{OffersOrRefusesInlining}
+use Rattle.ob0_edits.specs.InliningEdits.{IsInlineResultInText}
 use Rattle.ob0_edits.specs.declared.inlinings.Inlining.{Inlining}
 use Rattle.ob0_edits.specs.declared.inlinings.Inlining.TheVariants.{OneUse, Everywhere}
-use Rattle.ob0_session_answers.specs.Actions.{VersionedActionsRequest, ListsActions, action_values, actions_offset, title, wants_inlining}
+use Rattle.ob0_session_answers.specs.Actions.{VersionedActionsRequest, ListsActions, offered_action_values, first_offset_in_range, title, wants_inlining}
 use Rattle.ob0_session_answers.specs.Diagnostics.{diagnostic_of}
-use Rattle.ob0_session_answers.specs.Formatted.{AnswersFormatting}
-use Rattle.ob0_session_answers.specs.Renamed.{AnswersRenaming, VersionedRenameRequest, edits_for_client}
-use Rattle.ob0_session_json.specs.Shapes.{action_value, edit_refusal, edit_value, publication, versioned_document}
-use Rattle.ob0_session_server.specs.Answers.{SendsMessage, diagnoses, question_reply, formatting_reply, nothing, actions_reply, renames, says}
+use Rattle.ob0_session_answers.specs.FormattingAnswers.{AnswersFormattingRequest}
+use Rattle.ob0_session_answers.specs.RenamingAnswers.{AnswersRenameRequest, VersionedRenameRequest, edits_for_client}
+use Rattle.ob0_session_json.specs.Shapes.{code_action_value, edit_refusal_message, edit_value, publication, versioned_document_value}
+use Rattle.ob0_session_server.specs.Answers.{SendsMessage, diagnoses, question_reply, formatting_reply, nothing, actions_reply, rename_reply, says}
 use Rattle.ob0_world_rules.proofs.OneInlining.{inlines_or_refused, inlines_parts}
 use Rattle.ob0_world_rules.proofs.OneLayout.{lays_out_or_long, lays_out_said}
 use Rattle.ob0_world_rules.proofs.OneRenaming.{refuses_one, renames_or_refused, renames_parts}
-use Rattle.ob0_world_determined.specs.Determined.{DiagnosesAreDetermined, ReplyIsDetermined, ResolutionIsDetermined}
+use Rattle.ob0_world_determined.specs.DeterminedOutput.{DiagnosesAreDetermined, ReplyIsDetermined, ResolutionIsDetermined}
 use Rattle.ob0_world_determined.proofs.NamesShown.{name_one}
 
 sends_one : (message another : Data) (sent other : List (List ℕ)) → message ≡ another → SendsMessage message sent → SendsMessage another other → sent ≡ other
@@ -49,15 +49,15 @@ values_by_parts xs ys same = sym (map-map value_of_parts range_and_text xs) ∙ 
 abbrev workspace_with : ClientFeatures → List ℕ → ℤ → List Data → Data
 workspace_with client uri version vs =
     if client.accepts_document_changes
-    then object (member (codes "documentChanges") (array (item (object (member (codes "edits") (array (items_of vs)) (member (codes "textDocument") (versioned_document uri version) no_members))) no_items)) no_members)
+    then object (member (codes "documentChanges") (array (item (object (member (codes "edits") (array (items_of vs)) (member (codes "textDocument") (versioned_document_value uri version) no_members))) no_items)) no_members)
     else object (member (codes "changes") (object (member uri (array (items_of vs)) no_members)) no_members)
 
 abbrev action_with : VersionedActionsRequest → Inlining → List Data → Data
-action_with requested how vs = action_value (workspace_with requested.client requested.uri requested.version vs) (title how)
+action_with requested how vs = code_action_value (workspace_with requested.client requested.uri requested.version vs) (title how)
 
 -- ---- layouts
 
-formats_one : (unit : Unit) (id : Data) (indent : Indent) (text : List ℕ) (message another : Data) → AnswersFormatting unit id indent text message → AnswersFormatting unit id indent text another → message ≡ another
+formats_one : (unit : Unit) (id : Data) (indent : Indent) (text : List ℕ) (message another : Data) → AnswersFormattingRequest unit id indent text message → AnswersFormattingRequest unit id indent text another → message ≡ another
 formats_one unit id indent text message another (inl (xs, h, is)) (inl (ys, k, too)) =
     is ∙ ap (λ vs. result_message id (array (items_of vs))) (values_by_parts xs ys (lays_out_said unit indent text xs ys h k)) ∙ sym too
 formats_one unit id indent text message another (inl (xs, h, is)) (inr (inl (long, too))) = absurd (lays_out_or_long unit indent text xs h long)
@@ -79,14 +79,14 @@ module _ (unit : Unit) (requested : VersionedRenameRequest) (text : List ℕ) wh
   for_client : (xs ys : List Edit) → map edit_value xs ≡ map edit_value ys → edits_for_client requested xs ≡ edits_for_client requested ys
   for_client xs ys same = ap (workspace_with requested.client requested.at.uri requested.version) same
 
-  renaming_one : (message another : Data) → AnswersRenaming unit requested text message → AnswersRenaming unit requested text another → message ≡ another
+  renaming_one : (message another : Data) → AnswersRenameRequest unit requested text message → AnswersRenameRequest unit requested text another → message ≡ another
   renaming_one message another (inl (xs, h, is)) (inl (ys, k, too)) =
       is ∙ ap (result_message requested.id) (for_client xs ys (values_by_parts xs ys (renames_parts unit text requested.at.position requested.new xs ys h k))) ∙ sym too
   renaming_one message another (inl (xs, h, is)) (inr (inl (why, k, too))) = absurd (renames_or_refused unit text requested.at.position requested.new xs why h k)
   renaming_one message another (inl (xs, h, is)) (inr (inr (unfit, too))) = absurd (unfit h.runs.old)
   renaming_one message another (inr (inl (why, h, is))) (inl (ys, k, too)) = absurd (renames_or_refused unit text requested.at.position requested.new ys why k h)
   renaming_one message another (inr (inl (why, h, is))) (inr (inl (other, k, too))) =
-      is ∙ ap (λ w. edit_refusal requested.id (refusal_text w)) (refuses_one unit text requested.at.position requested.new why other h k) ∙ sym too
+      is ∙ ap (λ w. edit_refusal_message requested.id (refusal_text w)) (refuses_one unit text requested.at.position requested.new why other h k) ∙ sym too
   renaming_one message another (inr (inl (why, h, is))) (inr (inr (unfit, too))) = absurd (unfit (fits_refused why h))
   renaming_one message another (inr (inr (unfit, is))) (inl (ys, k, too)) = absurd (unfit k.runs.old)
   renaming_one message another (inr (inr (unfit, is))) (inr (inl (why, k, too))) = absurd (unfit (fits_refused why k))
@@ -96,16 +96,16 @@ module _ (unit : Unit) (requested : VersionedRenameRequest) (text : List ℕ) wh
 
 module _ (unit : Unit) (requested : VersionedActionsRequest) (text : List ℕ) where
   abbrev offset : ℕ
-  offset = actions_offset unit text requested.range
+  offset = first_offset_in_range unit text requested.range
 
-  offered_one : (how : Inlining) (a b : Option (Vec Edit Global)) → OffersOrRefusesInlining how unit text offset a → OffersOrRefusesInlining how unit text offset b → action_values requested how a ≡ action_values requested how b
+  offered_one : (how : Inlining) (a b : Option (Vec Edit Global)) → IsInlineResultInText how unit text offset a → IsInlineResultInText how unit text offset b → offered_action_values requested how a ≡ offered_action_values requested how b
   offered_one how (Some xs) (Some ys) h k =
       ap (λ vs. action_with requested how vs ∷ []) (values_by_parts xs.items ys.items (inlines_parts unit text offset xs how ys h k))
   offered_one how (Some xs) None h k = absurd (inlines_or_refused unit text offset xs how h k)
   offered_one how None (Some ys) h k = absurd (inlines_or_refused unit text offset ys how k h)
   offered_one how None None h k = refl
 
-  fits_offered : (how : Inlining) (a : Option (Vec Edit Global)) → OffersOrRefusesInlining how unit text offset a → IsWellTypedModule (utf8 text)
+  fits_offered : (how : Inlining) (a : Option (Vec Edit Global)) → IsInlineResultInText how unit text offset a → IsWellTypedModule (utf8 text)
   fits_offered how (Some xs) h = h.runs.old
   fits_offered how None h =
       record { tree = _; text_of = record { scanned = h.module_read.source; scan = h.read.scan; module_of = h.read.parsed.module_of }; well_typed = h.read.well_typed }
@@ -135,6 +135,6 @@ reply_is_determined reports tables (diagnoses unit uri version text) sent other 
 reply_is_determined reports tables (formatting_reply unit id indent text) sent other (message, h, sends) (another, k, sends_too) = sends_one message another sent other (formats_one unit id indent text message another h k) sends sends_too
 reply_is_determined reports tables (question_reply unit id at question text) sent other (value, h, sends) (another, k, sends_too) =
     sends_one _ _ sent other (ap (result_message id) (name_one tables unit text at question value another h k)) sends sends_too
-reply_is_determined reports tables (renames unit requested text) sent other (message, h, sends) (another, k, sends_too) = sends_one message another sent other (renaming_one unit requested text message another h k) sends sends_too
+reply_is_determined reports tables (rename_reply unit requested text) sent other (message, h, sends) (another, k, sends_too) = sends_one message another sent other (renaming_one unit requested text message another h k) sends sends_too
 reply_is_determined reports tables (actions_reply unit requested text) sent other (message, (value, h, is), sends) (another, (more, k, too), sends_too) =
     sends_one message another sent other (is ∙ ap (result_message requested.id) (lists_one unit requested text value more h k) ∙ sym too) sends sends_too

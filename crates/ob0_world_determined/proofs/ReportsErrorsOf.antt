@@ -28,17 +28,17 @@ use Rattle.ob0_parse_descent.specs.declared.refusal.ParseRefusal.TheVariants.{Sy
 use Rattle.ob0_scope_table.specs.DuplicatesAndEndNames.{tree_declaration_faults}
 use Rattle.ob0_scope_table.specs.FaultsAtTokens.{fault_with_span}
 use Rattle.ob0_language_names.specs.Occurrences.{bindings}
-use Rattle.ob0_language_names.specs.Parts.{module_block}
-use Rattle.ob0_scope_table.specs.Resolution.{Resolution, IsResolution, declaring_names, is_duplicate_or_end_name, is_undeclared_fault, undeclared_faults_by_labels}
+use Rattle.ob0_language_names.specs.BlockParts.{module_block}
+use Rattle.ob0_scope_table.specs.Resolution.{Resolution, IsResolution, declaring_names, is_duplicate_or_end_name, is_undeclared_fault, undeclared_faults_from_labels}
 use Rattle.ob0_tree.specs.declared.tree.Role.TheVariants as role
 use Rattle.ob0_tree.specs.Tree.{identifiers}
-use Rattle.ob0_types.specs.FaultOrder.{AreFirstFaultsOfModule, fault_code_number, fault_cmp, all_faults_of, span_cmp}
-use Rattle.ob0_types_check.specs.DeclarationFaults.{every_body, undeclared_name_and_type_faults, report_on_block, reported_module, walk_at_start}
+use Rattle.ob0_types.specs.FaultOrder.{AreFirstFaultsOfModule, fault_code_number, compare_faults, all_faults_of, compare_spans}
+use Rattle.ob0_types_check.specs.DeclarationFaults.{every_body, undeclared_name_and_type_faults, report_on_block, report_on_module, walk_at_start}
 use Rattle.ob0_types_check.proofs.SomeBodies.{closing_of}
 use Rattle.ob0_types_check.specs.KnownDeclarations.{known_declarations_at_start, predeclared_meanings}
-use Rattle.ob0_analysis.specs.Diagnosed.{ReportedDiagnosis, IsDiagnosisOfRefusal, ReportedRefusalIsUnique, ReportsErrorsOf, ReportsFaults, ReportsLexicalFaults, ReportsParserRefusal, ReportsNameAndTypeFaults, reported_diagnosis_of_fault}
+use Rattle.ob0_analysis.specs.ReportedErrors.{ReportedDiagnosis, IsDiagnosisOfRefusal, ReportedRefusalIsUnique, ReportsErrorsOf, ReportsFaults, ReportsLexicalFaults, ReportsParserRefusal, ReportsNameAndTypeFaults, reported_diagnosis_of_fault}
 use Rattle.ob0_world_rules.proofs.OneModule.{Same, same_module}
-use Rattle.ob0_world_determined.specs.Determined.{DiagnosesAreDetermined, ResolutionIsDetermined}
+use Rattle.ob0_world_determined.specs.DeterminedOutput.{DiagnosesAreDetermined, ResolutionIsDetermined}
 use Rattle.ob0_world_determined.proofs.SameTables.{Like, block_like}
 
 abbrev pub OneScan : Type 0
@@ -99,7 +99,7 @@ coded x =
       | code.NotRecord ↦ refl
     ]
 
-fault_order : IsTotalOrder fault_cmp
+fault_order : IsTotalOrder compare_faults
 fault_order =
     then_total (then_total (on_total (λ (f : Fault). f.span.start) nat_cmp_total) (on_total (λ (f : Fault). f.span.end) nat_cmp_total)) (on_total (λ (f : Fault). fault_code_number f.code) nat_cmp_total)
 
@@ -108,9 +108,9 @@ then_equal Less b h = absurd (cc)
 then_equal Equal b h = (refl, h)
 then_equal Greater b h = absurd (cc)
 
-same_fault : (x y : Fault) → fault_cmp x y ≡ Equal → x ≡ y
+same_fault : (x y : Fault) → compare_faults x y ≡ Equal → x ≡ y
 same_fault x y h =
-    let parts = then_equal (span_cmp x y) (nat_cmp (fault_code_number x.code) (fault_code_number y.code)) h in
+    let parts = then_equal (compare_spans x y) (nat_cmp (fault_code_number x.code) (fault_code_number y.code)) h in
     let places = then_equal (nat_cmp x.span.start y.span.start) (nat_cmp x.span.end y.span.end) parts.0 in
     let starts : x.span.start ≡ y.span.start = exact_unsigned x.span.start y.span.start places.0 in
     let ends : x.span.end ≡ y.span.end = exact_unsigned x.span.end y.span.end places.1 in
@@ -118,7 +118,7 @@ same_fault x y h =
     λ i. record { code = codes i; span = record { start = starts i; end = ends i } }
 
 abbrev is_below : Fault → Fault → Bool
-is_below x y = is_lt (fault_cmp x y)
+is_below x y = is_lt (compare_faults x y)
 
 less_only : (o : Ordering) → is_lt o ≡ true → o ≡ Less
 less_only Less h = refl
@@ -127,17 +127,17 @@ less_only Greater h = absurd (cc)
 
 weak : IsStrictWeakOrder is_below
 weak = record {
-  one_way = λ x y h. ap is_lt (fault_order.antisymm y x ∙ ap ordering_reverse (less_only (fault_cmp x y) h));
-  chain = λ x y z h k. go x y z (fault_cmp x y) refl (fault_cmp y z) refl h k;
+  one_way = λ x y h. ap is_lt (fault_order.antisymm y x ∙ ap ordering_reverse (less_only (compare_faults x y) h));
+  chain = λ x y z h k. go x y z (compare_faults x y) refl (compare_faults y z) refl h k;
 }
   where
-    back : (x y : Fault) → fault_cmp x y ≡ Greater → fault_cmp y x ≡ Less
+    back : (x y : Fault) → compare_faults x y ≡ Greater → compare_faults y x ≡ Less
     back x y h = fault_order.antisymm y x ∙ ap ordering_reverse h
 
-    forth : (x y : Fault) → fault_cmp x y ≡ Less → fault_cmp y x ≡ Greater
+    forth : (x y : Fault) → compare_faults x y ≡ Less → compare_faults y x ≡ Greater
     forth x y h = fault_order.antisymm y x ∙ ap ordering_reverse h
 
-    go : (x y z : Fault) (a : Ordering) → fault_cmp x y ≡ a → (b : Ordering) → fault_cmp y z ≡ b → is_lt (fault_cmp x y) ≡ false → is_lt (fault_cmp y z) ≡ false → is_lt (fault_cmp x z) ≡ false
+    go : (x y z : Fault) (a : Ordering) → compare_faults x y ≡ a → (b : Ordering) → compare_faults y z ≡ b → is_lt (compare_faults x y) ≡ false → is_lt (compare_faults y z) ≡ false → is_lt (compare_faults x z) ≡ false
     go x y z Less p b q h k = absurd (let no : true ≡ false = sym (ap is_lt p) ∙ h in cc)
     go x y z Equal p b q h k = ap is_lt (fault_order.congr x y z p) ∙ k
     go x y z Greater p Less q h k = absurd (let no : true ≡ false = sym (ap is_lt q) ∙ k in cc)
@@ -145,9 +145,9 @@ weak = record {
     go x y z Greater p Greater q h k = ap is_lt (forth z x (fault_order.trans z y x (back y z q) (back x y p)))
 
 tied_same : (x y : Fault) → ties is_below x y ≡ true → y ≡ x
-tied_same x y h = go (fault_cmp x y) refl (is_below y x) refl
+tied_same x y h = go (compare_faults x y) refl (is_below y x) refl
   where
-    go : (a : Ordering) → fault_cmp x y ≡ a → (b : Bool) → is_below y x ≡ b → y ≡ x
+    go : (a : Ordering) → compare_faults x y ≡ a → (b : Bool) → is_below y x ≡ b → y ≡ x
     go Less p b q = absurd (let none : ties is_below x y ≡ false = rw (ap is_lt p) refl in cc)
     go Equal p b q = sym (same_fault x y p)
     go Greater p b q = absurd (let low : is_below y x ≡ true = ap is_lt (fault_order.antisymm y x ∙ ap ordering_reverse p) in let none : ties is_below x y ≡ false = rw (ap is_lt p, low) refl in cc)
@@ -174,7 +174,7 @@ copies q (x ∷ xs) = go (ties is_below q x) refl (copies q xs)
         ap (λ b. cond b (x ∷ filter (ties is_below q) xs) (filter (ties is_below q) xs)) t ∙ more ∙ sym (ap (λ n. replicate n q) count)
 
 -- A list of faults has at most one sorted permutation.
-sorted_one : (faults xs ys : List Fault) → IsPermutation faults xs → IsPermutation faults ys → IsSorted fault_cmp xs → IsSorted fault_cmp ys → xs ≡ ys
+sorted_one : (faults xs ys : List Fault) → IsPermutation faults xs → IsPermutation faults ys → IsSorted compare_faults xs → IsSorted compare_faults ys → xs ≡ ys
 sorted_one faults xs ys p q sorted sorted_too =
     one_sorted is_below weak xs ys (rises_sorted is_below weak xs sorted) (rises_sorted is_below weak ys sorted_too)
     (λ f. copies f xs ∙ ap (λ n. replicate n f) (sum_by-IsPermutation (counts f) faults xs p ∙ sym (sum_by-IsPermutation (counts f) faults ys q)) ∙ sym (copies f ys))
@@ -192,12 +192,12 @@ module _ (r q : Resolution) (h : IsResolution r) (k : IsResolution q) (e : Same 
 
   same_of_names : r.faults ≡ q.faults
   same_of_names =
-      h.reported.by_kind ∙ (λ i. tree_declaration_faults (token_text_at (e.source i)) (e.tree i) ++ undeclared_faults_by_labels (occurrences (e.tree i)) (bindings (tree_with_names (e.source i) (e.tree i)))) ∙ sym k.reported.by_kind
+      h.reported.by_kind ∙ (λ i. tree_declaration_faults (token_text_at (e.source i)) (e.tree i) ++ undeclared_faults_from_labels (occurrences (e.tree i)) (bindings (tree_with_names (e.source i) (e.tree i)))) ∙ sym k.reported.by_kind
 
   same_reported : undeclared_name_and_type_faults r ≡ undeclared_name_and_type_faults q
   unfolding undeclared_name_and_type_faults
   same_reported =
-      let found : (reported_module every_body r).faults ≡ (reported_module every_body q).faults =
+      let found : (report_on_module every_body r).faults ≡ (report_on_module every_body q).faults =
       (block_like r.module_read.closing (walk_at_start r) (walk_at_start q) (module_block (tree_of r.module_read)) first_like).faults ∙ ap (λ t. (report_on_block every_body (closing_of t) (walk_at_start q) (module_block t)).faults) e.tree in
       λ i. filter is_undeclared_fault (same_of_names i) ++ found i
 

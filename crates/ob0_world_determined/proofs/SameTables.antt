@@ -2,19 +2,19 @@
 use Rattle.std.proofs.Common.{◌≡◌, ℕ, suc, ◌+◌, Bool, true, false, cond, Option, Some, None, List, [], ◌∷◌, ◌++◌, map, length, refl, ap, subst}
 use Rattle.std.specs.Prelude.{option_and_then, slice_index_or, slice_set}
 use Rattle.ob0_language_values.specs.Values.{Value}
-use Rattle.ob0_language_names.specs.Parts.{formal_sections, names_in_list, section_constants, section_types, section_variables}
+use Rattle.ob0_language_names.specs.BlockParts.{formal_sections, names_in_list, section_constants, section_types, section_variables}
 use Rattle.ob0_scope_table.specs.Resolution.{ordinal_in}
 use Rattle.ob0_scope_table.specs.declared.faults.FaultAtTokens.{FaultAtTokens}
 use Rattle.ob0_types_table.specs.declared.types.TypeId.{TypeId}
 use Rattle.ob0_tree.specs.Places.{token_text_at}
-use Rattle.ob0_tree.specs.Tree.{Tree, array_type, begins, block, body, constant, declares, declares_constant, declares_procedure, declares_type, declares_variable, end, fields, further_fields, further_section, forms_block, item, items, maybe, more, named_type, names, no_fields, none, one, procedure, record_type, some_fields, then_fields, then_section, type_definition, value_section, variable, variable_section, written_type}
+use Rattle.ob0_tree.specs.Tree.{Tree, array_type, begins, block, body, constant, declares, declares_constant, declares_procedure, declares_type, declares_variable, end, fields, fields_after_semicolon, section_after_semicolon, forms_block, item, items, maybe, more, named_type, names, no_fields, none, one, procedure, record_type, some_fields, semicolon_then_fields, semicolon_then_section, type_definition, value_section, variable, variable_section, written_type}
 use Rattle.ob0_types_check.specs.DeclarationFaults.{KnownHeading, WalkProgress, body_faults, every_body, report_body_if_wanted, report_on_block, report_on_constant_declaration, report_on_constant_declarations, report_on_parameters, report_on_procedure, report_on_procedures, report_on_parameter_section, report_on_parameter_sections, report_on_type_declaration, report_on_type_declarations, report_on_variable_group, report_on_variable_declarations, declarations_after_heading, with_declarations, with_parameters}
 use Rattle.ob0_types_check.specs.ExpressionFaults.{report_on_expression}
-use Rattle.ob0_types_check.specs.Known.{Facts, Meaning, Operand, ResultWithFaults, a_constant, a_procedure, a_type, a_variable}
-use Rattle.ob0_types_check.specs.Operations.{without_fault, token_before}
-use Rattle.ob0_types_check.specs.KnownDeclarations.{PartTypes, Size, KnownDeclarations, TypeWithFollowingDeclarations, define_name_at_token, define_names_at_tokens, facts_at, is_within_limits, append_composite, make_composite_type, of_elements, of_fields, size_of_type_so_far, report_on_too_large_type, type_at_index, types_so_far, with_meaning}
+use Rattle.ob0_types_check.specs.TypesAndMeanings.{Facts, Meaning, Operand, ResultWithFaults, a_constant, a_procedure, a_type, a_variable}
+use Rattle.ob0_types_check.specs.OperandFaults.{without_fault, token_before}
+use Rattle.ob0_types_check.specs.KnownDeclarations.{CompositeParts, TypeSize, KnownDeclarations, TypeWithFollowingDeclarations, define_name_at_token, define_names_at_tokens, facts_from_declarations, is_within_limits, append_composite, make_composite_type, of_elements, of_fields, size_of_type_so_far, report_on_too_large_type, type_at_index, types_so_far, with_meaning}
 use Rattle.ob0_types_check.specs.StatementFaults.{sequence_faults}
-use Rattle.ob0_types_check.specs.TypeFaults.{length_by_operand, report_on_constant_expression, type_named_at}
+use Rattle.ob0_types_check.specs.TypeFaults.{length_from_operand, report_on_constant_expression, type_named_at}
 use Rattle.ob0_types_check.specs.WrittenTypeFaults.{KnownFields, made_array_type, array_size, sum_of_sizes, with_field_group, no_known_fields, next_type_ordinal, made_record_type, record_size, record_keyword_token, report_on_field_group, report_on_further_field_groups, report_on_written_type, with_known_field, with_known_fields, token_before_group}
 
 -- ---- states that differ only in tables with the same ordinals
@@ -56,7 +56,7 @@ after first next = record { known = next.known; faults = λ i. first i ++ next.f
 
 -- ---- known facts
 
-same_facts : (p q : KnownDeclarations) (only : Bool) → Like p q → facts_at p only ≡ facts_at q only
+same_facts : (p q : KnownDeclarations) (only : Bool) → Like p q → facts_from_declarations p only ≡ facts_from_declarations q only
 same_facts p q only like = λ i. record {
   source = like.source i;
   types = types_so_far (like.made i);
@@ -78,13 +78,13 @@ define_all_like p q m (x ∷ xs) like = define_all_like (define_name_at_token p 
 
 -- ---- types
 
-made_like : (p q : KnownDeclarations) (k l : ℕ) (parts : PartTypes) (size : Size) → k ≡ l → Like p q → TypedLike (append_composite p k parts size) (append_composite q l parts size)
+made_like : (p q : KnownDeclarations) (k l : ℕ) (parts : CompositeParts) (size : TypeSize) → k ≡ l → Like p q → TypedLike (append_composite p k parts size) (append_composite q l parts size)
 made_like p q k l parts size same like = record {
   of = ap (λ ms. type_at_index parts (length ms)) like.made;
   following = record { source = like.source; ordinals = like.ordinals; declared = like.declared; made = λ i. like.made i ++ record { ordinal = same i; parts = parts; size = size } ∷ [] };
 }
 
-make_like : (p q : KnownDeclarations) (word k l : ℕ) (parts : PartTypes) (size : Size) → k ≡ l → Like p q → Both TypedLike (make_composite_type p word k parts size) (make_composite_type q word l parts size)
+make_like : (p q : KnownDeclarations) (word k l : ℕ) (parts : CompositeParts) (size : TypeSize) → k ≡ l → Like p q → Both TypedLike (make_composite_type p word k parts size) (make_composite_type q word l parts size)
 make_like p q word k l parts size same like = go (is_within_limits size)
   where
     go : (b : Bool) → Both TypedLike (cond b (without_fault (append_composite p k parts size)) (report_on_too_large_type p word)) (cond b (without_fault (append_composite q l parts size)) (report_on_too_large_type q word))
@@ -132,13 +132,13 @@ mutual
 
   type_like : (around : ℕ) (p q : KnownDeclarations) (t : Tree ℕ written_type) → Like p q → Both TypedLike (report_on_written_type around p t) (report_on_written_type around q t)
   type_like around p q (named_type x) like =
-      let same : type_named_at (facts_at p false) x ≡ type_named_at (facts_at q false) x = ap (λ (f : Facts TypeId). type_named_at f x) (same_facts p q false like) in
+      let same : type_named_at (facts_from_declarations p false) x ≡ type_named_at (facts_from_declarations q false) x = ap (λ (f : Facts TypeId). type_named_at f x) (same_facts p q false like) in
       after (ap (λ (r : ResultWithFaults TypeId). r.faults) same) (right_both TypedLike _ _ (record { of = ap (λ (r : ResultWithFaults TypeId). r.known) same; following = like }))
   type_like around p q (array_type e u) like =
-      let same : report_on_expression (facts_at p true) e ≡ report_on_expression (facts_at q true) e = ap (λ (f : Facts TypeId). report_on_expression f e) (same_facts p q true like) in
-      let operand : (report_on_expression (facts_at p true) e).known ≡ (report_on_expression (facts_at q true) e).known = ap (λ (r : ResultWithFaults (Operand TypeId)). r.known) same in
-      let sized : length_by_operand (facts_at p false) (report_on_expression (facts_at p true) e).known ≡ length_by_operand (facts_at q false) (report_on_expression (facts_at q true) e).known =
-      λ i. length_by_operand (same_facts p q false like i) (operand i) in
+      let same : report_on_expression (facts_from_declarations p true) e ≡ report_on_expression (facts_from_declarations q true) e = ap (λ (f : Facts TypeId). report_on_expression f e) (same_facts p q true like) in
+      let operand : (report_on_expression (facts_from_declarations p true) e).known ≡ (report_on_expression (facts_from_declarations q true) e).known = ap (λ (r : ResultWithFaults (Operand TypeId)). r.known) same in
+      let sized : length_from_operand (facts_from_declarations p false) (report_on_expression (facts_from_declarations p true) e).known ≡ length_from_operand (facts_from_declarations q false) (report_on_expression (facts_from_declarations q true) e).known =
+      λ i. length_from_operand (same_facts p q false like i) (operand i) in
       let element : Both TypedLike (report_on_written_type (suc around) p u) (report_on_written_type (suc around) q u) = type_like (suc around) p q u like in
       after (ap (λ (r : ResultWithFaults (Operand TypeId)). r.faults) same)
       (after (ap (λ (r : ResultWithFaults (Option ℕ)). r.faults) sized)
@@ -156,9 +156,9 @@ mutual
       let typed : Both TypedLike (report_on_written_type around g.following t) (report_on_written_type around h.following t) = type_like around g.following h.following t like.following in
       after typed.faults (right_both GatheredLike _ _ (gathered_like g h (names_in_list ns) _ _ like typed.known))
 
-  groups_like : (around : ℕ) (g h : KnownFields) (t : Tree ℕ (items further_fields)) → GatheredLike g h → Both GatheredLike (report_on_further_field_groups around g t) (report_on_further_field_groups around h t)
+  groups_like : (around : ℕ) (g h : KnownFields) (t : Tree ℕ (items fields_after_semicolon)) → GatheredLike g h → Both GatheredLike (report_on_further_field_groups around g t) (report_on_further_field_groups around h t)
   groups_like around g h end like = right_both GatheredLike g h like
-  groups_like around g h (more (then_fields t) rest) like =
+  groups_like around g h (more (semicolon_then_fields t) rest) like =
       let next : Both GatheredLike (report_on_field_group around g t) (report_on_field_group around h t) = fields_like around g h t like in
       after next.faults (groups_like around (report_on_field_group around g t).known (report_on_field_group around h t).known rest next.known)
 
@@ -177,7 +177,7 @@ variables_defined xs t u typed =
 constant_like : (p q : KnownDeclarations) (d : Tree ℕ (item constant)) → Like p q → Both Like (report_on_constant_declaration p d) (report_on_constant_declaration q d)
 unfolding report_on_constant_declaration
 constant_like p q (declares_constant x e) like =
-    let same : report_on_constant_expression (facts_at p true) e ≡ report_on_constant_expression (facts_at q true) e = ap (λ (f : Facts TypeId). report_on_constant_expression f e) (same_facts p q true like) in
+    let same : report_on_constant_expression (facts_from_declarations p true) e ≡ report_on_constant_expression (facts_from_declarations q true) e = ap (λ (f : Facts TypeId). report_on_constant_expression f e) (same_facts p q true like) in
     after (ap (λ (r : ResultWithFaults (Option Value)). r.faults) same) (right_both Like _ _ (constant_defined p q x _ _ (ap (λ (r : ResultWithFaults (Option Value)). r.known) same) like))
 
 constants_like : (p q : KnownDeclarations) (ds : Tree ℕ (items constant)) → Like p q → Both Like (report_on_constant_declarations p ds) (report_on_constant_declarations q ds)
@@ -225,12 +225,12 @@ parameters_like g h by_place ns t like =
     let typed : Both TypedLike (report_on_written_type 0 g.following t) (report_on_written_type 0 h.following t) = type_like 0 g.following h.following t like.following in
     after typed.faults (right_both HeadingLike _ _ (parameters_with g h by_place (names_in_list ns) _ _ like typed.known))
 
-section_like : (g h : KnownHeading) (s : Tree ℕ (item further_section)) → HeadingLike g h → Both HeadingLike (report_on_parameter_section g s) (report_on_parameter_section h s)
+section_like : (g h : KnownHeading) (s : Tree ℕ (item section_after_semicolon)) → HeadingLike g h → Both HeadingLike (report_on_parameter_section g s) (report_on_parameter_section h s)
 unfolding report_on_parameter_section
-section_like g h (then_section (value_section ns t)) like = parameters_like g h false ns t like
-section_like g h (then_section (variable_section ns t)) like = parameters_like g h true ns t like
+section_like g h (semicolon_then_section (value_section ns t)) like = parameters_like g h false ns t like
+section_like g h (semicolon_then_section (variable_section ns t)) like = parameters_like g h true ns t like
 
-sections_like : (g h : KnownHeading) (ss : Tree ℕ (items further_section)) → HeadingLike g h → Both HeadingLike (report_on_parameter_sections g ss) (report_on_parameter_sections h ss)
+sections_like : (g h : KnownHeading) (ss : Tree ℕ (items section_after_semicolon)) → HeadingLike g h → Both HeadingLike (report_on_parameter_sections g ss) (report_on_parameter_sections h ss)
 unfolding report_on_parameter_sections
 sections_like g h end like = right_both HeadingLike g h like
 sections_like g h (more s rest) like =

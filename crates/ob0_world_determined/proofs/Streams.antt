@@ -15,7 +15,7 @@ use Rattle.ob0_session_server.specs.Steps.{HasNotEnded}
 use Rattle.ob0_session_server.specs.declared.session.Phase.TheVariants.{Ended}
 use Rattle.ob0_session.specs.declared.serving.ServeFault.{ServeFault}
 use Rattle.ob0_session.specs.declared.serving.ServeFault.TheVariants.{BadHead, Truncated, Read, Write, Memory, TooManyReads}
-use Rattle.ob0_world_determined.specs.Determined.{ConversationIsServed, ConversationIsServedAsPrefix, EndedConversationIsServed, IsFinalResult, IsDeterminedByBytes, IsFullyWritten, MayServe, ConversationIsDetermined, ResultIsDetermined}
+use Rattle.ob0_world_determined.specs.DeterminedOutput.{ConversationIsServed, ConversationIsServedAsPrefix, EndedConversationIsServed, IsFinalResult, IsDeterminedByBytes, IsFullyWritten, MayServe, ConversationIsDetermined, ResultIsDetermined}
 use Rattle.ob0_world_determined.proofs.Conversations.{Contents}
 use Rattle.ob0_world_determined.proofs.Fronts.{Framed, fed_front}
 

@@ -1,2 +1,2 @@
-pub mod Determined
-pub mod Exchanged
+pub mod DeterminedOutput
+pub mod ServedExchanges

@@ -1,14 +1,14 @@
 //! Proves that the server's input determines the server's output, and that `serve` writes the
 //! frames of a conversation: each message's head and content.
-ghost use Rattle.ob0_world_determined.specs.Determined.{FramingExists, ConversationIsServed, ConversationIsServedAsPrefix, EndedConversationIsServed, AnswerIsDetermined, ConversationIsDetermined, DiagnosesAreDetermined, OutputIsDetermined, ReplyIsDetermined, ResultIsDetermined, ResolutionIsDetermined};
-ghost use Rattle.ob0_world_determined.specs.Exchanged.{EveryExchangeIsServed};
+ghost use Rattle.ob0_world_determined.specs.DeterminedOutput.{FramingExists, ConversationIsServed, ConversationIsServedAsPrefix, EndedConversationIsServed, AnswerIsDetermined, ConversationIsDetermined, DiagnosesAreDetermined, OutputIsDetermined, ReplyIsDetermined, ResultIsDetermined, ResolutionIsDetermined};
+ghost use Rattle.ob0_world_determined.specs.ServedExchanges.{EveryExchangeIsServed};
 
 use ob0_analysis::laws::reported_refusal_is_unique;
 use ob0_frame::laws::{
     empty_feed_completes_nothing, feeding_is_determined, written_frames_are_read,
 };
 use ob0_scan::laws::{reported_faults_are_unique, scan_is_unique};
-use ob0_world::laws::holds_for_every_exchange;
+use ob0_world::laws::guarantees_hold_for_every_exchange;
 
 /// Proves that a module's names are resolved in at most one way: two resolutions of the same module
 /// agree at each token. Both bind the token to the same declaration, or both leave it unbound.
@@ -120,7 +120,7 @@ pub fn an_ended_conversation_is_served()
 }
 
 /// Proves the guarantees of `serve` for every editor that keeps ob0's rules. Each exchange of the
-/// editor with a session has the guarantees of `HoldsForExchange`. Suppose that the input of
+/// editor with a session has the guarantees of `GuaranteesHoldForExchange`. Suppose that the input of
 /// `serve` is the frames of the contents that the session took, each of at most
 /// `max_content_length` bytes. Then `serve` writes the frames of the contents that the session
 /// sent, unless `serve` returns `Memory` or `Write`. If `serve` returns `Memory` after it has
@@ -128,7 +128,7 @@ pub fn an_ended_conversation_is_served()
 pub fn every_exchange_is_served()
     ensures { EveryExchangeIsServed }
 {
-    holds_for_every_exchange();
+    guarantees_hold_for_every_exchange();
     a_conversation_is_served();
     a_conversation_is_served_as_prefix();
     an_ended_conversation_is_served();

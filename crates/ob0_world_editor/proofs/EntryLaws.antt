@@ -14,7 +14,7 @@ use Rattle.std.specs.FinMap as map_of
 use Rattle.std.proofs.lemmas.Map.Text.{btree_map_updates_text, is_eq-slice_cmp}
 use Rattle.ob0_world_rules.specs.ClientAndServer.{EditorDocuments}
 use Rattle.ob0_world_editor.specs.declared.documents.OpenDocument as stored
-use Rattle.ob0_world_editor.specs.Entries.{open_document_of, editor_documents_of}
+use Rattle.ob0_world_editor.specs.StoredDocuments.{open_document_of, editor_documents_of}
 
 same_key : (bs q : List ℕ) → eq_by_cmp (slice_cmp nat_cmp) q bs ≡ bytes_eq bs q
 same_key bs q = (eq_by_cmp_equiv nat_list_cmp_total).symm q bs ∙ is_eq-slice_cmp bs q

@@ -9,20 +9,20 @@ use Rattle.ob0_world_editor.specs.declared.editor.SentAsk as requested
 use Rattle.ob0_world_editor.specs.declared.editor.ReceivedAnswer as answer
 use Rattle.ob0_world_editor.specs.declared.applied.ApplyOutcome as applying
 use Rattle.ob0_world_editor.specs.declared.editor.RewrittenDocument as rewritten
-use Rattle.ob0_world_rules.specs.Edited.{Replacement}
+use Rattle.ob0_world_rules.specs.TextEdits.{Replacement}
 use Rattle.ob0_world_rules.specs.Asks.{Ask}
-use Rattle.ob0_world_rules.specs.ClientAndServer.{OpenDocument, SentAsk, Answer, Editor, request_numbered, open_document_at}
-use Rattle.ob0_world_rules.specs.EditorActs.{open_document, ask_about, apply, ActResult, silent_result, opening_result, asking_result, edits_of_answer, answers_except, without_answer, applying_result, act_result}
-use Rattle.ob0_world_editor.specs.Code.{sent_ask_of, answer_of}
-use Rattle.ob0_world_rules.specs.Edited.{replacements}
+use Rattle.ob0_world_rules.specs.ClientAndServer.{OpenDocument, SentAsk, Answer, Editor, request_with_number, editor_document_at}
+use Rattle.ob0_world_rules.specs.EditorActs.{open_document, ask_about, apply, ActResult, result_without_messages, opening_result, asking_result, edits_of_answer, answers_except, editor_without_answer, applying_result, act_result}
+use Rattle.ob0_world_editor.specs.ModelValues.{sent_ask_of, answer_of}
+use Rattle.ob0_world_rules.specs.TextEdits.{replacements}
 use Rattle.ob0_world_editor.specs.MessagesToServer.{IsRequestWithNumber, SentRequestAsksFor}
-use Rattle.ob0_world_editor.specs.Moves.{CountsCanGrow, IsSentContent, PerformsAct, IsIndexOfAnswer, IsApplyOutcome, IsRewritten, IsAppliedAs}
+use Rattle.ob0_world_editor.specs.EditorCalls.{CountsCanGrow, IsSentContent, PerformsAct, IsIndexOfAnswer, IsApplyOutcome, RewritesDocumentIfAny, IsRewriteOutcome}
 
 -- ---- asks
 
-pub numbered_at : (xs : List requested.SentAsk) (n i : ℕ) (a : requested.SentAsk) → n ≡ suc i → i < length xs → a ≡ get_or xs i a → Some (sent_ask_of a) ≡ request_numbered (map sent_ask_of xs) n
+pub numbered_at : (xs : List requested.SentAsk) (n i : ℕ) (a : requested.SentAsk) → n ≡ suc i → i < length xs → a ≡ get_or xs i a → Some (sent_ask_of a) ≡ request_with_number (map sent_ask_of xs) n
 numbered_at xs n i a is within at =
-    subst (λ m. Some (sent_ask_of a) ≡ request_numbered (map sent_ask_of xs) m) (sym is)
+    subst (λ m. Some (sent_ask_of a) ≡ request_with_number (map sent_ask_of xs) m) (sym is)
     (sym (slice_get-map sent_ask_of xs i ∙ ap (option_map sent_ask_of) (slice_get_read xs (length xs) i a refl within at)))
 
 past_end : {A : Type 0} (xs : List A) (i : ℕ) → length xs ≤ i → slice_get xs i ≡ None
@@ -30,9 +30,9 @@ past_end [] i h = refl
 past_end (x ∷ xs) zero h = absurd (omega arith)
 past_end (x ∷ xs) (suc i) h = past_end xs i (omega arith)
 
-pub numbered_past : (xs : List requested.SentAsk) (n i : ℕ) → n ≡ suc i → length xs ≤ i → None ≡ request_numbered (map sent_ask_of xs) n
+pub numbered_past : (xs : List requested.SentAsk) (n i : ℕ) → n ≡ suc i → length xs ≤ i → None ≡ request_with_number (map sent_ask_of xs) n
 numbered_past xs n i is past =
-    subst (λ m. None ≡ request_numbered (map sent_ask_of xs) m) (sym is) (sym (slice_get-map sent_ask_of xs i ∙ ap (option_map sent_ask_of) (past_end xs i past)))
+    subst (λ m. None ≡ request_with_number (map sent_ask_of xs) m) (sym is) (sym (slice_get-map sent_ask_of xs i ∙ ap (option_map sent_ask_of) (past_end xs i past)))
 
 -- ---- the place of an answer
 
@@ -64,37 +64,37 @@ pub use_edits : (xs : List answer.ReceivedAnswer) (i : ℕ) (a : answer.Received
 use_edits xs i a h at = sym (ap (option_map (λ (x : answer.ReceivedAnswer). replacements x.edits.items)) (slice_get_read xs (length xs) i a refl h at))
 
 -- An editor with one answer less still has room for its counts.
-pub few_without : (e : Editor) (k : ℕ) → CountsCanGrow e → CountsCanGrow (without_answer e k)
+pub few_without : (e : Editor) (k : ℕ) → CountsCanGrow e → CountsCanGrow (editor_without_answer e k)
 few_without e k few = record { openings = few.openings; asks = few.asks; versions = few.versions }
 
--- The outcome for an answer that the editor doesn't have is `NotHeld`.
-pub comes_not_held : (e : Editor) (k : ℕ) (o : Option (List Replacement)) → o ≡ edits_of_answer k e.answers → o ≡ None → IsApplyOutcome (act_result e (apply k)) (is_some (edits_of_answer k e.answers)) applying.TheVariants.NotHeld (without_answer e k)
+-- The outcome for an answer that the editor doesn't have is `NoSuchAnswer`.
+pub comes_not_held : (e : Editor) (k : ℕ) (o : Option (List Replacement)) → o ≡ edits_of_answer k e.answers → o ≡ None → IsApplyOutcome (act_result e (apply k)) (is_some (edits_of_answer k e.answers)) applying.TheVariants.NoSuchAnswer (editor_without_answer e k)
 comes_not_held e k o is none =
     let absent : edits_of_answer k e.answers ≡ None = sym is ∙ none in
-    subst (λ x. IsApplyOutcome (unwrap_or (option_and_then (applying_result (without_answer e k) k) x) (silent_result (without_answer e k))) (is_some x) applying.TheVariants.NotHeld (without_answer e k)) (sym absent)
+    subst (λ x. IsApplyOutcome (unwrap_or (option_and_then (applying_result (editor_without_answer e k) k) x) (result_without_messages (editor_without_answer e k))) (is_some x) applying.TheVariants.NoSuchAnswer (editor_without_answer e k)) (sym absent)
     ((refl, refl, refl), refl)
 
 -- The outcome for an answer whose edits can't be applied is `Dropped`.
-pub comes_dropped : (e rest : Editor) (k : ℕ) (edits : List Replacement) → edits_of_answer k e.answers ≡ Some edits → rest ≡ without_answer e k → IsRewritten rest (applying_result rest k edits) None → IsApplyOutcome (act_result e (apply k)) (is_some (edits_of_answer k e.answers)) applying.TheVariants.Dropped rest
+pub comes_dropped : (e rest : Editor) (k : ℕ) (edits : List Replacement) → edits_of_answer k e.answers ≡ Some edits → rest ≡ editor_without_answer e k → RewritesDocumentIfAny rest (applying_result rest k edits) None → IsApplyOutcome (act_result e (apply k)) (is_some (edits_of_answer k e.answers)) applying.TheVariants.Dropped rest
 comes_dropped e rest k edits held is made =
     subst (λ (r : Editor). IsApplyOutcome (act_result e (apply k)) (is_some (edits_of_answer k e.answers)) applying.TheVariants.Dropped r) (sym is)
-    (subst (λ x. IsApplyOutcome (unwrap_or (option_and_then (applying_result (without_answer e k) k) x) (silent_result (without_answer e k))) (is_some x) applying.TheVariants.Dropped (without_answer e k)) (sym held)
-    (go (applying_result (without_answer e k) k edits) (subst (λ r. IsRewritten r (applying_result r k edits) None) is made)))
+    (subst (λ x. IsApplyOutcome (unwrap_or (option_and_then (applying_result (editor_without_answer e k) k) x) (result_without_messages (editor_without_answer e k))) (is_some x) applying.TheVariants.Dropped (editor_without_answer e k)) (sym held)
+    (go (applying_result (editor_without_answer e k) k edits) (subst (λ r. RewritesDocumentIfAny r (applying_result r k edits) None) is made)))
   where
-    go : (o : Option ActResult) → IsRewritten (without_answer e k) o None → IsApplyOutcome (unwrap_or o (silent_result (without_answer e k))) true applying.TheVariants.Dropped (without_answer e k)
+    go : (o : Option ActResult) → RewritesDocumentIfAny (editor_without_answer e k) o None → IsApplyOutcome (unwrap_or o (result_without_messages (editor_without_answer e k))) true applying.TheVariants.Dropped (editor_without_answer e k)
     go None h = ((refl, refl, refl), refl)
     go (Some done) h = absurd h
 
 -- The outcome for an answer whose edits were made is `Made`.
-pub comes_made : (e rest new : Editor) (k : ℕ) (edits : List Replacement) (r : rewritten.RewrittenDocument) (a : applying.ApplyOutcome) → edits_of_answer k e.answers ≡ Some edits → rest ≡ without_answer e k → IsRewritten rest (applying_result rest k edits) (Some r) → IsAppliedAs rest r a new
+pub comes_made : (e rest new : Editor) (k : ℕ) (edits : List Replacement) (r : rewritten.RewrittenDocument) (a : applying.ApplyOutcome) → edits_of_answer k e.answers ≡ Some edits → rest ≡ editor_without_answer e k → RewritesDocumentIfAny rest (applying_result rest k edits) (Some r) → IsRewriteOutcome rest r a new
     → IsApplyOutcome (act_result e (apply k)) (is_some (edits_of_answer k e.answers)) a new
-comes_made e rest new k edits r applying.TheVariants.NotHeld held is made applied = absurd applied
+comes_made e rest new k edits r applying.TheVariants.NoSuchAnswer held is made applied = absurd applied
 comes_made e rest new k edits r applying.TheVariants.Dropped held is made applied = absurd applied
 comes_made e rest new k edits r (applying.TheVariants.Made a content) held is made applied =
-    subst (λ x. IsApplyOutcome (unwrap_or (option_and_then (applying_result (without_answer e k) k) x) (silent_result (without_answer e k))) (is_some x) (applying.TheVariants.Made a content) new) (sym held)
-    (go (applying_result (without_answer e k) k edits) (subst (λ x. IsRewritten x (applying_result x k edits) (Some r)) is made) (subst (λ x. IsAppliedAs x r (applying.TheVariants.Made a content) new) is applied))
+    subst (λ x. IsApplyOutcome (unwrap_or (option_and_then (applying_result (editor_without_answer e k) k) x) (result_without_messages (editor_without_answer e k))) (is_some x) (applying.TheVariants.Made a content) new) (sym held)
+    (go (applying_result (editor_without_answer e k) k edits) (subst (λ x. RewritesDocumentIfAny x (applying_result x k edits) (Some r)) is made) (subst (λ x. IsRewriteOutcome x r (applying.TheVariants.Made a content) new) is applied))
   where
-    go : (o : Option ActResult) → IsRewritten (without_answer e k) o (Some r) → IsAppliedAs (without_answer e k) r (applying.TheVariants.Made a content) new → IsApplyOutcome (unwrap_or o (silent_result (without_answer e k))) true (applying.TheVariants.Made a content) new
+    go : (o : Option ActResult) → RewritesDocumentIfAny (editor_without_answer e k) o (Some r) → IsRewriteOutcome (editor_without_answer e k) r (applying.TheVariants.Made a content) new → IsApplyOutcome (unwrap_or o (result_without_messages (editor_without_answer e k))) true (applying.TheVariants.Made a content) new
     go None h applied = absurd h
     go (Some done) h (is_new, is_applied, says) = (
       (is_new ∙ sym h.text, subst (λ sent. IsSentContent new.requested sent (Some content)) (sym h.says) (says, refl)),
@@ -105,11 +105,11 @@ comes_made e rest new k edits r (applying.TheVariants.Made a content) held is ma
 -- ---- documents
 
 -- Opening a document that isn't open has the result that `opening_result` defines.
-pub opens_so : (e new : Editor) (uri text : List ℕ) (content : Option (Vec ℕ Global)) → open_document_at e uri ≡ None → PerformsAct (opening_result e uri text) content new → PerformsAct (act_result e (open_document uri text)) content new
-opens_so e new uri text content none acts = subst (λ o. PerformsAct (cond (is_some o) (silent_result e) (opening_result e uri text)) content new) (sym none) acts
+pub opens_so : (e new : Editor) (uri text : List ℕ) (content : Option (Vec ℕ Global)) → editor_document_at e uri ≡ None → PerformsAct (opening_result e uri text) content new → PerformsAct (act_result e (open_document uri text)) content new
+opens_so e new uri text content none acts = subst (λ o. PerformsAct (cond (is_some o) (result_without_messages e) (opening_result e uri text)) content new) (sym none) acts
 
-pub open_already : (e new : Editor) (uri text : List ℕ) (d : OpenDocument) → open_document_at e uri ≡ Some d → new ≡ e → PerformsAct (act_result e (open_document uri text)) None new
-open_already e new uri text d at is = subst (λ o. PerformsAct (cond (is_some o) (silent_result e) (opening_result e uri text)) None new) (sym at) (is, tt)
+pub open_already : (e new : Editor) (uri text : List ℕ) (d : OpenDocument) → editor_document_at e uri ≡ Some d → new ≡ e → PerformsAct (act_result e (open_document uri text)) None new
+open_already e new uri text d at is = subst (λ o. PerformsAct (cond (is_some o) (result_without_messages e) (opening_result e uri text)) None new) (sym at) (is, tt)
 
 -- ---- asking
 
@@ -118,7 +118,7 @@ slice_get_last [] x = refl
 slice_get_last (y ∷ xs) x = slice_get_last xs x
 
 -- The editor has sent one more request, and the content is that request.
-pub asks_once_more : (e new : Editor) (uri : List ℕ) (ask : Ask) (d : OpenDocument) (content : Vec ℕ Global) (n : ℕ) (older : List requested.SentAsk) (this : requested.SentAsk) → open_document_at e uri ≡ Some d → map sent_ask_of older ≡ e.requested → n ≡ length older
+pub asks_once_more : (e new : Editor) (uri : List ℕ) (ask : Ask) (d : OpenDocument) (content : Vec ℕ Global) (n : ℕ) (older : List requested.SentAsk) (this : requested.SentAsk) → editor_document_at e uri ≡ Some d → map sent_ask_of older ≡ e.requested → n ≡ length older
     → sent_ask_of this ≡ record { ask = ask; uri = uri; text = d.text; opening = d.opening; version = d.version } → new ≡ record e { requested = map sent_ask_of (older ++ this ∷ []) } → IsRequestWithNumber (n + 1) uri ask content.items
     → PerformsAct (act_result e (ask_about uri ask)) (Some content) new
 asks_once_more e new uri ask d content n older this at were count is is_new request =
@@ -126,7 +126,7 @@ asks_once_more e new uri ask d content n older this at were count is is_new requ
     let grown : map sent_ask_of (older ++ this ∷ []) ≡ e.requested ++ a ∷ [] = map-append sent_ask_of older (this ∷ []) ∙ (λ i. were i ++ is i ∷ []) in
     let now : new ≡ record e { requested = e.requested ++ a ∷ [] } = is_new ∙ (λ i. record e { requested = grown i }) in
     let number : n + 1 ≡ suc (length e.requested) = rw add-one (ap suc (count ∙ sym (length-map older sent_ask_of) ∙ ap length were)) in
-    subst (λ o. PerformsAct (unwrap_or (option_and_then (λ d. Some (asking_result e uri ask d)) o) (silent_result e)) (Some content) new) (sym at) (
+    subst (λ o. PerformsAct (unwrap_or (option_and_then (λ d. Some (asking_result e uri ask d)) o) (result_without_messages e)) (Some content) new) (sym at) (
       now,
       (
         (subst (λ k. IsRequestWithNumber k uri ask content.items) number request, subst (λ (x : Editor). SentRequestAsksFor x.requested (suc (length e.requested)) uri ask) (sym now) (record { sent = a; is = slice_get_last e.requested a; about = refl; same_ask = refl })),

@@ -9,13 +9,13 @@ use Rattle.ob0_text.specs.declared.edits.Change.{Change}
 use Rattle.ob0_text.specs.declared.edits.Indent.TheVariants.{Tab, Spaces}
 use Rattle.ob0_text.specs.declared.position_types.Range.{Range}
 use Rattle.ob0_text.specs.OpenDocuments.{Opened, Changed, Closed, TextChange, text_change_of}
-use Rattle.ob0_rpc.specs.Requesting.{request_by_method}
+use Rattle.ob0_rpc.specs.Requests.{request_by_method}
 use Rattle.ob0_rpc.specs.Messages.{ReadsContent}
 use Rattle.ob0_rpc.specs.Notifications.{content_change, content_changes_of_items, change_or_unreadable, open_or_unreadable}
 use Rattle.ob0_rpc.specs.Shapes.{notification_message}
-use Rattle.ob0_world_rules.specs.Edited.{whole_text_change}
+use Rattle.ob0_world_rules.specs.TextEdits.{whole_text_change}
 use Rattle.ob0_world_rules.specs.Asks.{Ask, rename, inline_here, inline_all, format}
-use Rattle.ob0_world_editor.specs.Shapes.{request_message, change_object, change_value, change_params, open_params, close_params, params_for, method_of_ask}
+use Rattle.ob0_world_editor.specs.Shapes.{request_message, change_object, change_value, did_change_params, did_open_params, did_close_params, params_of_ask, method_of_ask}
 use Rattle.ob0_world_editor.specs.MessagesToServer.{IsNotificationFor, IsRequestWithNumber, client_request_for}
 
 -- ---- depths
@@ -28,10 +28,10 @@ shallow_changes : (cs : List Change) → items_depth (items_of (map change_value
 shallow_changes [] = omega arith
 shallow_changes (c ∷ cs) = omega (arith, shallow_change c.range (string_bytes c.text), shallow_changes cs)
 
-pub shallow_change_params : (uri : List ℕ) (version : ℕ) (cs : List Change) → depth (change_params uri version (map change_value cs)) ≤ 126
+pub shallow_change_params : (uri : List ℕ) (version : ℕ) (cs : List Change) → depth (did_change_params uri version (map change_value cs)) ≤ 126
 shallow_change_params uri version cs = omega (arith, shallow_changes cs)
 
-pub shallow_request : (k : ℕ) (uri : List ℕ) (ask : Ask) → depth (request_message k (method_of_ask ask) (params_for uri ask)) ≤ 127
+pub shallow_request : (k : ℕ) (uri : List ℕ) (ask : Ask) → depth (request_message k (method_of_ask ask) (params_of_ask uri ask)) ≤ 127
 shallow_request k uri (rename position name) = omega arith
 shallow_request k uri (inline_here position) = omega arith
 shallow_request k uri (inline_all position) = omega arith
@@ -57,47 +57,47 @@ version_read n h = rw (lt_true n (2 ^ 63) h) refl
 
 -- ---- notes
 
-pub opening_reported : (content uri : List ℕ) (version : ℕ) (text : List ℕ) → version < 2 ^ 63 → ReadsContent content (Some (notification_message (codes "textDocument/didOpen") (open_params uri version text)))
+pub opening_reported : (content uri : List ℕ) (version : ℕ) (text : List ℕ) → version < 2 ^ 63 → ReadsContent content (Some (notification_message (codes "textDocument/didOpen") (did_open_params uri version text)))
     → IsNotificationFor (Opened uri (pos version) (chars text)) content
 opening_reported content uri version text h reads =
     record {
-      json = notification_message (codes "textDocument/didOpen") (open_params uri version text);
+      json = notification_message (codes "textDocument/didOpen") (did_open_params uri version text);
       reads = reads;
       method = codes "textDocument/didOpen";
-      params = open_params uri version text;
+      params = did_open_params uri version text;
       means = refl;
       reported = ap (λ v. open_or_unreadable (Some uri) v (Some (chars text))) (version_read version h);
       fits = version_read version h;
     }
 
 changed_so : (content uri : List ℕ) (version : ℕ) (values : List Data) (all : List TextChange) → version < 2 ^ 63 → content_changes_of_items (items_of values) ≡ Some all
-    → ReadsContent content (Some (notification_message (codes "textDocument/didChange") (change_params uri version values))) → IsNotificationFor (Changed uri (pos version) all) content
+    → ReadsContent content (Some (notification_message (codes "textDocument/didChange") (did_change_params uri version values))) → IsNotificationFor (Changed uri (pos version) all) content
 changed_so content uri version values all h are reads =
     record {
-      json = notification_message (codes "textDocument/didChange") (change_params uri version values);
+      json = notification_message (codes "textDocument/didChange") (did_change_params uri version values);
       reads = reads;
       method = codes "textDocument/didChange";
-      params = change_params uri version values;
+      params = did_change_params uri version values;
       means = refl;
       reported = (λ i. change_or_unreadable (Some uri) (version_read version h i) (are i));
       fits = version_read version h;
     }
 
-pub changing_reported : (content uri : List ℕ) (version : ℕ) (cs : List Change) → version < 2 ^ 63 → ReadsContent content (Some (notification_message (codes "textDocument/didChange") (change_params uri version (map change_value cs))))
+pub changing_reported : (content uri : List ℕ) (version : ℕ) (cs : List Change) → version < 2 ^ 63 → ReadsContent content (Some (notification_message (codes "textDocument/didChange") (did_change_params uri version (map change_value cs))))
     → IsNotificationFor (Changed uri (pos version) (map text_change_of cs)) content
 changing_reported content uri version cs h reads = changed_so content uri version (map change_value cs) (map text_change_of cs) h (changes_read_back cs) reads
 
-pub rewriting_reported : (content uri : List ℕ) (version : ℕ) (text : List ℕ) → version < 2 ^ 63 → ReadsContent content (Some (notification_message (codes "textDocument/didChange") (change_params uri version (change_object None text ∷ []))))
+pub rewriting_reported : (content uri : List ℕ) (version : ℕ) (text : List ℕ) → version < 2 ^ 63 → ReadsContent content (Some (notification_message (codes "textDocument/didChange") (did_change_params uri version (change_object None text ∷ []))))
     → IsNotificationFor (Changed uri (pos version) (whole_text_change (chars text) ∷ [])) content
 rewriting_reported content uri version text h reads = changed_so content uri version (change_object None text ∷ []) (whole_text_change (chars text) ∷ []) h refl reads
 
-pub closing_reported : (content uri : List ℕ) → ReadsContent content (Some (notification_message (codes "textDocument/didClose") (close_params uri))) → IsNotificationFor (Closed uri) content
+pub closing_reported : (content uri : List ℕ) → ReadsContent content (Some (notification_message (codes "textDocument/didClose") (did_close_params uri))) → IsNotificationFor (Closed uri) content
 closing_reported content uri reads =
     record {
-      json = notification_message (codes "textDocument/didClose") (close_params uri);
+      json = notification_message (codes "textDocument/didClose") (did_close_params uri);
       reads = reads;
       method = codes "textDocument/didClose";
-      params = close_params uri;
+      params = did_close_params uri;
       means = refl;
       reported = refl;
       fits = tt;
@@ -105,11 +105,11 @@ closing_reported content uri reads =
 
 -- ---- asks
 
-pub ask_requested : (content : List ℕ) (k : ℕ) (uri : List ℕ) (ask : Ask) → ReadsContent content (Some (request_message k (method_of_ask ask) (params_for uri ask))) → IsRequestWithNumber k uri ask content
+pub ask_requested : (content : List ℕ) (k : ℕ) (uri : List ℕ) (ask : Ask) → ReadsContent content (Some (request_message k (method_of_ask ask) (params_of_ask uri ask))) → IsRequestWithNumber k uri ask content
 ask_requested content k uri ask reads =
-    record { json = request_message k (method_of_ask ask) (params_for uri ask); reads = reads; params = params_for uri ask; means = refl; calls = called ask }
+    record { json = request_message k (method_of_ask ask) (params_of_ask uri ask); reads = reads; params = params_of_ask uri ask; means = refl; calls = called ask }
   where
-    called : (ask : Ask) → request_by_method (method_of_ask ask) (params_for uri ask) ≡ Ok (client_request_for uri ask)
+    called : (ask : Ask) → request_by_method (method_of_ask ask) (params_of_ask uri ask) ≡ Ok (client_request_for uri ask)
     called (rename position name) = refl
     called (inline_here position) = refl
     called (inline_all position) = refl

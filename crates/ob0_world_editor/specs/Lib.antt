@@ -1,7 +1,7 @@
-pub mod Code
+pub mod ModelValues
 pub mod Shapes
 pub mod MessagesToServer
 pub mod MessagesToEditor
-pub mod Entries
-pub mod Moves
+pub mod StoredDocuments
+pub mod EditorCalls
 pub mod InitializeRequest

@@ -8,9 +8,9 @@ use Rattle.serde_json.specs.Find.{get, at, as_array, as_number, as_i64}
 use Rattle.serde_json.specs.Read.{read}
 use Rattle.ob0_text.specs.declared.position_types.Range.{Range}
 use Rattle.ob0_rpc.specs.Members.{text_member, range_member}
-use Rattle.ob0_world_rules.specs.Edited.{Replacement}
+use Rattle.ob0_world_rules.specs.TextEdits.{Replacement}
 use Rattle.ob0_world_rules.specs.Asks.{Ask, rename, inline_here, inline_all, format}
-use Rattle.ob0_world_rules.specs.ClientAndServer.{SentAsk, request_numbered, MessageToEditor, publishes, answers}
+use Rattle.ob0_world_rules.specs.ClientAndServer.{SentAsk, request_with_number, MessageToEditor, publishes, answers}
 use Rattle.ob0_world_editor.specs.MessagesToServer.{request_number_from_id}
 
 -- ---- publications
@@ -50,14 +50,14 @@ edit_if_complete (Some range) None = None
 edit_if_complete None text = None
 
 -- Returns the edit that a JSON value means. Returns None if the value can't be read as an edit.
-abbrev pub edit_in : Data → Option Replacement
-edit_in d = edit_if_complete (range_member (codes "range") d) (text_member (codes "newText") d)
+abbrev pub edit_of_value : Data → Option Replacement
+edit_of_value d = edit_if_complete (range_member (codes "range") d) (text_member (codes "newText") d)
 
 -- Returns the edits that a list of JSON values means, in order. Returns None if one of the values
 -- can't be read as an edit.
-abbrev pub edits_in : Items → Option (List Replacement)
-edits_in no_items = Some []
-edits_in (item d ds) = option_and_then (λ e. option_map (λ es. e ∷ es) (edits_in ds)) (edit_in d)
+abbrev pub edits_of_items : Items → Option (List Replacement)
+edits_of_items no_items = Some []
+edits_of_items (item d ds) = option_and_then (λ e. option_map (λ es. e ∷ es) (edits_of_items ds)) (edit_of_value d)
 
 -- Returns the list of edits in a WorkspaceEdit. The third argument is the value of
 -- `documentChanges`. If it isn't None, the list is in its first element, whose uri is ignored.
@@ -91,25 +91,25 @@ action_edit_items title uri value =
 -- is no such list. The result of a rename is a WorkspaceEdit. The result of an inlining is a list
 -- of actions, of which the ask selects one by its title. The result of a formatting is the list of
 -- edits.
-abbrev pub edit_items_for : List ℕ → Ask → Data → Option Items
-edit_items_for uri (rename position name) value = workspace_edit_items uri value
-edit_items_for uri (inline_here position) value = action_edit_items (codes "Inline here") uri value
-edit_items_for uri (inline_all position) value = action_edit_items (codes "Inline everywhere") uri value
-edit_items_for uri (format indent) value = as_array value
+abbrev pub edit_items_in_result : List ℕ → Ask → Data → Option Items
+edit_items_in_result uri (rename position name) value = workspace_edit_items uri value
+edit_items_in_result uri (inline_here position) value = action_edit_items (codes "Inline here") uri value
+edit_items_in_result uri (inline_all position) value = action_edit_items (codes "Inline everywhere") uri value
+edit_items_in_result uri (format indent) value = as_array value
 
 -- Returns the edits in the answer to an ask (request for edits) about the document with this uri.
 -- There are none if the answer has no list of edits, for example if it is a refusal or has the
 -- result null. There are also none if one of the edits can't be read.
-abbrev pub edits_for : List ℕ → Ask → Data → List Replacement
-edits_for uri ask answer =
+abbrev pub edits_in_answer : List ℕ → Ask → Data → List Replacement
+edits_in_answer uri ask answer =
     unwrap_or
-    (option_and_then edits_in (option_and_then (edit_items_for uri ask) (get (codes "result") answer))) []
+    (option_and_then edits_of_items (option_and_then (edit_items_in_result uri ask) (get (codes "result") answer))) []
 
 -- Returns the answer to the request with this number, with its edits. Returns None if there is no
 -- such request.
 abbrev pub answer_to_ask : List SentAsk → Data → ℕ → Option MessageToEditor
 answer_to_ask requested answer k =
-    option_map (λ a. answers k (edits_for a.uri a.ask answer)) (request_numbered requested k)
+    option_map (λ a. answers k (edits_in_answer a.uri a.ask answer)) (request_with_number requested k)
 
 -- Reads a JSON value as the answer to one of the sent requests for edits (`requested`). `number_of`
 -- converts the answer's id to the number of the answered request. Returns None if the id is missing
@@ -139,12 +139,12 @@ message_to_editor_of number_of requested d =
 -- Returns the message to the editor in a content, or None if there is none. `requested` lists the
 -- requests for edits that the editor has sent. `number_of` converts an answer's id to the number of
 -- the answered request.
-unfoldable pub message_to_editor_by : (Data → Option ℕ) → List SentAsk → List ℕ → Option MessageToEditor
-message_to_editor_by number_of requested content =
+unfoldable pub message_to_editor_by_numbering : (Data → Option ℕ) → List SentAsk → List ℕ → Option MessageToEditor
+message_to_editor_by_numbering number_of requested content =
     if is_utf8 content
     then option_and_then (message_to_editor_of number_of requested) (read content) else None
 
 -- Returns the message to the editor in a content, or None if there is none. The id of each of the
 -- editor's requests for edits is the request's number.
 abbrev pub message_to_editor_in : List SentAsk → List ℕ → Option MessageToEditor
-message_to_editor_in requested content = message_to_editor_by request_number_from_id requested content
+message_to_editor_in requested content = message_to_editor_by_numbering request_number_from_id requested content

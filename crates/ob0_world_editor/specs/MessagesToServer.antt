@@ -7,12 +7,12 @@ use Rattle.serde_json.specs.Data.{Data, null, boolean, number, string, array, ob
 use Rattle.serde_json.specs.Find.{as_i64, of_integer}
 use Rattle.serde_json.specs.Read.{read}
 use Rattle.ob0_text.specs.OpenDocuments.{DocumentEvent, Opened, Changed, Lost, Closed}
-use Rattle.ob0_rpc.specs.Requesting as wire
-use Rattle.ob0_rpc.specs.Requesting.{request_by_method}
+use Rattle.ob0_rpc.specs.Requests as wire
+use Rattle.ob0_rpc.specs.Requests.{request_by_method}
 use Rattle.ob0_rpc.specs.Messages.{ReadsContent, MessageMeaning, not_json, not_a_message, response, request, notice, meaning_of_message}
 use Rattle.ob0_rpc.specs.Notifications.{NotificationMeaning, exits, opens, changes, closes, unreadable, other, notification_by_method}
 use Rattle.ob0_world_rules.specs.Asks.{Ask, rename, inline_here, inline_all, format, clamped_indent}
-use Rattle.ob0_world_rules.specs.ClientAndServer.{SentAsk, request_numbered, MessageToServer, notifies, requests}
+use Rattle.ob0_world_rules.specs.ClientAndServer.{SentAsk, request_with_number, MessageToServer, notifies, requests}
 use Rattle.ob0_world_editor.specs.Shapes.{method_of_ask, empty_range_at}
 
 -- ---- the message to the server in a content; the id of a request is the number of its ask
@@ -43,7 +43,7 @@ message_of_notification other = None
 -- Returns the sent request with this number as a message to the server. Returns None if there is no
 -- such request.
 abbrev pub message_of_sent_ask : List SentAsk → ℕ → Option MessageToServer
-message_of_sent_ask requested k = option_map (λ a. requests k a.uri a.ask) (request_numbered requested k)
+message_of_sent_ask requested k = option_map (λ a. requests k a.uri a.ask) (request_with_number requested k)
 
 -- Returns the message to the server that a JSON-RPC message means. Returns None if it isn't a
 -- message of the model.
@@ -116,7 +116,7 @@ IsRequestWithNumber k uri ask content = IsRequestWithId (number (unsigned k)) ur
 -- this uri
 pub record SentRequestAsksFor (requested : List SentAsk) (k : ℕ) (uri : List ℕ) (ask : Ask) : Type 0 where
   pub sent : SentAsk
-  pub is : request_numbered requested k ≡ Some sent
+  pub is : request_with_number requested k ≡ Some sent
   pub about : sent.uri ≡ uri
   pub same_ask : sent.ask ≡ ask
 

@@ -22,17 +22,17 @@ request_message k method params =
 
 -- Returns the JSON value of a document that is opened:
 -- {"languageId":"oberon-0","text":t,"uri":u,"version":v}
-abbrev pub opened_document_value : List ℕ → ℕ → List ℕ → Data
-opened_document_value uri version contents =
+abbrev pub text_document_item_value : List ℕ → ℕ → List ℕ → Data
+text_document_item_value uri version contents =
     object (member (codes "languageId") (text (codes "oberon-0"))
     (member (codes "text") (text contents)
     (member (codes "uri") (text uri)
     (member (codes "version") (number (unsigned version)) no_members))))
 
 -- returns the params of `textDocument/didOpen`: {"textDocument":{..}}
-abbrev pub open_params : List ℕ → ℕ → List ℕ → Data
-open_params uri version contents =
-    object (member (codes "textDocument") (opened_document_value uri version contents) no_members)
+abbrev pub did_open_params : List ℕ → ℕ → List ℕ → Data
+did_open_params uri version contents =
+    object (member (codes "textDocument") (text_document_item_value uri version contents) no_members)
 
 -- returns a change: {"range":R,"text":t}, or {"text":t} if the whole text is replaced
 abbrev pub change_object : Option Range → List ℕ → Data
@@ -53,8 +53,8 @@ versioned_document_id_value uri version =
 
 -- Returns the params of `textDocument/didChange`:
 -- {"contentChanges":[C,..],"textDocument":{"uri":u,"version":v}}
-abbrev pub change_params : List ℕ → ℕ → List Data → Data
-change_params uri version changes =
+abbrev pub did_change_params : List ℕ → ℕ → List Data → Data
+did_change_params uri version changes =
     object (member (codes "contentChanges") (array (items_of changes))
     (member (codes "textDocument") (versioned_document_id_value uri version) no_members))
 
@@ -63,8 +63,8 @@ abbrev pub document_id_value : List ℕ → Data
 document_id_value uri = object (member (codes "uri") (text uri) no_members)
 
 -- returns the params of `textDocument/didClose`: {"textDocument":{"uri":u}}
-abbrev pub close_params : List ℕ → Data
-close_params uri = object (member (codes "textDocument") (document_id_value uri) no_members)
+abbrev pub did_close_params : List ℕ → Data
+did_close_params uri = object (member (codes "textDocument") (document_id_value uri) no_members)
 
 -- ---- asks
 
@@ -84,8 +84,8 @@ context_without_diagnostics = object (member (codes "diagnostics") (array no_ite
 
 -- Returns the params of a request for the code actions at a position:
 -- {"context":{"diagnostics":[]},"range":R,"textDocument":{"uri":u}}
-abbrev pub actions_params : List ℕ → Position → Data
-actions_params uri position =
+abbrev pub code_action_params : List ℕ → Position → Data
+code_action_params uri position =
     object (member (codes "context") context_without_diagnostics
     (member (codes "range") (range_value position position)
     (member (codes "textDocument") (document_id_value uri) no_members)))
@@ -116,8 +116,8 @@ method_of_ask (inline_all position) = codes "textDocument/codeAction"
 method_of_ask (format indent) = codes "textDocument/formatting"
 
 -- returns the params of the request for these edits of the document with this uri
-abbrev pub params_for : List ℕ → Ask → Data
-params_for uri (rename position name) = rename_params uri position name
-params_for uri (inline_here position) = actions_params uri position
-params_for uri (inline_all position) = actions_params uri position
-params_for uri (format indent) = formatting_params uri indent
+abbrev pub params_of_ask : List ℕ → Ask → Data
+params_of_ask uri (rename position name) = rename_params uri position name
+params_of_ask uri (inline_here position) = code_action_params uri position
+params_of_ask uri (inline_all position) = code_action_params uri position
+params_of_ask uri (format indent) = formatting_params uri indent

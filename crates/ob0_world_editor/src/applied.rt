@@ -1,7 +1,7 @@
 //! Defines applied edits, and the result of applying an answer.
 ghost use Rattle.std.specs.Prelude.{◌≡◌, IfOk, string_bytes};
 ghost use Rattle.std.specs.Str.{chars};
-ghost use Rattle.ob0_world_editor.specs.Code.{applied_of};
+ghost use Rattle.ob0_world_editor.specs.ModelValues.{applied_edit_of};
 
 use std::alloc::{AllocError, Global};
 
@@ -17,7 +17,7 @@ pub struct Applied {
 #[derive(Drop)]
 pub enum ApplyOutcome {
     /// The editor has no answer to the request with this number.
-    NotHeld,
+    NoSuchAnswer,
     /// The answer was discarded and its edits weren't made. The document has been changed, closed
     /// or reopened since the request, or two edits share a character.
     Dropped,
@@ -33,7 +33,7 @@ pub fn applied_edit(
     before: &str,
     after: String,
 ) -> Result<Applied, AllocError>
-    ensures { IfOk result (λ applied. applied_of applied ≡ record
+    ensures { IfOk result (λ applied. applied_edit_of applied ≡ record
         { uri = uri.now; before = chars before.now; after = chars (string_bytes after) }) }
 {
     let uri = String::from_str(alloc, uri)?;

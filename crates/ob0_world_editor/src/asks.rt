@@ -1,6 +1,6 @@
 //! Defines the asks: the requests for edits that an editor sends and whose answers it may apply.
 ghost use Rattle.std.specs.Prelude.{◌≡◌, IfOk};
-ghost use Rattle.ob0_world_editor.specs.Code.{ask_of};
+ghost use Rattle.ob0_world_editor.specs.ModelValues.{ask_of};
 
 use ob0_text::{Indent, Position};
 use std::alloc::{AllocError, Global};

@@ -3,7 +3,7 @@ ghost use Rattle.std.specs.Prelude.{◌≡◌, pos, IfOk, OnErr, OnOk};
 ghost use Rattle.std.specs.Option.{option_map};
 ghost use Rattle.std.specs.Str.{chars};
 ghost use Rattle.std.specs.FinMap as map_of;
-ghost use Rattle.ob0_world_editor.specs.Entries.{open_document_of};
+ghost use Rattle.ob0_world_editor.specs.StoredDocuments.{open_document_of};
 
 use std::alloc::{AllocError, Global};
 use std::collections::BTreeMap;
@@ -47,7 +47,7 @@ pub struct OpenDocuments {
 
 impl Model for OpenDocuments {
     ghost use Rattle.ob0_world_rules.specs.ClientAndServer.{EditorDocuments};
-    ghost use Rattle.ob0_world_editor.specs.Entries.{editor_documents_of, coded_editor_documents};
+    ghost use Rattle.ob0_world_editor.specs.StoredDocuments.{editor_documents_of, coded_editor_documents};
 
     ghost Value = { EditorDocuments };
 
@@ -75,7 +75,7 @@ impl OpenDocuments {
 
     /// Opens a document under this uri, or replaces the open one. If an allocation fails, the
     /// documents are unchanged.
-    pub fn put(
+    pub fn open_or_replace(
         &mut self,
         alloc: Global,
         uri: &str,

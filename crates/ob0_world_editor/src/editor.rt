@@ -13,19 +13,22 @@ ghost use Rattle.std.specs.Str.{chars};
 ghost use Rattle.ob0_text.specs.OpenDocuments.{text_change_of};
 ghost use Rattle.ob0_world_rules.specs.ClientAndServer.{answers, new_editor};
 ghost use Rattle.ob0_world_rules.specs.EditorActs as acts;
-ghost use Rattle.ob0_world_rules.specs.EditorActs.{change_document, close_document, ask_about, apply, applying_result, act_result, edits_of_answer, editor_after_reading, without_answer};
-ghost use Rattle.ob0_world_editor.specs.Code.{ask_of, message_of, sent_ask_of};
-ghost use Rattle.ob0_world_editor.specs.Entries.{open_document_of};
-ghost use Rattle.ob0_world_rules.specs.Edited.{text_after_edits, replacements};
-ghost use Rattle.ob0_world_editor.specs.Moves.{CountsCanGrow, PerformsAct, IsApplyOutcome, has_edits, editing_result, IsRewritten, IsAppliedAs, StoresRewritten, IsIndexOfAnswer};
+ghost use Rattle.ob0_world_rules.specs.EditorActs.{change_document, close_document, ask_about, apply, applying_result, act_result, edits_of_answer, editor_after_reading, editor_without_answer};
+ghost use Rattle.ob0_world_editor.specs.ModelValues.{ask_of, message_of, sent_ask_of};
+ghost use Rattle.ob0_world_editor.specs.StoredDocuments.{open_document_of};
+ghost use Rattle.ob0_world_rules.specs.TextEdits.{text_after_edits, replacements};
+ghost use Rattle.ob0_world_editor.specs.EditorCalls.{CountsCanGrow, PerformsAct, IsApplyOutcome, has_edits, rewriting_result_if_edited, RewritesDocumentIfAny, IsRewriteOutcome, StoresNewText, IsIndexOfAnswer};
 ghost use Rattle.ob0_world_editor.specs.MessagesToEditor.{message_to_editor_in};
 
 use crate::applied::{Applied, ApplyOutcome, applied_edit};
 use crate::asks::{Ask, copy_of_ask};
 use crate::documents::{OpenDocument, OpenDocuments};
-use crate::reading::{Message, ask_with_number, read_message};
-use crate::texts::{apply_changes, apply_edits};
-use crate::writing::{did_change, did_change_whole_text, did_close, did_open, request};
+use crate::edited_texts::{apply_changes, apply_edits};
+use crate::message_reader::{ServerMessage, ask_with_number, read_message};
+use crate::message_writer::{
+    did_change_notification, did_close_notification, did_open_notification, request,
+    whole_text_notification,
+};
 use ob0_text::{Change, Edit, Unit, Whole};
 use std::alloc::{AllocError, Global};
 use std::marker::Model;
@@ -74,8 +77,8 @@ impl Model for Editor {
     ghost use Rattle.std.specs.Prelude.{map};
     ghost use Rattle.std.specs.Coded.{codes};
     ghost use Rattle.ob0_world_rules.specs.ClientAndServer.{Editor};
-    ghost use Rattle.ob0_world_editor.specs.Code.{sent_ask_of, answer_of};
-    ghost use Rattle.ob0_world_editor.specs.Entries.{coded_editor_documents};
+    ghost use Rattle.ob0_world_editor.specs.ModelValues.{sent_ask_of, answer_of};
+    ghost use Rattle.ob0_world_editor.specs.StoredDocuments.{coded_editor_documents};
 
     ghost Value = { Editor };
 
@@ -117,9 +120,9 @@ impl Editor {
             return Ok(None);
         }
         let opening = self.openings + 1;
-        let content = did_open(self.alloc, uri, 1, text)?;
+        let content = did_open_notification(self.alloc, uri, 1, text)?;
         let document = OpenDocument::with_text(self.alloc, 1, text, opening)?;
-        self.documents.put(self.alloc, uri, document)?;
+        self.documents.open_or_replace(self.alloc, uri, document)?;
         self.openings = opening;
         Ok(Some(content))
     }
@@ -139,13 +142,13 @@ impl Editor {
         let version = open.version + 1;
         let opening = open.opening;
         let text = apply_changes::<Whole>(self.alloc, self.unit, open.text.as_str(), changes)?;
-        let content = did_change(self.alloc, uri, version, changes)?;
+        let content = did_change_notification(self.alloc, uri, version, changes)?;
         let document = OpenDocument {
             version,
             text,
             opening,
         };
-        self.documents.put(self.alloc, uri, document)?;
+        self.documents.open_or_replace(self.alloc, uri, document)?;
         Ok(Some(content))
     }
 
@@ -159,7 +162,7 @@ impl Editor {
         if self.documents.get(uri).is_none() {
             return Ok(None);
         }
-        let content = did_close(self.alloc, uri)?;
+        let content = did_close_notification(self.alloc, uri)?;
         self.documents.close(uri);
         Ok(Some(content))
     }
@@ -184,7 +187,7 @@ impl Editor {
 
     /// Returns the message in a content that the server has sent. Returns None if the content is
     /// neither a publication nor an answer to one of the editor's requests for edits.
-    pub fn read(&self, content: &[u8]) -> Result<Option<Message>, AllocError>
+    pub fn read(&self, content: &[u8]) -> Result<Option<ServerMessage>, AllocError>
         ensures { IfOk result
             (λ found. option_map message_of found ≡ message_to_editor_in self.now.requested content.now) }
     {
@@ -193,7 +196,7 @@ impl Editor {
 
     /// Stores the answer to the request with this number if the answer has edits. Returns whether
     /// the answer has edits. If an allocation fails, the editor is unchanged.
-    pub fn keep(&mut self, number: u64, edits: Vec<Edit>) -> Result<bool, AllocError>
+    pub fn keep_answer(&mut self, number: u64, edits: Vec<Edit>) -> Result<bool, AllocError>
         ensures kept { OnOk result
             (self.new ≡ editor_after_reading self.old (answers number (replacements edits.items))) }
         ensures some { IfOk result (λ kept. kept ≡ has_edits (replacements edits.items)) }
@@ -214,15 +217,15 @@ impl Editor {
         requires { CountsCanGrow self.old }
         ensures ok { IfOk result (λ applying. IsApplyOutcome (act_result self.old (apply k))
             (is_some (edits_of_answer k self.old.answers)) applying self.new) }
-        ensures err { OnErr result (self.new ≡ without_answer self.old k) }
+        ensures err { OnErr result (self.new ≡ editor_without_answer self.old k) }
     {
         let Some(edits) = self.take_answer(k) else {
-            return Ok(ApplyOutcome::NotHeld);
+            return Ok(ApplyOutcome::NoSuchAnswer);
         };
         let rewritten = self.asked_document_with_edits(k, edits.as_slice());
         drop(edits);
         match rewritten? {
-            Some(rewritten) => self.store_rewritten(rewritten),
+            Some(rewritten) => self.store_rewritten_document(rewritten),
             None => Ok(ApplyOutcome::Dropped),
         }
     }
@@ -230,7 +233,7 @@ impl Editor {
     /// Discards the answer to request `k`, and returns whether the editor had this answer.
     pub fn discard(&mut self, k: u64) -> bool
         ensures held { result ≡ is_some (edits_of_answer k self.old.answers) }
-        ensures after { self.new ≡ without_answer self.old k }
+        ensures after { self.new ≡ editor_without_answer self.old k }
     {
         self.take_answer(k).is_some()
     }
@@ -238,7 +241,7 @@ impl Editor {
     fn take_answer(&mut self, k: u64) -> Option<Vec<Edit>>
         ensures edits { option_map (λ v. replacements v.items) result
             ≡ edits_of_answer k self.old.answers }
-        ensures after { self.new ≡ without_answer self.old k }
+        ensures after { self.new ≡ editor_without_answer self.old k }
     {
         let place = index_of_answer(self.answers.as_slice(), k)?;
         let answer = self.answers.remove(place);
@@ -255,7 +258,7 @@ impl Editor {
     ) -> Result<Option<RewrittenDocument>, AllocError>
         requires { CountsCanGrow self.now }
         ensures { IfOk result (λ rewritten.
-            IsRewritten self.now (applying_result self.now k (replacements edits.now)) rewritten) }
+            RewritesDocumentIfAny self.now (applying_result self.now k (replacements edits.now)) rewritten) }
     {
         let Some(requested) = ask_with_number(self.requested.as_slice(), k) else {
             return Ok(None);
@@ -277,8 +280,8 @@ impl Editor {
         edits: &[Edit],
     ) -> Result<Option<RewrittenDocument>, AllocError>
         requires { document.now.version < 2 ^ 63 - 1 }
-        ensures { IfOk result (λ rewritten. IsRewritten self.now
-            (editing_result self.now uri.now (open_document_of document.now)
+        ensures { IfOk result (λ rewritten. RewritesDocumentIfAny self.now
+            (rewriting_result_if_edited self.now uri.now (open_document_of document.now)
             (text_after_edits self.now.unit (chars (string_bytes document.now.text))
             (replacements edits.now)))
             rewritten) }
@@ -297,12 +300,15 @@ impl Editor {
 
     /// Stores a document's new text, and returns the applied edit with the content of the
     /// notification. If an allocation fails, the editor is unchanged.
-    fn store_rewritten(&mut self, rewritten: RewrittenDocument) -> Result<ApplyOutcome, AllocError>
+    fn store_rewritten_document(
+        &mut self,
+        rewritten: RewrittenDocument,
+    ) -> Result<ApplyOutcome, AllocError>
         requires { rewritten.version < 2 ^ 63 }
-        ensures ok { IfOk result (λ applying. IsAppliedAs self.old rewritten applying self.new) }
+        ensures ok { IfOk result (λ applying. IsRewriteOutcome self.old rewritten applying self.new) }
         ensures err { OnErr result (self.new ≡ self.old) }
     {
-        let content = self.store_and_build_notification(&rewritten)?;
+        let content = self.store_new_text(&rewritten)?;
         Ok(ApplyOutcome::Made {
             applied: rewritten.applied,
             content,
@@ -311,21 +317,18 @@ impl Editor {
 
     /// Stores a copy of a document's new text, and returns the content of the notification for the
     /// server. If an allocation fails, the editor is unchanged.
-    fn store_and_build_notification(
-        &mut self,
-        rewritten: &RewrittenDocument,
-    ) -> Result<Vec<u8>, AllocError>
+    fn store_new_text(&mut self, rewritten: &RewrittenDocument) -> Result<Vec<u8>, AllocError>
         requires { rewritten.now.version < 2 ^ 63 }
         ensures ok { IfOk result
-            (λ content. StoresRewritten self.old rewritten.now content self.new) }
+            (λ content. StoresNewText self.old rewritten.now content self.new) }
         ensures err { OnErr result (self.new ≡ self.old) }
     {
         let uri = rewritten.applied.uri.as_str();
         let text = rewritten.applied.after.as_str();
         let version = rewritten.version;
-        let content = did_change_whole_text(self.alloc, uri, version, text)?;
+        let content = whole_text_notification(self.alloc, uri, version, text)?;
         let document = OpenDocument::with_text(self.alloc, version, text, rewritten.opening)?;
-        self.documents.put(self.alloc, uri, document)?;
+        self.documents.open_or_replace(self.alloc, uri, document)?;
         Ok(content)
     }
 }

@@ -5,16 +5,16 @@
 mod applied;
 mod asks;
 mod documents;
+mod edited_texts;
 mod editor;
 mod initialize_request;
+mod message_reader;
+mod message_writer;
 mod objects;
 mod params;
-mod reading;
-mod texts;
-mod writing;
 
 pub use applied::{Applied, ApplyOutcome};
 pub use asks::Ask;
 pub use editor::Editor;
 pub use initialize_request::initialize;
-pub use reading::Message;
+pub use message_reader::ServerMessage;

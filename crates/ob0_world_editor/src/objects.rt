@@ -10,7 +10,7 @@
 //! with four members and for the list of changes use `?`.
 ghost use Rattle.std.specs.Prelude.{OnOk};
 ghost use Rattle.serde_json.specs.Data.{member, no_members};
-ghost use Rattle.ob0_rpc.specs.Appending.{AppendsMembers};
+ghost use Rattle.ob0_rpc.specs.Appending.{AppendsMembersAndBrace};
 
 use ob0_rpc::{WriteJson, end_object, write_first_member, write_next_member};
 use std::alloc::AllocError;
@@ -23,7 +23,7 @@ pub fn write_two_members<A: WriteJson, B: WriteJson>(
     second_name: &str,
     second: &B,
 ) -> Result<(), AllocError>
-    ensures { OnOk result (AppendsMembers 123
+    ensures { OnOk result (AppendsMembersAndBrace 123
         (member name.now (A.value value.now) (member second_name.now (B.value second.now)
         no_members)) out.old.items out.new.items) }
 {
@@ -42,7 +42,7 @@ pub fn write_three_members<A: WriteJson, B: WriteJson, C: WriteJson>(
     third_name: &str,
     third: &C,
 ) -> Result<(), AllocError>
-    ensures { OnOk result (AppendsMembers 123
+    ensures { OnOk result (AppendsMembersAndBrace 123
         (member name.now (A.value value.now) (member second_name.now (B.value second.now)
         (member third_name.now (C.value third.now) no_members))) out.old.items out.new.items) }
 {

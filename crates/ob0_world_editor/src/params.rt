@@ -5,7 +5,7 @@ ghost use Rattle.serde_json.specs.Data.{array, member, no_members, object};
 ghost use Rattle.serde_json.specs.View.{items_of};
 ghost use Rattle.ob0_rpc.specs.Appending.{AppendsEachValue};
 ghost use Rattle.ob0_rpc.specs.Shapes.{jsonrpc_version, text as text_data};
-ghost use Rattle.ob0_world_editor.specs.Shapes.{actions_params, change_object, change_value, document_id_value, opened_document_value, formatting_options_value, formatting_options_for_indent, rename_params, versioned_document_id_value};
+ghost use Rattle.ob0_world_editor.specs.Shapes.{code_action_params, change_object, change_value, document_id_value, text_document_item_value, formatting_options_value, formatting_options_for_indent, rename_params, versioned_document_id_value};
 
 use crate::objects::{write_three_members, write_two_members};
 use ob0_rpc::{
@@ -70,14 +70,14 @@ impl<'a> WriteJson for VersionedDocumentId<'a> {
 
 /// A document that is opened, with its version and text.
 #[derive(Drop)]
-pub struct OpenedDocument<'a> {
+pub struct TextDocumentItem<'a> {
     pub uri: &'a str,
     pub version: u64,
     pub text: &'a str,
 }
 
-impl<'a> WriteJson for OpenedDocument<'a> {
-    ghost value = { λ d. opened_document_value d.uri.now d.version d.text.now };
+impl<'a> WriteJson for TextDocumentItem<'a> {
+    ghost value = { λ d. text_document_item_value d.uri.now d.version d.text.now };
 
     fn write(&self, out: &mut Vec<u8>) -> Result<(), AllocError> {
         write_first_member(out, "languageId", &"oberon-0")?;
@@ -111,11 +111,11 @@ impl<'a> WriteJson for ContentChange<'a> {
 
 /// The changes of a document, which are written in order as a JSON array.
 #[derive(Drop)]
-pub struct ContentChanges<'a> {
+pub struct ContentChangeList<'a> {
     pub changes: &'a [Change],
 }
 
-impl<'a> WriteJson for ContentChanges<'a> {
+impl<'a> WriteJson for ContentChangeList<'a> {
     ghost value = { λ c. array (items_of (map change_value c.changes.now)) };
 
     fn write(&self, out: &mut Vec<u8>) -> Result<(), AllocError> {
@@ -195,7 +195,7 @@ pub struct CodeActionParams<'a> {
 }
 
 impl<'a> WriteJson for CodeActionParams<'a> {
-    ghost value = { λ p. actions_params p.document.uri.now p.position };
+    ghost value = { λ p. code_action_params p.document.uri.now p.position };
 
     fn write(&self, out: &mut Vec<u8>) -> Result<(), AllocError> {
         let none: [Range; 0] = [];

@@ -6,10 +6,10 @@ use Rattle.ob0_text.specs.declared.position_types.Position.{Position}
 use Rattle.ob0_text.specs.declared.position_types.Unit.{Unit}
 use Rattle.ob0_edits.specs.declared.inlinings.Inlining.{Inlining}
 use Rattle.ob0_edits.specs.declared.inlinings.Inlining.TheVariants.{OneUse, Everywhere}
-use Rattle.ob0_edits.specs.Inlinings.{IsInliningRefusedInText}
-use Rattle.ob0_world_rules.specs.Edited.{replacements}
+use Rattle.ob0_edits.specs.InliningEdits.{IsInliningRefusedInText}
+use Rattle.ob0_world_rules.specs.TextEdits.{replacements}
 use Rattle.ob0_world_rules.specs.Asks.{Ask, rename, inline_here, inline_all, format, clamped_indent}
-use Rattle.ob0_world_rules.specs.Answers.{position_offset, InlinesAt, GivesEdits, Refuses}
+use Rattle.ob0_world_rules.specs.Answers.{position_offset, InlinesAt, AreRequestedEdits, RefusesAsk}
 use Rattle.ob0_world_rules.specs.Laws.{AnswersAreUnique}
 use Rattle.ob0_world_rules.proofs.KeptRuns.{answer_edits_preserve_run}
 use Rattle.ob0_world_rules.proofs.OneLayout.{lays_out_one, lays_out_or_long}
@@ -23,13 +23,13 @@ inlines_at_one how unit text position xs ys (found, h, is) (also, k, too) =
 inlines_at_or_refused : (how : Inlining) (unit : Unit) (text : List ℕ) (position : Position) (xs : List Edit) → InlinesAt how unit text position xs → IsInliningRefusedInText how unit text (position_offset unit text position) → ⊥
 inlines_at_or_refused how unit text position xs (found, h, is) k = inlines_or_refused unit text (position_offset unit text position) found how h k
 
-hands_out_one : (unit : Unit) (text : List ℕ) (ask : Ask) (xs ys : List Edit) → GivesEdits unit text ask xs → GivesEdits unit text ask ys → replacements xs ≡ replacements ys
+hands_out_one : (unit : Unit) (text : List ℕ) (ask : Ask) (xs ys : List Edit) → AreRequestedEdits unit text ask xs → AreRequestedEdits unit text ask ys → replacements xs ≡ replacements ys
 hands_out_one unit text (rename position name) xs ys h k = renames_one unit text position name xs ys h k
 hands_out_one unit text (inline_here position) xs ys h k = inlines_at_one OneUse unit text position xs ys h k
 hands_out_one unit text (inline_all position) xs ys h k = inlines_at_one Everywhere unit text position xs ys h k
 hands_out_one unit text (format indent) xs ys h k = lays_out_one unit (clamped_indent indent) text xs ys h k
 
-hands_out_or_refuses : (unit : Unit) (text : List ℕ) (ask : Ask) (xs : List Edit) → GivesEdits unit text ask xs → Refuses unit text ask → ⊥
+hands_out_or_refuses : (unit : Unit) (text : List ℕ) (ask : Ask) (xs : List Edit) → AreRequestedEdits unit text ask xs → RefusesAsk unit text ask → ⊥
 hands_out_or_refuses unit text (rename position name) xs h k = renames_or_refused unit text position name xs k.0 h k.1
 hands_out_or_refuses unit text (inline_here position) xs h k = inlines_at_or_refused OneUse unit text position xs h k
 hands_out_or_refuses unit text (inline_all position) xs h k = inlines_at_or_refused Everywhere unit text position xs h k

@@ -6,14 +6,14 @@ use Rattle.std.specs.Prelude.{⊤, All, Option, Some, None, is_some, unwrap_or, 
 use Rattle.std.proofs.lemmas.List.Elements.{All-nil, All-push, All-head, All-tail, All-append}
 use Rattle.ob0_text.specs.declared.position_types.Unit.{Unit}
 use Rattle.ob0_text.specs.OpenDocuments.{OpenDocuments, Document, InStep, OutOfStep, DocumentEvent, Opened, Changed, Lost, Closed, document_at, documents_after_event}
-use Rattle.ob0_world_rules.specs.Edited.{Replacement, text_after_changes}
+use Rattle.ob0_world_rules.specs.TextEdits.{Replacement, text_after_changes}
 use Rattle.ob0_world_rules.specs.Asks.{Ask}
 use Rattle.ob0_world_rules.specs.Answers.{IsAnswerForDocument, IsEmptyExactlyIfWellTyped}
-use Rattle.ob0_world_rules.specs.ClientAndServer.{OpenDocument, Editor, open_document_at, MessageToServer, notifies, requests, MessageToEditor, publishes, answers, PublicationWithText, ClientAndServer, start, documents_after_message}
-use Rattle.ob0_world_rules.specs.EditorActs.{Act, open_document, change_document, close_document, ask_about, apply, discard, ActResult, silent_result, opening_result, rewriting_result, closing_result, asking_result, edits_of_answer, without_answer, applying_result, act_result}
-use Rattle.ob0_world_rules.specs.Serving.{SendsDiagnostics, Replies}
-use Rattle.ob0_world_rules.specs.Happens.{Event, editor_acts, serve, take_message, state_after_act, state_after_editor_takes, ServerTakes, Happens, IsCourse}
-use Rattle.ob0_world_rules.specs.Laws.{AlwaysHasAnswer, IsAnswerable, CourseExistsIfAnswerable}
+use Rattle.ob0_world_rules.specs.ClientAndServer.{OpenDocument, Editor, editor_document_at, MessageToServer, notifies, requests, MessageToEditor, publishes, answers, PublicationWithText, ClientAndServer, start, documents_after_message}
+use Rattle.ob0_world_rules.specs.EditorActs.{Act, open_document, change_document, close_document, ask_about, apply, discard, ActResult, result_without_messages, opening_result, rewriting_result, closing_result, asking_result, edits_of_answer, editor_without_answer, applying_result, act_result}
+use Rattle.ob0_world_rules.specs.ServerReplies.{SendsDiagnostics, RepliesToMessage}
+use Rattle.ob0_world_rules.specs.Happens.{Event, editor_acts, serve, take_message, state_after_act, state_after_editor_takes_message, ServerTakesFirstMessage, Happens, IsCourse}
+use Rattle.ob0_world_rules.specs.Laws.{AlwaysHasAnswer, HasAnswerIfAsk, CourseExistsIfAsksHaveAnswers}
 use Rattle.ob0_world_rules.proofs.PerformsAct.{applied_so}
 
 -- ---- asks have answers
@@ -30,36 +30,36 @@ note_sent : (note : DocumentEvent) → All CanBeReplied (notifies note ∷ [])
 note_sent note = All-push CanBeReplied [] (notifies note) none_sent tt
 
 -- Each message that an act sends can be replied to if the act's ask has answers.
-act_sends : (e : Editor) (act : Act) → IsAnswerable (editor_acts act) → All CanBeReplied (act_result e act).sent
-act_sends e (open_document uri text) h = go (is_some (open_document_at e uri))
+act_sends : (e : Editor) (act : Act) → HasAnswerIfAsk (editor_acts act) → All CanBeReplied (act_result e act).sent
+act_sends e (open_document uri text) h = go (is_some (editor_document_at e uri))
   where
-    go : (b : Bool) → All CanBeReplied (cond b (silent_result e) (opening_result e uri text)).sent
+    go : (b : Bool) → All CanBeReplied (cond b (result_without_messages e) (opening_result e uri text)).sent
     go true = none_sent
     go false = note_sent _
-act_sends e (change_document uri how) h = go (open_document_at e uri)
+act_sends e (change_document uri how) h = go (editor_document_at e uri)
   where
-    of_text : (d : OpenDocument) (o : Option (List ℕ)) → All CanBeReplied (unwrap_or (option_and_then (λ text. Some (rewriting_result e uri d text how [])) o) (silent_result e)).sent
+    of_text : (d : OpenDocument) (o : Option (List ℕ)) → All CanBeReplied (unwrap_or (option_and_then (λ text. Some (rewriting_result e uri d text how [])) o) (result_without_messages e)).sent
     of_text d None = none_sent
     of_text d (Some text) = note_sent _
 
-    go : (o : Option OpenDocument) → All CanBeReplied (unwrap_or (option_and_then (λ d. option_and_then (λ text. Some (rewriting_result e uri d text how [])) (text_after_changes e.unit (Some d.text) how)) o) (silent_result e)).sent
+    go : (o : Option OpenDocument) → All CanBeReplied (unwrap_or (option_and_then (λ d. option_and_then (λ text. Some (rewriting_result e uri d text how [])) (text_after_changes e.unit (Some d.text) how)) o) (result_without_messages e)).sent
     go None = none_sent
     go (Some d) = of_text d (text_after_changes e.unit (Some d.text) how)
-act_sends e (close_document uri) h = go (is_some (open_document_at e uri))
+act_sends e (close_document uri) h = go (is_some (editor_document_at e uri))
   where
-    go : (b : Bool) → All CanBeReplied (cond b (closing_result e uri) (silent_result e)).sent
+    go : (b : Bool) → All CanBeReplied (cond b (closing_result e uri) (result_without_messages e)).sent
     go true = note_sent _
     go false = none_sent
-act_sends e (ask_about uri ask) h = go (open_document_at e uri)
+act_sends e (ask_about uri ask) h = go (editor_document_at e uri)
   where
-    go : (o : Option OpenDocument) → All CanBeReplied (unwrap_or (option_and_then (λ d. Some (asking_result e uri ask d)) o) (silent_result e)).sent
+    go : (o : Option OpenDocument) → All CanBeReplied (unwrap_or (option_and_then (λ d. Some (asking_result e uri ask d)) o) (result_without_messages e)).sent
     go None = none_sent
     go (Some d) = All-push CanBeReplied [] _ none_sent h
 act_sends e (apply k) h =
-    go (option_and_then (applying_result (without_answer e k) k) (edits_of_answer k e.answers))
+    go (option_and_then (applying_result (editor_without_answer e k) k) (edits_of_answer k e.answers))
     (λ done is. subst (λ (x : ActResult). All CanBeReplied x.sent) (sym (applied_so e k done is).is) (note_sent _))
   where
-    go : (o : Option ActResult) → ((done : ActResult) → o ≡ Some done → All CanBeReplied done.sent) → All CanBeReplied (unwrap_or o (silent_result (without_answer e k))).sent
+    go : (o : Option ActResult) → ((done : ActResult) → o ≡ Some done → All CanBeReplied done.sent) → All CanBeReplied (unwrap_or o (result_without_messages (editor_without_answer e k))).sent
     go None each = none_sent
     go (Some done) each = each done refl
 act_sends e (discard k) h = none_sent
@@ -83,7 +83,7 @@ answer_fits unit (Some (InStep version text)) ask h none = h unit text none
 answer_fits unit (Some OutOfStep) ask h none = none [] refl
 answer_fits unit None ask h none = none [] refl
 
-reply_fits : (held : OpenDocuments) (m : MessageToServer) → CanBeReplied m → ((said : List MessageToEditor) (made : List PublicationWithText) → Replies held m said made → ⊥) → ⊥
+reply_fits : (held : OpenDocuments) (m : MessageToServer) → CanBeReplied m → ((said : List MessageToEditor) (made : List PublicationWithText) → RepliesToMessage held m said made → ⊥) → ⊥
 reply_fits held (notifies (Opened uri version text)) h none = publish_fits uri (document_at (documents_after_event held (Opened uri version text)) uri) none
 reply_fits held (notifies (Changed uri version how)) h none = publish_fits uri (document_at (documents_after_event held (Changed uri version how)) uri) none
 reply_fits held (notifies (Lost uri)) h none = none [] [] (refl, refl)
@@ -93,7 +93,7 @@ reply_fits held (requests k uri ask) h none =
 
 -- ---- events
 
-serve_fits : (w : ClientAndServer) (queue : List MessageToServer) → w.to_server ≡ queue → All CanBeReplied w.to_server → ((new : ClientAndServer) → ServerTakes w queue new → All CanBeReplied new.to_server → ⊥) → ⊥
+serve_fits : (w : ClientAndServer) (queue : List MessageToServer) → w.to_server ≡ queue → All CanBeReplied w.to_server → ((new : ClientAndServer) → ServerTakesFirstMessage w queue new → All CanBeReplied new.to_server → ⊥) → ⊥
 serve_fits w [] is waiting none = none w refl waiting
 serve_fits w (m ∷ rest) is waiting none =
     let all : All CanBeReplied (m ∷ rest) = subst (All CanBeReplied) is waiting in
@@ -102,21 +102,21 @@ serve_fits w (m ∷ rest) is waiting none =
     (record w { to_server = rest; held = documents_after_message w.held m; to_editor = w.to_editor ++ said; made = w.made ++ made })
     (said, made, replies, refl) (All-tail CanBeReplied m rest all))
 
-taken : (w : ClientAndServer) (queue : List MessageToEditor) → All CanBeReplied w.to_server → All CanBeReplied (state_after_editor_takes w queue).to_server
+taken : (w : ClientAndServer) (queue : List MessageToEditor) → All CanBeReplied w.to_server → All CanBeReplied (state_after_editor_takes_message w queue).to_server
 taken w [] waiting = waiting
 taken w (m ∷ rest) waiting = waiting
 
-event_fits : (e : Event) (w : ClientAndServer) → IsAnswerable e → All CanBeReplied w.to_server → ((new : ClientAndServer) → Happens w e new → All CanBeReplied new.to_server → ⊥) → ⊥
+event_fits : (e : Event) (w : ClientAndServer) → HasAnswerIfAsk e → All CanBeReplied w.to_server → ((new : ClientAndServer) → Happens w e new → All CanBeReplied new.to_server → ⊥) → ⊥
 event_fits (editor_acts act) w h waiting none =
     none (state_after_act w (act_result w.editor act)) refl (All-append CanBeReplied w.to_server (act_result w.editor act).sent waiting (act_sends w.editor act h))
 event_fits serve w h waiting none = serve_fits w w.to_server refl waiting none
-event_fits take_message w h waiting none = none (state_after_editor_takes w w.to_editor) refl (taken w w.to_editor waiting)
+event_fits take_message w h waiting none = none (state_after_editor_takes_message w w.to_editor) refl (taken w w.to_editor waiting)
 
-fits : (events : List Event) (w : ClientAndServer) → All IsAnswerable events → All CanBeReplied w.to_server → ((end : ClientAndServer) → IsCourse w events end → ⊥) → ⊥
+fits : (events : List Event) (w : ClientAndServer) → All HasAnswerIfAsk events → All CanBeReplied w.to_server → ((end : ClientAndServer) → IsCourse w events end → ⊥) → ⊥
 fits [] w all waiting none = none w refl
 fits (e ∷ events) w all waiting none =
-    event_fits e w (All-head IsAnswerable e events all) waiting
-    (λ new happens still. fits events new (All-tail IsAnswerable e events all) still (λ end course. none end (new, happens, course)))
+    event_fits e w (All-head HasAnswerIfAsk e events all) waiting
+    (λ new happens still. fits events new (All-tail HasAnswerIfAsk e events all) still (λ end course. none end (new, happens, course)))
 
-pub course_exists_if_answerable : CourseExistsIfAnswerable
-course_exists_if_answerable unit events all none = fits events (start unit) all none_sent none
+pub course_exists_if_asks_have_answers : CourseExistsIfAsksHaveAnswers
+course_exists_if_asks_have_answers unit events all none = fits events (start unit) all none_sent none

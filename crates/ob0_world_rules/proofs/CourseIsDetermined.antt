@@ -4,13 +4,13 @@ use Rattle.std.proofs.Common.{◌≡◌, ◌∙◌, ℕ, Bool, true, false, List
 use Rattle.std.specs.Prelude.{◌↔◌, IsTrue, ℤ, Option, Some, None}
 use Rattle.ob0_text.specs.declared.position_types.Unit.{Unit}
 use Rattle.ob0_text.specs.OpenDocuments.{OpenDocuments, Document, InStep, OutOfStep, DocumentEvent, Opened, Changed, Lost, Closed, documents_after_event, document_at}
-use Rattle.ob0_world_rules.specs.Language.{WellTypedText}
-use Rattle.ob0_world_rules.specs.Edited.{Replacement}
+use Rattle.ob0_world_rules.specs.WellTypedTexts.{WellTypedText}
+use Rattle.ob0_world_rules.specs.TextEdits.{Replacement}
 use Rattle.ob0_world_rules.specs.Asks.{Ask}
 use Rattle.ob0_world_rules.specs.Answers.{IsAnswerForDocument}
 use Rattle.ob0_world_rules.specs.ClientAndServer.{MessageToServer, notifies, requests, MessageToEditor, publishes, answers, PublicationWithText, ClientAndServer, documents_after_message}
-use Rattle.ob0_world_rules.specs.Serving.{SendsDiagnostics, RepliesToNotification, Replies}
-use Rattle.ob0_world_rules.specs.Happens.{Event, editor_acts, serve, take_message, ServerTakes, Happens, IsCourse}
+use Rattle.ob0_world_rules.specs.ServerReplies.{SendsDiagnostics, RepliesToNotification, RepliesToMessage}
+use Rattle.ob0_world_rules.specs.Happens.{Event, editor_acts, serve, take_message, ServerTakesFirstMessage, Happens, IsCourse}
 use Rattle.ob0_world_rules.proofs.AnswerIsDetermined.{answers_are_unique}
 
 same_truth : (a b : Bool) (P : Type 0) → IsTrue a ↔ P → IsTrue b ↔ P → a ≡ b
@@ -40,13 +40,13 @@ answers_one unit (Some (InStep version text)) ask given other h k = answers_are_
 answers_one unit (Some OutOfStep) ask given other h k = h ∙ sym k
 answers_one unit None ask given other h k = h ∙ sym k
 
-sends_one : (held : OpenDocuments) (m : MessageToServer) (said also : List MessageToEditor) (made more : List PublicationWithText) → Replies held m said made → Replies held m also more → (said ≡ also) × (made ≡ more)
+sends_one : (held : OpenDocuments) (m : MessageToServer) (said also : List MessageToEditor) (made more : List PublicationWithText) → RepliesToMessage held m said made → RepliesToMessage held m also more → (said ≡ also) × (made ≡ more)
 sends_one held (notifies note) said also made more h k = reports_one held note said also made more h k
 sends_one held (requests number uri ask) said also made more (given, h, is_said, is_made) (other, k, is_also, is_more) =
     let same : given ≡ other = answers_one held.unit (document_at held uri) ask given other h k in
     (is_said ∙ ap (λ edits. answers number edits ∷ []) same ∙ sym is_also, is_made ∙ sym is_more)
 
-serves_one : (w : ClientAndServer) (queue : List MessageToServer) (new other : ClientAndServer) → ServerTakes w queue new → ServerTakes w queue other → new ≡ other
+serves_one : (w : ClientAndServer) (queue : List MessageToServer) (new other : ClientAndServer) → ServerTakesFirstMessage w queue new → ServerTakesFirstMessage w queue other → new ≡ other
 serves_one w [] new other h k = h ∙ sym k
 serves_one w (m ∷ rest) new other (said, made, replies, is) (also, more, replies_too, is_too) =
     let both : (said ≡ also) × (made ≡ more) = sends_one w.held m said also made more replies replies_too in

@@ -2,9 +2,9 @@
 use Rattle.std.proofs.Common.{ap}
 use mathlib.Core.List.{map-map}
 use Rattle.ob0_text.specs.Units.{width_of}
-use Rattle.ob0_text.specs.Patches.{cut_at, patched_by_cuts}
-use Rattle.ob0_world_rules.specs.Edited.{replacement_of, text_after_edits, TextAfterEditsEqualsPatched}
+use Rattle.ob0_text.specs.Patches.{cut_of_range, text_patched_by_cuts}
+use Rattle.ob0_world_rules.specs.TextEdits.{replacement_of, text_after_edits, EditedTextDefinitionsAgree}
 
-pub edited_as_patched : TextAfterEditsEqualsPatched
+pub edited_as_patched : EditedTextDefinitionsAgree
 unfolding text_after_edits
-edited_as_patched unit text edits = ap (patched_by_cuts text) (map-map (λ e. cut_at (width_of unit) text e.range e.text) replacement_of edits)
+edited_as_patched unit text edits = ap (text_patched_by_cuts text) (map-map (λ e. cut_of_range (width_of unit) text e.range e.text) replacement_of edits)

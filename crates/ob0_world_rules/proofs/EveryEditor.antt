@@ -8,17 +8,17 @@ use Rattle.std.proofs.lemmas.List.Elements.{All-nil, All-push}
 use Rattle.std.proofs.lemmas.List.Sums.{fold_push}
 use Rattle.ob0_text.specs.declared.position_types.Unit.{Unit}
 use Rattle.ob0_text.specs.OpenDocuments.{OpenDocuments, Opened, Changed, Closed, document_at}
-use Rattle.ob0_world_rules.specs.Language.{WellTypedText, SameRun}
-use Rattle.ob0_world_rules.specs.Edited.{text_after_edits}
-use Rattle.ob0_world_rules.specs.ClientAndServer.{OpenDocument, SentAsk, Editor, open_document_at, MessageToServer, notifies, requests, MessageToEditor, Applied, ClientAndServer, documents_after_message}
-use Rattle.ob0_world_rules.specs.EditorActs.{ActResult, silent_result, closing_result, asking_result, without_answer}
-use Rattle.ob0_world_rules.specs.Happens.{state_after_act, ServerTakes}
-use Rattle.ob0_world_rules.specs.Mirror.{documents_after_queue, in_step_document}
+use Rattle.ob0_world_rules.specs.WellTypedTexts.{WellTypedText, SameRun}
+use Rattle.ob0_world_rules.specs.TextEdits.{text_after_edits}
+use Rattle.ob0_world_rules.specs.ClientAndServer.{OpenDocument, SentAsk, Editor, editor_document_at, MessageToServer, notifies, requests, MessageToEditor, Applied, ClientAndServer, documents_after_message}
+use Rattle.ob0_world_rules.specs.EditorActs.{ActResult, result_without_messages, closing_result, asking_result, editor_without_answer}
+use Rattle.ob0_world_rules.specs.Happens.{state_after_act, ServerTakesFirstMessage}
+use Rattle.ob0_world_rules.specs.MirroredDocuments.{documents_after_queue, in_step_document}
 use Rattle.ob0_world_rules.specs.Headline.{PreservesRun}
 use Rattle.ob0_world_rules.specs.Laws.{EditsPreserveRun}
-use Rattle.ob0_world_rules.specs.PublicationsInOrder.{AnnouncedDocument, AreMadeForDocuments, uris_and_versions_announced_by, uri_and_version_of}
-use Rattle.ob0_world_rules.specs.Editors.{Revision, Move, to_open, to_revise, to_close, to_ask, to_apply, to_discard, revised_document, with_document, Revises, notifications_of, AppliesAnswer, opening_result_for_document, IsAllowedMove}
-use Rattle.ob0_world_rules.specs.EveryEditor.{EditorAndServer, initial_editor_and_server, modeled_messages, notifications_among, model_state_of, Turn, editor_moves, editor_sends_unmodeled, server_takes, editor_takes, state_after_move, ServerTakesNext, state_after_editor_takes_next, MayHappen, MayLeadTo, HoldsForEditorAndServer, HoldsForEveryEditor}
+use Rattle.ob0_world_rules.specs.PublicationsInOrder.{AnnouncedDocument, AreMadeForDocumentsInOrder, uris_and_versions_announced_by, uri_and_version_of}
+use Rattle.ob0_world_rules.specs.EditorMoves.{Revision, Move, editor_opens, editor_revises, editor_closes, editor_asks, editor_applies, editor_discards, revised_document, editor_with_document, RevisesDocument, notifications_of_revisions, AppliesAnswer, opening_result_for_document, IsAllowedMove}
+use Rattle.ob0_world_rules.specs.EveryEditor.{EditorAndServer, initial_editor_and_server, modeled_messages, notifications_among, model_state_of, ExchangeTurn, editor_moves, editor_sends_unmodeled_message, server_takes_message, editor_takes_message, state_after_move, ServerTakesNextMessage, state_after_editor_takes_next_message, MayHappen, MayLeadTo, GuaranteesHoldForEditorAndServer, GuaranteesHoldForEveryEditor}
 use Rattle.ob0_world_rules.proofs.UriLaws.{get_put, uri_itself}
 use Rattle.ob0_world_rules.proofs.Asked.{Known}
 use Rattle.ob0_world_rules.proofs.Keeping.{AnswerFits, Kept, acts_kept, revise_kept, held_known}
@@ -50,7 +50,7 @@ module _ (unit : Unit) where
     published : List AnnouncedDocument
     waiting : List AnnouncedDocument
     all : w.announced ≡ published ++ waiting
-    are_made_for_documents : AreMadeForDocuments w.made published
+    are_made_for_documents : AreMadeForDocumentsInOrder w.made published
     pending : Pending w.held (modeled_messages w.to_server) waiting
 
   -- A move in the model is the same move without the other messages.
@@ -78,13 +78,13 @@ module _ (unit : Unit) where
 
   -- A move that sends one message keeps the invariant.
   one_sent : (w : EditorAndServer) (e : Editor) (m : MessageToServer) (announced : List AnnouncedDocument) (applied : List Applied) → Good w → Kept unit (state_after_act (model_state_of w) (record { editor = e; sent = m ∷ []; applied = applied }))
-      → ((held : OpenDocuments) → ((uri : List ℕ) → document_at (documents_after_message held m) uri ≡ option_map in_step_document (open_document_at e uri)) → Awaits held m announced)
+      → ((held : OpenDocuments) → ((uri : List ℕ) → document_at (documents_after_message held m) uri ≡ option_map in_step_document (editor_document_at e uri)) → Awaits held m announced)
       → map uri_and_version_of announced ≡ uris_and_versions_announced_by m
       → Good (state_after_move w (record { editor = e; sent = m ∷ []; applied = applied }) announced)
   one_sent w e m announced applied good kept awaits names =
       let done : ActResult = record { editor = e; sent = m ∷ []; applied = applied } in
       let before : OpenDocuments = documents_after_queue (model_state_of w) in
-      let mirror : (uri : List ℕ) → document_at (documents_after_message before m) uri ≡ option_map in_step_document (open_document_at e uri) =
+      let mirror : (uri : List ℕ) → document_at (documents_after_message before m) uri ≡ option_map in_step_document (editor_document_at e uri) =
       λ uri. sym (ap (λ held. document_at held uri) (fold_push documents_after_message w.held (modeled_messages w.to_server) m)) ∙ kept.mirror uri in
       record {
         kept = subst (Kept unit) (moved_so w done announced) kept;
@@ -100,7 +100,7 @@ module _ (unit : Unit) where
   -- ---- the editor's moves
 
   -- A document is found under the uri under which it was inserted.
-  put_there : (held : OpenDocuments) (e : Editor) (uri : List ℕ) (d : OpenDocument) (m : MessageToServer) → ((q : List ℕ) → document_at (documents_after_message held m) q ≡ option_map in_step_document (open_document_at (with_document e uri d) q)) → document_at (documents_after_message held m) uri ≡ Some (in_step_document d)
+  put_there : (held : OpenDocuments) (e : Editor) (uri : List ℕ) (d : OpenDocument) (m : MessageToServer) → ((q : List ℕ) → document_at (documents_after_message held m) q ≡ option_map in_step_document (editor_document_at (editor_with_document e uri d) q)) → document_at (documents_after_message held m) uri ≡ Some (in_step_document d)
   put_there held e uri d m mirror = mirror uri ∙ ap (option_map in_step_document) (get_put e.documents uri d uri ∙ ap (λ b. cond b (Some d) (map_of.get e.documents uri)) (uri_itself uri))
 
   open_good : (w : EditorAndServer) (uri text : List ℕ) (version : ℤ) → Good w
@@ -108,13 +108,13 @@ module _ (unit : Unit) where
   open_good w uri text version good =
       let d : OpenDocument = record { version = version; text = text; opening = w.editor.openings + 1 } in
       let m : MessageToServer = notifies (Opened uri version text) in
-      one_sent w (record (with_document w.editor uri d) { openings = d.opening }) m (record { uri = uri; document = d } ∷ []) [] good
+      one_sent w (record (editor_with_document w.editor uri d) { openings = d.opening }) m (record { uri = uri; document = d } ∷ []) [] good
       (opened_kept unit (model_state_of w) uri text version good.kept)
       (λ held mirror. (Some d, put_there held w.editor uri d m mirror, refl))
       refl
 
-  revisions_good : (revisions : List Revision) (w : EditorAndServer) (uri : List ℕ) (new : Editor) (announced : List AnnouncedDocument) (applied : List Applied) → Good w → Revises w.editor uri revisions new announced → All PreservesRun applied
-      → Good (state_after_move w (record { editor = new; sent = notifications_of uri revisions; applied = applied }) announced)
+  revisions_good : (revisions : List Revision) (w : EditorAndServer) (uri : List ℕ) (new : Editor) (announced : List AnnouncedDocument) (applied : List Applied) → Good w → RevisesDocument w.editor uri revisions new announced → All PreservesRun applied
+      → Good (state_after_move w (record { editor = new; sent = notifications_of_revisions uri revisions; applied = applied }) announced)
   revisions_good [] w uri new announced applied good (is, none) keeps =
       subst (λ ts. Good (state_after_move w (record { editor = new; sent = []; applied = applied }) ts)) (sym none)
       (none_sent w new applied good
@@ -122,7 +122,7 @@ module _ (unit : Unit) where
       (acts_kept unit (model_state_of w) (record { editor = w.editor; sent = []; applied = applied }) good.kept (λ k a same. same) refl refl good.kept.mirror tt keeps)))
   revisions_good (r ∷ more) w uri new announced applied good (d, later, at, makes, rest, is) keeps =
       let m : MessageToServer = notifies (Changed uri r.version r.sent_changes) in
-      let first : ActResult = record { editor = with_document w.editor uri (revised_document d r); sent = m ∷ []; applied = [] } in
+      let first : ActResult = record { editor = editor_with_document w.editor uri (revised_document d r); sent = m ∷ []; applied = [] } in
       let one : List AnnouncedDocument = record { uri = uri; document = revised_document d r } ∷ [] in
       let between : EditorAndServer = state_after_move w first one in
       let so : Good between =
@@ -130,11 +130,11 @@ module _ (unit : Unit) where
       (revise_kept unit (model_state_of w) uri d (revised_document d r) r.sent_changes [] good.kept at makes (All-nil PreservesRun))
       (λ held mirror. (Some (revised_document d r), put_there held w.editor uri (revised_document d r) m mirror, refl))
       refl in
-      let last : Good (state_after_move between (record { editor = new; sent = notifications_of uri more; applied = applied }) later) = revisions_good more between uri new later applied so rest keeps in
+      let last : Good (state_after_move between (record { editor = new; sent = notifications_of_revisions uri more; applied = applied }) later) = revisions_good more between uri new later applied so rest keeps in
       subst Good
       (λ i. record w {
         editor = new;
-        to_server = append_assoc w.to_server (Some m ∷ []) (map Some (notifications_of uri more)) i;
+        to_server = append_assoc w.to_server (Some m ∷ []) (map Some (notifications_of_revisions uri more)) i;
         announced = (append_assoc w.announced one later ∙ ap (λ ts. w.announced ++ ts) (sym is)) i;
         applied = ap (λ es. es ++ applied) (append-nil w.applied) i;
       })
@@ -142,7 +142,7 @@ module _ (unit : Unit) where
 
   apply_good : (w : EditorAndServer) (k : ℕ) (revisions : List Revision) (done : ActResult) (announced : List AnnouncedDocument) → Good w → AppliesAnswer w.editor k revisions done announced → Good (state_after_move w done announced)
   apply_good w k revisions done announced good a =
-      let e : Editor = without_answer w.editor k in
+      let e : Editor = editor_without_answer w.editor k in
       let known : Known w.editor.requested k (λ text. EditsPreserveRun unit text a.edits) = held_known unit w.editor.requested k w.editor.answers a.edits a.answered good.kept.answers_held in
       let asked : known.requested ≡ a.requested = same_Some known.requested a.requested (sym known.is ∙ a.numbered) in
       let same : known.requested.text ≡ a.document.text = ap (λ (x : SentAsk). x.text) asked ∙ sym a.same_text in
@@ -165,24 +165,24 @@ module _ (unit : Unit) where
       (revisions_good revisions without a.requested.uri a.new announced (applied ∷ []) so a.revises (All-push PreservesRun [] applied (All-nil PreservesRun) keeps))
 
   move_good : (w : EditorAndServer) (move : Move) (done : ActResult) (announced : List AnnouncedDocument) → Good w → IsAllowedMove w.editor move done announced → Good (state_after_move w done announced)
-  move_good w (to_open uri version text) done announced good (is, are) =
+  move_good w (editor_opens uri version text) done announced good (is, are) =
       subst (λ x. Good (state_after_move w x announced)) (sym is)
       (subst (λ ts. Good (state_after_move w (opening_result_for_document (record { version = version; text = text; opening = w.editor.openings + 1 }) w.editor uri) ts)) (sym are) (open_good w uri text version good))
-  move_good w (to_revise uri revisions) done announced good (new, revises, is) =
+  move_good w (editor_revises uri revisions) done announced good (new, revises, is) =
       subst (λ x. Good (state_after_move w x announced)) (sym is) (revisions_good revisions w uri new announced [] good revises (All-nil PreservesRun))
-  move_good w (to_close uri) done announced good (is, are) =
+  move_good w (editor_closes uri) done announced good (is, are) =
       subst (λ x. Good (state_after_move w x announced)) (sym is)
       (subst (λ ts. Good (state_after_move w (closing_result w.editor uri) ts)) (sym are)
       (one_sent w (closing_result w.editor uri).editor (notifies (Closed uri)) [] [] good (close_kept unit (model_state_of w) uri good.kept) (λ held mirror. refl) refl))
-  move_good w (to_ask uri ask) done announced good (d, at, is, are) =
+  move_good w (editor_asks uri ask) done announced good (d, at, is, are) =
       subst (λ x. Good (state_after_move w x announced)) (sym is)
       (subst (λ ts. Good (state_after_move w (asking_result w.editor uri ask d) ts)) (sym are)
       (one_sent w (asking_result w.editor uri ask d).editor (requests (suc (length w.editor.requested)) uri ask) [] [] good (ask_kept unit (model_state_of w) uri ask d at good.kept) (λ held mirror. refl) refl))
-  move_good w (to_apply k revisions) done announced good may = apply_good w k revisions done announced good may
-  move_good w (to_discard k) done announced good (is, are) =
+  move_good w (editor_applies k revisions) done announced good may = apply_good w k revisions done announced good may
+  move_good w (editor_discards k) done announced good (is, are) =
       subst (λ x. Good (state_after_move w x announced)) (sym is)
-      (subst (λ ts. Good (state_after_move w (silent_result (without_answer w.editor k)) ts)) (sym are)
-      (none_sent w (without_answer w.editor k) [] good (still_kept unit (record (model_state_of w) { editor = without_answer w.editor k }) (without_kept unit (model_state_of w) k good.kept))))
+      (subst (λ ts. Good (state_after_move w (result_without_messages (editor_without_answer w.editor k)) ts)) (sym are)
+      (none_sent w (editor_without_answer w.editor k) [] good (still_kept unit (record (model_state_of w) { editor = editor_without_answer w.editor k }) (without_kept unit (model_state_of w) k good.kept))))
 
   -- ---- the other turns
 
@@ -195,7 +195,7 @@ module _ (unit : Unit) where
         published = good.published;
         waiting = good.waiting;
         all = sym announced ∙ good.all;
-        are_made_for_documents = subst (λ (x : ClientAndServer). AreMadeForDocuments x.made good.published) same good.are_made_for_documents;
+        are_made_for_documents = subst (λ (x : ClientAndServer). AreMadeForDocumentsInOrder x.made good.published) same good.are_made_for_documents;
         pending = subst (λ (x : ClientAndServer). Pending x.held x.to_server good.waiting) same good.pending;
       }
 
@@ -205,7 +205,7 @@ module _ (unit : Unit) where
       (λ i. record (model_state_of w) { to_server = (sym (append-nil (modeled_messages w.to_server)) ∙ sym (others_append w.to_server (None ∷ []))) i })
       refl
 
-  serve_good : (w : EditorAndServer) (queue : List (Option MessageToServer)) (new : EditorAndServer) → w.to_server ≡ queue → Good w → ServerTakesNext w queue new → Good new
+  serve_good : (w : EditorAndServer) (queue : List (Option MessageToServer)) (new : EditorAndServer) → w.to_server ≡ queue → Good w → ServerTakesNextMessage w queue new → Good new
   serve_good w [] new waits good is = subst Good (sym is) good
   serve_good w (None ∷ rest) new waits good (said, none, is) =
       subst Good (sym is)
@@ -219,7 +219,7 @@ module _ (unit : Unit) where
       let after : EditorAndServer = record w { to_server = rest; held = documents_after_message w.held m; to_editor = w.to_editor ++ map Some said; made = w.made ++ made } in
       let queue : List MessageToServer = m ∷ modeled_messages rest in
       let same : (model_state_of w).to_server ≡ queue = ap modeled_messages waits in
-      let takes : ServerTakes (model_state_of w) queue (model_state_of after) = (said, made, replies, λ i. record (model_state_of after) { to_editor = others_push w.to_editor said i }) in
+      let takes : ServerTakesFirstMessage (model_state_of w) queue (model_state_of after) = (said, made, replies, λ i. record (model_state_of after) { to_editor = others_push w.to_editor said i }) in
       let both : Both unit (model_state_of after) = serve_kept unit (model_state_of w) queue (model_state_of after) same (good.kept, good.latest) takes in
       let next : Next good.published good.waiting [] (model_state_of after) =
       serve_next good.published good.waiting (model_state_of w) queue (model_state_of after) good.are_made_for_documents (subst (λ q. Pending w.held q good.waiting) same good.pending) same takes in
@@ -234,7 +234,7 @@ module _ (unit : Unit) where
         pending = next.pending;
       })
 
-  take_good : (w : EditorAndServer) (queue : List (Option MessageToEditor)) → w.to_editor ≡ queue → Good w → Good (state_after_editor_takes_next w queue)
+  take_good : (w : EditorAndServer) (queue : List (Option MessageToEditor)) → w.to_editor ≡ queue → Good w → Good (state_after_editor_takes_next_message w queue)
   take_good w [] waits good = good
   take_good w (None ∷ rest) waits good =
       unmoved w (record w { to_editor = rest }) good (λ i. record (model_state_of w) { to_editor = ap modeled_messages waits i }) refl
@@ -252,13 +252,13 @@ module _ (unit : Unit) where
 
   -- ---- all turns
 
-  turn_good : (w : EditorAndServer) (turn : Turn) (new : EditorAndServer) → Good w → MayHappen w turn new → Good new
+  turn_good : (w : EditorAndServer) (turn : ExchangeTurn) (new : EditorAndServer) → Good w → MayHappen w turn new → Good new
   turn_good w (editor_moves move) new good (done, announced, may, is) = subst Good (sym is) (move_good w move done announced good may)
-  turn_good w editor_sends_unmodeled new good is = subst Good (sym is) (says_good w good)
-  turn_good w server_takes new good takes = serve_good w w.to_server new refl good takes
-  turn_good w editor_takes new good is = subst Good (sym is) (take_good w w.to_editor refl good)
+  turn_good w editor_sends_unmodeled_message new good is = subst Good (sym is) (says_good w good)
+  turn_good w server_takes_message new good takes = serve_good w w.to_server new refl good takes
+  turn_good w editor_takes_message new good is = subst Good (sym is) (take_good w w.to_editor refl good)
 
-  turns_good : (turns : List Turn) (w new : EditorAndServer) → Good w → MayLeadTo w turns new → Good new
+  turns_good : (turns : List ExchangeTurn) (w new : EditorAndServer) → Good w → MayLeadTo w turns new → Good new
   turns_good [] w new good is = subst Good (sym is) good
   turns_good (turn ∷ turns) w new good (between, happens, lead) = turns_good turns between new (turn_good w turn between good happens) lead
 
@@ -274,7 +274,7 @@ module _ (unit : Unit) where
         pending = refl;
       }
 
-  holds_with : (w : EditorAndServer) → Good w → HoldsForEditorAndServer w
+  holds_with : (w : EditorAndServer) → Good w → GuaranteesHoldForEditorAndServer w
   holds_with w good =
       record {
         holds = record { applied = good.kept.applied; made = good.kept.made; latest_are_up_to_date = λ nothing_waits. up_to_date unit (model_state_of w) (good.kept, good.latest) (ap notifications_among nothing_waits) };
@@ -287,5 +287,5 @@ module _ (unit : Unit) where
         unpublished_are_queued = pending_named w.held (modeled_messages w.to_server) good.waiting good.pending;
       }
 
-pub holds_for_every_editor : HoldsForEveryEditor
-holds_for_every_editor unit turns w lead = holds_with unit w (turns_good unit turns (initial_editor_and_server unit) w (first_good unit) lead)
+pub guarantees_hold_for_every_editor : GuaranteesHoldForEveryEditor
+guarantees_hold_for_every_editor unit turns w lead = holds_with unit w (turns_good unit turns (initial_editor_and_server unit) w (first_good unit) lead)

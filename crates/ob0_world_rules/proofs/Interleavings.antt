@@ -11,16 +11,16 @@ use Rattle.std.proofs.lemmas.List.Elements.{All-nil, All-head, All-tail, All-pus
 use Rattle.ob0_text.specs.declared.position_types.Unit.{Unit}
 use Rattle.ob0_text.specs.OpenDocuments.{OpenDocuments, Document, InStep, OutOfStep, DocumentEvent, Opened, Changed, Lost, Closed, with_updated_document, documents_after_event, changed_document, document_at}
 use Rattle.ob0_text.proofs.EntryLaws.{updated-some, updated-none}
-use Rattle.ob0_world_rules.specs.Edited.{Replacement}
+use Rattle.ob0_world_rules.specs.TextEdits.{Replacement}
 use Rattle.ob0_world_rules.specs.Asks.{Ask}
 use Rattle.ob0_world_rules.specs.Answers.{IsAnswerForDocument}
-use Rattle.ob0_world_rules.specs.ClientAndServer.{OpenDocument, SentAsk, Answer, open_document_at, MessageToServer, notifies, requests, MessageToEditor, publishes, answers, PublicationWithText, ClientAndServer, start, documents_after_message}
-use Rattle.ob0_world_rules.specs.EditorActs.{silent_result, closing_result, asking_result, answers_except, without_answer}
-use Rattle.ob0_world_rules.specs.Serving.{SendsDiagnostics, RepliesToNotification, Replies}
-use Rattle.ob0_world_rules.specs.Happens.{state_after_act, state_after_editor_takes, ServerTakes}
-use Rattle.ob0_world_rules.specs.Editors.{opening_result_for_document}
+use Rattle.ob0_world_rules.specs.ClientAndServer.{OpenDocument, SentAsk, Answer, editor_document_at, MessageToServer, notifies, requests, MessageToEditor, publishes, answers, PublicationWithText, ClientAndServer, start, documents_after_message}
+use Rattle.ob0_world_rules.specs.EditorActs.{result_without_messages, closing_result, asking_result, answers_except, editor_without_answer}
+use Rattle.ob0_world_rules.specs.ServerReplies.{SendsDiagnostics, RepliesToNotification, RepliesToMessage}
+use Rattle.ob0_world_rules.specs.Happens.{state_after_act, state_after_editor_takes_message, ServerTakesFirstMessage}
+use Rattle.ob0_world_rules.specs.EditorMoves.{opening_result_for_document}
 use Rattle.ob0_world_rules.specs.EveryEditor.{notifications_among}
-use Rattle.ob0_world_rules.specs.Mirror.{documents_after_queue, in_step_document}
+use Rattle.ob0_world_rules.specs.MirroredDocuments.{documents_after_queue, in_step_document}
 use Rattle.ob0_world_rules.specs.Headline.{PreservesRun, IsCorrectPublication, last_publication, PublicationsAreUpToDate}
 use Rattle.ob0_world_rules.specs.Laws.{EditsPreserveRun}
 use Rattle.ob0_world_rules.proofs.UriLaws.{get_put, get_removed, same_uri, uri_itself}
@@ -47,7 +47,7 @@ module _ (unit : Unit) where
   close_kept w uri kept =
       acts_kept unit w (closing_result w.editor uri) kept (λ k a is. is) refl refl (remove_mirrors w uri kept.mirror) tt (All-nil PreservesRun)
 
-  pub ask_kept : (w : ClientAndServer) (uri : List ℕ) (ask : Ask) (d : OpenDocument) → open_document_at w.editor uri ≡ Some d → Kept unit w → Kept unit (state_after_act w (asking_result w.editor uri ask d))
+  pub ask_kept : (w : ClientAndServer) (uri : List ℕ) (ask : Ask) (d : OpenDocument) → editor_document_at w.editor uri ≡ Some d → Kept unit w → Kept unit (state_after_act w (asking_result w.editor uri ask d))
   ask_kept w uri ask d is kept =
       let a : SentAsk = record { ask = ask; uri = uri; text = d.text; opening = d.opening; version = d.version } in
       let known : Known (w.editor.requested ++ a ∷ []) (suc (length w.editor.requested)) (HasText (documents_after_queue w) uri) =
@@ -59,9 +59,9 @@ module _ (unit : Unit) where
       acts_kept unit w (asking_result w.editor uri ask d) kept (numbered_push w.editor.requested (a ∷ [])) refl refl kept.mirror (known, tt) (All-nil PreservesRun)
 
   -- An act that sends nothing and changes nothing keeps the invariant.
-  pub still_kept : (w : ClientAndServer) → Kept unit w → Kept unit (state_after_act w (silent_result w.editor))
+  pub still_kept : (w : ClientAndServer) → Kept unit w → Kept unit (state_after_act w (result_without_messages w.editor))
   still_kept w kept =
-      acts_kept unit w (silent_result w.editor) kept (λ k a is. is) refl refl kept.mirror tt (All-nil PreservesRun)
+      acts_kept unit w (result_without_messages w.editor) kept (λ k a is. is) refl refl kept.mirror tt (All-nil PreservesRun)
 
   -- Taking the first message out of the editor's queue keeps the invariant.
   rest_kept : (w : ClientAndServer) (rest : List MessageToEditor) → Kept unit w → All (AnswerFits unit w.editor.requested) rest → Kept unit (record w { to_editor = rest })
@@ -76,7 +76,7 @@ module _ (unit : Unit) where
       go text (inl none) = absurd (cc)
       go text (inr keep) = keep
 
-  pub take_kept : (w : ClientAndServer) (queue : List MessageToEditor) → Kept unit w → All (AnswerFits unit w.editor.requested) queue → Kept unit (state_after_editor_takes w queue)
+  pub take_kept : (w : ClientAndServer) (queue : List MessageToEditor) → Kept unit w → All (AnswerFits unit w.editor.requested) queue → Kept unit (state_after_editor_takes_message w queue)
   take_kept w [] kept fit = kept
   take_kept w (publishes uri version empty ∷ rest) kept fit = rest_kept w rest kept (All-tail (AnswerFits unit w.editor.requested) (publishes uri version empty) rest fit)
   take_kept w (answers k [] ∷ rest) kept fit = rest_kept w rest kept (All-tail (AnswerFits unit w.editor.requested) (answers k []) rest fit)
@@ -98,7 +98,7 @@ module _ (unit : Unit) where
       go true later = All-tail P a rest all
       go false later = All-cons P a (answers_except k rest) (All-head P a rest all) later
 
-  pub without_kept : (w : ClientAndServer) (k : ℕ) → Kept unit w → Kept unit (record w { editor = without_answer w.editor k })
+  pub without_kept : (w : ClientAndServer) (k : ℕ) → Kept unit w → Kept unit (record w { editor = editor_without_answer w.editor k })
   without_kept w k kept =
       answers_kept unit w (answers_except k w.editor.answers) w.to_editor kept (All-answers_except (HeldFits unit w.editor.requested) k w.editor.answers kept.answers_held) kept.answered
 
@@ -235,7 +235,7 @@ module _ (unit : Unit) where
   abbrev Meets : List SentAsk → OpenDocuments → MessageToServer → Type 0
   Meets asked held m = AsksSee asked held (m ∷ [])
 
-  message_sound : (asked : List SentAsk) (held : OpenDocuments) (m : MessageToServer) (said : List MessageToEditor) (made more : List PublicationWithText) → held.unit ≡ unit → Meets asked held m → AreLatest held made → Replies held m said more → Sound asked (documents_after_message held m) said made more
+  message_sound : (asked : List SentAsk) (held : OpenDocuments) (m : MessageToServer) (said : List MessageToEditor) (made more : List PublicationWithText) → held.unit ≡ unit → Meets asked held m → AreLatest held made → RepliesToMessage held m said more → Sound asked (documents_after_message held m) said made more
   message_sound asked held (notifies note) said made more same_unit meets now h = note_sound asked held note said made more now h
   message_sound asked held (requests k uri ask) said made more same_unit meets now (edits, may, is_said, is_made) =
       let quiet : Sound asked held [] made more = silent asked held made [] more refl is_made now in
@@ -254,7 +254,7 @@ module _ (unit : Unit) where
   sees_first e held (notifies note) rest h = (tt, h)
   sees_first e held (requests k uri ask) rest h = ((h.0, tt), h.1)
 
-  pub serve_kept : (w : ClientAndServer) (queue : List MessageToServer) (new : ClientAndServer) → w.to_server ≡ queue → Both w → ServerTakes w queue new → Both new
+  pub serve_kept : (w : ClientAndServer) (queue : List MessageToServer) (new : ClientAndServer) → w.to_server ≡ queue → Both w → ServerTakesFirstMessage w queue new → Both new
   serve_kept w [] new is both h = subst Both (sym h) both
   serve_kept w (m ∷ rest) new is (kept, now) (said, more, may, is_new) =
       let asked : List SentAsk = w.editor.requested in
@@ -264,7 +264,7 @@ module _ (unit : Unit) where
         record {
           counts = kept.counts;
           holds = message_unit w.held m ∙ kept.holds;
-          mirror = subst (λ q. (uri : List ℕ) → document_at (fold documents_after_message w.held q) uri ≡ option_map in_step_document (open_document_at w.editor uri)) is kept.mirror;
+          mirror = subst (λ q. (uri : List ℕ) → document_at (fold documents_after_message w.held q) uri ≡ option_map in_step_document (editor_document_at w.editor uri)) is kept.mirror;
           requested = see.1;
           answered = All-append (AnswerFits unit asked) w.to_editor said kept.answered sound.fit;
           answers_held = kept.answers_held;
@@ -277,7 +277,7 @@ module _ (unit : Unit) where
   -- ---- all events
 
   -- When the editor takes a message, the server's documents and publications don't change.
-  pub take_unmoved : (w : ClientAndServer) (queue : List MessageToEditor) → ((state_after_editor_takes w queue).held ≡ w.held) × ((state_after_editor_takes w queue).made ≡ w.made)
+  pub take_unmoved : (w : ClientAndServer) (queue : List MessageToEditor) → ((state_after_editor_takes_message w queue).held ≡ w.held) × ((state_after_editor_takes_message w queue).made ≡ w.made)
   take_unmoved w [] = (refl, refl)
   take_unmoved w (m ∷ rest) = (refl, refl)
 

@@ -10,11 +10,11 @@ use Rattle.std.proofs.lemmas.List.Sums.{fold-append}
 use Rattle.ob0_text.specs.declared.position_types.Unit.{Unit}
 use Rattle.ob0_text.specs.OpenDocuments.{OpenDocuments, InStep, document_with_text, DocumentEvent, Opened, Changed, Lost, Closed, TextChange, documents_after_event, changed_document, document_at}
 use Rattle.ob0_text.proofs.EntryLaws.{updated-some}
-use Rattle.ob0_world_rules.specs.Edited.{Replacement, text_after_changes}
-use Rattle.ob0_world_rules.specs.ClientAndServer.{OpenDocument, SentAsk, Answer, open_document_at, MessageToServer, notifies, requests, MessageToEditor, publishes, answers, Applied, ClientAndServer, documents_after_message}
+use Rattle.ob0_world_rules.specs.TextEdits.{Replacement, text_after_changes}
+use Rattle.ob0_world_rules.specs.ClientAndServer.{OpenDocument, SentAsk, Answer, editor_document_at, MessageToServer, notifies, requests, MessageToEditor, publishes, answers, Applied, ClientAndServer, documents_after_message}
 use Rattle.ob0_world_rules.specs.EditorActs.{ActResult, edits_of_answer}
 use Rattle.ob0_world_rules.specs.Happens.{state_after_act}
-use Rattle.ob0_world_rules.specs.Mirror.{documents_after_queue, in_step_document, WillMirrorEditor}
+use Rattle.ob0_world_rules.specs.MirroredDocuments.{documents_after_queue, in_step_document, ServerWillMirrorEditor}
 use Rattle.ob0_world_rules.specs.Headline.{PreservesRun, IsCorrectPublication}
 use Rattle.ob0_world_rules.specs.Laws.{EditsPreserveRun}
 use Rattle.ob0_world_rules.proofs.UriLaws.{get_put, get_removed, mapped_choice}
@@ -47,7 +47,7 @@ pub record Kept (unit : Unit) (w : ClientAndServer) : Type 0 where
   -- client and server count positions in this unit
   pub counts : w.editor.unit ≡ unit
   pub holds : w.held.unit ≡ unit
-  pub mirror : WillMirrorEditor w
+  pub mirror : ServerWillMirrorEditor w
   pub requested : AsksSee w.editor.requested w.held w.to_server
   pub answered : All (AnswerFits unit w.editor.requested) w.to_editor
   pub answers_held : All (HeldFits unit w.editor.requested) w.editor.answers
@@ -96,7 +96,7 @@ asks_append asked held (requests n uri ask ∷ rest) more h k = (h.0, asks_appen
 -- ---- the editor acts
 
 pub acts_kept : (unit : Unit) (w : ClientAndServer) (done : ActResult) → Kept unit w → Later w.editor.requested done.editor.requested → done.editor.unit ≡ w.editor.unit → done.editor.answers ≡ w.editor.answers
-    → ((uri : List ℕ) → document_at (fold documents_after_message (documents_after_queue w) done.sent) uri ≡ option_map in_step_document (open_document_at done.editor uri)) → AsksSee done.editor.requested (documents_after_queue w) done.sent → All PreservesRun done.applied → Kept unit (state_after_act w done)
+    → ((uri : List ℕ) → document_at (fold documents_after_message (documents_after_queue w) done.sent) uri ≡ option_map in_step_document (editor_document_at done.editor uri)) → AsksSee done.editor.requested (documents_after_queue w) done.sent → All PreservesRun done.applied → Kept unit (state_after_act w done)
 acts_kept unit w done kept later same_unit same mirror see keeps =
     let asked : List SentAsk = w.editor.requested in
     let now : List SentAsk = done.editor.requested in
@@ -112,18 +112,18 @@ acts_kept unit w done kept later same_unit same mirror see keeps =
     }
 
 -- Inserting a document at client and server keeps the mirror.
-put_mirror : (w : ClientAndServer) (uri : List ℕ) (d : OpenDocument) → WillMirrorEditor w → (q : List ℕ)
+put_mirror : (w : ClientAndServer) (uri : List ℕ) (d : OpenDocument) → ServerWillMirrorEditor w → (q : List ℕ)
     → map_of.get (map_of.insert (documents_after_queue w).by_uri uri (in_step_document d)) q ≡ option_map in_step_document (map_of.get (map_of.insert w.editor.documents uri d) q)
 put_mirror w uri d mirror q =
     get_put (documents_after_queue w).by_uri uri (in_step_document d) q ∙ ap (cond (bytes_eq q uri) (Some (in_step_document d))) (mirror q)
     ∙ sym (mapped_choice in_step_document (bytes_eq q uri) (Some d) (map_of.get w.editor.documents q))
     ∙ ap (option_map in_step_document) (sym (get_put w.editor.documents uri d q))
 
-pub put_mirrors : (w : ClientAndServer) (uri : List ℕ) (d : OpenDocument) → WillMirrorEditor w → (q : List ℕ)
+pub put_mirrors : (w : ClientAndServer) (uri : List ℕ) (d : OpenDocument) → ServerWillMirrorEditor w → (q : List ℕ)
     → map_of.get (map_of.insert (documents_after_queue w).by_uri uri (in_step_document d)) q ≡ option_map in_step_document (map_of.get (map_of.insert w.editor.documents uri d) q)
 put_mirrors w uri d mirror q = put_mirror w uri d mirror q
 
-pub remove_mirrors : (w : ClientAndServer) (uri : List ℕ) → WillMirrorEditor w → (q : List ℕ)
+pub remove_mirrors : (w : ClientAndServer) (uri : List ℕ) → ServerWillMirrorEditor w → (q : List ℕ)
     → map_of.get (map_of.remove (documents_after_queue w).by_uri uri) q ≡ option_map in_step_document (map_of.get (map_of.remove w.editor.documents uri) q)
 remove_mirrors w uri mirror q =
     get_removed (documents_after_queue w).by_uri uri q ∙ ap (cond (bytes_eq q uri) None) (mirror q)
@@ -131,7 +131,7 @@ remove_mirrors w uri mirror q =
     ∙ ap (option_map in_step_document) (sym (get_removed w.editor.documents uri q))
 
 -- Changing a document's text at client and server keeps the mirror.
-change_mirrors : (w : ClientAndServer) (uri : List ℕ) (d new : OpenDocument) (how : List TextChange) → WillMirrorEditor w → (documents_after_queue w).unit ≡ w.editor.unit → open_document_at w.editor uri ≡ Some d
+change_mirrors : (w : ClientAndServer) (uri : List ℕ) (d new : OpenDocument) (how : List TextChange) → ServerWillMirrorEditor w → (documents_after_queue w).unit ≡ w.editor.unit → editor_document_at w.editor uri ≡ Some d
     → text_after_changes w.editor.unit (Some d.text) how ≡ Some new.text → (q : List ℕ)
     → document_at (documents_after_event (documents_after_queue w) (Changed uri new.version how)) q ≡ option_map in_step_document (map_of.get (map_of.insert w.editor.documents uri new) q)
 change_mirrors w uri d new how mirror same_unit was_open is q =
@@ -141,7 +141,7 @@ change_mirrors w uri d new how mirror same_unit was_open is q =
     ∙ put_mirror w uri new mirror q
 
 -- Giving an open document another version and text keeps the invariant if the server is sent the changes.
-pub revise_kept : (unit : Unit) (w : ClientAndServer) (uri : List ℕ) (d new : OpenDocument) (how : List TextChange) (applied : List Applied) → Kept unit w → open_document_at w.editor uri ≡ Some d
+pub revise_kept : (unit : Unit) (w : ClientAndServer) (uri : List ℕ) (d new : OpenDocument) (how : List TextChange) (applied : List Applied) → Kept unit w → editor_document_at w.editor uri ≡ Some d
     → text_after_changes w.editor.unit (Some d.text) how ≡ Some new.text → All PreservesRun applied
     → Kept unit (state_after_act w (record { editor = record w.editor { documents = map_of.insert w.editor.documents uri new }; sent = notifies (Changed uri new.version how) ∷ []; applied = applied }))
 revise_kept unit w uri d new how applied kept was_open is keeps =

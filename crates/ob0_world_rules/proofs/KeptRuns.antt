@@ -5,12 +5,12 @@ use Rattle.ob0_text.specs.declared.edits.Edit.{Edit}
 use Rattle.ob0_text.specs.declared.position_types.Unit.{Unit}
 use Rattle.ob0_text.specs.Units.{width_of}
 use Rattle.ob0_text.specs.Patches.{patched_text}
-use Rattle.ob0_edits.specs.RunsKept.{RunsAsBefore}
+use Rattle.ob0_edits.specs.SameRuns.{RunsAsBefore}
 use Rattle.ob0_edits.specs.Texts.{utf8}
-use Rattle.ob0_world_rules.specs.Edited.{Replacement, replacements}
+use Rattle.ob0_world_rules.specs.TextEdits.{Replacement, replacements}
 use Rattle.ob0_world_rules.proofs.EditedTexts.{edited_as_patched}
 use Rattle.ob0_world_rules.specs.Asks.{Ask, rename, inline_here, inline_all, format}
-use Rattle.ob0_world_rules.specs.Answers.{GivesEdits, IsAnswerForText}
+use Rattle.ob0_world_rules.specs.Answers.{AreRequestedEdits, IsAnswerForText}
 use Rattle.ob0_world_rules.specs.Laws.{EditsPreserveRun}
 use Rattle.ob0_world_rules.proofs.ModuleTexts.{well_typed_text}
 use Rattle.ob0_world_rules.proofs.Trees.{same_run}
@@ -26,7 +26,7 @@ runs_kept unit text after edits made runs =
       same = same_run text after runs;
     }
 
-pub answer_edits_preserve_run : (unit : Unit) (text : List ℕ) (ask : Ask) (edits : List Edit) → GivesEdits unit text ask edits → EditsPreserveRun unit text (replacements edits)
+pub answer_edits_preserve_run : (unit : Unit) (text : List ℕ) (ask : Ask) (edits : List Edit) → AreRequestedEdits unit text ask edits → EditsPreserveRun unit text (replacements edits)
 answer_edits_preserve_run unit text (rename position name) edits found = runs_kept unit text found.after edits found.made found.runs
 answer_edits_preserve_run unit text (inline_here position) edits (list, found, is) = subst (λ es. EditsPreserveRun unit text (replacements es)) (sym is) (runs_kept unit text found.after list.items found.made found.runs)
 answer_edits_preserve_run unit text (inline_all position) edits (list, found, is) = subst (λ es. EditsPreserveRun unit text (replacements es)) (sym is) (runs_kept unit text found.after list.items found.made found.runs)

@@ -4,19 +4,19 @@ use Rattle.std.specs.Prelude.{◌⊎◌, ℤ, pos, Some}
 use Rattle.std.proofs.lemmas.List.{map-append}
 use Rattle.ob0_text.specs.declared.position_types.Unit.{Unit}
 use Rattle.ob0_text.specs.OpenDocuments.{TextChange, changed_text}
-use Rattle.ob0_world_rules.specs.Edited.{Replacement, text_after_edits, whole_text_change, text_after_changes}
-use Rattle.ob0_world_rules.specs.ClientAndServer.{OpenDocument, EditorDocuments, SentAsk, Editor, request_numbered, open_document_at, MessageToServer, MessageToEditor, publishes, answers, ClientAndServer, start, documents_after_message}
-use Rattle.ob0_world_rules.specs.EditorActs.{Act, ActResult, next_version, silent_result, opening_result, rewriting_result, edits_of_answer, without_answer, act_result, editor_after_reading}
-use Rattle.ob0_world_rules.specs.Happens.{Event, editor_acts, serve, take_message, state_after_act, state_after_editor_takes, ServerTakes, Happens, IsCourse}
+use Rattle.ob0_world_rules.specs.TextEdits.{Replacement, text_after_edits, whole_text_change, text_after_changes}
+use Rattle.ob0_world_rules.specs.ClientAndServer.{OpenDocument, EditorDocuments, SentAsk, Editor, request_with_number, editor_document_at, MessageToServer, MessageToEditor, publishes, answers, ClientAndServer, start, documents_after_message}
+use Rattle.ob0_world_rules.specs.EditorActs.{Act, ActResult, next_version, result_without_messages, opening_result, rewriting_result, edits_of_answer, editor_without_answer, act_result, editor_after_reading}
+use Rattle.ob0_world_rules.specs.Happens.{Event, editor_acts, serve, take_message, state_after_act, state_after_editor_takes_message, ServerTakesFirstMessage, Happens, IsCourse}
 use Rattle.ob0_world_rules.specs.Headline.{GuaranteesHold}
-use Rattle.ob0_world_rules.specs.Mirror.{WillMirrorEditor}
-use Rattle.ob0_world_rules.specs.Laws.{HoldsInEveryInterleaving, ServerMirrorsEditor}
-use Rattle.ob0_world_rules.specs.PublicationsInOrder.{AnnouncedDocument, document_if_open, documents_announced_in, documents_announced_at, AreAnnounced, uris_and_versions_announced_in, PublicationsInOrder}
-use Rattle.ob0_world_rules.specs.Editors.{Revision, Move, to_open, to_revise, to_close, to_ask, to_apply, to_discard, revised_document, with_document, Revises, AppliesAnswer, IsAllowedMove}
-use Rattle.ob0_world_rules.specs.EveryEditor.{EditorAndServer, model_state_of, Turn, editor_moves, server_takes, editor_takes, ServerTakesNext, state_after_editor_takes_next, MayHappen, MayLeadTo, HoldsForEditorAndServer, ModelEditorKeepsRules}
+use Rattle.ob0_world_rules.specs.MirroredDocuments.{ServerWillMirrorEditor}
+use Rattle.ob0_world_rules.specs.Laws.{GuaranteesHoldInEveryInterleaving, ServerMirrorsEditor}
+use Rattle.ob0_world_rules.specs.PublicationsInOrder.{AnnouncedDocument, announced_document_if_open, documents_announced_in, documents_announced_by_event, EventsAnnounceDocuments, uris_and_versions_announced_in, PublicationsInOrder}
+use Rattle.ob0_world_rules.specs.EditorMoves.{Revision, Move, editor_opens, editor_revises, editor_closes, editor_asks, editor_applies, editor_discards, revised_document, editor_with_document, RevisesDocument, AppliesAnswer, IsAllowedMove}
+use Rattle.ob0_world_rules.specs.EveryEditor.{EditorAndServer, model_state_of, ExchangeTurn, editor_moves, server_takes_message, editor_takes_message, ServerTakesNextMessage, state_after_editor_takes_next_message, MayHappen, MayLeadTo, GuaranteesHoldForEditorAndServer, ModelEditorKeepsRules}
 use Rattle.ob0_world_rules.proofs.SameDocument.{Same, Knows, same_text, knows_first, knows_other, knows_open, knows_rewrite, knows_close, knows_ask}
 use Rattle.ob0_world_rules.proofs.PerformsAct.{edit_of, of_each}
-use Rattle.ob0_world_rules.proofs.EveryEditor.{others_none, holds_for_every_editor}
+use Rattle.ob0_world_rules.proofs.EveryEditor.{others_none, guarantees_hold_for_every_editor}
 use Rattle.std.specs.FinMap as map_of
 use Rattle.ob0_world_rules.proofs.UriLaws.{get_put, uri_itself}
 use Rattle.ob0_world_rules.proofs.CourseIsDetermined.{course_is_determined}
@@ -36,15 +36,15 @@ from_model w announced =
 
 -- states that some turns may lead from one state of the model to the other, and announce the documents `more`
 record ComesTo (w : ClientAndServer) (announced : List AnnouncedDocument) (new : ClientAndServer) (more : List AnnouncedDocument) : Type 0 where
-  turns : List Turn
+  turns : List ExchangeTurn
   lead : MayLeadTo (from_model w announced) turns (from_model new (announced ++ more))
 
 -- One turn leads to its result.
-by_turn : (w : ClientAndServer) (announced : List AnnouncedDocument) (new : ClientAndServer) (more : List AnnouncedDocument) (turn : Turn) → MayHappen (from_model w announced) turn (from_model new (announced ++ more)) → ComesTo w announced new more
+by_turn : (w : ClientAndServer) (announced : List AnnouncedDocument) (new : ClientAndServer) (more : List AnnouncedDocument) (turn : ExchangeTurn) → MayHappen (from_model w announced) turn (from_model new (announced ++ more)) → ComesTo w announced new more
 by_turn w announced new more turn happens = record { turns = turn ∷ []; lead = (from_model new (announced ++ more), happens, refl) }
 
 -- One turn that announces nothing leads to its result.
-by_quiet_turn : (w : ClientAndServer) (announced : List AnnouncedDocument) (new : ClientAndServer) (turn : Turn) → MayHappen (from_model w announced) turn (from_model new announced) → ComesTo w announced new []
+by_quiet_turn : (w : ClientAndServer) (announced : List AnnouncedDocument) (new : ClientAndServer) (turn : ExchangeTurn) → MayHappen (from_model w announced) turn (from_model new announced) → ComesTo w announced new []
 by_quiet_turn w announced new turn happens = by_turn w announced new [] turn (subst (λ ts. MayHappen (from_model w announced) turn (from_model new ts)) (sym (append-nil announced)) happens)
 
 -- An equal state is reached without any turn.
@@ -57,23 +57,23 @@ by_move w announced move done more may =
     (done, more, may, λ i. record (from_model (state_after_act w done) (announced ++ more)) { to_server = map-append Some w.to_server done.sent i })
 
 -- A document that is inserted is the one that is announced.
-put_announced : (docs : EditorDocuments) (uri : List ℕ) (d : OpenDocument) → document_if_open uri (map_of.get (map_of.insert docs uri d) uri) ++ [] ≡ record { uri = uri; document = d } ∷ []
-put_announced docs uri d = ap (λ o. document_if_open uri o ++ []) (get_put docs uri d uri ∙ ap (λ b. cond b (Some d) (map_of.get docs uri)) (uri_itself uri))
+put_announced : (docs : EditorDocuments) (uri : List ℕ) (d : OpenDocument) → announced_document_if_open uri (map_of.get (map_of.insert docs uri d) uri) ++ [] ≡ record { uri = uri; document = d } ∷ []
+put_announced docs uri d = ap (λ o. announced_document_if_open uri o ++ []) (get_put docs uri d uri ∙ ap (λ b. cond b (Some d) (map_of.get docs uri)) (uri_itself uri))
 
 -- returns the revision with the next version and this text, by one notification
 abbrev rewrite_of : ℤ → List ℕ → List TextChange → Revision
 rewrite_of version text how = record { version = next_version version; text = text; sent_changes = how }
 
-rewritten_revises : (e : Editor) (uri : List ℕ) (d : OpenDocument) (how : List TextChange) (text : List ℕ) → open_document_at e uri ≡ Some d → text_after_changes e.unit (Some d.text) how ≡ Some text
-    → Revises e uri (rewrite_of d.version text how ∷ []) (with_document e uri (revised_document d (rewrite_of d.version text how))) (record { uri = uri; document = revised_document d (rewrite_of d.version text how) } ∷ [])
+rewritten_revises : (e : Editor) (uri : List ℕ) (d : OpenDocument) (how : List TextChange) (text : List ℕ) → editor_document_at e uri ≡ Some d → text_after_changes e.unit (Some d.text) how ≡ Some text
+    → RevisesDocument e uri (rewrite_of d.version text how ∷ []) (editor_with_document e uri (revised_document d (rewrite_of d.version text how))) (record { uri = uri; document = revised_document d (rewrite_of d.version text how) } ∷ [])
 rewritten_revises e uri d how text at makes = (d, [], at, makes, (refl, refl), refl)
 
 whole : (u : Unit) (old text : List ℕ) → text_after_changes u (Some old) (whole_text_change text ∷ []) ≡ Some text
 unfolding changed_text
 whole u old text = refl
 
-applied_so : (e : Editor) (k : ℕ) (edits : List Replacement) (a : SentAsk) (d : OpenDocument) (text : List ℕ) → edits_of_answer k e.answers ≡ Some edits → request_numbered e.requested k ≡ Some a → Same e a d → d.text ≡ a.text → text_after_edits e.unit d.text edits ≡ Some text
-    → AppliesAnswer e k (rewrite_of d.version text (whole_text_change text ∷ []) ∷ []) (rewriting_result (without_answer e k) a.uri d text (whole_text_change text ∷ []) (edit_of a.uri d text ∷ [])) (record { uri = a.uri; document = revised_document d (rewrite_of d.version text (whole_text_change text ∷ [])) } ∷ [])
+applied_so : (e : Editor) (k : ℕ) (edits : List Replacement) (a : SentAsk) (d : OpenDocument) (text : List ℕ) → edits_of_answer k e.answers ≡ Some edits → request_with_number e.requested k ≡ Some a → Same e a d → d.text ≡ a.text → text_after_edits e.unit d.text edits ≡ Some text
+    → AppliesAnswer e k (rewrite_of d.version text (whole_text_change text ∷ []) ∷ []) (rewriting_result (editor_without_answer e k) a.uri d text (whole_text_change text ∷ []) (edit_of a.uri d text ∷ [])) (record { uri = a.uri; document = revised_document d (rewrite_of d.version text (whole_text_change text ∷ [])) } ∷ [])
 applied_so e k edits a d text answered numbered same as_asked makes =
     let r : Revision = rewrite_of d.version text (whole_text_change text ∷ []) in
     record {
@@ -86,8 +86,8 @@ applied_so e k edits a d text answered numbered same as_asked makes =
       same_text = as_asked;
       text = text;
       makes = makes;
-      new = with_document (without_answer e k) a.uri (revised_document d r);
-      revises = rewritten_revises (without_answer e k) a.uri d (whole_text_change text ∷ []) text same.at (whole e.unit d.text text);
+      new = editor_with_document (editor_without_answer e k) a.uri (revised_document d r);
+      revises = rewritten_revises (editor_without_answer e k) a.uri d (whole_text_change text ∷ []) text same.at (whole e.unit d.text text);
       first = whole_text_change text ∷ [];
       next = [];
       cut = refl;
@@ -107,8 +107,8 @@ knows_act e act knows =
       closed = λ uri d at. knows_close e uri knows;
       asked = λ uri ask d at. knows_ask e uri ask d at knows;
       made = λ k edits a d text answered numbered same makes.
-          knows_rewrite (without_answer e k) a.uri d text (whole_text_change text ∷ []) (edit_of a.uri d text ∷ []) same.at (knows_other e (without_answer e k).answers knows);
-      dropped = λ k. knows_other e (without_answer e k).answers knows;
+          knows_rewrite (editor_without_answer e k) a.uri d text (whole_text_change text ∷ []) (edit_of a.uri d text ∷ []) same.at (knows_other e (editor_without_answer e k).answers knows);
+      dropped = λ k. knows_other e (editor_without_answer e k).answers knows;
     })
     act
 
@@ -121,24 +121,24 @@ pub knows_event : (w : ClientAndServer) (event : Event) (new : ClientAndServer) 
 knows_event w (editor_acts act) new knows is = subst (λ (x : ClientAndServer). Knows x.editor) (sym is) (knows_act w.editor act knows)
 knows_event w serve new knows happens = go w.to_server happens
   where
-    go : (queue : List MessageToServer) → ServerTakes w queue new → Knows new.editor
+    go : (queue : List MessageToServer) → ServerTakesFirstMessage w queue new → Knows new.editor
     go [] is = subst (λ (x : ClientAndServer). Knows x.editor) (sym is) knows
     go (m ∷ rest) (said, made, replies, is) = subst (λ (x : ClientAndServer). Knows x.editor) (sym is) knows
 knows_event w take_message new knows is = subst (λ (x : ClientAndServer). Knows x.editor) (sym is) (go w.to_editor)
   where
-    go : (queue : List MessageToEditor) → Knows (state_after_editor_takes w queue).editor
+    go : (queue : List MessageToEditor) → Knows (state_after_editor_takes_message w queue).editor
     go [] = knows
     go (m ∷ rest) = knows_read w.editor m knows
 
 -- ---- each event
 
 -- An act that does nothing leaves an equal state.
-nothing_done : (w : ClientAndServer) → state_after_act w (silent_result w.editor) ≡ w
+nothing_done : (w : ClientAndServer) → state_after_act w (result_without_messages w.editor) ≡ w
 nothing_done w i = record w { to_server = append-nil w.to_server i; applied = append-nil w.applied i }
 
 -- holds if an act changes nothing, or is a move that the editor may make and that announces what its messages announce
 abbrev pub IsMove : Editor → ActResult → Type 0
-IsMove e done = (done ≡ silent_result e) ⊎ ((move : Move) × IsAllowedMove e move done (documents_announced_in done.editor done.sent))
+IsMove e done = (done ≡ result_without_messages e) ⊎ ((move : Move) × IsAllowedMove e move done (documents_announced_in done.editor done.sent))
 
 moves : (e : Editor) (done : ActResult) (move : Move) (announced : List AnnouncedDocument) → documents_announced_in done.editor done.sent ≡ announced → IsAllowedMove e move done announced → IsMove e done
 moves e done move announced are may = inr (move, subst (IsAllowedMove e move done) (sym are) may)
@@ -150,32 +150,32 @@ act_may e act knows =
       still = inl refl;
       opened = λ uri text none.
           let d : OpenDocument = record { version = pos 1; text = text; opening = e.openings + 1 } in
-          moves e (opening_result e uri text) (to_open uri (pos 1) text) (record { uri = uri; document = d } ∷ []) (put_announced e.documents uri d) (refl, refl);
+          moves e (opening_result e uri text) (editor_opens uri (pos 1) text) (record { uri = uri; document = d } ∷ []) (put_announced e.documents uri d) (refl, refl);
       changed = λ uri d how text at makes.
           let r : Revision = rewrite_of d.version text how in
-          moves e (rewriting_result e uri d text how []) (to_revise uri (r ∷ [])) (record { uri = uri; document = revised_document d r } ∷ []) (put_announced e.documents uri (revised_document d r))
-          (with_document e uri (revised_document d r), rewritten_revises e uri d how text at makes, refl);
-      closed = λ uri d at. inr (to_close uri, (refl, refl));
-      asked = λ uri ask d at. inr (to_ask uri ask, (d, at, refl, refl));
+          moves e (rewriting_result e uri d text how []) (editor_revises uri (r ∷ [])) (record { uri = uri; document = revised_document d r } ∷ []) (put_announced e.documents uri (revised_document d r))
+          (editor_with_document e uri (revised_document d r), rewritten_revises e uri d how text at makes, refl);
+      closed = λ uri d at. inr (editor_closes uri, (refl, refl));
+      asked = λ uri ask d at. inr (editor_asks uri ask, (d, at, refl, refl));
       made = λ k edits a d text answered numbered same makes.
           let r : Revision = rewrite_of d.version text (whole_text_change text ∷ []) in
-          moves e (rewriting_result (without_answer e k) a.uri d text (whole_text_change text ∷ []) (edit_of a.uri d text ∷ [])) (to_apply k (r ∷ [])) (record { uri = a.uri; document = revised_document d r } ∷ [])
+          moves e (rewriting_result (editor_without_answer e k) a.uri d text (whole_text_change text ∷ []) (edit_of a.uri d text ∷ [])) (editor_applies k (r ∷ [])) (record { uri = a.uri; document = revised_document d r } ∷ [])
           (put_announced e.documents a.uri (revised_document d r)) (applied_so e k edits a d text answered numbered same (same_text e k a d knows numbered same) makes);
-      dropped = λ k. inr (to_discard k, (refl, refl));
+      dropped = λ k. inr (editor_discards k, (refl, refl));
     })
     act
 
-act_comes : (w : ClientAndServer) (announced : List AnnouncedDocument) (act : Act) → Knows w.editor → ComesTo w announced (state_after_act w (act_result w.editor act)) (documents_announced_at w (editor_acts act))
+act_comes : (w : ClientAndServer) (announced : List AnnouncedDocument) (act : Act) → Knows w.editor → ComesTo w announced (state_after_act w (act_result w.editor act)) (documents_announced_by_event w (editor_acts act))
 act_comes w announced act knows = go (act_result w.editor act) (act_may w.editor act knows)
   where
     go : (done : ActResult) → IsMove w.editor done → ComesTo w announced (state_after_act w done) (documents_announced_in done.editor done.sent)
-    go done (inl is) = subst (λ (d : ActResult). ComesTo w announced (state_after_act w d) (documents_announced_in d.editor d.sent)) (sym is) (as_it_was w (state_after_act w (silent_result w.editor)) announced (nothing_done w))
+    go done (inl is) = subst (λ (d : ActResult). ComesTo w announced (state_after_act w d) (documents_announced_in d.editor d.sent)) (sym is) (as_it_was w (state_after_act w (result_without_messages w.editor)) announced (nothing_done w))
     go done (inr (move, may)) = by_move w announced move done (documents_announced_in done.editor done.sent) may
 
-serve_comes : (w : ClientAndServer) (announced : List AnnouncedDocument) (queue : List MessageToServer) (new : ClientAndServer) → w.to_server ≡ queue → ServerTakes w queue new → ComesTo w announced new []
+serve_comes : (w : ClientAndServer) (announced : List AnnouncedDocument) (queue : List MessageToServer) (new : ClientAndServer) → w.to_server ≡ queue → ServerTakesFirstMessage w queue new → ComesTo w announced new []
 serve_comes w announced [] new waits is = as_it_was w new announced is
 serve_comes w announced (m ∷ rest) new waits (said, made, replies, is) =
-    let takes : ServerTakesNext (from_model w announced) (Some m ∷ map Some rest) (from_model new announced) = (
+    let takes : ServerTakesNextMessage (from_model w announced) (Some m ∷ map Some rest) (from_model new announced) = (
       said,
       made,
       replies,
@@ -186,33 +186,33 @@ serve_comes w announced (m ∷ rest) new waits (said, made, replies, is) =
         made = w.made ++ made;
       }),
     ) in
-    by_quiet_turn w announced new server_takes (subst (λ q. ServerTakesNext (from_model w announced) q (from_model new announced)) (ap (map Some) (sym waits)) takes)
+    by_quiet_turn w announced new server_takes_message (subst (λ q. ServerTakesNextMessage (from_model w announced) q (from_model new announced)) (ap (map Some) (sym waits)) takes)
 
-take_comes : (w : ClientAndServer) (announced : List AnnouncedDocument) (queue : List MessageToEditor) → w.to_editor ≡ queue → ComesTo w announced (state_after_editor_takes w queue) []
+take_comes : (w : ClientAndServer) (announced : List AnnouncedDocument) (queue : List MessageToEditor) → w.to_editor ≡ queue → ComesTo w announced (state_after_editor_takes_message w queue) []
 take_comes w announced [] waits = as_it_was w w announced refl
 take_comes w announced (m ∷ rest) waits =
-    by_quiet_turn w announced (state_after_editor_takes w (m ∷ rest)) editor_takes
-    (subst (λ q. from_model (state_after_editor_takes w (m ∷ rest)) announced ≡ state_after_editor_takes_next (from_model w announced) (map Some q)) (sym waits) refl)
+    by_quiet_turn w announced (state_after_editor_takes_message w (m ∷ rest)) editor_takes_message
+    (subst (λ q. from_model (state_after_editor_takes_message w (m ∷ rest)) announced ≡ state_after_editor_takes_next_message (from_model w announced) (map Some q)) (sym waits) refl)
 
-event_comes : (w : ClientAndServer) (announced : List AnnouncedDocument) (event : Event) (new : ClientAndServer) → Knows w.editor → Happens w event new → ComesTo w announced new (documents_announced_at w event)
-event_comes w announced (editor_acts act) new knows is = subst (λ x. ComesTo w announced x (documents_announced_at w (editor_acts act))) (sym is) (act_comes w announced act knows)
+event_comes : (w : ClientAndServer) (announced : List AnnouncedDocument) (event : Event) (new : ClientAndServer) → Knows w.editor → Happens w event new → ComesTo w announced new (documents_announced_by_event w event)
+event_comes w announced (editor_acts act) new knows is = subst (λ x. ComesTo w announced x (documents_announced_by_event w (editor_acts act))) (sym is) (act_comes w announced act knows)
 event_comes w announced serve new knows happens = serve_comes w announced w.to_server new refl happens
 event_comes w announced take_message new knows is = subst (λ x. ComesTo w announced x []) (sym is) (take_comes w announced w.to_editor refl)
 
-lead_append : (turns more : List Turn) (w between new : EditorAndServer) → MayLeadTo w turns between → MayLeadTo between more new → MayLeadTo w (turns ++ more) new
+lead_append : (turns more : List ExchangeTurn) (w between new : EditorAndServer) → MayLeadTo w turns between → MayLeadTo between more new → MayLeadTo w (turns ++ more) new
 lead_append [] more w between new is lead = subst (λ x. MayLeadTo x more new) is lead
 lead_append (turn ∷ turns) more w between new (mid, happens, rest) lead = (mid, happens, lead_append turns more mid between new rest lead)
 
 -- states which documents events announce, and that turns may lead where the events lead
 record Led (w : ClientAndServer) (announced : List AnnouncedDocument) (events : List Event) (new : ClientAndServer) : Type 0 where
   more : List AnnouncedDocument
-  are : AreAnnounced w events more
+  are : EventsAnnounceDocuments w events more
   comes : ComesTo w announced new more
 
 course_comes : (events : List Event) (w : ClientAndServer) (announced : List AnnouncedDocument) (new : ClientAndServer) → Knows w.editor → IsCourse w events new → Led w announced events new
 course_comes [] w announced new knows is = record { more = []; are = refl; comes = as_it_was w new announced is }
 course_comes (event ∷ events) w announced new knows (between, happens, run) =
-    let now : List AnnouncedDocument = documents_announced_at w event in
+    let now : List AnnouncedDocument = documents_announced_by_event w event in
     let first : ComesTo w announced between now = event_comes w announced event between knows happens in
     let rest : Led between (announced ++ now) events new = course_comes events between (announced ++ now) new (knows_event w event between knows happens) run in
     let all : List AnnouncedDocument = now ++ rest.more in
@@ -236,24 +236,24 @@ model_editor_keeps_rules unit events end run =
     (led.comes.turns, from_model end led.more, led.comes.lead, as_it_is end led.more)
 
 -- The laws of the model's editor follow from the laws of every editor.
-pub holds_in_every_interleaving : HoldsInEveryInterleaving
-holds_in_every_interleaving unit events end run =
+pub guarantees_hold_in_every_interleaving : GuaranteesHoldInEveryInterleaving
+guarantees_hold_in_every_interleaving unit events end run =
     let (turns, w, lead, is) = model_editor_keeps_rules unit events end run in
-    subst GuaranteesHold is (holds_for_every_editor unit turns w lead).holds
+    subst GuaranteesHold is (guarantees_hold_for_every_editor unit turns w lead).holds
 
 pub server_mirrors_editor : ServerMirrorsEditor
 server_mirrors_editor unit events end run =
     let (turns, w, lead, is) = model_editor_keeps_rules unit events end run in
-    subst WillMirrorEditor is (holds_for_every_editor unit turns w lead).mirrors
+    subst ServerWillMirrorEditor is (guarantees_hold_for_every_editor unit turns w lead).mirrors
 
 pub publications_in_order : PublicationsInOrder
 publications_in_order unit events end run =
     let led : Led (start unit) [] events end = course_comes events (start unit) [] end (knows_first unit) run in
-    let holds : HoldsForEditorAndServer (from_model end led.more) = holds_for_every_editor unit led.comes.turns (from_model end led.more) led.comes.lead in
+    let holds : GuaranteesHoldForEditorAndServer (from_model end led.more) = guarantees_hold_for_every_editor unit led.comes.turns (from_model end led.more) led.comes.lead in
     record {
       announced = holds.published;
       waiting = holds.waiting;
-      all = subst (AreAnnounced (start unit) events) holds.all led.are;
+      all = subst (EventsAnnounceDocuments (start unit) events) holds.all led.are;
       are_made_for_documents = holds.are_made_for_documents;
       unpublished_are_queued = λ other too. holds.unpublished_are_queued ∙ ap uris_and_versions_announced_in (others_none end.to_server) ∙ ap (λ (x : ClientAndServer). uris_and_versions_announced_in x.to_server) (course_is_determined (start unit) events end other run too);
     }

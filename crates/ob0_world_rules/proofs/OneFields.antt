@@ -7,7 +7,7 @@ use Rattle.std.proofs.Math.ListN.{length-set}
 use Rattle.std.proofs.lemmas.List.{get_or-replicate, length-replicate}
 use Rattle.ob0_tree.specs.declared.tree.Role.TheVariants as role
 use Rattle.ob0_tree.specs.Lexeme.{Terminal, Name, Number, WordOrSymbol, EndOfText, mapped_terminal}
-use Rattle.ob0_tree.specs.Order.{AreAscendingWithin, identifier_names}
+use Rattle.ob0_tree.specs.IdentifierIndexes.{AreAscendingWithin, identifier_names}
 use Rattle.ob0_tree.specs.ParsedModule.{tree_of}
 use Rattle.ob0_tree.specs.Places.{token_text_at, token_value_at}
 use Rattle.ob0_tree.specs.Tree.{Sort, Tree, mapped_tree, spell}
@@ -17,9 +17,9 @@ use Rattle.ob0_language_names.specs.Names as written
 use Rattle.ob0_scope_table.specs.Resolution.{Resolution, ordinal_in}
 use Rattle.ob0_types.specs.CheckedModules.{IsWellTyped}
 use Rattle.ob0_language_fields.specs.Fields.{rename_fields_in_module}
-use Rattle.ob0_types_fields.specs.Owners.{IsOwnerTable, renaming_by_record}
+use Rattle.ob0_types_fields.specs.OwnerTables.{IsOwnerTable, renaming_by_record}
 use Rattle.ob0_types_fields.specs.Identifiers.{field_identifiers}
-use Rattle.ob0_types_fields.specs.Owned.{AgreesWithOwnerList, fields_with_owners, identifier_owners_in_resolution, table_with_owners}
+use Rattle.ob0_types_fields.specs.IdentifierOwners.{AgreesWithOwnerList, fields_with_owners, identifier_owners_in_resolution, table_with_owners}
 use Rattle.ob0_types_fields.proofs.OwnedModules.{agreeing_table_is_owner_table-holds}
 use Rattle.ob0_types_fields.proofs.OwnedTokens.{module-tokens, tokens}
 use Rattle.ob0_world_rules.proofs.OneModule.{Same, one_named_tree}

@@ -18,8 +18,8 @@ use Rattle.ob0_tree.specs.Places.{tree_with_names}
 use Rattle.ob0_tree.specs.Tree.{Tree, identifiers, module_text, nesting, occurrences}
 use Rattle.ob0_tree.proofs.Leaves.{leaves_ascend, occurrences_ascend}
 use Rattle.ob0_edits_tokens.specs.Ranges.{range_of}
-use Rattle.ob0_edits_tokens.specs.Removed.{span_of_tokens, text_after_removal}
-use Rattle.ob0_edits_tokens.specs.Replaced.{replacement_at_token, range_and_text, text_after_replacement}
+use Rattle.ob0_edits_tokens.specs.Removals.{span_of_tokens, text_after_removal}
+use Rattle.ob0_edits_tokens.specs.Replacements.{replacement_at_token, range_and_text, text_after_replacement}
 use Rattle.ob0_language_names.specs.Inlining.{inlined, inlined_everywhere, single_occurrence}
 use Rattle.ob0_language_names.specs.Names.{declared, same_label}
 use Rattle.ob0_language_names.specs.Occurrences.{bindings}
@@ -27,20 +27,20 @@ use Rattle.ob0_scope_table.specs.Resolution.{declaring_names, declaration_token}
 use Rattle.ob0_language_values.specs.declared.scalar.Scalar.{Scalar}
 use Rattle.ob0_language_values.specs.declared.scalar.Scalar.TheVariants as scalar
 use Rattle.ob0_language_values.specs.Scalars.{scalar_value}
-use Rattle.ob0_scope.specs.declared.naming.BoundName.{BoundName}
+use Rattle.ob0_scope.specs.declared.bound_names.BoundName.{BoundName}
 use Rattle.ob0_language_types.specs.ConstantValues.{value_of_constant}
 use Rattle.ob0_inline.specs.declared.constants.DeclaredConstant.{DeclaredConstant}
 use Rattle.ob0_inline.specs.declared.uses.ConstantUse.{ConstantUse}
 use Rattle.ob0_inline.specs.Declarations.{contains_span, is_semicolon}
-use Rattle.ob0_inline.specs.Everywhere.{AnswersInlineEverywhere, IsConstantAt, has_shadowed_use, refusal_of_inlining_everywhere}
-use Rattle.ob0_inline.specs.Uses.{AnswersInlineHere, IsUseAt, value_text_keeps_meaning, refusal_of_inlining_here}
+use Rattle.ob0_inline.specs.Everywhere.{AnswersInliningEverywhere, IsConstantAt, has_shadowed_use, refusal_of_inlining_everywhere}
+use Rattle.ob0_inline.specs.Uses.{AnswersInliningHere, IsConstantUseAt, value_text_keeps_meaning, refusal_of_inlining_here}
 use Rattle.ob0_inline.specs.Values.{value_factor, value_text}
 use Rattle.ob0_inline.proofs.UsesAreIdentifiers.{one_place}
-use Rattle.ob0_edits.specs.Inlinings.{InlinesInText, IsInliningRefusedInText}
+use Rattle.ob0_edits.specs.InliningEdits.{InlinesInText, IsInliningRefusedInText}
 use Rattle.ob0_edits.specs.declared.inlinings.Inlining.{Inlining}
 use Rattle.ob0_edits.specs.declared.inlinings.Inlining.TheVariants.{OneUse, Everywhere}
 use Rattle.ob0_edits.specs.Texts.{utf8}
-use Rattle.ob0_world_rules.specs.Edited.{replacements}
+use Rattle.ob0_world_rules.specs.TextEdits.{replacements}
 use Rattle.ob0_world_rules.proofs.OneModule.{Same, same_module, one_named_tree, one_name, same_parts}
 
 one_scalar : (a b : Scalar) → Some (scalar_value a) ≡ Some (scalar_value b) → a ≡ b
@@ -64,7 +64,7 @@ refused_at s t token occurrence value =
     else if value_text_keeps_meaning (tree_with_names s t) occurrence value then None
     else Some Shadowed
 
-module _ {m n : ParsedModule} (e : Same m n) (parsed : IsParsed n) (offset : ℕ) (u v : ConstantUse) (at : IsUseAt m offset u) (also : IsUseAt n offset v) where
+module _ {m n : ParsedModule} (e : Same m n) (parsed : IsParsed n) (offset : ℕ) (u v : ConstantUse) (at : IsConstantUseAt m offset u) (also : IsConstantUseAt n offset v) where
   same_named : Some (named_with u.token u.constant) ≡ Some (named_with v.token v.constant)
   same_named = sym at.named ∙ (one_name e offset ∙ also.named)
 
@@ -90,7 +90,7 @@ module _ {m n : ParsedModule} (e : Same m n) (parsed : IsParsed n) (offset : ℕ
   same_edit_here : (unit : Unit) (text : List ℕ) → replacement_at_token unit text m.source.tokens (value_text u.value) u.token ≡ replacement_at_token unit text n.source.tokens (value_text v.value) v.token
   same_edit_here unit text = λ i. replacement_at_token unit text ((e.source i).tokens) (value_text (use_value i)) (use_token i)
 
-use_there : {m n : ParsedModule} → Same m n → (offset : ℕ) (u : ConstantUse) → IsUseAt m offset u → IsUseAt n offset u
+use_there : {m n : ParsedModule} → Same m n → (offset : ℕ) (u : ConstantUse) → IsConstantUseAt m offset u → IsConstantUseAt n offset u
 use_there e offset u at = record {
   named = sym (one_name e offset) ∙ at.named;
   occurs = ap (λ t. slice_get (occurrences t) u.occurrence) (sym e.tree) ∙ at.occurs;
@@ -98,13 +98,13 @@ use_there e offset u at = record {
 }
 
 module _ {m n : ParsedModule} (e : Same m n) (parsed : IsParsed n) (unit : Unit) (text : List ℕ) (offset : ℕ) (xs : Vec Edit Global) where
-  here_one : (ys : Vec Edit Global) → AnswersInlineHere unit text m offset (Ok xs) → AnswersInlineHere unit text n offset (Ok ys) → map range_and_text xs.items ≡ map range_and_text ys.items
+  here_one : (ys : Vec Edit Global) → AnswersInliningHere unit text m offset (Ok xs) → AnswersInliningHere unit text n offset (Ok ys) → map range_and_text xs.items ≡ map range_and_text ys.items
   here_one ys (inl (u, at, (free, h))) (inl (v, also, (free_too, k))) =
       h.here ∙ (ap (λ z. z ∷ []) (same_edit_here e parsed offset u v at also unit text) ∙ sym k.here)
   here_one ys (inr (bad, none)) k = absurd (cc)
   here_one ys (inl h) (inr (bad, none)) = absurd (cc)
 
-  here_or_refused : (refusal : EditRefusal) → (refusal ≡ Memory → ⊥) → AnswersInlineHere unit text m offset (Ok xs) → AnswersInlineHere unit text n offset (Err refusal) → ⊥
+  here_or_refused : (refusal : EditRefusal) → (refusal ≡ Memory → ⊥) → AnswersInliningHere unit text m offset (Ok xs) → AnswersInliningHere unit text n offset (Err refusal) → ⊥
   here_or_refused refusal why (inl (u, at, (free, h))) (inl (v, also, inl refused)) =
       let both : None ≡ Some refusal = sym free ∙ (same_refusal_here e parsed offset u v at also ∙ refused) in cc
   here_or_refused refusal why (inl (u, at, (free, h))) (inl (v, also, inr memory)) = why memory
@@ -151,13 +151,13 @@ module _ {m n : ParsedModule} (e : Same m n) (offset : ℕ) (c d : DeclaredConst
       ∷ map (replacement_at_token unit text ((e.source i).tokens) (value_text (constant_value i))) (uses_in (e.source i) (e.tree i) (constant_ordinal i))
 
 module _ {m n : ParsedModule} (e : Same m n) (unit : Unit) (text : List ℕ) (offset : ℕ) (xs : Vec Edit Global) where
-  everywhere_one : (ys : Vec Edit Global) → AnswersInlineEverywhere unit text m offset (Ok xs) → AnswersInlineEverywhere unit text n offset (Ok ys) → map range_and_text xs.items ≡ map range_and_text ys.items
+  everywhere_one : (ys : Vec Edit Global) → AnswersInliningEverywhere unit text m offset (Ok xs) → AnswersInliningEverywhere unit text n offset (Ok ys) → map range_and_text xs.items ≡ map range_and_text ys.items
   everywhere_one ys (inl (c, at, (free, h))) (inl (d, also, (free_too, k))) =
       h.everywhere ∙ (same_edits_everywhere e offset c d at also unit text ∙ sym k.everywhere)
   everywhere_one ys (inr (bad, none)) k = absurd (cc)
   everywhere_one ys (inl h) (inr (bad, none)) = absurd (cc)
 
-  everywhere_or_refused : (refusal : EditRefusal) → (refusal ≡ Memory → ⊥) → AnswersInlineEverywhere unit text m offset (Ok xs) → AnswersInlineEverywhere unit text n offset (Err refusal) → ⊥
+  everywhere_or_refused : (refusal : EditRefusal) → (refusal ≡ Memory → ⊥) → AnswersInliningEverywhere unit text m offset (Ok xs) → AnswersInliningEverywhere unit text n offset (Err refusal) → ⊥
   everywhere_or_refused refusal why (inl (c, at, (free, h))) (inl (d, also, inl refused)) =
       let both : None ≡ Some refusal = sym free ∙ (same_refusal_everywhere e offset c d at also ∙ refused) in cc
   everywhere_or_refused refusal why (inl (c, at, (free, h))) (inl (d, also, inr memory)) = why memory

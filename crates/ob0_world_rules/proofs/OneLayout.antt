@@ -11,15 +11,15 @@ use Rattle.ob0_text.specs.declared.position_types.Unit.{Unit}
 use Rattle.ob0_text.specs.Units.{width_of}
 use Rattle.ob0_tree.specs.Tree.{Tree, module_text}
 use Rattle.ob0_language_names.specs.Names.{Name}
-use Rattle.ob0_edits_tokens.specs.ByteCuts.{edit_at_cut}
-use Rattle.ob0_edits_tokens.specs.Replaced.{range_and_text}
+use Rattle.ob0_edits_tokens.specs.ByteCuts.{edit_of_cut}
+use Rattle.ob0_edits_tokens.specs.Replacements.{range_and_text}
 use Rattle.ob0_layout.specs.Layout.{formatted_text}
 use Rattle.ob0_layout.specs.Gaps.{changed_gaps, all_gaps}
 use Rattle.ob0_layout.specs.LineRoles.{line_roles}
-use Rattle.ob0_edits.specs.Diagnosed.{IsTextOfTree, IsWellTypedModule}
+use Rattle.ob0_edits.specs.ReportedErrors.{IsTextOfTree, IsWellTypedModule}
 use Rattle.ob0_edits.specs.Texts.{utf8}
-use Rattle.ob0_edits.specs.Layouts.{FormatsText, FormattedTextIsTooLong, edits_of_changed_gaps, formatted_text_of}
-use Rattle.ob0_world_rules.specs.Edited.{replacements}
+use Rattle.ob0_edits.specs.FormattingEdits.{FormatsText, FormattedTextIsTooLong, edits_of_changed_gaps, formatted_text_of_module}
+use Rattle.ob0_world_rules.specs.TextEdits.{replacements}
 use Rattle.ob0_world_rules.proofs.OneModule.{same_parts}
 use Rattle.ob0_world_rules.proofs.Trees.{same_tree}
 
@@ -36,11 +36,11 @@ module _ (text : List ℕ) (m n : IsWellTypedModule (utf8 text)) where
       (subst (λ t. LexesInto t m.text_of.scan.scan.lexemes) m.text_of.scan.of m.text_of.scan.scan.lexed)
       (subst (λ t. LexesInto t n.text_of.scan.scan.lexemes) n.text_of.scan.of n.text_of.scan.scan.lexed)
 
-  one_layout : (indent : Indent) → formatted_text_of indent m ≡ formatted_text_of indent n
+  one_layout : (indent : Indent) → formatted_text_of_module indent m ≡ formatted_text_of_module indent n
   one_layout indent = λ i. formatted_text indent (one_module i) (one_lexing i)
 
   one_change : (unit : Unit) (indent : Indent) → edits_of_changed_gaps unit indent text m ≡ edits_of_changed_gaps unit indent text n
-  one_change unit indent = λ i. map (edit_at_cut unit text) (changed_gaps (one_source i).text (all_gaps indent (one_source i).text (line_roles 0 (one_module i)) (one_lexing i)))
+  one_change unit indent = λ i. map (edit_of_cut unit text) (changed_gaps (one_source i).text (all_gaps indent (one_source i).text (line_roles 0 (one_module i)) (one_lexing i)))
 
 -- Two formattings of a text have equal edits, by the bytes of their texts.
 pub lays_out_said : (unit : Unit) (indent : Indent) (text : List ℕ) (xs ys : List Edit) → FormatsText unit indent text xs → FormatsText unit indent text ys → map range_and_text xs ≡ map range_and_text ys
@@ -56,6 +56,6 @@ short_enough text tree is = subst (λ t. length t ≤ max_text_length) is.scan.o
 pub lays_out_or_long : (unit : Unit) (indent : Indent) (text : List ℕ) (xs : List Edit) → FormatsText unit indent text xs → FormattedTextIsTooLong indent text → ⊥
 lays_out_or_long unit indent text xs h long =
     let short : length (utf8 h.after) ≤ max_text_length = short_enough (utf8 h.after) h.before.tree h.same_module in
-    let here : length (formatted_text_of indent h.before) ≤ max_text_length = subst (λ t. length t ≤ max_text_length) h.is_formatted_text short in
-    let there : length (formatted_text_of indent long.before) ≤ max_text_length = subst (λ t. length t ≤ max_text_length) (one_layout text h.before long.before indent) here in
+    let here : length (formatted_text_of_module indent h.before) ≤ max_text_length = subst (λ t. length t ≤ max_text_length) h.is_formatted_text short in
+    let there : length (formatted_text_of_module indent long.before) ≤ max_text_length = subst (λ t. length t ≤ max_text_length) (one_layout text h.before long.before indent) here in
     omega (arith, there, long.long)

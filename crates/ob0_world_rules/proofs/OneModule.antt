@@ -14,18 +14,18 @@ use Rattle.ob0_text.specs.declared.edits.Edit.{Edit}
 use Rattle.ob0_text.specs.declared.position_types.Range.{Range}
 use Rattle.ob0_tree.specs.declared.tree.Role.TheVariants as role
 use Rattle.ob0_tree.specs.Lexeme.{EndOfText}
-use Rattle.ob0_tree.specs.Order.{identifier_names}
+use Rattle.ob0_tree.specs.IdentifierIndexes.{identifier_names}
 use Rattle.ob0_tree.specs.ParsedModule.{ParsedModule, IsParsed, tree_of, named_tree_of}
 use Rattle.ob0_tree.specs.Places.{indexed_terminals, tree_with_names}
 use Rattle.ob0_tree.specs.Tree.{Tree, module_text, identifiers}
 use Rattle.ob0_scope_table.specs.Resolution.{span_at}
 use Rattle.ob0_language_names.specs.Scopes.{numbered}
 use Rattle.ob0_parse_descent.proofs.Unique.{same}
-use Rattle.ob0_edits_tokens.specs.Replaced.{range_and_text}
+use Rattle.ob0_edits_tokens.specs.Replacements.{range_and_text}
 use Rattle.ob0_scope_table.specs.Spans.{is_in_span_or_at_end}
 use Rattle.ob0_scope.specs.NamesAtPlaces.{LabelledIdentifier, name_at_offset, bound_name_of}
-use Rattle.ob0_scope.specs.declared.naming.BoundName.{BoundName}
-use Rattle.ob0_world_rules.specs.Edited.{Replacement, replacements}
+use Rattle.ob0_scope.specs.declared.bound_names.BoundName.{BoundName}
+use Rattle.ob0_world_rules.specs.TextEdits.{Replacement, replacements}
 
 pub record Same (m n : ParsedModule) : Type 0 where
   pub source : m.source ≡ n.source

@@ -3,7 +3,7 @@
 use Rattle.std.proofs.Common.{◌≡◌, ◌∙◌, ℕ, ◌<◌, ◌≤◌, Bool, true, false, Some, None, List, [], map, length, refl, sym, ap, arith, subst, inl, inr, if◌then◌else◌}
 use Rattle.std.specs.Prelude.{◌⊎◌, option_and_then, option_map, slice_get}
 use Rattle.std.specs.List.{filter}
-use Rattle.ob0_scan.specs.Classes.{IsIdentifier}
+use Rattle.ob0_scan.specs.LexemeClasses.{IsIdentifier}
 use Rattle.ob0_scan.specs.TextWithTokens.{TextWithTokens, max_text_length}
 use Rattle.ob0_text.specs.declared.edits.Edit.{Edit}
 use Rattle.ob0_text.specs.declared.position_types.Position.{Position}
@@ -17,23 +17,23 @@ use Rattle.ob0_tree.specs.declared.tree.Role.TheVariants as role
 use Rattle.ob0_tree.specs.ParsedModule.{named_tree_of}
 use Rattle.ob0_tree.specs.Places.{tree_with_names, token_text_at}
 use Rattle.ob0_tree.specs.Tree.{Tree, identifiers, module_text, occurrences}
-use Rattle.ob0_edits_tokens.specs.Replaced.{replacement_at_token, range_and_text, text_after_replacement}
+use Rattle.ob0_edits_tokens.specs.Replacements.{replacement_at_token, range_and_text, text_after_replacement}
 use Rattle.ob0_language_names.specs.Names.{Name, same_name}
 use Rattle.ob0_language_names.specs.Occurrences.{NameConflict, IsFreeName, at_declaration, at_occurrence, first_name_conflict}
-use Rattle.ob0_language_names.specs.Parts.{module_block}
+use Rattle.ob0_language_names.specs.BlockParts.{module_block}
 use Rattle.ob0_scope_table.specs.Resolution.{Resolution, declaring_names, span_at, declaration_token}
 use Rattle.ob0_scope.proofs.FirstCaptures.{name_is_free_iff_no_conflict-holds}
 use Rattle.ob0_scope.specs.Renames.{namesake}
 use Rattle.ob0_scope.specs.NamesAtPlaces.{is_bound_to}
 use Rattle.ob0_edits_tokens.specs.Ranges.{range_of}
-use Rattle.ob0_language_fields.specs.Renaming.{is_duplicate_field}
+use Rattle.ob0_language_fields.specs.Renaming.{is_duplicate_field_name}
 use Rattle.ob0_types_fields.specs.Identifiers.{fields_declared_in_block, field_identifiers, field_at_offset, first_token, tokens_of_field}
-use Rattle.ob0_edits.specs.Analysed.{IsResolvedWellTypedModule}
+use Rattle.ob0_edits.specs.AnalysisAnswers.{IsResolvedWellTypedModule}
 use Rattle.ob0_edits.specs.Texts.{utf8}
-use Rattle.ob0_rename.specs.Renaming.{Renaming, RenameTarget, declaration, field_of, field_tokens_to_rename, renaming_target, target_of_name_or_field, nothing, occurrence_range, conflicting_field_range, conflicting_declaration_range, predeclared, renaming_of, text_after_renaming, tokens_to_rename}
+use Rattle.ob0_rename.specs.Renaming.{Renaming, RenameTarget, declaration, record_field, field_tokens_to_rename, renaming_target, target_of_name_or_field, nothing, occurrence_range, conflicting_field_range, conflicting_declaration_range, predeclared, renaming_of, text_after_renaming, tokens_to_rename}
 use Rattle.ob0_rename.specs.Answers.{AreRenameEdits, IsRenameRefusal, IsFirstRefusalForDeclaration, IsFirstRefusalForField, IsFirstRefusalForTarget, RenamesDeclaration, RenamesField, WritesNewName}
 use Rattle.ob0_edits.specs.Renamings.{IsRenameRefusedInText, RenamesInText}
-use Rattle.ob0_world_rules.specs.Edited.{replacements}
+use Rattle.ob0_world_rules.specs.TextEdits.{replacements}
 use Rattle.ob0_world_rules.proofs.OneModule.{Same, same_module, one_named_tree, one_name, identifiers_of, same_parts}
 use Rattle.ob0_world_rules.proofs.OneFields.{one_list_of_fields}
 
@@ -78,10 +78,10 @@ module _ (unit : Unit) (text : List ℕ) (place : Position) (new : Name) (names 
   declared_view d refusal.Memory h = absurd h
 
   abbrev IsTwiceField : ℕ → Name → EditRefusal → Type 0
-  IsTwiceField k f why = (range : Range) × (is_duplicate_field here k f new ≡ true) × (conflicting_field_range of_names k ≡ Some range) × (why ≡ refusal.Duplicate range)
+  IsTwiceField k f why = (range : Range) × (is_duplicate_field_name here k f new ≡ true) × (conflicting_field_range of_names k ≡ Some range) × (why ≡ refusal.Duplicate range)
 
   abbrev IsLongField : ℕ → Name → EditRefusal → Type 0
-  IsLongField k f why = (is_duplicate_field here k f new ≡ false) × (why ≡ refusal.TooLong)
+  IsLongField k f why = (is_duplicate_field_name here k f new ≡ false) × (why ≡ refusal.TooLong)
 
   field_view : (k : ℕ) (f : Name) (why : EditRefusal) → IsFirstRefusalForField of_names k f why → IsBadName why ⊎ (IsIdentifier new × (IsTwiceField k f why ⊎ IsLongField k f why))
   field_view k f refusal.NoName h = absurd h
@@ -144,20 +144,20 @@ module _ (unit : Unit) (text : List ℕ) (place : Position) (new : Name) (names 
   one_declaration : {c d : ℕ} → declaration c ≡ declaration d → c ≡ d
   one_declaration h = cc
 
-  one_record : {k l : ℕ} {f g : Name} → field_of k f ≡ field_of l g → k ≡ l
+  one_record : {k l : ℕ} {f g : Name} → record_field k f ≡ record_field l g → k ≡ l
   one_record h = cc
 
-  one_field : {k l : ℕ} {f g : Name} → field_of k f ≡ field_of l g → f ≡ g
+  one_field : {k l : ℕ} {f g : Name} → record_field k f ≡ record_field l g → f ≡ g
   one_field h = cc
 
   edits_one : (es fs : List Edit) → AreRenameEdits r es → AreRenameEdits q fs → map range_and_text es ≡ map range_and_text fs
   edits_one es fs (inl (c, means, h)) (inl (d, also, k)) =
       let same : c ≡ d = one_declaration (sym means ∙ (one_meaning ∙ also)) in
       one_writing _ _ _ _ es fs (one_place_list c ∙ ap (λ x. tokens_to_rename others.module_read x new) same) h.writes k.writes
-  edits_one es fs (inl (c, means, h)) (inr (l, (g, also, k))) = let both : declaration c ≡ field_of l g = sym means ∙ (one_meaning ∙ also) in absurd (cc)
-  edits_one es fs (inr (l, (g, means, h))) (inl (d, also, k)) = let both : field_of l g ≡ declaration d = sym means ∙ (one_meaning ∙ also) in absurd (cc)
+  edits_one es fs (inl (c, means, h)) (inr (l, (g, also, k))) = let both : declaration c ≡ record_field l g = sym means ∙ (one_meaning ∙ also) in absurd (cc)
+  edits_one es fs (inr (l, (g, means, h))) (inl (d, also, k)) = let both : record_field l g ≡ declaration d = sym means ∙ (one_meaning ∙ also) in absurd (cc)
   edits_one es fs (inr (l, (g, means, h))) (inr (l₂, (g₂, also, k))) =
-      let both : field_of l g ≡ field_of l₂ g₂ = sym means ∙ (one_meaning ∙ also) in
+      let both : record_field l g ≡ record_field l₂ g₂ = sym means ∙ (one_meaning ∙ also) in
       one_writing _ _ _ _ es fs (one_field_list l g ∙ (λ i. field_tokens_to_rename others (one_record both i) (one_field both i) new)) h.writes k.writes
 
   -- ---- edits, or a refusal
@@ -189,7 +189,7 @@ module _ (unit : Unit) (text : List ℕ) (place : Position) (new : Name) (names 
   field_refused k f es refusal.Predeclared h bad = bad
   field_refused k f es refusal.BadName h bad = bad h.identifier
   field_refused k f es (refusal.Duplicate range) h bad =
-      let free : is_duplicate_field (named_tree_of others.module_read) k f new ≡ false = ap (λ t. is_duplicate_field t k f new) (sym tree_is_unique) ∙ h.free in
+      let free : is_duplicate_field_name (named_tree_of others.module_read) k f new ≡ false = ap (λ t. is_duplicate_field_name t k f new) (sym tree_is_unique) ∙ h.free in
       let both : false ≡ true = sym free ∙ bad.1 in cc
   field_refused k f es (refusal.Captures range) h bad = bad
   field_refused k f es refusal.TooLong h bad = too_long _ _ _ es (one_field_list k f) h.writes bad.2
@@ -202,17 +202,17 @@ module _ (unit : Unit) (text : List ℕ) (place : Position) (new : Name) (names 
   named_refused es why (inl (c, means, h)) (inl (d, also, bad)) =
       let same : c ≡ d = one_declaration (sym means ∙ (one_meaning ∙ also)) in
       declared_refused c es why h (subst (λ x. IsFirstRefusalForDeclaration q x why) (sym same) bad)
-  named_refused es why (inl (c, means, h)) (inr (l, (g, also, bad))) = let both : declaration c ≡ field_of l g = sym means ∙ (one_meaning ∙ also) in cc
-  named_refused es why (inr (l, (g, means, h))) (inl (d, also, bad)) = let both : field_of l g ≡ declaration d = sym means ∙ (one_meaning ∙ also) in cc
+  named_refused es why (inl (c, means, h)) (inr (l, (g, also, bad))) = let both : declaration c ≡ record_field l g = sym means ∙ (one_meaning ∙ also) in cc
+  named_refused es why (inr (l, (g, means, h))) (inl (d, also, bad)) = let both : record_field l g ≡ declaration d = sym means ∙ (one_meaning ∙ also) in cc
   named_refused es why (inr (l, (g, means, h))) (inr (l₂, (g₂, also, bad))) =
-      let both : field_of l g ≡ field_of l₂ g₂ = sym means ∙ (one_meaning ∙ also) in
+      let both : record_field l g ≡ record_field l₂ g₂ = sym means ∙ (one_meaning ∙ also) in
       field_refused l g es why h (subst (λ x. IsFirstRefusalForField q l x why) (sym (one_field both)) (subst (λ x. IsFirstRefusalForField q x g₂ why) (sym (one_record both)) bad))
 
   meant_other : (es : List Edit) (m : RenameTarget) → AreRenameEdits r es → renaming_target q ≡ m → (m ≡ nothing) ⊎ (m ≡ predeclared) → ⊥
   meant_other es m (inl (c, means, h)) is (inl none) = let both : declaration c ≡ nothing = sym means ∙ (one_meaning ∙ (is ∙ none)) in cc
   meant_other es m (inl (c, means, h)) is (inr none) = let both : declaration c ≡ predeclared = sym means ∙ (one_meaning ∙ (is ∙ none)) in cc
-  meant_other es m (inr (l, (g, means, h))) is (inl none) = let both : field_of l g ≡ nothing = sym means ∙ (one_meaning ∙ (is ∙ none)) in cc
-  meant_other es m (inr (l, (g, means, h))) is (inr none) = let both : field_of l g ≡ predeclared = sym means ∙ (one_meaning ∙ (is ∙ none)) in cc
+  meant_other es m (inr (l, (g, means, h))) is (inl none) = let both : record_field l g ≡ nothing = sym means ∙ (one_meaning ∙ (is ∙ none)) in cc
+  meant_other es m (inr (l, (g, means, h))) is (inr none) = let both : record_field l g ≡ predeclared = sym means ∙ (one_meaning ∙ (is ∙ none)) in cc
 
   edits_or_refused : (es : List Edit) (why : EditRefusal) → AreRenameEdits r es → IsRenameRefusal q why → ⊥
   edits_or_refused es refusal.NoName h bad = meant_other es nothing h bad (inl refl)
@@ -279,8 +279,8 @@ module _ (unit : Unit) (text : List ℕ) (place : Position) (new : Name) (names 
   field_refusal : (k : ℕ) (f : Name) (why other : EditRefusal) → IsFirstRefusalForField r k f why → IsFirstRefusalForField q k f other → why ≡ other
   field_refusal k f why other h l = go (field_view unit text place new names k f why h) (field_view unit text place new others k f other l)
     where
-      same_duplicate : is_duplicate_field (named_tree_of names.module_read) k f new ≡ is_duplicate_field (named_tree_of others.module_read) k f new
-      same_duplicate = ap (λ t. is_duplicate_field t k f new) tree_is_unique
+      same_duplicate : is_duplicate_field_name (named_tree_of names.module_read) k f new ≡ is_duplicate_field_name (named_tree_of others.module_read) k f new
+      same_duplicate = ap (λ t. is_duplicate_field_name t k f new) tree_is_unique
 
       apart : {A : Type 0} → true ≡ false → A
       apart h = absurd (cc)
@@ -299,23 +299,23 @@ module _ (unit : Unit) (text : List ℕ) (place : Position) (new : Name) (names 
   named_refusal why other (inl (c, means, h)) (inl (d, also, k)) =
       let same : c ≡ d = one_declaration (sym means ∙ (one_meaning ∙ also)) in
       declared_refusal c why other h (subst (λ x. IsFirstRefusalForDeclaration q x other) (sym same) k)
-  named_refusal why other (inl (c, means, h)) (inr (l, (g, also, k))) = let both : declaration c ≡ field_of l g = sym means ∙ (one_meaning ∙ also) in absurd (cc)
-  named_refusal why other (inr (l, (g, means, h))) (inl (d, also, k)) = let both : field_of l g ≡ declaration d = sym means ∙ (one_meaning ∙ also) in absurd (cc)
+  named_refusal why other (inl (c, means, h)) (inr (l, (g, also, k))) = let both : declaration c ≡ record_field l g = sym means ∙ (one_meaning ∙ also) in absurd (cc)
+  named_refusal why other (inr (l, (g, means, h))) (inl (d, also, k)) = let both : record_field l g ≡ declaration d = sym means ∙ (one_meaning ∙ also) in absurd (cc)
   named_refusal why other (inr (l, (g, means, h))) (inr (l₂, (g₂, also, k))) =
-      let both : field_of l g ≡ field_of l₂ g₂ = sym means ∙ (one_meaning ∙ also) in
+      let both : record_field l g ≡ record_field l₂ g₂ = sym means ∙ (one_meaning ∙ also) in
       field_refusal l g why other h (subst (λ x. IsFirstRefusalForField q l x other) (sym (one_field both)) (subst (λ x. IsFirstRefusalForField q x g₂ other) (sym (one_record both)) k))
 
   unnamed : {A : Type 0} (why : EditRefusal) (m : RenameTarget) → IsFirstRefusalForTarget q why → renaming_target r ≡ m → (m ≡ nothing) ⊎ (m ≡ predeclared) → A
   unnamed why m (inl (d, also, k)) is (inl none) = let both : declaration d ≡ nothing = sym also ∙ (sym one_meaning ∙ (is ∙ none)) in absurd (cc)
   unnamed why m (inl (d, also, k)) is (inr none) = let both : declaration d ≡ predeclared = sym also ∙ (sym one_meaning ∙ (is ∙ none)) in absurd (cc)
-  unnamed why m (inr (l, (g, also, k))) is (inl none) = let both : field_of l g ≡ nothing = sym also ∙ (sym one_meaning ∙ (is ∙ none)) in absurd (cc)
-  unnamed why m (inr (l, (g, also, k))) is (inr none) = let both : field_of l g ≡ predeclared = sym also ∙ (sym one_meaning ∙ (is ∙ none)) in absurd (cc)
+  unnamed why m (inr (l, (g, also, k))) is (inl none) = let both : record_field l g ≡ nothing = sym also ∙ (sym one_meaning ∙ (is ∙ none)) in absurd (cc)
+  unnamed why m (inr (l, (g, also, k))) is (inr none) = let both : record_field l g ≡ predeclared = sym also ∙ (sym one_meaning ∙ (is ∙ none)) in absurd (cc)
 
   unnamed_too : {A : Type 0} (why : EditRefusal) (m : RenameTarget) → IsFirstRefusalForTarget r why → renaming_target q ≡ m → (m ≡ nothing) ⊎ (m ≡ predeclared) → A
   unnamed_too why m (inl (d, means, k)) is (inl none) = let both : declaration d ≡ nothing = sym means ∙ (one_meaning ∙ (is ∙ none)) in absurd (cc)
   unnamed_too why m (inl (d, means, k)) is (inr none) = let both : declaration d ≡ predeclared = sym means ∙ (one_meaning ∙ (is ∙ none)) in absurd (cc)
-  unnamed_too why m (inr (l, (g, means, k))) is (inl none) = let both : field_of l g ≡ nothing = sym means ∙ (one_meaning ∙ (is ∙ none)) in absurd (cc)
-  unnamed_too why m (inr (l, (g, means, k))) is (inr none) = let both : field_of l g ≡ predeclared = sym means ∙ (one_meaning ∙ (is ∙ none)) in absurd (cc)
+  unnamed_too why m (inr (l, (g, means, k))) is (inl none) = let both : record_field l g ≡ nothing = sym means ∙ (one_meaning ∙ (is ∙ none)) in absurd (cc)
+  unnamed_too why m (inr (l, (g, means, k))) is (inr none) = let both : record_field l g ≡ predeclared = sym means ∙ (one_meaning ∙ (is ∙ none)) in absurd (cc)
 
   refusal_is_unique : (why other : EditRefusal) → IsRenameRefusal r why → IsRenameRefusal q other → why ≡ other
   refusal_is_unique why other h k = go (refused_view unit text place new names why h) (refused_view unit text place new others other k)

@@ -6,15 +6,15 @@ use Rattle.std.specs.Prelude.{fold, Option, Some, None, option_map}
 use Rattle.std.proofs.lemmas.List.{map-append}
 use Rattle.ob0_text.specs.OpenDocuments.{OpenDocuments, Opened, Changed, Lost, Closed, documents_after_event, document_at}
 use Rattle.ob0_world_rules.specs.ClientAndServer.{OpenDocument, MessageToServer, notifies, requests, MessageToEditor, PublicationWithText, ClientAndServer, documents_after_message}
-use Rattle.ob0_world_rules.specs.Serving.{SendsDiagnostics, Replies}
-use Rattle.ob0_world_rules.specs.Happens.{ServerTakes}
-use Rattle.ob0_world_rules.specs.Mirror.{in_step_document}
-use Rattle.ob0_world_rules.specs.PublicationsInOrder.{AnnouncedDocument, document_if_open, uris_and_versions_announced_by, uris_and_versions_announced_in, uri_and_version_of, AreMadeForDocuments}
+use Rattle.ob0_world_rules.specs.ServerReplies.{SendsDiagnostics, RepliesToMessage}
+use Rattle.ob0_world_rules.specs.Happens.{ServerTakesFirstMessage}
+use Rattle.ob0_world_rules.specs.MirroredDocuments.{in_step_document}
+use Rattle.ob0_world_rules.specs.PublicationsInOrder.{AnnouncedDocument, announced_document_if_open, uris_and_versions_announced_by, uris_and_versions_announced_in, uri_and_version_of, AreMadeForDocumentsInOrder}
 
 -- ---- the documents that wait for the server
 
 abbrev pub AwaitedAt : OpenDocuments → List ℕ → List AnnouncedDocument → Type 0
-AwaitedAt held uri now = (o : Option OpenDocument) × (document_at held uri ≡ option_map in_step_document o) × (now ≡ document_if_open uri o)
+AwaitedAt held uri now = (o : Option OpenDocument) × (document_at held uri ≡ option_map in_step_document o) × (now ≡ announced_document_if_open uri o)
 
 -- holds if these are the documents for which the server publishes when it takes this message and has these documents
 abbrev pub Awaits : OpenDocuments → MessageToServer → List AnnouncedDocument → Type 0
@@ -42,23 +42,23 @@ pending_named held (m ∷ queue) waiting (now, later, is, so, rest) =
 
 -- ---- publications when the server takes a message
 
-pub made_append : (made more : List PublicationWithText) (announced later : List AnnouncedDocument) → AreMadeForDocuments made announced → AreMadeForDocuments more later → AreMadeForDocuments (made ++ more) (announced ++ later)
+pub made_append : (made more : List PublicationWithText) (announced later : List AnnouncedDocument) → AreMadeForDocumentsInOrder made announced → AreMadeForDocumentsInOrder more later → AreMadeForDocumentsInOrder (made ++ more) (announced ++ later)
 made_append [] more [] later h k = k
 made_append (m ∷ made) more (t ∷ announced) later h k = (h.0, made_append made more announced later h.1 k)
 made_append [] more (t ∷ announced) later h k = absurd h
 made_append (m ∷ made) more [] later h k = absurd h
 
-published : (uri : List ℕ) (o : Option OpenDocument) (said : List MessageToEditor) (made : List PublicationWithText) → SendsDiagnostics uri (option_map in_step_document o) said made → AreMadeForDocuments made (document_if_open uri o)
-published uri (Some d) said made (empty, right, is_said, is_made) = subst (λ ms. AreMadeForDocuments ms (document_if_open uri (Some d))) (sym is_made) ((refl, refl, refl), tt)
-published uri None said made h = subst (λ ms. AreMadeForDocuments ms []) (sym h.1) tt
+published : (uri : List ℕ) (o : Option OpenDocument) (said : List MessageToEditor) (made : List PublicationWithText) → SendsDiagnostics uri (option_map in_step_document o) said made → AreMadeForDocumentsInOrder made (announced_document_if_open uri o)
+published uri (Some d) said made (empty, right, is_said, is_made) = subst (λ ms. AreMadeForDocumentsInOrder ms (announced_document_if_open uri (Some d))) (sym is_made) ((refl, refl, refl), tt)
+published uri None said made h = subst (λ ms. AreMadeForDocumentsInOrder ms []) (sym h.1) tt
 
-awaited : (held : OpenDocuments) (uri : List ℕ) (said : List MessageToEditor) (made : List PublicationWithText) (now : List AnnouncedDocument) → SendsDiagnostics uri (document_at held uri) said made → AwaitedAt held uri now → AreMadeForDocuments made now
-awaited held uri said made now may (o, at, is) = subst (AreMadeForDocuments made) (sym is) (published uri o said made (subst (λ d. SendsDiagnostics uri d said made) at may))
+awaited : (held : OpenDocuments) (uri : List ℕ) (said : List MessageToEditor) (made : List PublicationWithText) (now : List AnnouncedDocument) → SendsDiagnostics uri (document_at held uri) said made → AwaitedAt held uri now → AreMadeForDocumentsInOrder made now
+awaited held uri said made now may (o, at, is) = subst (AreMadeForDocumentsInOrder made) (sym is) (published uri o said made (subst (λ d. SendsDiagnostics uri d said made) at may))
 
-none_made : (made : List PublicationWithText) (now : List AnnouncedDocument) → made ≡ [] → now ≡ [] → AreMadeForDocuments made now
-none_made made now no_made none_announced = subst (AreMadeForDocuments made) (sym none_announced) (subst (λ ms. AreMadeForDocuments ms []) (sym no_made) tt)
+none_made : (made : List PublicationWithText) (now : List AnnouncedDocument) → made ≡ [] → now ≡ [] → AreMadeForDocumentsInOrder made now
+none_made made now no_made none_announced = subst (AreMadeForDocumentsInOrder made) (sym none_announced) (subst (λ ms. AreMadeForDocumentsInOrder ms []) (sym no_made) tt)
 
-pub message_made : (held : OpenDocuments) (m : MessageToServer) (said : List MessageToEditor) (made : List PublicationWithText) (now : List AnnouncedDocument) → Replies held m said made → Awaits held m now → AreMadeForDocuments made now
+pub message_made : (held : OpenDocuments) (m : MessageToServer) (said : List MessageToEditor) (made : List PublicationWithText) (now : List AnnouncedDocument) → RepliesToMessage held m said made → Awaits held m now → AreMadeForDocumentsInOrder made now
 message_made held (notifies (Opened uri version text)) said made now may awaits = awaited (documents_after_event held (Opened uri version text)) uri said made now may awaits
 message_made held (notifies (Changed uri version how)) said made now may awaits = awaited (documents_after_event held (Changed uri version how)) uri said made now may awaits
 message_made held (notifies (Lost uri)) said made now may awaits = none_made made now may.1 awaits
@@ -73,15 +73,15 @@ pub record Next (announced waiting now : List AnnouncedDocument) (new : ClientAn
   pub done : List AnnouncedDocument
   pub awaits : List AnnouncedDocument
   pub parts : (announced ++ waiting) ++ now ≡ done ++ awaits
-  pub are_made_for_documents : AreMadeForDocuments new.made done
+  pub are_made_for_documents : AreMadeForDocumentsInOrder new.made done
   pub pending : Pending new.held new.to_server awaits
 
 module _ (announced waiting : List AnnouncedDocument) where
   -- An event that announces nothing and changes neither queue nor publications leaves them so.
-  pub unchanged : (w : ClientAndServer) → AreMadeForDocuments w.made announced → Pending w.held w.to_server waiting → Next announced waiting [] w
+  pub unchanged : (w : ClientAndServer) → AreMadeForDocumentsInOrder w.made announced → Pending w.held w.to_server waiting → Next announced waiting [] w
   unchanged w are_made_for_documents pending = record { done = announced; awaits = waiting; parts = append-nil (announced ++ waiting); are_made_for_documents = are_made_for_documents; pending = pending }
 
-  pub serve_next : (w : ClientAndServer) (queue : List MessageToServer) (new : ClientAndServer) → AreMadeForDocuments w.made announced → Pending w.held queue waiting → w.to_server ≡ queue → ServerTakes w queue new → Next announced waiting [] new
+  pub serve_next : (w : ClientAndServer) (queue : List MessageToServer) (new : ClientAndServer) → AreMadeForDocumentsInOrder w.made announced → Pending w.held queue waiting → w.to_server ≡ queue → ServerTakesFirstMessage w queue new → Next announced waiting [] new
   serve_next w [] new are_made_for_documents pending is h =
       subst (Next announced waiting []) (sym h) (unchanged w are_made_for_documents (subst (λ q. Pending w.held q waiting) (sym is) pending))
   serve_next w (m ∷ rest) new are_made_for_documents (now, later, parts, awaits, following) is (said, made, may, is_new) =

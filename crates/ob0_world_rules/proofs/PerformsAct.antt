@@ -4,10 +4,10 @@ use Rattle.std.proofs.Common.{◌≡◌, ℕ, cond, List, [], ◌∷◌, refl, s
 use Rattle.std.specs.Prelude.{Option, Some, None, is_some, unwrap_or, option_and_then}
 use Rattle.std.proofs.lemmas.Option.{same_Some, none-some}
 use Rattle.ob0_text.specs.OpenDocuments.{TextChange}
-use Rattle.ob0_world_rules.specs.Edited.{Replacement, text_after_edits, whole_text_change, text_after_changes}
+use Rattle.ob0_world_rules.specs.TextEdits.{Replacement, text_after_edits, whole_text_change, text_after_changes}
 use Rattle.ob0_world_rules.specs.Asks.{Ask}
-use Rattle.ob0_world_rules.specs.ClientAndServer.{OpenDocument, SentAsk, Editor, request_numbered, open_document_at, Applied}
-use Rattle.ob0_world_rules.specs.EditorActs.{Act, open_document, change_document, close_document, ask_about, apply, discard, ActResult, silent_result, opening_result, rewriting_result, closing_result, asking_result, edits_of_answer, without_answer, document_if_unchanged_since, applying_result, act_result}
+use Rattle.ob0_world_rules.specs.ClientAndServer.{OpenDocument, SentAsk, Editor, request_with_number, editor_document_at, Applied}
+use Rattle.ob0_world_rules.specs.EditorActs.{Act, open_document, change_document, close_document, ask_about, apply, discard, ActResult, result_without_messages, opening_result, rewriting_result, closing_result, asking_result, edits_of_answer, editor_without_answer, document_if_unchanged_since, applying_result, act_result}
 use Rattle.ob0_world_rules.proofs.SameDocument.{Same, same_from}
 
 -- the edit that gives the document d the text `text`
@@ -15,14 +15,14 @@ abbrev pub edit_of : List ℕ → OpenDocument → List ℕ → Applied
 edit_of uri d text = record { uri = uri; before = d.text; after = text }
 
 pub record OfEach (e : Editor) (P : ActResult → Type 0) : Type 0 where
-  pub still : P (silent_result e)
-  pub opened : (uri text : List ℕ) → open_document_at e uri ≡ None → P (opening_result e uri text)
-  pub changed : (uri : List ℕ) (d : OpenDocument) (how : List TextChange) (text : List ℕ) → open_document_at e uri ≡ Some d → text_after_changes e.unit (Some d.text) how ≡ Some text → P (rewriting_result e uri d text how [])
-  pub closed : (uri : List ℕ) (d : OpenDocument) → open_document_at e uri ≡ Some d → P (closing_result e uri)
-  pub asked : (uri : List ℕ) (ask : Ask) (d : OpenDocument) → open_document_at e uri ≡ Some d → P (asking_result e uri ask d)
-  pub made : (k : ℕ) (edits : List Replacement) (a : SentAsk) (d : OpenDocument) (text : List ℕ) → edits_of_answer k e.answers ≡ Some edits → request_numbered e.requested k ≡ Some a → Same e a d → text_after_edits e.unit d.text edits ≡ Some text
-      → P (rewriting_result (without_answer e k) a.uri d text (whole_text_change text ∷ []) (edit_of a.uri d text ∷ []))
-  pub dropped : (k : ℕ) → P (silent_result (without_answer e k))
+  pub still : P (result_without_messages e)
+  pub opened : (uri text : List ℕ) → editor_document_at e uri ≡ None → P (opening_result e uri text)
+  pub changed : (uri : List ℕ) (d : OpenDocument) (how : List TextChange) (text : List ℕ) → editor_document_at e uri ≡ Some d → text_after_changes e.unit (Some d.text) how ≡ Some text → P (rewriting_result e uri d text how [])
+  pub closed : (uri : List ℕ) (d : OpenDocument) → editor_document_at e uri ≡ Some d → P (closing_result e uri)
+  pub asked : (uri : List ℕ) (ask : Ask) (d : OpenDocument) → editor_document_at e uri ≡ Some d → P (asking_result e uri ask d)
+  pub made : (k : ℕ) (edits : List Replacement) (a : SentAsk) (d : OpenDocument) (text : List ℕ) → edits_of_answer k e.answers ≡ Some edits → request_with_number e.requested k ≡ Some a → Same e a d → text_after_edits e.unit d.text edits ≡ Some text
+      → P (rewriting_result (editor_without_answer e k) a.uri d text (whole_text_change text ∷ []) (edit_of a.uri d text ∷ []))
+  pub dropped : (k : ℕ) → P (result_without_messages (editor_without_answer e k))
 
 -- If the composition of two partial functions has a result, both have one.
 pub then_some : {A B : Type 0} (f : A → Option B) (o : Option A) (y : B) → option_and_then f o ≡ Some y → (x : A) × (o ≡ Some x) × (f x ≡ Some y)
@@ -36,16 +36,16 @@ pub record Applies (e : Editor) (k : ℕ) (done : ActResult) : Type 0 where
   pub document : OpenDocument
   pub text : List ℕ
   pub held : edits_of_answer k e.answers ≡ Some edits
-  pub numbered : request_numbered e.requested k ≡ Some requested
+  pub numbered : request_with_number e.requested k ≡ Some requested
   pub same : Same e requested document
   pub makes : text_after_edits e.unit document.text edits ≡ Some text
-  pub is : done ≡ rewriting_result (without_answer e k) requested.uri document text (whole_text_change text ∷ []) (edit_of requested.uri document text ∷ [])
+  pub is : done ≡ rewriting_result (editor_without_answer e k) requested.uri document text (whole_text_change text ∷ []) (edit_of requested.uri document text ∷ [])
 
-pub applied_so : (e : Editor) (k : ℕ) (done : ActResult) → option_and_then (applying_result (without_answer e k) k) (edits_of_answer k e.answers) ≡ Some done → Applies e k done
+pub applied_so : (e : Editor) (k : ℕ) (done : ActResult) → option_and_then (applying_result (editor_without_answer e k) k) (edits_of_answer k e.answers) ≡ Some done → Applies e k done
 applied_so e k done h =
     let (edits, held, then_asked) = then_some _ (edits_of_answer k e.answers) done h in
-    let (a, numbered, then_open) = then_some _ (request_numbered e.requested k) done then_asked in
-    let (d, found, then_edited) = then_some _ (option_and_then (document_if_unchanged_since a) (open_document_at e a.uri)) done then_open in
+    let (a, numbered, then_open) = then_some _ (request_with_number e.requested k) done then_asked in
+    let (d, found, then_edited) = then_some _ (option_and_then (document_if_unchanged_since a) (editor_document_at e a.uri)) done then_open in
     let (text, makes, is) = then_some _ (text_after_edits e.unit d.text edits) done then_edited in
     record { edits = edits; requested = a; document = d; text = text; held = held; numbered = numbered; same = same_from e a d found; makes = makes; is = sym (same_Some _ done is) }
 
@@ -54,10 +54,10 @@ module _ (e : Editor) (P : ActResult → Type 0) (each : OfEach e P) where
   by_value None other this that = this
   by_value (Some done) other this that = that done refl
 
-  by_open : (uri : List ℕ) (yes' no' : ActResult) → ((d : OpenDocument) → open_document_at e uri ≡ Some d → P yes') → (open_document_at e uri ≡ None → P no') → P (cond (is_some (open_document_at e uri)) yes' no')
-  by_open uri yes' no' this that = go (open_document_at e uri) refl
+  by_open : (uri : List ℕ) (yes' no' : ActResult) → ((d : OpenDocument) → editor_document_at e uri ≡ Some d → P yes') → (editor_document_at e uri ≡ None → P no') → P (cond (is_some (editor_document_at e uri)) yes' no')
+  by_open uri yes' no' this that = go (editor_document_at e uri) refl
     where
-      go : (o : Option OpenDocument) → open_document_at e uri ≡ o → P (cond (is_some o) yes' no')
+      go : (o : Option OpenDocument) → editor_document_at e uri ≡ o → P (cond (is_some o) yes' no')
       go None is = that is
       go (Some d) is = this d is
 
@@ -65,21 +65,21 @@ module _ (e : Editor) (P : ActResult → Type 0) (each : OfEach e P) where
   changed_by uri how d = option_and_then (λ text. Some (rewriting_result e uri d text how [])) (text_after_changes e.unit (Some d.text) how)
 
   pub of_each : (act : Act) → P (act_result e act)
-  of_each (open_document uri text) = by_open uri (silent_result e) (opening_result e uri text) (λ d is. each.still) (each.opened uri text)
+  of_each (open_document uri text) = by_open uri (result_without_messages e) (opening_result e uri text) (λ d is. each.still) (each.opened uri text)
   of_each (change_document uri how) =
-      by_value (option_and_then (changed_by uri how) (open_document_at e uri)) (silent_result e) each.still
+      by_value (option_and_then (changed_by uri how) (editor_document_at e uri)) (result_without_messages e) each.still
       (λ done h.
-      let (d, at, then_made) = then_some (changed_by uri how) (open_document_at e uri) done h in
+      let (d, at, then_made) = then_some (changed_by uri how) (editor_document_at e uri) done h in
       let (text, made, is) = then_some (λ text. Some (rewriting_result e uri d text how [])) (text_after_changes e.unit (Some d.text) how) done then_made in
       subst P (same_Some _ done is) (each.changed uri d how text at made))
-  of_each (close_document uri) = by_open uri (closing_result e uri) (silent_result e) (each.closed uri) (λ is. each.still)
+  of_each (close_document uri) = by_open uri (closing_result e uri) (result_without_messages e) (each.closed uri) (λ is. each.still)
   of_each (ask_about uri ask) =
-      by_value (option_and_then (λ d. Some (asking_result e uri ask d)) (open_document_at e uri)) (silent_result e) each.still
+      by_value (option_and_then (λ d. Some (asking_result e uri ask d)) (editor_document_at e uri)) (result_without_messages e) each.still
       (λ done h.
-      let (d, at, is) = then_some (λ d. Some (asking_result e uri ask d)) (open_document_at e uri) done h in
+      let (d, at, is) = then_some (λ d. Some (asking_result e uri ask d)) (editor_document_at e uri) done h in
       subst P (same_Some _ done is) (each.asked uri ask d at))
   of_each (apply k) =
-      by_value (option_and_then (applying_result (without_answer e k) k) (edits_of_answer k e.answers)) (silent_result (without_answer e k)) (each.dropped k)
+      by_value (option_and_then (applying_result (editor_without_answer e k) k) (edits_of_answer k e.answers)) (result_without_messages (editor_without_answer e k)) (each.dropped k)
       (λ done h.
       let a : Applies e k done = applied_so e k done h in
       subst P (sym a.is) (each.made k a.edits a.requested a.document a.text a.held a.numbered a.same a.makes))

@@ -11,7 +11,7 @@ use Rattle.std.proofs.lemmas.Option.{cond_some, same_Some, none-some}
 use Rattle.std.proofs.lemmas.List.Elements.{All-nil, All-head, All-tail, All-weaker, All-push}
 use Rattle.ob0_text.specs.declared.position_types.Unit.{Unit}
 use Rattle.ob0_text.specs.OpenDocuments.{TextChange}
-use Rattle.ob0_world_rules.specs.ClientAndServer.{OpenDocument, EditorDocuments, SentAsk, Answer, Editor, new_editor, request_numbered, open_document_at, Applied}
+use Rattle.ob0_world_rules.specs.ClientAndServer.{OpenDocument, EditorDocuments, SentAsk, Answer, Editor, new_editor, request_with_number, editor_document_at, Applied}
 use Rattle.ob0_world_rules.specs.Asks.{Ask}
 use Rattle.ob0_world_rules.specs.EditorActs.{version_as_natural, next_version, is_same_version, opening_result, rewriting_result, closing_result, asking_result, document_if_unchanged_since}
 use Rattle.ob0_world_rules.proofs.UriLaws.{get_put, get_removed, same_uri}
@@ -20,11 +20,11 @@ use Rattle.ob0_world_rules.proofs.UriLaws.{get_put, get_removed, same_uri}
 -- risen
 record Past (e : Editor) (a : SentAsk) : Type 0 where
   known : a.opening ≤ e.openings
-  risen : (d : OpenDocument) → open_document_at e a.uri ≡ Some d → d.opening ≡ a.opening → version_as_natural a.version ≤ version_as_natural d.version
+  risen : (d : OpenDocument) → editor_document_at e a.uri ≡ Some d → d.opening ≡ a.opening → version_as_natural a.version ≤ version_as_natural d.version
 
 -- states that the document of the request is d, with the same opening and the same version
 pub record Same (e : Editor) (a : SentAsk) (d : OpenDocument) : Type 0 where
-  pub at : open_document_at e a.uri ≡ Some d
+  pub at : editor_document_at e a.uri ≡ Some d
   pub opening : d.opening ≡ a.opening
   pub version : d.version ≡ a.version
 
@@ -35,10 +35,10 @@ same_versions (pos n) (negsuc m) is = absurd (cc)
 same_versions (negsuc n) (pos m) is = absurd (cc)
 same_versions (negsuc n) (negsuc m) is = ap negsuc (eqb-true n m is)
 
-pub same_from : (e : Editor) (a : SentAsk) (d : OpenDocument) → option_and_then (document_if_unchanged_since a) (open_document_at e a.uri) ≡ Some d → Same e a d
-same_from e a d h = go (open_document_at e a.uri) refl h
+pub same_from : (e : Editor) (a : SentAsk) (d : OpenDocument) → option_and_then (document_if_unchanged_since a) (editor_document_at e a.uri) ≡ Some d → Same e a d
+same_from e a d h = go (editor_document_at e a.uri) refl h
   where
-    go : (o : Option OpenDocument) → open_document_at e a.uri ≡ o → option_and_then (document_if_unchanged_since a) o ≡ Some d → Same e a d
+    go : (o : Option OpenDocument) → editor_document_at e a.uri ≡ o → option_and_then (document_if_unchanged_since a) o ≡ Some d → Same e a d
     go None is h = absurd (none-some d h)
     go (Some x) is h =
         let both : (x.opening == a.opening && is_same_version x.version a.version ≡ true) × (x ≡ d) = cond_some _ x d h in
@@ -99,7 +99,7 @@ later_open e uri new fresh =
         omega arith
 
 -- Revising a document doesn't give an earlier request its document back, since the version rises.
-later_revise : (e : Editor) (uri : List ℕ) (d new : OpenDocument) → new.opening ≡ d.opening → version_as_natural d.version < version_as_natural new.version → open_document_at e uri ≡ Some d → Later e (record e { documents = map_of.insert e.documents uri new })
+later_revise : (e : Editor) (uri : List ℕ) (d new : OpenDocument) → new.opening ≡ d.opening → version_as_natural d.version < version_as_natural new.version → editor_document_at e uri ≡ Some d → Later e (record e { documents = map_of.insert e.documents uri new })
 later_revise e uri d new same_opening rises was_open =
     record {
       past = λ a past. record {
@@ -117,7 +117,7 @@ later_revise e uri d new same_opening rises was_open =
     }
   where
     risen_before : (a : SentAsk) → Past e a → (x : OpenDocument) → a.uri ≡ uri → new ≡ x → x.opening ≡ a.opening → version_as_natural a.version ≤ version_as_natural d.version
-    risen_before a past x same is opening = past.risen d (ap (open_document_at e) same ∙ was_open) (sym same_opening ∙ ap (λ y. y.opening) is ∙ opening)
+    risen_before a past x same is opening = past.risen d (ap (editor_document_at e) same ∙ was_open) (sym same_opening ∙ ap (λ y. y.opening) is ∙ opening)
 
 later_close : (e : Editor) (uri : List ℕ) → Later e (record e { documents = map_of.remove e.documents uri })
 later_close e uri =
@@ -134,7 +134,7 @@ record IsKnown (e : Editor) (a : SentAsk) : Type 0 where
   same_text : (d : OpenDocument) → Same e a d → d.text ≡ a.text
 
 pub record Knows (e : Editor) : Type 0 where
-  openings : (uri : List ℕ) (d : OpenDocument) → open_document_at e uri ≡ Some d → d.opening ≤ e.openings
+  openings : (uri : List ℕ) (d : OpenDocument) → editor_document_at e uri ≡ Some d → d.opening ≤ e.openings
   asks : All (IsKnown e) e.requested
 
 later_asks : (e e' : Editor) → Later e e' → (list : List SentAsk) → All (IsKnown e) list → All (IsKnown e') list
@@ -147,7 +147,7 @@ known_numbered e (x ∷ list) zero a all h = subst (IsKnown e) (same_Some x a h)
 known_numbered e (x ∷ list) (suc k) a all h = known_numbered e list k a (All-tail (IsKnown e) x list all) h
 
 -- A document with the opening and the version of request k has the text of that request.
-pub same_text : (e : Editor) (k : ℕ) (a : SentAsk) (d : OpenDocument) → Knows e → request_numbered e.requested k ≡ Some a → Same e a d → d.text ≡ a.text
+pub same_text : (e : Editor) (k : ℕ) (a : SentAsk) (d : OpenDocument) → Knows e → request_with_number e.requested k ≡ Some a → Same e a d → d.text ≡ a.text
 same_text e zero a d knows h same = absurd (none-some a h)
 same_text e (suc k) a d knows h same = (known_numbered e e.requested k a knows.asks h).same_text d same
 
@@ -167,7 +167,7 @@ knows_open e uri text knows =
       asks = later_asks e (opening_result e uri text).editor (later_open e uri d refl) e.requested knows.asks;
     }
 
-pub knows_rewrite : (e : Editor) (uri : List ℕ) (d : OpenDocument) (text : List ℕ) (how : List TextChange) (applied : List Applied) → open_document_at e uri ≡ Some d → Knows e → Knows (rewriting_result e uri d text how applied).editor
+pub knows_rewrite : (e : Editor) (uri : List ℕ) (d : OpenDocument) (text : List ℕ) (how : List TextChange) (applied : List Applied) → editor_document_at e uri ≡ Some d → Knows e → Knows (rewriting_result e uri d text how applied).editor
 knows_rewrite e uri d text how applied was_open knows =
     let new : OpenDocument = record d { version = next_version d.version; text = text } in
     record {
@@ -184,7 +184,7 @@ knows_close e uri knows =
       asks = later_asks e (closing_result e uri).editor (later_close e uri) e.requested knows.asks;
     }
 
-pub knows_ask : (e : Editor) (uri : List ℕ) (ask : Ask) (d : OpenDocument) → open_document_at e uri ≡ Some d → Knows e → Knows (asking_result e uri ask d).editor
+pub knows_ask : (e : Editor) (uri : List ℕ) (ask : Ask) (d : OpenDocument) → editor_document_at e uri ≡ Some d → Knows e → Knows (asking_result e uri ask d).editor
 knows_ask e uri ask d was_open knows =
     let a : SentAsk = record { ask = ask; uri = uri; text = d.text; opening = d.opening; version = d.version } in
     let new : Editor = (asking_result e uri ask d).editor in

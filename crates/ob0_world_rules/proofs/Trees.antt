@@ -7,10 +7,10 @@ use Rattle.ob0_tree.specs.Tree.{Tree, module_text, spell}
 use Rattle.ob0_language_names.specs.Names.{Name}
 use Rattle.ob0_language_runs.specs.EditLaws.{HaveSameRuns}
 use Rattle.ob0_parse_descent.proofs.Unique.{same}
-use Rattle.ob0_edits.specs.Diagnosed.{IsTextOfTree}
-use Rattle.ob0_edits.specs.RunsKept.{RunsAsBefore}
+use Rattle.ob0_edits.specs.ReportedErrors.{IsTextOfTree}
+use Rattle.ob0_edits.specs.SameRuns.{RunsAsBefore}
 use Rattle.ob0_edits.specs.Texts.{utf8}
-use Rattle.ob0_world_rules.specs.Language.{SameRun}
+use Rattle.ob0_world_rules.specs.WellTypedTexts.{SameRun}
 use Rattle.ob0_world_rules.proofs.ModuleTexts.{text_of_module}
 
 pub tree_is_unique : (s : TextWithTokens) (a b : Tree Name module_text) → IsModuleWithTree s a → IsModuleWithTree s b → a ≡ b

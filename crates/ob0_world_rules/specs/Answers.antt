@@ -11,12 +11,12 @@ use Rattle.ob0_text.specs.OpenDocuments.{Document, InStep, OutOfStep}
 use Rattle.ob0_text.specs.Texts.{offset_of}
 use Rattle.ob0_text.specs.Units.{width_of}
 use Rattle.ob0_edits.specs.Renamings.{RenamesInText, IsRenameRefusedInText}
-use Rattle.ob0_edits.specs.Inlinings.{InlinesInText, IsInliningRefusedInText}
-use Rattle.ob0_edits.specs.Layouts.{FormatsText, FormattedTextIsTooLong}
+use Rattle.ob0_edits.specs.InliningEdits.{InlinesInText, IsInliningRefusedInText}
+use Rattle.ob0_edits.specs.FormattingEdits.{FormatsText, FormattedTextIsTooLong}
 pub use Rattle.ob0_edits.specs.declared.inlinings.Inlining.{Inlining}
 pub use Rattle.ob0_edits.specs.declared.inlinings.Inlining.TheVariants.{OneUse, Everywhere}
-use Rattle.ob0_world_rules.specs.Language.{WellTypedText}
-use Rattle.ob0_world_rules.specs.Edited.{Replacement, replacements}
+use Rattle.ob0_world_rules.specs.WellTypedTexts.{WellTypedText}
+use Rattle.ob0_world_rules.specs.TextEdits.{Replacement, replacements}
 use Rattle.ob0_world_rules.specs.Asks.{Ask, rename, inline_here, inline_all, format, clamped_indent}
 
 -- returns the byte offset of a position in this text, counted from 0
@@ -33,29 +33,29 @@ InlinesAt how unit text position edits =
 
 -- States that these edits do what the ask (request for edits) requests. They rename a declaration
 -- or field, inline a constant at one use or everywhere, or format the text.
-abbrev pub GivesEdits : Unit → List ℕ → Ask → List Edit → Type 0
-GivesEdits unit text (rename position name) edits = RenamesInText unit text position name edits
-GivesEdits unit text (inline_here position) edits = InlinesAt OneUse unit text position edits
-GivesEdits unit text (inline_all position) edits = InlinesAt Everywhere unit text position edits
-GivesEdits unit text (format indent) edits = FormatsText unit (clamped_indent indent) text edits
+abbrev pub AreRequestedEdits : Unit → List ℕ → Ask → List Edit → Type 0
+AreRequestedEdits unit text (rename position name) edits = RenamesInText unit text position name edits
+AreRequestedEdits unit text (inline_here position) edits = InlinesAt OneUse unit text position edits
+AreRequestedEdits unit text (inline_all position) edits = InlinesAt Everywhere unit text position edits
+AreRequestedEdits unit text (format indent) edits = FormatsText unit (clamped_indent indent) text edits
 
 -- states that the server refuses this request for edits: the new name or the inlining isn't
 -- allowed, or the formatted text would be too long
-abbrev pub Refuses : Unit → List ℕ → Ask → Type 0
-Refuses unit text (rename position name) =
+abbrev pub RefusesAsk : Unit → List ℕ → Ask → Type 0
+RefusesAsk unit text (rename position name) =
     (refusal : EditRefusal) × IsRenameRefusedInText unit text position name refusal
-Refuses unit text (inline_here position) =
+RefusesAsk unit text (inline_here position) =
     IsInliningRefusedInText OneUse unit text (position_offset unit text position)
-Refuses unit text (inline_all position) =
+RefusesAsk unit text (inline_all position) =
     IsInliningRefusedInText Everywhere unit text (position_offset unit text position)
-Refuses unit text (format indent) = FormattedTextIsTooLong (clamped_indent indent) text
+RefusesAsk unit text (format indent) = FormattedTextIsTooLong (clamped_indent indent) text
 
 -- States that the edits `given` answer this request for edits (`ask`) of the text. They are the
 -- requested edits, or none if the request is refused or the text isn't a well-typed module.
 abbrev pub IsAnswerForText : Unit → List ℕ → Ask → List Replacement → Type 0
 IsAnswerForText unit text ask given =
-    ((edits : List Edit) × GivesEdits unit text ask edits × (given ≡ replacements edits))
-    ⊎ ((Refuses unit text ask ⊎ ¬ WellTypedText text) × (given ≡ []))
+    ((edits : List Edit) × AreRequestedEdits unit text ask edits × (given ≡ replacements edits))
+    ⊎ ((RefusesAsk unit text ask ⊎ ¬ WellTypedText text) × (given ≡ []))
 
 -- States that the edits `given` answer this request for edits (`ask`) of the document. If the
 -- document isn't open (None) or is out of step (its text isn't known), there are no edits.

@@ -6,7 +6,7 @@ use Rattle.std.specs.Cmp.Lexicographic.{slice_cmp}
 use Rattle.std.specs.FinMap as map_of
 use Rattle.ob0_text.specs.declared.position_types.Unit.{Unit}
 use Rattle.ob0_text.specs.OpenDocuments.{OpenDocuments, DocumentEvent, documents_after_event, no_open_documents}
-use Rattle.ob0_world_rules.specs.Edited.{Replacement}
+use Rattle.ob0_world_rules.specs.TextEdits.{Replacement}
 use Rattle.ob0_world_rules.specs.Asks.{Ask}
 
 -- ---- the editor
@@ -56,13 +56,13 @@ new_editor unit =
 
 -- returns the sent request for edits with this number, counted from 1, or None if there is no such
 -- request
-abbrev pub request_numbered : List SentAsk → ℕ → Option SentAsk
-request_numbered requested zero = None
-request_numbered requested (suc k) = slice_get requested k
+abbrev pub request_with_number : List SentAsk → ℕ → Option SentAsk
+request_with_number requested zero = None
+request_with_number requested (suc k) = slice_get requested k
 
 -- returns the open document with this uri, or None if no document with this uri is open
-abbrev pub open_document_at : Editor → List ℕ → Option OpenDocument
-open_document_at e uri = map_of.get e.documents uri
+abbrev pub editor_document_at : Editor → List ℕ → Option OpenDocument
+editor_document_at e uri = map_of.get e.documents uri
 
 -- ---- the messages in the queues
 

@@ -4,9 +4,9 @@ use Rattle.std.specs.Prelude.{ℕ, suc, ◌+◌, ℤ, pos, negsuc, Bool, false, 
 use Rattle.std.specs.FinMap as map_of
 use Rattle.ob0_text.specs.OpenDocuments.{TextChange, Opened, Changed, Closed}
 use Rattle.ob0_language_types.specs.Typing.{◌>>=◌}
-use Rattle.ob0_world_rules.specs.Edited.{Replacement, text_after_edits, whole_text_change, text_after_changes}
+use Rattle.ob0_world_rules.specs.TextEdits.{Replacement, text_after_edits, whole_text_change, text_after_changes}
 use Rattle.ob0_world_rules.specs.Asks.{Ask}
-use Rattle.ob0_world_rules.specs.ClientAndServer.{OpenDocument, SentAsk, Answer, Editor, request_numbered, open_document_at, MessageToServer, notifies, requests, MessageToEditor, publishes, answers, Applied}
+use Rattle.ob0_world_rules.specs.ClientAndServer.{OpenDocument, SentAsk, Answer, Editor, request_with_number, editor_document_at, MessageToServer, notifies, requests, MessageToEditor, publishes, answers, Applied}
 
 -- an act of the editor: about a document, or about an answer that the editor has
 pub data Act : Type 0 where
@@ -27,13 +27,13 @@ pub record ActResult : Type 0 where
   pub applied : List Applied
 
 -- returns the result of an act that sends nothing, applies nothing and leaves the editor as `e`
-abbrev pub silent_result : Editor → ActResult
-silent_result e = record { editor = e; sent = []; applied = [] }
+abbrev pub result_without_messages : Editor → ActResult
+result_without_messages e = record { editor = e; sent = []; applied = [] }
 
 -- returns the result of an act that sends one message, applies these edits and leaves the editor as
 -- `e`
-abbrev pub sending_result : Editor → MessageToServer → List Applied → ActResult
-sending_result e message applied = record { editor = e; sent = message ∷ []; applied = applied }
+abbrev pub result_with_message : Editor → MessageToServer → List Applied → ActResult
+result_with_message e message applied = record { editor = e; sent = message ∷ []; applied = applied }
 
 -- returns a version as a natural number: 0 if the version is negative
 abbrev pub version_as_natural : ℤ → ℕ
@@ -55,7 +55,7 @@ is_same_version (negsuc n) (negsuc m) = n == m
 abbrev pub opening_result : Editor → List ℕ → List ℕ → ActResult
 opening_result e uri text =
     let d : OpenDocument = record { version = pos 1; text = text; opening = e.openings + 1 } in
-    sending_result (record e { documents = map_of.insert e.documents uri d; openings = e.openings + 1 })
+    result_with_message (record e { documents = map_of.insert e.documents uri d; openings = e.openings + 1 })
     (notifies (Opened uri (pos 1) text)) []
 
 -- Returns the result of an act that gives the open document `d` this text and the next version. The
@@ -63,13 +63,13 @@ opening_result e uri text =
 abbrev pub rewriting_result : Editor → List ℕ → OpenDocument → List ℕ → List TextChange → List Applied → ActResult
 rewriting_result e uri d text how applied =
     let new : OpenDocument = record d { version = next_version d.version; text = text } in
-    sending_result (record e { documents = map_of.insert e.documents uri new })
+    result_with_message (record e { documents = map_of.insert e.documents uri new })
     (notifies (Changed uri new.version how)) applied
 
 -- returns the result of closing an open document
 abbrev pub closing_result : Editor → List ℕ → ActResult
 closing_result e uri =
-    sending_result (record e { documents = map_of.remove e.documents uri }) (notifies (Closed uri)) []
+    result_with_message (record e { documents = map_of.remove e.documents uri }) (notifies (Closed uri)) []
 
 -- returns the result of sending a request for edits of the open document `d`: it is sent with the
 -- next number, and is appended to `requested`
@@ -82,7 +82,7 @@ asking_result e uri ask d =
       opening = d.opening;
       version = d.version;
     } in
-    sending_result (record e { requested = e.requested ++ a ∷ [] })
+    result_with_message (record e { requested = e.requested ++ a ∷ [] })
     (requests (suc (length e.requested)) uri ask) []
 
 -- returns the edits of the first answer to request `k`, or None if the list has no such answer
@@ -96,8 +96,8 @@ answers_except k [] = []
 answers_except k (a ∷ rest) = if a.number == k then rest else a ∷ answers_except k rest
 
 -- returns the editor without its first answer to request `k`
-abbrev pub without_answer : Editor → ℕ → Editor
-without_answer e k = record e { answers = answers_except k e.answers }
+abbrev pub editor_without_answer : Editor → ℕ → Editor
+editor_without_answer e k = record e { answers = answers_except k e.answers }
 
 -- returns the document if its opening number and its version are equal to the request's,
 -- otherwise None
@@ -109,8 +109,8 @@ document_if_unchanged_since a d = if d.opening == a.opening && is_same_version d
 -- opening number or version has changed since the request, or two edits share a character.
 abbrev pub applying_result : Editor → ℕ → List Replacement → Option ActResult
 applying_result e k edits = do
-  a ← request_numbered e.requested k
-  d ← open_document_at e a.uri >>= document_if_unchanged_since a
+  a ← request_with_number e.requested k
+  d ← editor_document_at e a.uri >>= document_if_unchanged_since a
   text ← text_after_edits e.unit d.text edits
   let made : Applied = record { uri = a.uri; before = d.text; after = text }
   Some (rewriting_result e a.uri d text (whole_text_change text ∷ []) (made ∷ []))
@@ -120,20 +120,20 @@ applying_result e k edits = do
 -- answer, even if its edits can't be made.
 abbrev pub act_result : Editor → Act → ActResult
 act_result e (open_document uri text) =
-    if is_some (open_document_at e uri) then silent_result e else opening_result e uri text
+    if is_some (editor_document_at e uri) then result_without_messages e else opening_result e uri text
 act_result e (change_document uri how) = unwrap_or (do
-  d ← open_document_at e uri
+  d ← editor_document_at e uri
   text ← text_after_changes e.unit (Some d.text) how
-  Some (rewriting_result e uri d text how [])) (silent_result e)
+  Some (rewriting_result e uri d text how [])) (result_without_messages e)
 act_result e (close_document uri) =
-    if is_some (open_document_at e uri) then closing_result e uri else silent_result e
+    if is_some (editor_document_at e uri) then closing_result e uri else result_without_messages e
 act_result e (ask_about uri ask) = unwrap_or (do
-  d ← open_document_at e uri
-  Some (asking_result e uri ask d)) (silent_result e)
+  d ← editor_document_at e uri
+  Some (asking_result e uri ask d)) (result_without_messages e)
 act_result e (apply k) =
-    let rest : Editor = without_answer e k in
-    unwrap_or (edits_of_answer k e.answers >>= applying_result rest k) (silent_result rest)
-act_result e (discard k) = silent_result (without_answer e k)
+    let rest : Editor = editor_without_answer e k in
+    unwrap_or (edits_of_answer k e.answers >>= applying_result rest k) (result_without_messages rest)
+act_result e (discard k) = result_without_messages (editor_without_answer e k)
 
 -- Returns the editor after it has read a message. The editor keeps an answer that has edits, and
 -- nothing else.

@@ -6,12 +6,12 @@ use Rattle.ob0_text.specs.declared.position_types.Unit.{Unit}
 use Rattle.ob0_text.specs.OpenDocuments.{OpenDocuments, no_open_documents}
 use Rattle.ob0_world_rules.specs.ClientAndServer.{Editor, new_editor, MessageToServer, notifies, requests, MessageToEditor, Applied, PublicationWithText, ClientAndServer, start, documents_after_message}
 use Rattle.ob0_world_rules.specs.EditorActs.{ActResult, editor_after_reading}
-use Rattle.ob0_world_rules.specs.Serving.{Replies}
+use Rattle.ob0_world_rules.specs.ServerReplies.{RepliesToMessage}
 use Rattle.ob0_world_rules.specs.Happens.{Event, IsCourse}
 use Rattle.ob0_world_rules.specs.Headline.{GuaranteesHold, PublicationsAreUpToDate}
-use Rattle.ob0_world_rules.specs.Mirror.{WillMirrorEditor}
-use Rattle.ob0_world_rules.specs.PublicationsInOrder.{AnnouncedDocument, AreMadeForDocuments, uris_and_versions_announced_in, uri_and_version_of}
-use Rattle.ob0_world_rules.specs.Editors.{Move, IsAllowedMove}
+use Rattle.ob0_world_rules.specs.MirroredDocuments.{ServerWillMirrorEditor}
+use Rattle.ob0_world_rules.specs.PublicationsInOrder.{AnnouncedDocument, AreMadeForDocumentsInOrder, uris_and_versions_announced_in, uri_and_version_of}
+use Rattle.ob0_world_rules.specs.EditorMoves.{Move, IsAllowedMove}
 
 -- ---- an editor and the server
 
@@ -71,15 +71,15 @@ model_state_of w =
 
 -- a turn: the editor makes a move or sends a message outside the model, or the server or the editor
 -- takes a message
-pub data Turn : Type 0 where
+pub data ExchangeTurn : Type 0 where
   -- the editor makes a move
-  editor_moves : Move → Turn
+  editor_moves : Move → ExchangeTurn
   -- the editor sends a message outside the model (`None`)
-  editor_sends_unmodeled : Turn
+  editor_sends_unmodeled_message : ExchangeTurn
   -- the server takes the first message that waits for it, and sends its replies
-  server_takes : Turn
+  server_takes_message : ExchangeTurn
   -- the editor takes the first message that waits for it
-  editor_takes : Turn
+  editor_takes_message : ExchangeTurn
 
 -- returns the state after a move of the editor that has this result and announces these documents
 abbrev pub state_after_move : EditorAndServer → ActResult → List AnnouncedDocument → EditorAndServer
@@ -94,16 +94,16 @@ state_after_move w done announced =
 -- States that the server takes the first waiting message and sends its replies. If that message is
 -- outside the model (None), no document changes, and all replies are outside the model. If no
 -- message waits, nothing changes.
-abbrev pub ServerTakesNext : EditorAndServer → List (Option MessageToServer) → EditorAndServer → Type 0
-ServerTakesNext w [] new = new ≡ w
-ServerTakesNext w (None ∷ rest) new =
+abbrev pub ServerTakesNextMessage : EditorAndServer → List (Option MessageToServer) → EditorAndServer → Type 0
+ServerTakesNextMessage w [] new = new ≡ w
+ServerTakesNextMessage w (None ∷ rest) new =
     (said : List (Option MessageToEditor))
     × (modeled_messages said ≡ [])
     × (new ≡ record w { to_server = rest; to_editor = w.to_editor ++ said })
-ServerTakesNext w (Some message ∷ rest) new =
+ServerTakesNextMessage w (Some message ∷ rest) new =
     (said : List MessageToEditor)
     × (made : List PublicationWithText)
-    × Replies w.held message said made
+    × RepliesToMessage w.held message said made
     × (new
     ≡ record w {
       to_server = rest;
@@ -114,34 +114,34 @@ ServerTakesNext w (Some message ∷ rest) new =
 
 -- Returns the state after the editor has taken the first waiting message. A message outside the
 -- model (None) is only removed from the queue. If no message waits, the state is unchanged.
-abbrev pub state_after_editor_takes_next : EditorAndServer → List (Option MessageToEditor) → EditorAndServer
-state_after_editor_takes_next w [] = w
-state_after_editor_takes_next w (None ∷ rest) = record w { to_editor = rest }
-state_after_editor_takes_next w (Some message ∷ rest) =
+abbrev pub state_after_editor_takes_next_message : EditorAndServer → List (Option MessageToEditor) → EditorAndServer
+state_after_editor_takes_next_message w [] = w
+state_after_editor_takes_next_message w (None ∷ rest) = record w { to_editor = rest }
+state_after_editor_takes_next_message w (Some message ∷ rest) =
     record w { editor = editor_after_reading w.editor message; to_editor = rest }
 
 -- states that this turn can lead from `w` to `new`
-abbrev pub MayHappen : EditorAndServer → Turn → EditorAndServer → Type 0
+abbrev pub MayHappen : EditorAndServer → ExchangeTurn → EditorAndServer → Type 0
 MayHappen w (editor_moves move) new =
     (done : ActResult)
     × (announced : List AnnouncedDocument)
     × IsAllowedMove w.editor move done announced
     × (new ≡ state_after_move w done announced)
-MayHappen w editor_sends_unmodeled new = new ≡ record w { to_server = w.to_server ++ None ∷ [] }
-MayHappen w server_takes new = ServerTakesNext w w.to_server new
-MayHappen w editor_takes new = new ≡ state_after_editor_takes_next w w.to_editor
+MayHappen w editor_sends_unmodeled_message new = new ≡ record w { to_server = w.to_server ++ None ∷ [] }
+MayHappen w server_takes_message new = ServerTakesNextMessage w w.to_server new
+MayHappen w editor_takes_message new = new ≡ state_after_editor_takes_next_message w w.to_editor
 
 -- states that these turns, one after another, can lead from `w` to `new`
-abbrev pub MayLeadTo : EditorAndServer → List Turn → EditorAndServer → Type 0
+abbrev pub MayLeadTo : EditorAndServer → List ExchangeTurn → EditorAndServer → Type 0
 MayLeadTo w [] new = new ≡ w
 MayLeadTo w (turn ∷ turns) new =
     (between : EditorAndServer) × MayHappen w turn between × MayLeadTo between turns new
 
 -- ---- the laws
 
--- states the guarantees for the state `w`; according to the law `HoldsForEveryEditor`,
+-- states the guarantees for the state `w`; according to the law `GuaranteesHoldForEveryEditor`,
 -- they hold for each state to which turns lead
-pub record HoldsForEditorAndServer (w : EditorAndServer) : Type 0 where
+pub record GuaranteesHoldForEditorAndServer (w : EditorAndServer) : Type 0 where
   -- Each applied edit keeps the module's run. Each list of diagnostics is empty exactly if its text
   -- is a well-typed module. If no message of the model waits for the server, the latest diagnostics
   -- are for the present text.
@@ -150,23 +150,23 @@ pub record HoldsForEditorAndServer (w : EditorAndServer) : Type 0 where
   -- if asks and messages outside the model still wait
   pub latest : notifications_among (modeled_messages w.to_server) ≡ [] → PublicationsAreUpToDate w.editor w.made
   -- once the server has taken the waiting messages, it has the editor's documents
-  pub mirrors : WillMirrorEditor (model_state_of w)
+  pub mirrors : ServerWillMirrorEditor (model_state_of w)
   -- The publications are for the first documents that the editor announced (`published`), one for
   -- each, in order. The messages that still wait for the server announce the other documents
   -- (`waiting`).
   pub published : List AnnouncedDocument
   pub waiting : List AnnouncedDocument
   pub all : w.announced ≡ published ++ waiting
-  pub are_made_for_documents : AreMadeForDocuments w.made published
+  pub are_made_for_documents : AreMadeForDocumentsInOrder w.made published
   pub unpublished_are_queued : map uri_and_version_of waiting ≡ uris_and_versions_announced_in (modeled_messages w.to_server)
 
 -- states that the guarantees hold for every editor that keeps ob0's rules, in every interleaving of
 -- the turns
-abbrev pub HoldsForEveryEditor : Type 0
-HoldsForEveryEditor =
-    (unit : Unit) (turns : List Turn) (w : EditorAndServer)
+abbrev pub GuaranteesHoldForEveryEditor : Type 0
+GuaranteesHoldForEveryEditor =
+    (unit : Unit) (turns : List ExchangeTurn) (w : EditorAndServer)
     → MayLeadTo (initial_editor_and_server unit) turns w
-    → HoldsForEditorAndServer w
+    → GuaranteesHoldForEditorAndServer w
 
 -- States that the model's editor keeps ob0's rules: for each state to which a list of its events
 -- leads, some turns lead to the same state.
@@ -174,7 +174,7 @@ abbrev pub ModelEditorKeepsRules : Type 0
 ModelEditorKeepsRules =
     (unit : Unit) (events : List Event) (end : ClientAndServer)
     → IsCourse (start unit) events end
-    → (turns : List Turn)
+    → (turns : List ExchangeTurn)
     × (w : EditorAndServer)
     × MayLeadTo (initial_editor_and_server unit) turns w
     × (model_state_of w ≡ end)

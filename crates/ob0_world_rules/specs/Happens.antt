@@ -3,7 +3,7 @@
 use Rattle.std.specs.Prelude.{◌≡◌, List, [], ◌∷◌, ◌++◌}
 use Rattle.ob0_world_rules.specs.ClientAndServer.{MessageToServer, MessageToEditor, PublicationWithText, ClientAndServer, documents_after_message}
 use Rattle.ob0_world_rules.specs.EditorActs.{Act, ActResult, act_result, editor_after_reading}
-use Rattle.ob0_world_rules.specs.Serving.{Replies}
+use Rattle.ob0_world_rules.specs.ServerReplies.{RepliesToMessage}
 
 -- an event: the editor acts, or the server or the editor takes a message
 pub data Event : Type 0 where
@@ -25,12 +25,12 @@ state_after_act w done =
 
 -- States that the server takes the first message that waits for it, and sends its replies. If no
 -- message waits for the server, nothing changes.
-abbrev pub ServerTakes : ClientAndServer → List MessageToServer → ClientAndServer → Type 0
-ServerTakes w [] new = new ≡ w
-ServerTakes w (message ∷ rest) new =
+abbrev pub ServerTakesFirstMessage : ClientAndServer → List MessageToServer → ClientAndServer → Type 0
+ServerTakesFirstMessage w [] new = new ≡ w
+ServerTakesFirstMessage w (message ∷ rest) new =
     (said : List MessageToEditor)
     × (made : List PublicationWithText)
-    × Replies w.held message said made
+    × RepliesToMessage w.held message said made
     × (new
     ≡ record w {
       to_server = rest;
@@ -41,16 +41,16 @@ ServerTakes w (message ∷ rest) new =
 
 -- returns the state after the editor has taken the first waiting message, or the unchanged state if
 -- no message waits
-abbrev pub state_after_editor_takes : ClientAndServer → List MessageToEditor → ClientAndServer
-state_after_editor_takes w [] = w
-state_after_editor_takes w (message ∷ rest) =
+abbrev pub state_after_editor_takes_message : ClientAndServer → List MessageToEditor → ClientAndServer
+state_after_editor_takes_message w [] = w
+state_after_editor_takes_message w (message ∷ rest) =
     record w { editor = editor_after_reading w.editor message; to_editor = rest }
 
 -- states that this event leads from `w` to `new`
 abbrev pub Happens : ClientAndServer → Event → ClientAndServer → Type 0
 Happens w (editor_acts act) new = new ≡ state_after_act w (act_result w.editor act)
-Happens w serve new = ServerTakes w w.to_server new
-Happens w take_message new = new ≡ state_after_editor_takes w w.to_editor
+Happens w serve new = ServerTakesFirstMessage w w.to_server new
+Happens w take_message new = new ≡ state_after_editor_takes_message w w.to_editor
 
 -- states that these events, one after another, lead from `w` to `new`
 abbrev pub IsCourse : ClientAndServer → List Event → ClientAndServer → Type 0

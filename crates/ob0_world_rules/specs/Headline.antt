@@ -3,9 +3,9 @@
 use Rattle.std.specs.Prelude.{◌≡◌, ℕ, List, [], All, Option, Some, None, MatchOption, fold, if◌then◌else◌}
 use Rattle.std.specs.Str.{bytes_eq}
 use Rattle.ob0_text.specs.declared.position_types.Unit.{Unit}
-use Rattle.ob0_world_rules.specs.Language.{WellTypedText, SameRun}
+use Rattle.ob0_world_rules.specs.WellTypedTexts.{WellTypedText, SameRun}
 use Rattle.ob0_world_rules.specs.Answers.{IsEmptyExactlyIfWellTyped}
-use Rattle.ob0_world_rules.specs.ClientAndServer.{OpenDocument, Editor, open_document_at, Applied, PublicationWithText, ClientAndServer, start}
+use Rattle.ob0_world_rules.specs.ClientAndServer.{OpenDocument, Editor, editor_document_at, Applied, PublicationWithText, ClientAndServer, start}
 use Rattle.ob0_world_rules.specs.Happens.{Event, IsCourse}
 use Rattle.ob0_world_rules.specs.PublicationsInOrder.{PublicationsFollowAnnouncements}
 
@@ -36,14 +36,14 @@ last_publication uri made =
 abbrev pub PublicationsAreUpToDate : Editor → List PublicationWithText → Type 0
 PublicationsAreUpToDate e made =
     (uri : List ℕ) (d : OpenDocument)
-    → open_document_at e uri ≡ Some d
+    → editor_document_at e uri ≡ Some d
     → MatchOption (last_publication uri made) ⊥
     (λ m. (m.version ≡ d.version) × (m.text ≡ d.text))
 
 -- ---- the guarantees for a list of events
 
 -- states the guarantees for the state `w`; according to the law
--- `HoldsInEveryInterleaving`, they hold for each state to which events lead
+-- `GuaranteesHoldInEveryInterleaving`, they hold for each state to which events lead
 pub record GuaranteesHold (w : ClientAndServer) : Type 0 where
   -- each applied edit keeps the module's run
   pub applied : All PreservesRun w.applied

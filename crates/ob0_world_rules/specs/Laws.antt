@@ -5,16 +5,16 @@ use Rattle.ob0_text.specs.declared.edits.Edit.{Edit}
 use Rattle.ob0_text.specs.declared.position_types.Unit.{Unit}
 use Rattle.ob0_tree.specs.Tree.{Tree, module_text}
 use Rattle.ob0_language_names.specs.Names.{Name}
-use Rattle.ob0_edits.specs.Diagnosed.{IsTextOfTree}
-use Rattle.ob0_world_rules.specs.Language.{IsModuleText, WellTypedText, SameRun}
-use Rattle.ob0_world_rules.specs.Edited.{Replacement, replacements, text_after_edits}
+use Rattle.ob0_edits.specs.ReportedErrors.{IsTextOfTree}
+use Rattle.ob0_world_rules.specs.WellTypedTexts.{IsModuleText, WellTypedText, SameRun}
+use Rattle.ob0_world_rules.specs.TextEdits.{Replacement, replacements, text_after_edits}
 use Rattle.ob0_world_rules.specs.Asks.{Ask}
-use Rattle.ob0_world_rules.specs.Answers.{GivesEdits, IsAnswerForText}
+use Rattle.ob0_world_rules.specs.Answers.{AreRequestedEdits, IsAnswerForText}
 use Rattle.ob0_world_rules.specs.ClientAndServer.{ClientAndServer, start}
 use Rattle.ob0_world_rules.specs.EditorActs.{open_document, change_document, close_document, ask_about, apply, discard}
 use Rattle.ob0_world_rules.specs.Happens.{Event, editor_acts, serve, take_message, IsCourse, Happens}
 use Rattle.ob0_world_rules.specs.Headline.{GuaranteesHold}
-use Rattle.ob0_world_rules.specs.Mirror.{WillMirrorEditor}
+use Rattle.ob0_world_rules.specs.MirroredDocuments.{ServerWillMirrorEditor}
 
 -- ---- texts
 
@@ -41,7 +41,7 @@ pub record EditsPreserveRun (unit : Unit) (text : List ℕ) (edits : List Replac
 abbrev pub AnswerEditsPreserveRun : Type 0
 AnswerEditsPreserveRun =
     (unit : Unit) (text : List ℕ) (ask : Ask) (edits : List Edit)
-    → GivesEdits unit text ask edits
+    → AreRequestedEdits unit text ask edits
     → EditsPreserveRun unit text (replacements edits)
 
 -- states that two answers to the same request for edits of the same text are equal
@@ -79,33 +79,33 @@ AlwaysHasAnswer ask =
     → ¬ ((given : List Replacement) → ¬ IsAnswerForText unit text ask given)
 
 -- states that the event isn't a request for edits, or is one that has answers (`AlwaysHasAnswer`)
-abbrev pub IsAnswerable : Event → Type 0
-IsAnswerable (editor_acts (open_document uri text)) = ⊤
-IsAnswerable (editor_acts (change_document uri how)) = ⊤
-IsAnswerable (editor_acts (close_document uri)) = ⊤
-IsAnswerable (editor_acts (ask_about uri ask)) = AlwaysHasAnswer ask
-IsAnswerable (editor_acts (apply k)) = ⊤
-IsAnswerable (editor_acts (discard k)) = ⊤
-IsAnswerable serve = ⊤
-IsAnswerable take_message = ⊤
+abbrev pub HasAnswerIfAsk : Event → Type 0
+HasAnswerIfAsk (editor_acts (open_document uri text)) = ⊤
+HasAnswerIfAsk (editor_acts (change_document uri how)) = ⊤
+HasAnswerIfAsk (editor_acts (close_document uri)) = ⊤
+HasAnswerIfAsk (editor_acts (ask_about uri ask)) = AlwaysHasAnswer ask
+HasAnswerIfAsk (editor_acts (apply k)) = ⊤
+HasAnswerIfAsk (editor_acts (discard k)) = ⊤
+HasAnswerIfAsk serve = ⊤
+HasAnswerIfAsk take_message = ⊤
 
 -- States that each list of events leads from the start to some state, provided that its requests
 -- for edits have answers. So the laws about all courses of events aren't vacuous. The formula is a
 -- double negation: it is impossible that the events lead to no state.
-abbrev pub CourseExistsIfAnswerable : Type 0
-CourseExistsIfAnswerable =
+abbrev pub CourseExistsIfAsksHaveAnswers : Type 0
+CourseExistsIfAsksHaveAnswers =
     (unit : Unit) (events : List Event)
-    → All IsAnswerable events
+    → All HasAnswerIfAsk events
     → ¬ ((end : ClientAndServer) → ¬ IsCourse (start unit) events end)
 
 -- states that the guarantees (`GuaranteesHold`) hold in each state to which events lead from the
 -- start
-abbrev pub HoldsInEveryInterleaving : Type 0
-HoldsInEveryInterleaving =
+abbrev pub GuaranteesHoldInEveryInterleaving : Type 0
+GuaranteesHoldInEveryInterleaving =
     (u : Unit) (events : List Event) (w : ClientAndServer) → IsCourse (start u) events w → GuaranteesHold w
 
 -- States that once the server has taken all waiting messages, it has the editor's documents. The
 -- law covers each state to which a list of events leads from the start.
 abbrev pub ServerMirrorsEditor : Type 0
 ServerMirrorsEditor =
-    (u : Unit) (events : List Event) (w : ClientAndServer) → IsCourse (start u) events w → WillMirrorEditor w
+    (u : Unit) (events : List Event) (w : ClientAndServer) → IsCourse (start u) events w → ServerWillMirrorEditor w

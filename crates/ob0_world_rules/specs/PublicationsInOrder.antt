@@ -5,7 +5,7 @@ use Rattle.std.specs.Prelude.{◌≡◌, ⊤, ℕ, ℤ, List, [], ◌∷◌, ◌
 use Rattle.std.specs.List.{flat_map}
 use Rattle.ob0_text.specs.declared.position_types.Unit.{Unit}
 use Rattle.ob0_text.specs.OpenDocuments.{Opened, Changed, Lost, Closed}
-use Rattle.ob0_world_rules.specs.ClientAndServer.{OpenDocument, Editor, open_document_at, MessageToServer, notifies, requests, PublicationWithText, ClientAndServer, start}
+use Rattle.ob0_world_rules.specs.ClientAndServer.{OpenDocument, Editor, editor_document_at, MessageToServer, notifies, requests, PublicationWithText, ClientAndServer, start}
 use Rattle.ob0_world_rules.specs.EditorActs.{ActResult, act_result}
 use Rattle.ob0_world_rules.specs.Happens.{Event, editor_acts, serve, take_message, Happens, IsCourse}
 
@@ -17,41 +17,41 @@ pub record AnnouncedDocument : Type 0 where
   pub document : OpenDocument
 
 -- returns a list with this document and its uri, or an empty list if no document is open (None)
-abbrev pub document_if_open : List ℕ → Option OpenDocument → List AnnouncedDocument
-document_if_open uri (Some d) = record { uri = uri; document = d } ∷ []
-document_if_open uri None = []
+abbrev pub announced_document_if_open : List ℕ → Option OpenDocument → List AnnouncedDocument
+announced_document_if_open uri (Some d) = record { uri = uri; document = d } ∷ []
+announced_document_if_open uri None = []
 
 -- returns a list with the editor's document that the message opens or changes, or an empty list if
 -- there is none
-abbrev pub documents_announced_by : Editor → MessageToServer → List AnnouncedDocument
-documents_announced_by e (notifies (Opened uri version text)) = document_if_open uri (open_document_at e uri)
-documents_announced_by e (notifies (Changed uri version how)) = document_if_open uri (open_document_at e uri)
-documents_announced_by e (notifies (Lost uri)) = []
-documents_announced_by e (notifies (Closed uri)) = []
-documents_announced_by e (requests number uri ask) = []
+abbrev pub documents_announced_by_message : Editor → MessageToServer → List AnnouncedDocument
+documents_announced_by_message e (notifies (Opened uri version text)) = announced_document_if_open uri (editor_document_at e uri)
+documents_announced_by_message e (notifies (Changed uri version how)) = announced_document_if_open uri (editor_document_at e uri)
+documents_announced_by_message e (notifies (Lost uri)) = []
+documents_announced_by_message e (notifies (Closed uri)) = []
+documents_announced_by_message e (requests number uri ask) = []
 
 -- returns the editor's documents that these messages open or change, in order
 abbrev pub documents_announced_in : Editor → List MessageToServer → List AnnouncedDocument
-documents_announced_in e messages = flat_map (documents_announced_by e) messages
+documents_announced_in e messages = flat_map (documents_announced_by_message e) messages
 
 -- returns the documents that the editor announces by this event, which are none unless the event is
 -- an act
-abbrev pub documents_announced_at : ClientAndServer → Event → List AnnouncedDocument
-documents_announced_at w (editor_acts act) =
+abbrev pub documents_announced_by_event : ClientAndServer → Event → List AnnouncedDocument
+documents_announced_by_event w (editor_acts act) =
     let done : ActResult = act_result w.editor act in documents_announced_in done.editor done.sent
-documents_announced_at w serve = []
-documents_announced_at w take_message = []
+documents_announced_by_event w serve = []
+documents_announced_by_event w take_message = []
 
 -- states that the editor announces exactly these documents, in this order, in the course of these
 -- events
-abbrev pub AreAnnounced : ClientAndServer → List Event → List AnnouncedDocument → Type 0
-AreAnnounced w [] announced = announced ≡ []
-AreAnnounced w (event ∷ events) announced =
+abbrev pub EventsAnnounceDocuments : ClientAndServer → List Event → List AnnouncedDocument → Type 0
+EventsAnnounceDocuments w [] announced = announced ≡ []
+EventsAnnounceDocuments w (event ∷ events) announced =
     (between : ClientAndServer)
     × (later : List AnnouncedDocument)
     × Happens w event between
-    × AreAnnounced between events later
-    × (announced ≡ documents_announced_at w event ++ later)
+    × EventsAnnounceDocuments between events later
+    × (announced ≡ documents_announced_by_event w event ++ later)
 
 -- ---- publications for the announced documents
 
@@ -61,11 +61,11 @@ IsMadeForDocument m t = (m.uri ≡ t.uri) × (m.version ≡ t.document.version) 
 
 -- states that there are as many publications as documents, and that the n-th publication is made
 -- for the n-th document
-abbrev pub AreMadeForDocuments : List PublicationWithText → List AnnouncedDocument → Type 0
-AreMadeForDocuments [] [] = ⊤
-AreMadeForDocuments (m ∷ made) (t ∷ announced) = IsMadeForDocument m t × AreMadeForDocuments made announced
-AreMadeForDocuments [] (t ∷ announced) = ⊥
-AreMadeForDocuments (m ∷ made) [] = ⊥
+abbrev pub AreMadeForDocumentsInOrder : List PublicationWithText → List AnnouncedDocument → Type 0
+AreMadeForDocumentsInOrder [] [] = ⊤
+AreMadeForDocumentsInOrder (m ∷ made) (t ∷ announced) = IsMadeForDocument m t × AreMadeForDocumentsInOrder made announced
+AreMadeForDocumentsInOrder [] (t ∷ announced) = ⊥
+AreMadeForDocumentsInOrder (m ∷ made) [] = ⊥
 
 -- returns a list with the uri and version of the document that the message opens or changes, or an
 -- empty list if there is none
@@ -91,8 +91,8 @@ uri_and_version_of t = (t.uri, t.document.version)
 pub record PublicationsFollowAnnouncements (unit : Unit) (events : List Event) (made : List PublicationWithText) : Type 0 where
   pub announced : List AnnouncedDocument
   pub waiting : List AnnouncedDocument
-  pub all : AreAnnounced (start unit) events (announced ++ waiting)
-  pub are_made_for_documents : AreMadeForDocuments made announced
+  pub all : EventsAnnounceDocuments (start unit) events (announced ++ waiting)
+  pub are_made_for_documents : AreMadeForDocumentsInOrder made announced
   pub unpublished_are_queued : (end : ClientAndServer)
       → IsCourse (start unit) events end
       → map uri_and_version_of waiting ≡ uris_and_versions_announced_in end.to_server

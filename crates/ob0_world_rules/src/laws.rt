@@ -1,12 +1,12 @@
 //! Proves laws about the model of client and server.
-ghost use Rattle.ob0_world_rules.specs.Laws.{CourseExistsIfAnswerable, AnswersAreUnique, AnswerEditsPreserveRun, HoldsInEveryInterleaving, CourseIsDetermined, ModuleTextDefinitionsAgree, StateAfterEventIsDetermined, ServerMirrorsEditor};
+ghost use Rattle.ob0_world_rules.specs.Laws.{CourseExistsIfAsksHaveAnswers, AnswersAreUnique, AnswerEditsPreserveRun, GuaranteesHoldInEveryInterleaving, CourseIsDetermined, ModuleTextDefinitionsAgree, StateAfterEventIsDetermined, ServerMirrorsEditor};
 ghost use Rattle.ob0_world_rules.specs.PublicationsInOrder.{PublicationsInOrder};
-ghost use Rattle.ob0_world_rules.specs.EveryEditor.{ModelEditorKeepsRules, HoldsForEveryEditor};
+ghost use Rattle.ob0_world_rules.specs.EveryEditor.{ModelEditorKeepsRules, GuaranteesHoldForEveryEditor};
 
 /// Proves that every applied edit keeps the module's run and that all diagnostics are correct
 /// (`GuaranteesHold`), in whatever order the events happen.
-pub fn holds_in_every_interleaving()
-    ensures { HoldsInEveryInterleaving }
+pub fn guarantees_hold_in_every_interleaving()
+    ensures { GuaranteesHoldInEveryInterleaving }
 {}
 
 /// Proves that the edits that answer a request for edits turn a well-typed module into a well-typed
@@ -38,8 +38,8 @@ pub fn course_is_determined()
 
 /// Proves that each list of events leads from the start to some state, provided that its requests
 /// for edits have answers. So the laws about all courses of events aren't vacuous.
-pub fn course_exists_if_answerable()
-    ensures { CourseExistsIfAnswerable }
+pub fn course_exists_if_asks_have_answers()
+    ensures { CourseExistsIfAsksHaveAnswers }
 {}
 
 /// Proves that once the server has taken all waiting messages, it has the editor's documents.
@@ -58,8 +58,8 @@ pub fn publications_in_order()
 /// happen. Every applied edit keeps the module's run. All diagnostics are correct, and are made for
 /// the announced documents in order. Once the server has taken all notifications, the latest
 /// diagnostics are for the present text.
-pub fn holds_for_every_editor()
-    ensures { HoldsForEveryEditor }
+pub fn guarantees_hold_for_every_editor()
+    ensures { GuaranteesHoldForEveryEditor }
 {}
 
 /// Proves that the model's editor keeps ob0's rules: its events are turns of such an editor. So the

@@ -2,5 +2,5 @@
 //! guarantees that hold after every list of events.
 #![tactic(auto)]
 
-pub mod editor_laws;
+pub mod edited_text_laws;
 pub mod laws;

@@ -7,9 +7,9 @@ use Rattle.json.specs.Print.{escape}
 use Rattle.serde_json.specs.Data.{Data, null, boolean, number, string, array, object, unsigned, Members, no_members, member, depth}
 use Rattle.serde_json.specs.View.{items_of}
 use Rattle.serde_json.specs.Written.{compact_text}
-use Rattle.ob0_rpc.specs.Appending.{AppendsMembers, AllReadBack, ReadsBack, comma_separated_texts}
+use Rattle.ob0_rpc.specs.Appending.{AppendsMembersAndBrace, AllReadBack, ReadsBack, comma_separated_texts}
 use Rattle.ob0_rpc.specs.Messages.{ReadsContent}
-use Rattle.ob0_rpc.specs.Writing.{Writes}
+use Rattle.ob0_rpc.specs.WrittenMessages.{Writes}
 use Rattle.ob0_rpc.proofs.Appending.{are_names, array_of, count_written, object_of, rebuilt, text_written, written}
 use Rattle.ob0_world_worked.proofs.WorkedTexts.{is_ascii_text, utf8_so}
 
@@ -44,7 +44,7 @@ abbrev pub AllRead : Members → Type 0
 AllRead no_members = ⊤
 AllRead (member k d ms) = ReadsBack d × AllRead ms
 
-appended : (before : ℕ) (ms : Members) (old : List ℕ) → AllRead ms → (new : List ℕ) × AppendsMembers before ms old new
+appended : (before : ℕ) (ms : Members) (old : List ℕ) → AllRead ms → (new : List ℕ) × AppendsMembersAndBrace before ms old new
 appended before no_members old h = (old ++ 125 ∷ [], refl)
 appended before (member k d ms) old h =
     let mid : List ℕ = old ++ before ∷ 34 ∷ (k ++ 34 ∷ 58 ∷ compact_text d) in

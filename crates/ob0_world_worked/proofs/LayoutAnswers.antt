@@ -12,12 +12,12 @@ use Rattle.ob0_text.specs.declared.position_types.Unit.{Unit}
 use Rattle.ob0_tree.specs.Module.{IsModuleWithTree}
 use Rattle.ob0_tree.specs.Tree.{Tree, module_text}
 use Rattle.ob0_layout.specs.Layout.{formatted_lexemes, formatted_text}
-use Rattle.ob0_edits.specs.Diagnosed.{IsTextOfTree, IsWellTypedModule}
+use Rattle.ob0_edits.specs.ReportedErrors.{IsTextOfTree, IsWellTypedModule}
 use Rattle.ob0_edits.specs.Texts.{utf8}
-use Rattle.ob0_edits.specs.Layouts.{FormatsText, formatted_text_of}
+use Rattle.ob0_edits.specs.FormattingEdits.{FormatsText, formatted_text_of_module}
 use Rattle.ob0_world_rules.specs.Asks.{format, clamped_indent}
-use Rattle.ob0_world_rules.specs.Edited.{replacements}
-use Rattle.ob0_world_rules.specs.Language.{WellTypedText}
+use Rattle.ob0_world_rules.specs.TextEdits.{replacements}
+use Rattle.ob0_world_rules.specs.WellTypedTexts.{WellTypedText}
 use Rattle.ob0_world_rules.specs.Laws.{AlwaysHasAnswer}
 use Rattle.ob0_world_rules.proofs.ModuleTexts.{well_typed_module}
 use Rattle.ob0_world_worked.proofs.LayoutEdits.{layout_edits, layout_patches}
@@ -37,9 +37,9 @@ module _ (stays : ModuleStays) (lexed : LexemesStay) (good : LayoutIsUtf8) (unit
   held : text ≡ chars m.text_of.scanned.text
   held = chars_from_encodes text m.text_of.scanned.text m.text_of.scan.scan.utf8 (sym m.text_of.scan.of)
 
-  stays_module : length (formatted_text_of indent m) ≤ 1048576 → IsTextOfTree m.tree (utf8 (chars (formatted_text_of indent m)))
+  stays_module : length (formatted_text_of_module indent m) ≤ 1048576 → IsTextOfTree m.tree (utf8 (chars (formatted_text_of_module indent m)))
   stays_module short =
-      let laid : List ℕ = formatted_text_of indent m in
+      let laid : List ℕ = formatted_text_of_module indent m in
       let s = m.text_of.scanned in
       let scan = m.text_of.scan.scan in
       let lexemes : List Lexeme = formatted_lexemes indent m.tree scan.lexemes in
@@ -48,7 +48,7 @@ module _ (stays : ModuleStays) (lexed : LexemesStay) (good : LayoutIsUtf8) (unit
       let read : IsScan t = record { utf8 = u; short = short; lexemes = lexemes; lexed = lexed indent s scan m.tree m.text_of.module_of; tokens = refl; comments = refl } in
       record { scanned = t; scan = record { of = sym (encodes-chars laid u); scan = read }; module_of = stays indent s scan m.tree m.text_of.module_of t read refl }
 
-  pub lays_out : length (formatted_text_of indent m) ≤ 1048576 → (edits : List Edit) × FormatsText unit indent text edits
+  pub lays_out : length (formatted_text_of_module indent m) ≤ 1048576 → (edits : List Edit) × FormatsText unit indent text edits
   lays_out short =
       let s = m.text_of.scanned in
       let scan = m.text_of.scan.scan in
@@ -57,9 +57,9 @@ module _ (stays : ModuleStays) (lexed : LexemesStay) (good : LayoutIsUtf8) (unit
         record {
           before = m;
           changes = made.1;
-          after = chars (formatted_text_of indent m);
+          after = chars (formatted_text_of_module indent m);
           made = layout_patches unit indent text s scan m.tree held made.0 made.1;
-          is_formatted_text = encodes-chars (formatted_text_of indent m) (good indent s scan m.tree);
+          is_formatted_text = encodes-chars (formatted_text_of_module indent m) (good indent s scan m.tree);
           same_module = stays_module short;
           runs = record { old = m; new = record { tree = m.tree; text_of = stays_module short; well_typed = m.well_typed }; same = λ input c t. refl };
         },
@@ -68,12 +68,12 @@ module _ (stays : ModuleStays) (lexed : LexemesStay) (good : LayoutIsUtf8) (unit
 pub formatting_has_answers : ModuleStays → LexemesStay → LayoutIsUtf8 → (indent : Indent) → AlwaysHasAnswer (format indent)
 formatting_has_answers stays lexed good indent unit text none = none [] (inr (inr unfit, refl))
   where
-    go : (m : IsWellTypedModule (utf8 text)) (b : Bool) → nat_lt max_text_length (length (formatted_text_of (clamped_indent indent) m)) ≡ b → ⊥
-    go m true long = none [] (inr (inl (record { before = m; long = ltb-true max_text_length (length (formatted_text_of (clamped_indent indent) m)) long }), refl))
+    go : (m : IsWellTypedModule (utf8 text)) (b : Bool) → nat_lt max_text_length (length (formatted_text_of_module (clamped_indent indent) m)) ≡ b → ⊥
+    go m true long = none [] (inr (inl (record { before = m; long = ltb-true max_text_length (length (formatted_text_of_module (clamped_indent indent) m)) long }), refl))
     go m false fits =
-        let low = ltb-false max_text_length (length (formatted_text_of (clamped_indent indent) m)) fits in
+        let low = ltb-false max_text_length (length (formatted_text_of_module (clamped_indent indent) m)) fits in
         let made = lays_out stays lexed good unit (clamped_indent indent) text m low in
         none (replacements made.0) (inl (made.0, made.1, refl))
 
     unfit : WellTypedText text → ⊥
-    unfit h = let m = well_typed_module text h in go m (nat_lt max_text_length (length (formatted_text_of (clamped_indent indent) m))) refl
+    unfit h = let m = well_typed_module text h in go m (nat_lt max_text_length (length (formatted_text_of_module (clamped_indent indent) m))) refl

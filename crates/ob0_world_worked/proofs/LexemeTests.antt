@@ -11,8 +11,8 @@ use Rattle.ob0_scan.specs.declared.lexeme.ReservedWord.TheVariants as reserved
 use Rattle.ob0_scan.specs.declared.lexeme.TokenKind.TheVariants as token
 use Rattle.ob0_scan.specs.declared.lexeme.LexemeKind.{LexemeKind}
 use Rattle.ob0_scan.specs.declared.lexeme.LexemeKind.TheVariants as lexeme
-use Rattle.ob0_scan.specs.Classes.{IsLexemeOfKind, IsIdentifier, decimal_value, is_white_space, reserved_word_text, symbol_text}
-use Rattle.ob0_scan.specs.Ends.{EachLexemeEndsBeforeNext, continues_lexeme}
+use Rattle.ob0_scan.specs.LexemeClasses.{IsLexemeOfKind, IsIdentifier, decimal_value, is_white_space, reserved_word_text, symbol_text}
+use Rattle.ob0_scan.specs.LexemeEnds.{EachLexemeEndsBeforeNext, continues_lexeme}
 use Rattle.ob0_scan.specs.Lexed.{LexesInto, Lexeme, text_of_lexemes}
 use Rattle.ob0_scan.proofs.Borders.{cut_into_lexemes_depends_only_on_next_bytes}
 

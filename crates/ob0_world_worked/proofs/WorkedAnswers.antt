@@ -20,34 +20,34 @@ use Rattle.ob0_language_values.specs.declared.scalar.Scalar.{Scalar}
 use Rattle.ob0_language_values.specs.declared.scalar.Scalar.TheVariants as scalar
 use Rattle.ob0_language_values.specs.Scalars.{scalar_value}
 use Rattle.ob0_types.specs.CheckedModules.{IsWellTyped}
-use Rattle.ob0_analysis.specs.Analysed.{IsResolvedWellTypedModule}
-use Rattle.ob0_analysis.specs.Diagnosed.{IsTextOfTree}
+use Rattle.ob0_analysis.specs.AnalysisAnswers.{IsResolvedWellTypedModule}
+use Rattle.ob0_analysis.specs.ReportedErrors.{IsTextOfTree}
 use Rattle.ob0_analysis.specs.Texts.{utf8}
 use Rattle.ob0_analysis.proofs.Scanning.{is_module, utf8_of}
 use Rattle.ob0_edits_tokens.specs.Ranges.{range_of}
-use Rattle.ob0_edits_tokens.specs.Removed.{span_of_tokens, text_after_removal}
-use Rattle.ob0_edits_tokens.specs.Replaced.{replacement_at_token, range_and_text, text_after_replacement}
+use Rattle.ob0_edits_tokens.specs.Removals.{span_of_tokens, text_after_removal}
+use Rattle.ob0_edits_tokens.specs.Replacements.{replacement_at_token, range_and_text, text_after_replacement}
 use Rattle.ob0_rename.specs.Answers.{IsRenameRefusal, RenamesDeclaration}
 use Rattle.ob0_rename.specs.Renaming.{TargetsDeclaration, Renaming, rename_target_at, renaming_of}
 use Rattle.ob0_inline.specs.declared.uses.ConstantUse.{ConstantUse}
 use Rattle.ob0_inline.specs.declared.constants.DeclaredConstant.{DeclaredConstant}
 use Rattle.ob0_inline.specs.Everywhere.{IsConstant, IsConstantAt, tree_inlined_everywhere}
-use Rattle.ob0_inline.specs.Inlined.{EditsGiveModule}
-use Rattle.ob0_inline.specs.Uses.{IsUse, IsUseAt, tree_inlined_here}
+use Rattle.ob0_inline.specs.EditedModuleTexts.{EditsGiveModule}
+use Rattle.ob0_inline.specs.Uses.{IsConstantUse, IsConstantUseAt, tree_inlined_here}
 use Rattle.ob0_inline.specs.Values.{value_text}
 use Rattle.ob0_inline.proofs.AtUses as at_uses
 use Rattle.ob0_inline.proofs.AtConstants as at_constants
 use Rattle.ob0_edits.specs.declared.inlinings.Inlining.{Inlining}
 use Rattle.ob0_edits.specs.declared.inlinings.Inlining.TheVariants.{OneUse, Everywhere}
-use Rattle.ob0_edits.specs.Inlinings.{IsInlineResult, InlinesInText}
+use Rattle.ob0_edits.specs.InliningEdits.{IsInlineResult, InlinesInText}
 use Rattle.ob0_edits.specs.Renamings.{IsRenameRefusedInText, RenamesInText}
 use Rattle.ob0_edits.proofs.Renamings.{new_name_found}
 use Rattle.ob0_world_rules.specs.Asks.{Ask, rename, inline_here, inline_all}
 use Rattle.ob0_world_rules.specs.Answers.{IsAnswerForText}
-use Rattle.ob0_world_rules.specs.Edited.{Replacement}
+use Rattle.ob0_world_rules.specs.TextEdits.{Replacement}
 use Rattle.ob0_world_rules.specs.Laws.{AnswersAreUnique}
 use Rattle.ob0_world_worked.specs.WorkedText.{line_position, example_text}
-use Rattle.ob0_world_worked.specs.WorkedAnswers.{CaptureIsRefused, RenameIsAnswered, InliningIsAnswered, InliningEverywhereIsAnswered, IsAnsweredBy, range_on_line, replacement_on_line}
+use Rattle.ob0_world_worked.specs.WorkedAnswers.{CaptureIsRefused, RenameIsAnswered, InliningOneUseIsAnswered, InliningEverywhereIsAnswered, IsAnsweredOnlyBy, range_on_line, replacement_on_line}
 use Rattle.ob0_world_worked.proofs.WorkedValues.{vec_of}
 use Rattle.ob0_world_worked.proofs.LexemeTests.{identifier_of}
 use Rattle.ob0_world_worked.proofs.WorkedTexts.{bytes_so, chars_so, inlined_lexemes, inlined_scan, renamed_lexemes, renamed_scan, scanned_of, utf8_so, without_lexemes, without_scan, worked_lexemes, worked_scan}
@@ -71,7 +71,7 @@ worked_bytes = sym (bytes_so example_text refl)
 pub worked_in_bytes : IsResolvedWellTypedModule (utf8 example_text) worked_names
 worked_in_bytes = subst (λ (t : List ℕ). IsResolvedWellTypedModule t worked_names) worked_bytes worked_in
 
-answered_by : AnswersAreUnique → (ask : Ask) (edits : List Replacement) → IsAnswerForText Utf16 example_text ask edits → IsAnsweredBy ask edits
+answered_by : AnswersAreUnique → (ask : Ask) (edits : List Replacement) → IsAnswerForText Utf16 example_text ask edits → IsAnsweredOnlyBy ask edits
 answered_by one ask edits exists given = (λ h. one Utf16 example_text ask given edits h exists, λ e. subst (IsAnswerForText Utf16 example_text ask) (sym e) exists)
 
 y_is : codes "y" ≡ chars (codes "y")
@@ -151,10 +151,10 @@ two_fits = refl
 abbrev the_use : ConstantUse
 the_use = record { token = 16; occurrence = 2; constant = 7; value = scalar.Number (pos 2) }
 
-use_at : IsUseAt worked_module 56 the_use
+use_at : IsConstantUseAt worked_module 56 the_use
 use_at = record { named = refl; occurs = refl; has_value = has_two }
 
-use_so : IsUse worked_module the_use
+use_so : IsConstantUse worked_module the_use
 use_so = record { occurs = refl; bound = refl; has_value = has_two }
 
 -- edits that leave the text of a module with the same runs
@@ -196,8 +196,8 @@ inlines_here_in alone keeps =
     let answer = at_uses.answer_ok worked_names worked_well the_use use_so alone two_fits keeps Utf16 example_text (puts_two ∷ []) here_made refl in
     inlines_in OneUse 56 (vec_of (puts_two ∷ []) (omega (arith))) (tree_inlined_here worked_module the_use) answer.1.leaves answer.1.well_typed answer.1.same_runs (inl (the_use, use_at, answer))
 
-pub example_inlining_has_only_this_answer : ConstantUsesAreFactors → InliningKeepsTypingAndRuns → AnswersAreUnique → InliningIsAnswered
-example_inlining_has_only_this_answer alone keeps one =
+pub inlining_one_use_is_answered : ConstantUsesAreFactors → InliningKeepsTypingAndRuns → AnswersAreUnique → InliningOneUseIsAnswered
+inlining_one_use_is_answered alone keeps one =
     answered_by one (inline_here (line_position 6 7)) (replacement_on_line 6 7 8 (codes "2") ∷ [])
     (inl (
       puts_two ∷ [],

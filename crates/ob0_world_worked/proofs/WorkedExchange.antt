@@ -8,38 +8,38 @@ use Rattle.serde_json.specs.Data.{Data, null, number, unsigned, depth}
 use Rattle.ob0_text.specs.declared.position_types.Unit.TheVariants.{Utf16}
 use Rattle.ob0_text.specs.Texts.{text_before, line_body, ends_line, fitting_prefix, lines, offset_of, starts_with_lf}
 use Rattle.ob0_text.specs.Texts as texts
-use Rattle.ob0_text.specs.Patches.{are_all_disjoint, cut_at, cuts_in_text_order, patched_by_cuts, text_with_cuts, char_count_before}
+use Rattle.ob0_text.specs.Patches.{are_all_disjoint, cut_of_range, cuts_in_text_order, text_patched_by_cuts, text_from_place_with_cuts, char_count_before}
 use Rattle.ob0_text.specs.OpenDocuments.{Document, InStep, changed_text, document_at, no_open_documents, documents_after_open}
 use Rattle.ob0_rpc.specs.Appending.{ReadsBack}
-use Rattle.ob0_rpc.specs.Requesting.{DocumentPlace}
+use Rattle.ob0_rpc.specs.Requests.{DocumentPlace}
 use Rattle.ob0_rpc.specs.Notifications.{NotificationMeaning, notification_by_method, opens, changes}
 use Rattle.ob0_language_runs.specs.EditLaws.{InliningEverywhereKeepsTypingAndRuns, InliningKeepsTypingAndRuns}
 use Rattle.ob0_language_types.specs.EditLaws.{ConstantUsesAreFactors}
 use Rattle.ob0_refs.specs.Questions.{hover_at_offset}
-use Rattle.ob0_analysis.specs.Diagnosed.{IsWellTypedModule}
+use Rattle.ob0_analysis.specs.ReportedErrors.{IsWellTypedModule}
 use Rattle.ob0_analysis.specs.Texts.{utf8}
 use Rattle.ob0_analysis.proofs.Scanning.{is_module}
 use Rattle.ob0_edits.specs.declared.inlinings.Inlining.TheVariants.{OneUse, Everywhere}
-use Rattle.ob0_edits.specs.Inlinings.{InlinesInText}
-use Rattle.ob0_session_answers.specs.Actions.{actions_offset, actions_array, ListsInlinings}
-use Rattle.ob0_session_answers.specs.Questions.{hover_value_with_range, hover_question, offset_in, value_or_null}
+use Rattle.ob0_edits.specs.InliningEdits.{InlinesInText}
+use Rattle.ob0_session_answers.specs.Actions.{first_offset_in_range, actions_array, ListsInlinings}
+use Rattle.ob0_session_answers.specs.Questions.{hover_value_with_range, hover_question, offset_of_place, value_or_null}
 use Rattle.ob0_session_server.specs.Answers as server
-use Rattle.ob0_session_server.specs.Answers.{Answers, IsConversation, AreContentsOfReply, SendsMessage, ServerState, react_about_document, question_reply, apply_notification, state_after_initialize, actions_reply, publication_reply}
+use Rattle.ob0_session_server.specs.Answers.{Answers, IsConversation, AreContentsOfReply, SendsMessage, ServerState, react_to_document_request, question_reply, apply_notification, state_after_initialize, actions_reply, publication_reply}
 use Rattle.ob0_world_editor.specs.InitializeRequest.{client_features_for, initialize_message}
-use Rattle.ob0_world_editor.specs.Shapes.{change_object, change_params, open_params}
-use Rattle.ob0_world_editor.specs.MessagesToEditor.{message_to_editor_by, message_to_editor_of}
+use Rattle.ob0_world_editor.specs.Shapes.{change_object, did_change_params, did_open_params}
+use Rattle.ob0_world_editor.specs.MessagesToEditor.{message_to_editor_by_numbering, message_to_editor_of}
 use Rattle.ob0_world_rules.specs.Asks.{inline_all}
-use Rattle.ob0_world_rules.specs.ClientAndServer.{Applied, Editor, OpenDocument, SentAsk, MessageToEditor, answers, new_editor, open_document_at, publishes}
-use Rattle.ob0_world_rules.specs.Edited.{Replacement, text_after_changes, text_after_edits}
-use Rattle.ob0_world_rules.specs.EditorActs.{asking_result, without_answer}
-use Rattle.ob0_world_rules.specs.Editors.{AppliesAnswer, opening_result_for_document, revised_document, to_apply, to_ask, to_open, notifications_of, with_document}
-use Rattle.ob0_world_rules.specs.EveryEditor.{editor_moves, editor_sends_unmodeled, editor_takes, server_takes}
+use Rattle.ob0_world_rules.specs.ClientAndServer.{Applied, Editor, OpenDocument, SentAsk, MessageToEditor, answers, new_editor, editor_document_at, publishes}
+use Rattle.ob0_world_rules.specs.TextEdits.{Replacement, text_after_changes, text_after_edits}
+use Rattle.ob0_world_rules.specs.EditorActs.{asking_result, editor_without_answer}
+use Rattle.ob0_world_rules.specs.EditorMoves.{AppliesAnswer, opening_result_for_document, revised_document, editor_applies, editor_asks, editor_opens, notifications_of_revisions, editor_with_document}
+use Rattle.ob0_world_rules.specs.EveryEditor.{editor_moves, editor_sends_unmodeled_message, editor_takes_message, server_takes_message}
 use Rattle.ob0_world_rules.specs.PublicationsInOrder.{AnnouncedDocument}
 use Rattle.ob0_world_rules.proofs.UriLaws.{get_put}
-use Rattle.ob0_world.specs.Exchanges.{IsInitialExchange, Exchange, Exchanges, IsActionsRequest, SentRequestId, ask_number_by_id, number_id, message_to_editor_by_ids, editor_after_reading_if_any}
+use Rattle.ob0_world.specs.Exchanges.{IsInitialExchange, Exchange, Exchanges, IsCodeActionRequest, SentRequestId, ask_number_of_json_id, number_id, message_to_editor_by_ids, editor_after_reading_if_any}
 use Rattle.ob0_world_worked.specs.WorkedText.{line_position, example_text}
 use Rattle.ob0_world_worked.specs.WorkedAnswers.{range_on_line, replacement_on_line}
-use Rattle.ob0_world_worked.specs.WorkedExchange.{ExampleExchangeExists, actions_params, actions_request, hover_request, hover_params, inlined_text, inlining_context, inlining_revision, change_notification, initialized_notification, open_notification, example_turns, uri}
+use Rattle.ob0_world_worked.specs.WorkedExchange.{ExampleExchangeExists, example_code_action_params, example_code_action_request, hover_request, hover_params, inlined_text, inlining_context, inlining_revision, change_notification, initialized_notification, open_notification, example_turns, uri}
 use Rattle.ob0_world_worked.specs.WorkedExchange as law
 use Rattle.ob0_world_worked.proofs.WorkedTexts.{chars_so}
 use Rattle.ob0_world_worked.proofs.WorkedModule.{worked_names}
@@ -48,8 +48,8 @@ use Rattle.ob0_world_worked.proofs.Json.{content_of, reads_so}
 use Rattle.ob0_world_worked.proofs.WorkedMessages.{actions_read, capabilities_read, change_read, everywhere_edits, here_edits, hover_read, initialize_read, initialized_read, initialized_with, no_hover, no_hover_read, none_read, open_read, requested_actions, sends, shows_none, two_actions, two_actions_read}
 
 -- The editor reads this in the content.
-editor_reads : (of : Data → Option ℕ) (requested : List SentAsk) (d : Data) → ReadsBack d → nat_lt (depth d) 128 ≡ true → message_to_editor_by of requested (content_of d) ≡ message_to_editor_of of requested d
-unfolding message_to_editor_by
+editor_reads : (of : Data → Option ℕ) (requested : List SentAsk) (d : Data) → ReadsBack d → nat_lt (depth d) 128 ≡ true → message_to_editor_by_numbering of requested (content_of d) ≡ message_to_editor_of of requested d
+unfolding message_to_editor_by_numbering
 editor_reads of requested d r shallow =
     let w = reads_so d r shallow in
     λ i. if is_utf8-from_IsUtf8 (content_of d) w.0 i then option_and_then (message_to_editor_of of requested) (w.1 i) else None
@@ -69,7 +69,7 @@ abbrev editor₀ : Editor
 editor₀ = new_editor Utf16
 
 abbrev editor₁ : Editor
-editor₁ = record (with_document (new_editor Utf16) uri document₀) { openings = 1 }
+editor₁ = record (editor_with_document (new_editor Utf16) uri document₀) { openings = 1 }
 
 abbrev the_ask : SentAsk
 the_ask = record { ask = inline_all (line_position 6 7); uri = uri; text = example_text; opening = 1; version = pos 0 }
@@ -84,7 +84,7 @@ abbrev editor₃ : Editor
 editor₃ = record editor₂ { answers = record { number = 1; edits = the_edits } ∷ [] }
 
 abbrev editor₄ : Editor
-editor₄ = with_document (without_answer editor₃ 1) uri (revised_document document₀ inlining_revision)
+editor₄ = editor_with_document (editor_without_answer editor₃ 1) uri (revised_document document₀ inlining_revision)
 
 abbrev hover_id : SentRequestId
 hover_id = record { id = number_id 1; ask = None }
@@ -118,7 +118,7 @@ abbrev taken₃ : List (List ℕ)
 taken₃ = content_of (initialize_message Utf16) ∷ content_of initialized_notification ∷ content_of open_notification ∷ content_of hover_request ∷ []
 
 abbrev taken₄ : List (List ℕ)
-taken₄ = content_of (initialize_message Utf16) ∷ content_of initialized_notification ∷ content_of open_notification ∷ content_of hover_request ∷ content_of actions_request ∷ []
+taken₄ = content_of (initialize_message Utf16) ∷ content_of initialized_notification ∷ content_of open_notification ∷ content_of hover_request ∷ content_of example_code_action_request ∷ []
 
 abbrev x₀ : Exchange
 x₀ = exchange editor₀ [] session₀ begin [] got₀ [] [] []
@@ -142,7 +142,7 @@ abbrev x₆ : Exchange
 x₆ = exchange editor₁ (hover_id ∷ []) session₁ taken₃ [] got₀ (content_of shows_none ∷ content_of no_hover ∷ []) (announced₀ ∷ []) []
 
 abbrev x₇ : Exchange
-x₇ = exchange editor₂ (hover_id ∷ ask_id ∷ []) session₁ taken₃ (content_of actions_request ∷ []) got₀ (content_of shows_none ∷ content_of no_hover ∷ []) (announced₀ ∷ []) []
+x₇ = exchange editor₂ (hover_id ∷ ask_id ∷ []) session₁ taken₃ (content_of example_code_action_request ∷ []) got₀ (content_of shows_none ∷ content_of no_hover ∷ []) (announced₀ ∷ []) []
 
 abbrev x₈ : Exchange
 x₈ = exchange editor₂ (hover_id ∷ ask_id ∷ []) session₁ taken₄ [] got₀ (content_of shows_none ∷ content_of no_hover ∷ content_of two_actions ∷ []) (announced₀ ∷ []) []
@@ -176,18 +176,18 @@ begins_so = record {
   is = refl;
 }
 
-turn₁ : Exchanges x₀ editor_sends_unmodeled x₁
+turn₁ : Exchanges x₀ editor_sends_unmodeled_message x₁
 turn₁ = (None, content_of initialized_notification, (initialized_notification, reads_so initialized_notification initialized_read refl, refl), refl)
 
-turn₂ : Exchanges x₁ server_takes x₂
+turn₂ : Exchanges x₁ server_takes_message x₂
 turn₂ = (x₂.wire, (session₀, [], (Some initialized_notification, reads_so initialized_notification initialized_read refl, (refl, refl)), refl), refl)
 
 -- ---- the document is opened
 
-opened_note : notification_by_method (codes "textDocument/didOpen") ((open_params uri 0 example_text)) ≡ opens uri (pos 0) example_text
+opened_note : notification_by_method (codes "textDocument/didOpen") ((did_open_params uri 0 example_text)) ≡ opens uri (pos 0) example_text
 opened_note = ap (λ t. opens uri (pos 0) t) (chars_so example_text refl)
 
-turn₃ : Exchanges x₂ (editor_moves (to_open uri (pos 0) example_text)) x₃
+turn₃ : Exchanges x₂ (editor_moves (editor_opens uri (pos 0) example_text)) x₃
 turn₃ = (
   opening_result_for_document document₀ editor₀ uri,
   announced₀ ∷ [],
@@ -195,7 +195,7 @@ turn₃ = (
   content_of open_notification ∷ [],
   (refl, refl),
   refl,
-  (record { json = open_notification; reads = reads_so open_notification open_read refl; method = codes "textDocument/didOpen"; params = (open_params uri 0 example_text); means = refl; reported = opened_note; fits = refl }, tt),
+  (record { json = open_notification; reads = reads_so open_notification open_read refl; method = codes "textDocument/didOpen"; params = (did_open_params uri 0 example_text); means = refl; reported = opened_note; fits = refl }, tt),
   refl,
 )
 
@@ -217,18 +217,18 @@ opened_so = (
   subst (λ (n : NotificationMeaning). let r = apply_notification session₀ n in (session₁ ≡ r.after) × AreContentsOfReply r.reply (content_of shows_none ∷ [])) (sym opened_note) (refl, published_so),
 )
 
-turn₄ : Exchanges x₃ server_takes x₄
+turn₄ : Exchanges x₃ server_takes_message x₄
 turn₄ = (x₄.wire, (session₁, content_of shows_none ∷ [], opened_so, refl), refl)
 
 -- ---- a hover
 
-turn₅ : Exchanges x₄ editor_sends_unmodeled x₅
+turn₅ : Exchanges x₄ editor_sends_unmodeled_message x₅
 turn₅ = (Some (number_id 1), content_of hover_request, (hover_request, reads_so hover_request hover_read refl, (refl, tt, refl)), refl)
 
 abbrev hover_place : DocumentPlace
 hover_place = record { uri = uri; position = line_position 0 0 }
 
-no_name : null ≡ value_or_null (option_map (hover_value_with_range Utf16 example_text) (hover_at_offset worked_names (offset_in Utf16 example_text hover_place)))
+no_name : null ≡ value_or_null (option_map (hover_value_with_range Utf16 example_text) (hover_at_offset worked_names (offset_of_place Utf16 example_text hover_place)))
 unfolding text_before fitting_prefix lines line_body ends_line starts_with_lf texts.text_of_lines
 no_name = refl
 
@@ -236,23 +236,23 @@ hovered_so : Answers session₁ (content_of hover_request) (content_of no_hover 
 hovered_so = (
   Some hover_request,
   reads_so hover_request hover_read refl,
-  subst (λ (o : Option Document). let r = react_about_document session₁ (number (unsigned 1)) o (λ version. question_reply Utf16 (number (unsigned 1)) hover_place hover_question) in (session₁ ≡ r.after) × AreContentsOfReply r.reply (content_of no_hover ∷ [])) (sym held_is)
+  subst (λ (o : Option Document). let r = react_to_document_request session₁ (number (unsigned 1)) o (λ version. question_reply Utf16 (number (unsigned 1)) hover_place hover_question) in (session₁ ≡ r.after) × AreContentsOfReply r.reply (content_of no_hover ∷ [])) (sym held_is)
       (refl, (null, inl (worked_names, worked_in_bytes, no_name), sends no_hover no_hover_read refl)),
 )
 
-turn₆ : Exchanges x₅ server_takes x₆
+turn₆ : Exchanges x₅ server_takes_message x₆
 turn₆ = (x₆.wire, (session₁, content_of no_hover ∷ [], hovered_so, refl), refl)
 
 -- ---- the actions
 
-open_is : open_document_at editor₁ uri ≡ Some document₀
+open_is : editor_document_at editor₁ uri ≡ Some document₀
 open_is = get_put map_of.empty uri document₀ uri
 
-asks_so : IsActionsRequest (number (unsigned 2)) uri (line_position 6 7) (content_of actions_request)
+asks_so : IsCodeActionRequest (number (unsigned 2)) uri (line_position 6 7) (content_of example_code_action_request)
 asks_so = record {
-  json = actions_request;
-  reads = reads_so actions_request actions_read refl;
-  params = actions_params;
+  json = example_code_action_request;
+  reads = reads_so example_code_action_request actions_read refl;
+  params = example_code_action_params;
   means = refl;
   range = record { start = line_position 6 7; end = line_position 6 8 };
   only = Some (codes "refactor.inline" ∷ []);
@@ -262,19 +262,19 @@ asks_so = record {
   allowed = refl;
 }
 
-turn₇ : Exchanges x₆ (editor_moves (to_ask uri (inline_all (line_position 6 7)))) x₇
+turn₇ : Exchanges x₆ (editor_moves (editor_asks uri (inline_all (line_position 6 7)))) x₇
 turn₇ = (
   asking_result editor₁ uri (inline_all (line_position 6 7)) document₀,
   [],
   hover_id ∷ ask_id ∷ [],
-  content_of actions_request ∷ [],
+  content_of example_code_action_request ∷ [],
   (document₀, open_is, refl, refl),
   (number_id 2, refl, refl),
   ((number (unsigned 2), asks_so, record { numbered = refl; is = record { sent = the_ask; is = refl; about = refl; same_ask = refl } }, refl), tt),
   refl,
 )
 
-place_is : 56 ≡ actions_offset Utf16 example_text (record { start = line_position 6 7; end = line_position 6 8 })
+place_is : 56 ≡ first_offset_in_range Utf16 example_text (record { start = line_position 6 7; end = line_position 6 8 })
 unfolding text_before fitting_prefix lines line_body ends_line starts_with_lf texts.text_of_lines lib.Utf8.encode
 place_is = refl
 
@@ -289,15 +289,15 @@ module _ (alone : ConstantUsesAreFactors) (keeps : InliningKeepsTypingAndRuns) (
     listed = refl;
   }
 
-  offered_so : Answers session₁ (content_of actions_request) (content_of two_actions ∷ []) session₁
+  offered_so : Answers session₁ (content_of example_code_action_request) (content_of two_actions ∷ []) session₁
   offered_so = (
-    Some actions_request,
-    reads_so actions_request actions_read refl,
-    subst (λ (o : Option Document). let r = react_about_document session₁ (number (unsigned 2)) o (λ version. actions_reply Utf16 (record requested_actions { version = version })) in (session₁ ≡ r.after) × AreContentsOfReply r.reply (content_of two_actions ∷ [])) (sym held_is)
+    Some example_code_action_request,
+    reads_so example_code_action_request actions_read refl,
+    subst (λ (o : Option Document). let r = react_to_document_request session₁ (number (unsigned 2)) o (λ version. actions_reply Utf16 (record requested_actions { version = version })) in (session₁ ≡ r.after) × AreContentsOfReply r.reply (content_of two_actions ∷ [])) (sym held_is)
         (refl, (two_actions, (actions_array requested_actions (Some here_edits) (Some everywhere_edits), inl lists_so, refl), sends two_actions two_actions_read refl)),
   )
 
-  turn₈ : Exchanges x₇ server_takes x₈
+  turn₈ : Exchanges x₇ server_takes_message x₈
   turn₈ = (x₈.wire, (session₁, content_of two_actions ∷ [], offered_so, refl), refl)
 
 -- ---- the editor takes what was sent
@@ -306,42 +306,42 @@ abbrev ids₂ : List SentRequestId
 ids₂ = hover_id ∷ ask_id ∷ []
 
 reads_none : message_to_editor_by_ids ids₂ (the_ask ∷ []) (content_of shows_none) ≡ Some (publishes uri (Some (pos 0)) true)
-reads_none = editor_reads (ask_number_by_id ids₂) (the_ask ∷ []) shows_none none_read refl ∙ refl
+reads_none = editor_reads (ask_number_of_json_id ids₂) (the_ask ∷ []) shows_none none_read refl ∙ refl
 
-turn₉ : Exchanges x₈ editor_takes x₉
+turn₉ : Exchanges x₈ editor_takes_message x₉
 turn₉ = ap (λ (m : Option MessageToEditor). record x₉ { editor = editor_after_reading_if_any editor₂ m }) (sym reads_none)
 
 reads_hover : message_to_editor_by_ids ids₂ (the_ask ∷ []) (content_of no_hover) ≡ None
-reads_hover = editor_reads (ask_number_by_id ids₂) (the_ask ∷ []) no_hover no_hover_read refl ∙ refl
+reads_hover = editor_reads (ask_number_of_json_id ids₂) (the_ask ∷ []) no_hover no_hover_read refl ∙ refl
 
-turn₁₀ : Exchanges x₉ editor_takes x₁₀
+turn₁₀ : Exchanges x₉ editor_takes_message x₁₀
 turn₁₀ = ap (λ (m : Option MessageToEditor). record x₁₀ { editor = editor_after_reading_if_any editor₂ m }) (sym reads_hover)
 
 reads_actions : message_to_editor_by_ids ids₂ (the_ask ∷ []) (content_of two_actions) ≡ Some (answers 1 the_edits)
 unfolding chars
-reads_actions = editor_reads (ask_number_by_id ids₂) (the_ask ∷ []) two_actions two_actions_read refl ∙ refl
+reads_actions = editor_reads (ask_number_of_json_id ids₂) (the_ask ∷ []) two_actions two_actions_read refl ∙ refl
 
-turn₁₁ : Exchanges x₁₀ editor_takes x₁₁
+turn₁₁ : Exchanges x₁₀ editor_takes_message x₁₁
 turn₁₁ = ap (λ (m : Option MessageToEditor). record x₁₁ { editor = editor_after_reading_if_any editor₂ m }) (sym reads_actions)
 
 -- ---- the edits are made
 
 edits_make : text_after_edits Utf16 example_text the_edits ≡ Some inlined_text
-unfolding text_after_edits patched_by_cuts cut_at char_count_before are_all_disjoint cuts_in_text_order text_with_cuts text_before fitting_prefix lines line_body ends_line starts_with_lf texts.text_of_lines
+unfolding text_after_edits text_patched_by_cuts cut_of_range char_count_before are_all_disjoint cuts_in_text_order text_from_place_with_cuts text_before fitting_prefix lines line_body ends_line starts_with_lf texts.text_of_lines
 edits_make = refl
 
 changes_make : text_after_changes Utf16 (Some example_text) law.example_changes ≡ Some inlined_text
-unfolding changed_text patched_by_cuts cut_at char_count_before are_all_disjoint cuts_in_text_order text_with_cuts text_before fitting_prefix lines line_body ends_line starts_with_lf texts.text_of_lines
+unfolding changed_text text_patched_by_cuts cut_of_range char_count_before are_all_disjoint cuts_in_text_order text_from_place_with_cuts text_before fitting_prefix lines line_body ends_line starts_with_lf texts.text_of_lines
 changes_make = refl
 
 abbrev the_change : Data
-the_change = change_params uri 1 (change_object (Some (range_on_line 6 7 8)) (codes "2") ∷ change_object (Some (range_on_line 2 2 8)) [] ∷ [])
+the_change = did_change_params uri 1 (change_object (Some (range_on_line 6 7 8)) (codes "2") ∷ change_object (Some (range_on_line 2 2 8)) [] ∷ [])
 
 changed_note : notification_by_method (codes "textDocument/didChange") the_change ≡ changes uri (pos 1) law.example_changes
 unfolding chars
 changed_note = refl
 
-applies_so : AppliesAnswer editor₃ 1 (inlining_revision ∷ []) (record { editor = editor₄; sent = notifications_of uri (inlining_revision ∷ []); applied = record { uri = uri; before = example_text; after = inlined_text } ∷ [] }) (announced₁ ∷ [])
+applies_so : AppliesAnswer editor₃ 1 (inlining_revision ∷ []) (record { editor = editor₄; sent = notifications_of_revisions uri (inlining_revision ∷ []); applied = record { uri = uri; before = example_text; after = inlined_text } ∷ [] }) (announced₁ ∷ [])
 applies_so = record {
   edits = the_edits;
   answered = refl;
@@ -361,9 +361,9 @@ applies_so = record {
   is = refl;
 }
 
-turn₁₂ : Exchanges x₁₁ (editor_moves (to_apply 1 (inlining_revision ∷ []))) x₁₂
+turn₁₂ : Exchanges x₁₁ (editor_moves (editor_applies 1 (inlining_revision ∷ []))) x₁₂
 turn₁₂ = (
-  record { editor = editor₄; sent = notifications_of uri (inlining_revision ∷ []); applied = record { uri = uri; before = example_text; after = inlined_text } ∷ [] },
+  record { editor = editor₄; sent = notifications_of_revisions uri (inlining_revision ∷ []); applied = record { uri = uri; before = example_text; after = inlined_text } ∷ [] },
   announced₁ ∷ [],
   ids₂,
   content_of change_notification ∷ [],

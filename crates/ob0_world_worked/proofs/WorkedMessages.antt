@@ -11,14 +11,14 @@ use Rattle.ob0_rpc.specs.Appending.{ReadsBack}
 use Rattle.ob0_rpc.specs.Shapes.{edit_value, position_value, range_value, result_message}
 use Rattle.ob0_rpc.proofs.Appending.{position_read, range_read}
 use Rattle.ob0_session_json.specs.Shapes.{capabilities, publication}
-use Rattle.ob0_session_answers.specs.Actions.{VersionedActionsRequest, code_action_of, actions_array}
+use Rattle.ob0_session_answers.specs.Actions.{VersionedActionsRequest, inlining_action_value, actions_array}
 use Rattle.ob0_session_server.specs.Answers.{SendsMessage}
 use Rattle.ob0_world_editor.specs.InitializeRequest.{text_document_capabilities, client_features_for, initialize_message, workspace_capabilities}
 use Rattle.ob0_world_worked.specs.WorkedText.{line_position}
 use Rattle.ob0_world_editor.specs.Shapes.{change_object}
 use Rattle.ob0_edits.specs.declared.inlinings.Inlining.TheVariants.{OneUse, Everywhere}
 use Rattle.ob0_world_worked.specs.WorkedAnswers.{range_on_line}
-use Rattle.ob0_world_worked.specs.WorkedExchange.{actions_request, hover_request, inlining_context, change_notification, initialized_notification, open_notification, uri}
+use Rattle.ob0_world_worked.specs.WorkedExchange.{example_code_action_request, hover_request, inlining_context, change_notification, initialized_notification, open_notification, uri}
 use Rattle.ob0_world_worked.proofs.WorkedValues.{vec_of}
 use Rattle.ob0_world_worked.proofs.WorkedTexts.{is_ascii_text}
 use Rattle.ob0_world_worked.proofs.WorkedEdits.{puts_two, takes_out}
@@ -118,7 +118,7 @@ hover_read =
 only_read : ReadsBack inlining_context
 only_read = object_read refl refl (array_read [] tt, (array_read (string (codes "refactor.inline") ∷ []) (text_read refl, tt), tt))
 
-pub actions_read : ReadsBack actions_request
+pub actions_read : ReadsBack example_code_action_request
 actions_read =
     object_read refl refl (
       two_read,
@@ -233,7 +233,7 @@ two_actions_read =
       (
         text_read refl,
         (
-          array_read (code_action_of requested_actions OneUse (puts_two ∷ []) ∷ code_action_of requested_actions Everywhere (takes_out ∷ puts_two ∷ []) ∷ []) (
+          array_read (inlining_action_value requested_actions OneUse (puts_two ∷ []) ∷ inlining_action_value requested_actions Everywhere (takes_out ∷ puts_two ∷ []) ∷ []) (
             action_read (edit_value puts_two ∷ []) (codes "Inline here") (array_read (edit_value puts_two ∷ []) (two_put, tt)) (text_read refl),
             (
               action_read (edit_value takes_out ∷ edit_value puts_two ∷ []) (codes "Inline everywhere") (array_read (edit_value takes_out ∷ edit_value puts_two ∷ []) (taken_out, (two_put, tt))) (text_read refl),

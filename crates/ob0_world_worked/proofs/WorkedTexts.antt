@@ -11,7 +11,7 @@ use Rattle.ob0_scan.specs.declared.lexeme.Symbol.{Symbol}
 use Rattle.ob0_scan.specs.declared.lexeme.Symbol.TheVariants as symbol
 use Rattle.ob0_scan.specs.declared.lexeme.TokenKind.TheVariants as token
 use Rattle.ob0_scan.specs.declared.lexeme.LexemeKind.TheVariants as lexeme
-use Rattle.ob0_scan.specs.Classes.{reserved_word_text, symbol_text}
+use Rattle.ob0_scan.specs.LexemeClasses.{reserved_word_text, symbol_text}
 use Rattle.ob0_scan.specs.Lexed.{Lexeme, text_of_lexemes}
 use Rattle.ob0_scan.specs.TextWithTokens.{TextWithTokens, IsScan, comments_of_lexemes_from, tokens_of_lexemes_from}
 use Rattle.ob0_world_worked.specs.WorkedText.{example_text}

@@ -7,7 +7,7 @@ use Rattle.ob0_text.specs.declared.refusals.EditRefusal.TheVariants.{Captures}
 use Rattle.ob0_edits.specs.Renamings.{IsRenameRefusedInText}
 use Rattle.ob0_world_rules.specs.Asks.{Ask, rename, inline_here, inline_all}
 use Rattle.ob0_world_rules.specs.Answers.{IsAnswerForText}
-use Rattle.ob0_world_rules.specs.Edited.{Replacement}
+use Rattle.ob0_world_rules.specs.TextEdits.{Replacement}
 use Rattle.ob0_world_worked.specs.WorkedText.{line_position, example_text}
 
 -- returns the range on this line from the character `from` to the character `to`, which is
@@ -20,28 +20,28 @@ abbrev pub replacement_on_line : ℕ → ℕ → ℕ → List ℕ → Replacemen
 replacement_on_line line from to new = record { range = range_on_line line from to; text = new }
 
 -- states that the request `ask` about `example_text` is answered by these edits, and by no others
-abbrev pub IsAnsweredBy : Ask → List Replacement → Type 0
-IsAnsweredBy ask edits =
+abbrev pub IsAnsweredOnlyBy : Ask → List Replacement → Type 0
+IsAnsweredOnlyBy ask edits =
     (given : List Replacement) → IsAnswerForText Utf16 example_text ask given ↔ (given ≡ edits)
 
 -- states that renaming `x` to `y` is answered by three edits: at the declaration and at both uses
 abbrev pub RenameIsAnswered : Type 0
 RenameIsAnswered =
-    IsAnsweredBy (rename (line_position 4 2) (codes "y"))
+    IsAnsweredOnlyBy (rename (line_position 4 2) (codes "y"))
     (replacement_on_line 4 2 3 (codes "y") ∷ replacement_on_line 6 2 3 (codes "y") ∷ replacement_on_line 7 8 9 (codes "y") ∷ [])
 
 -- States that renaming `x` to `Write` is refused, because the renamed variable would capture the
 -- call of `Write`. The answer has no edits.
 pub record CaptureIsRefused : Type 0 where
   pub refused : IsRenameRefusedInText Utf16 example_text (line_position 4 2) (codes "Write") (Captures (range_on_line 7 2 7))
-  pub no_edits : IsAnsweredBy (rename (line_position 4 2) (codes "Write")) []
+  pub no_edits : IsAnsweredOnlyBy (rename (line_position 4 2) (codes "Write")) []
 
 -- states that inlining `n` at its use is answered by one edit, which replaces the use by the value
-abbrev pub InliningIsAnswered : Type 0
-InliningIsAnswered = IsAnsweredBy (inline_here (line_position 6 7)) (replacement_on_line 6 7 8 (codes "2") ∷ [])
+abbrev pub InliningOneUseIsAnswered : Type 0
+InliningOneUseIsAnswered = IsAnsweredOnlyBy (inline_here (line_position 6 7)) (replacement_on_line 6 7 8 (codes "2") ∷ [])
 
 -- states that inlining `n` everywhere is answered by two edits: one removes the declaration, and
 -- one replaces the use by the value
 abbrev pub InliningEverywhereIsAnswered : Type 0
 InliningEverywhereIsAnswered =
-    IsAnsweredBy (inline_all (line_position 6 7)) (replacement_on_line 2 2 8 [] ∷ replacement_on_line 6 7 8 (codes "2") ∷ [])
+    IsAnsweredOnlyBy (inline_all (line_position 6 7)) (replacement_on_line 2 2 8 [] ∷ replacement_on_line 6 7 8 (codes "2") ∷ [])

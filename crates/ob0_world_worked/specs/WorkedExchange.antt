@@ -7,10 +7,10 @@ use Rattle.ob0_text.specs.declared.position_types.Unit.TheVariants.{Utf16}
 use Rattle.ob0_text.specs.OpenDocuments.{TextChange}
 use Rattle.ob0_rpc.specs.Shapes.{notification_message, position_value, range_value}
 use Rattle.ob0_world_editor.specs.InitializeRequest.{initialize_message}
-use Rattle.ob0_world_editor.specs.Shapes.{change_object, change_params, document_id_value, open_params, request_message}
+use Rattle.ob0_world_editor.specs.Shapes.{change_object, did_change_params, document_id_value, did_open_params, request_message}
 use Rattle.ob0_world_rules.specs.Asks.{inline_all}
-use Rattle.ob0_world_rules.specs.Editors.{Revision, to_apply, to_ask, to_open}
-use Rattle.ob0_world_rules.specs.EveryEditor.{Turn, editor_moves, editor_sends_unmodeled, editor_takes, server_takes}
+use Rattle.ob0_world_rules.specs.EditorMoves.{Revision, editor_applies, editor_asks, editor_opens}
+use Rattle.ob0_world_rules.specs.EveryEditor.{ExchangeTurn, editor_moves, editor_sends_unmodeled_message, editor_takes_message, server_takes_message}
 use Rattle.ob0_world.specs.Exchanges.{IsInitialExchange, Exchange, IsExchangeCourse}
 use Rattle.ob0_world_worked.specs.WorkedText.{line_position, with_line_feed, example_text}
 use Rattle.ob0_world_worked.specs.WorkedAnswers.{range_on_line}
@@ -42,26 +42,26 @@ example_changes =
 abbrev pub inlining_revision : Revision
 inlining_revision = record { version = pos 1; text = inlined_text; sent_changes = example_changes }
 
-abbrev pub example_turns : List Turn
+abbrev pub example_turns : List ExchangeTurn
 example_turns =
     -- the editor sends the notification `initialized`
-    editor_sends_unmodeled
-    ∷ server_takes
+    editor_sends_unmodeled_message
+    ∷ server_takes_message
     -- the editor opens the document with version 0
-    ∷ editor_moves (to_open uri (pos 0) example_text)
-    ∷ server_takes
+    ∷ editor_moves (editor_opens uri (pos 0) example_text)
+    ∷ server_takes_message
     -- the editor sends a hover request
-    ∷ editor_sends_unmodeled
-    ∷ server_takes
+    ∷ editor_sends_unmodeled_message
+    ∷ server_takes_message
     -- the editor requests the code actions of one kind in a range
-    ∷ editor_moves (to_ask uri (inline_all (line_position 6 7)))
-    ∷ server_takes
+    ∷ editor_moves (editor_asks uri (inline_all (line_position 6 7)))
+    ∷ server_takes_message
     -- the editor takes the diagnostics, and the answers to both requests
-    ∷ editor_takes
-    ∷ editor_takes
-    ∷ editor_takes
+    ∷ editor_takes_message
+    ∷ editor_takes_message
+    ∷ editor_takes_message
     -- the editor applies the answer as two changes in one notification
-    ∷ editor_moves (to_apply 1 (inlining_revision ∷ []))
+    ∷ editor_moves (editor_applies 1 (inlining_revision ∷ []))
     ∷ []
 
 -- ---- the editor's messages
@@ -70,7 +70,7 @@ abbrev pub initialized_notification : Data
 initialized_notification = notification_message (codes "initialized") (object no_members)
 
 abbrev pub open_notification : Data
-open_notification = notification_message (codes "textDocument/didOpen") (open_params uri 0 example_text)
+open_notification = notification_message (codes "textDocument/didOpen") (did_open_params uri 0 example_text)
 
 abbrev pub hover_params : Data
 hover_params =
@@ -85,17 +85,17 @@ inlining_context =
     object (member (codes "diagnostics") (array no_items)
     (member (codes "only") (array (item (string (codes "refactor.inline")) no_items)) no_members))
 
-abbrev pub actions_params : Data
-actions_params =
+abbrev pub example_code_action_params : Data
+example_code_action_params =
     object (member (codes "context") inlining_context (member (codes "range") (range_value (line_position 6 7) (line_position 6 8))
     (member (codes "textDocument") (document_id_value uri) no_members)))
 
-abbrev pub actions_request : Data
-actions_request = request_message 2 (codes "textDocument/codeAction") actions_params
+abbrev pub example_code_action_request : Data
+example_code_action_request = request_message 2 (codes "textDocument/codeAction") example_code_action_params
 
 abbrev pub change_notification : Data
 change_notification =
-    notification_message (codes "textDocument/didChange") (change_params uri 1
+    notification_message (codes "textDocument/didChange") (did_change_params uri 1
     (change_object (Some (range_on_line 6 7 8)) (codes "2")
     ∷ change_object (Some (range_on_line 2 2 8)) []
     ∷ []))
@@ -111,6 +111,6 @@ pub record ExampleExchangeExists : Type 0 where
   pub begins : IsInitialExchange Utf16 first
   pub leads : IsExchangeCourse first example_turns last
   pub taken : last.wire.taken
-      ≡ map compact_text (initialize_message Utf16 ∷ initialized_notification ∷ open_notification ∷ hover_request ∷ actions_request ∷ [])
+      ≡ map compact_text (initialize_message Utf16 ∷ initialized_notification ∷ open_notification ∷ hover_request ∷ example_code_action_request ∷ [])
   pub waits : last.wire.to_server ≡ compact_text change_notification ∷ []
   pub applied : last.applied ≡ record { uri = uri; before = example_text; after = inlined_text } ∷ []

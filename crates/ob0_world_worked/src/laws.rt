@@ -2,7 +2,7 @@
 //! exchange exists. Also proves that a request for formatting has an answer for each text.
 ghost use Rattle.ob0_world_worked.specs.Formatting.{FormattingHasAnswers};
 ghost use Rattle.ob0_world_worked.specs.WorkedExchange.{ExampleExchangeExists};
-ghost use Rattle.ob0_world_worked.specs.WorkedAnswers.{CaptureIsRefused, RenameIsAnswered, InliningIsAnswered, InliningEverywhereIsAnswered};
+ghost use Rattle.ob0_world_worked.specs.WorkedAnswers.{CaptureIsRefused, RenameIsAnswered, InliningOneUseIsAnswered, InliningEverywhereIsAnswered};
 
 use ob0_language_runs::laws::{
     free_renaming_keeps_typing_and_runs, inlining_everywhere_keeps_typing_and_runs,
@@ -33,8 +33,8 @@ pub fn capture_is_refused()
 
 /// Proves that inlining the constant `n` of `example_text` at its use is answered by one edit, and
 /// by no other.
-pub fn example_inlining_has_only_this_answer()
-    ensures { InliningIsAnswered }
+pub fn inlining_one_use_is_answered()
+    ensures { InliningOneUseIsAnswered }
 {
     constant_uses_are_factors();
     inlining_keeps_typing_and_runs();

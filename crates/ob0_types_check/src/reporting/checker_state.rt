@@ -4,8 +4,8 @@
 ghost use Rattle.std.specs.Prelude.{◌≡◌, ◌≤◌, ◌∷◌, [], ◌++◌, ◌+◌, ◌^◌, map, IfOk, MatchResult, OnOk, option_map, slice_get, slice_index_or, None, Some};
 ghost use Rattle.ob0_types_table.specs.declared.types.TypeId.TheVariants as type;
 ghost use Rattle.ob0_tree.specs.Places.{token_text_at};
-ghost use Rattle.ob0_types_check.specs.Known.{a_procedure};
-ghost use Rattle.ob0_types_check.specs.Operations.{ReturnsAndReports, fault_at_token, fault_at_tokens, token_after};
+ghost use Rattle.ob0_types_check.specs.TypesAndMeanings.{a_procedure};
+ghost use Rattle.ob0_types_check.specs.OperandFaults.{ReturnsAndReports, fault_at_token, fault_at_tokens, token_after};
 ghost use Rattle.ob0_types_check.specs.KnownDeclarations.{define_name_at_token, is_within_limits, make_composite_type, predeclared_meanings, size_of_type_so_far, with_meaning};
 ghost use Rattle.ob0_types_check.specs.CheckerViews.{capped_size, meaning_in_state, entry_element_type, entry_field_type, composite_type_of, meaning_view, size_of, declarations_in_state};
 ghost use Rattle.ob0_types_check.specs.WrittenTypeFaults.{array_size, sum_of_sizes, next_type_ordinal, record_size};
@@ -62,30 +62,30 @@ fn one_parameter_procedure(alloc: Global, by_place: bool) -> Result<Meaning, All
 /// The size of a type: the number of INTEGER and BOOLEAN values in it (its scalars), and the depth
 /// to which its arrays and records are nested.
 #[derive(Clone, Copy)]
-pub(crate) struct Size {
+pub(crate) struct TypeSize {
     pub(crate) scalars: usize,
     pub(crate) depth: usize,
 }
 
 /// The size of an unknown type: no scalars and depth 0.
-pub(crate) const ZERO_SIZE: Size = Size {
+pub(crate) const ZERO_SIZE: TypeSize = TypeSize {
     scalars: 0,
     depth: 0,
 };
 
 /// The size of INTEGER and BOOLEAN: one scalar and depth 0.
-const SCALAR_SIZE: Size = Size {
+const SCALAR_SIZE: TypeSize = TypeSize {
     scalars: 1,
     depth: 0,
 };
 
-impl Size {
+impl TypeSize {
     /// Returns the size of an array of `count` elements that each have this size. The number of
     /// scalars and the depth are capped at 2^64 - 1.
-    pub(crate) fn size_of_array(self, count: usize) -> Size
+    pub(crate) fn size_of_array(self, count: usize) -> TypeSize
         ensures { size_of result ≡ capped_size (array_size count (size_of self)) }
     {
-        Size {
+        TypeSize {
             scalars: self.scalars.saturating_mul(count),
             depth: self.depth.saturating_add(1),
         }
@@ -93,10 +93,10 @@ impl Size {
 
     /// Returns the size of two parts together, such as two fields: the sum of their scalars and the
     /// greater of their depths. The sum is capped at 2^64 - 1.
-    pub(crate) fn size_of_both(self, other: Size) -> Size
+    pub(crate) fn size_of_both(self, other: TypeSize) -> TypeSize
         ensures { size_of result ≡ capped_size (sum_of_sizes (size_of self) (size_of other)) }
     {
-        Size {
+        TypeSize {
             scalars: self.scalars.saturating_add(other.scalars),
             depth: self.depth.max(other.depth),
         }
@@ -104,10 +104,10 @@ impl Size {
 
     /// Returns the size of a record whose fields together have this size. A record counts as at
     /// least one scalar. The depth is one more than the depth of the fields, capped at 2^64 - 1.
-    pub(crate) fn size_of_record(self) -> Size
+    pub(crate) fn size_of_record(self) -> TypeSize
         ensures { size_of result ≡ capped_size (record_size (size_of self)) }
     {
-        Size {
+        TypeSize {
             scalars: self.scalars.max(1),
             depth: self.depth.saturating_add(1),
         }
@@ -241,7 +241,7 @@ impl<'t> CheckerState<'t> {
     }
 
     /// Returns the size of a type. The unknown type has no scalars and depth 0.
-    pub(crate) fn size_of(&self, of: TypeId) -> Size
+    pub(crate) fn size_of(&self, of: TypeId) -> TypeSize
         ensures { size_of result ≡ size_of_type_so_far (declarations_in_state self.now).made of }
     {
         match of {
@@ -255,7 +255,7 @@ impl<'t> CheckerState<'t> {
 
     /// Returns the size of the array or record type at the index `place` of `composites`. If there
     /// is no type at this index, returns the size of a scalar.
-    fn composite_size(&self, place: usize) -> Size
+    fn composite_size(&self, place: usize) -> TypeSize
         ensures { size_of result ≡ size_of_type_so_far (declarations_in_state self.now).made (type.Array place) }
     {
         match self.composites.get(place) {
@@ -287,7 +287,7 @@ impl<'t> CheckerState<'t> {
             None => None,
             Some(composite) => match composite {
                 TypeEntry::Array(_) => None,
-                TypeEntry::Record(record) => record.fields.find(name),
+                TypeEntry::Record(record) => record.fields.type_of_field(name),
             },
         }
     }
@@ -326,15 +326,15 @@ impl<'t> CheckerState<'t> {
 }
 
 /// Returns the size of an array or record type, which is stored in the type's entry.
-fn size_of_entry(entry: &TypeEntry) -> Size
+fn size_of_entry(entry: &TypeEntry) -> TypeSize
     ensures { size_of result ≡ (composite_type_of entry.now).size }
 {
     match entry {
-        TypeEntry::Array(array) => Size {
+        TypeEntry::Array(array) => TypeSize {
             scalars: array.scalars,
             depth: array.depth,
         },
-        TypeEntry::Record(record) => Size {
+        TypeEntry::Record(record) => TypeSize {
             scalars: record.scalars,
             depth: record.depth,
         },

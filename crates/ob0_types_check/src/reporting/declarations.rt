@@ -2,11 +2,11 @@
 //! declaration, which the text after the declaration uses.
 
 ghost use Rattle.std.specs.Prelude.{◌≡◌, ◌∷◌, ◌++◌, [], map, IfOk, OnOk};
-ghost use Rattle.ob0_language_names.specs.Parts.{formal_sections, section_constants, section_types, section_variables};
-ghost use Rattle.ob0_tree.specs.View.{block_of, body_of, constant_of, constant_section_of, formals_of, further_parameter_section_of, items_of, procedure_of, type_declaration_of, type_section_of, variable_of, variable_section_of};
+ghost use Rattle.ob0_language_names.specs.BlockParts.{formal_sections, section_constants, section_types, section_variables};
+ghost use Rattle.ob0_tree.specs.View.{block_of, body_of, constant_of, constant_section_of, formals_of, parameter_section_after_semicolon_of, items_of, procedure_of, type_declaration_of, type_section_of, variable_of, variable_section_of};
 ghost use Rattle.ob0_types_check.specs.DeclarationFaults.{body_faults, report_body_if_wanted, report_on_block, report_on_constant_declaration, report_on_constant_declarations, report_on_procedure, report_on_procedures, report_on_parameter_section, report_on_parameter_sections, report_on_type_declaration, report_on_type_declarations, report_on_variable_group, report_on_variable_declarations};
-ghost use Rattle.ob0_types_check.specs.Known.{a_variable};
-ghost use Rattle.ob0_types_check.specs.Operations.{ReturnsAndReports};
+ghost use Rattle.ob0_types_check.specs.TypesAndMeanings.{a_variable};
+ghost use Rattle.ob0_types_check.specs.OperandFaults.{ReturnsAndReports};
 ghost use Rattle.ob0_types_check.specs.KnownDeclarations.{define_names_at_tokens};
 ghost use Rattle.ob0_types_check.specs.SomeBodies.{includes_body, walk_progress_of};
 ghost use Rattle.ob0_types_check.specs.CheckerViews.{heading_in_state, declarations_in_state};
@@ -198,7 +198,7 @@ impl<'t> ReportingWalk<'t> {
         ensures { OnOk result (ReturnsAndReports self.old.faults.items self.new.faults.items
             (heading_in_state self.new.checker_state formals.new.items) (report_on_parameter_sections
             (heading_in_state self.old.checker_state formals.old.items)
-            (items_of further_parameter_section_of sections.now))) }
+            (items_of parameter_section_after_semicolon_of sections.now))) }
     {
         for s in sections {
             self.report_parameter_section(s, formals)?;
@@ -215,7 +215,7 @@ impl<'t> ReportingWalk<'t> {
     ) -> Result<(), AllocError>
         ensures { OnOk result (ReturnsAndReports self.old.faults.items self.new.faults.items
             (heading_in_state self.new.checker_state formals.new.items) (report_on_parameter_section
-            (heading_in_state self.old.checker_state formals.old.items) (further_parameter_section_of s.now))) }
+            (heading_in_state self.old.checker_state formals.old.items) (parameter_section_after_semicolon_of s.now))) }
     {
         let of = self.check_written_type(&s.written)?;
         let formal = FormalParameter {

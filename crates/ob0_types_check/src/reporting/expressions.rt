@@ -5,9 +5,9 @@ ghost use Rattle.std.specs.Prelude.{◌≡◌, ◌++◌, [], false, true, if◌t
 ghost use Rattle.ob0_language_values.specs.Scalars.{scalar_value};
 ghost use Rattle.ob0_types_table.specs.declared.types.TypeId.TheVariants as type;
 ghost use Rattle.ob0_tree.specs.View.{compound_expression_of, expression_of, factor_of, selector_of, simple_expression_of, term_of};
-ghost use Rattle.ob0_language_types.specs.Selected.{selectors_of_designator};
+ghost use Rattle.ob0_language_types.specs.DesignatorSelectors.{selectors_of_designator};
 ghost use Rattle.ob0_types_check.specs.ExpressionFaults.{report_on_expression, report_on_factor, report_on_selector, report_on_selectors, report_on_simple_expression, report_on_term};
-ghost use Rattle.ob0_types_check.specs.Operations.{ReturnsAndReports, constant_name_operand, number_operand, add_operands, required_type, required_type_of_both, fault_at_operand, prefixed_operand, negated_operand, element_type_in_form, element_operand, operand_in_parentheses, field_type_in_form, field_operand, may_be_same_type, operand_of_operation, multiply_operands, name_operand, extended_operand, relate_operands, signed_operand, comparison_type, operand_type_of_addition, operand_type_of_equality, operand_type_of_multiplication, operand_type_of_relation, value_type};
+ghost use Rattle.ob0_types_check.specs.OperandFaults.{ReturnsAndReports, constant_name_operand, number_operand, add_operands, required_type, required_type_of_both, fault_at_operand, prefixed_operand, negated_operand, element_type_from_form, element_operand, operand_in_parentheses, field_type_from_form, field_operand, may_be_same_type, operand_of_operation, multiply_operands, name_operand, extended_operand, relate_operands, signed_operand, comparison_type, operand_type_of_addition, operand_type_of_equality, operand_type_of_multiplication, operand_type_of_relation, value_type};
 ghost use Rattle.ob0_types_check.specs.TypeFaults.{operand_value, report_on_constant_expression};
 ghost use Rattle.ob0_types_check.specs.KnownDeclarations.{same_type};
 ghost use Rattle.ob0_types_check.specs.CheckerViews.{facts_in, form_of_type_in, operand_of, type_id_representation};
@@ -585,7 +585,7 @@ impl<'t> CheckerState<'t> {
         index_type: TypeId,
     ) -> Result<TypeId, AllocError>
         ensures { IfOk result (λ t. ReturnsAndReports faults.old.items faults.new.items t
-            (element_type_in_form (facts_in self.now false) (operand_of index) index_type
+            (element_type_from_form (facts_in self.now false) (operand_of index) index_type
             (form_of_type_in self.now.composites.items base))) }
     {
         match base {
@@ -610,7 +610,7 @@ impl<'t> CheckerState<'t> {
         index: Operand,
     ) -> Result<TypeId, AllocError>
         ensures { IfOk result (λ t. ReturnsAndReports faults.old.items faults.new.items t
-            (element_type_in_form (facts_in self.now false) (operand_of index) type.Integer
+            (element_type_from_form (facts_in self.now false) (operand_of index) type.Integer
             (form_of_type_in [] type.Integer))) }
     {
         report_at_token(faults, FaultCode::NotArray, index.first.saturating_sub(1))?;
@@ -642,7 +642,7 @@ impl<'t> CheckerState<'t> {
         name: usize,
     ) -> Result<TypeId, AllocError>
         ensures { IfOk result (λ t. ReturnsAndReports faults.old.items faults.new.items t
-            (field_type_in_form (facts_in self.now false) name (form_of_type_in self.now.composites.items base))) }
+            (field_type_from_form (facts_in self.now false) name (form_of_type_in self.now.composites.items base))) }
     {
         match base {
             TypeId::Record(place) => match self.field_type_at(place, self.text(name)) {
@@ -666,7 +666,7 @@ impl<'t> CheckerState<'t> {
         name: usize,
     ) -> Result<TypeId, AllocError>
         ensures { IfOk result (λ t. ReturnsAndReports faults.old.items faults.new.items t
-            (field_type_in_form (facts_in self.now false) name (form_of_type_in [] type.Integer))) }
+            (field_type_from_form (facts_in self.now false) name (form_of_type_in [] type.Integer))) }
     {
         report_at_token(faults, FaultCode::NotRecord, name.saturating_sub(1))?;
         Ok(TypeId::Unknown)

@@ -3,9 +3,9 @@
 ghost use Rattle.std.specs.Prelude.{◌≡◌, ◌++◌, false, map, IfOk, OnOk, Some};
 ghost use Rattle.ob0_scan.specs.declared.fault.FaultCode.TheVariants as code;
 ghost use Rattle.ob0_tree.specs.View.{assignment_of, call_of, elsifs_of_vec, expression_of, if_of, sequence_of_vec, statement_of};
-ghost use Rattle.ob0_types_check.specs.Known.{a_procedure};
-ghost use Rattle.ob0_types_check.specs.Operations.{ReturnsAndReports, fault_at_token};
-ghost use Rattle.ob0_types_check.specs.StatementFaults.{target_name_type, call_faults_by_meaning, required_type_of_argument, faults_of_argument, typed_expression_faults, call_faults, condition_faults, elsif_faults, untyped_argument_faults, sequence_faults, statement_faults};
+ghost use Rattle.ob0_types_check.specs.TypesAndMeanings.{a_procedure};
+ghost use Rattle.ob0_types_check.specs.OperandFaults.{ReturnsAndReports, fault_at_token};
+ghost use Rattle.ob0_types_check.specs.StatementFaults.{target_name_type, call_faults_from_meaning, required_type_of_argument, faults_of_argument, typed_expression_faults, call_faults, condition_faults, elsif_faults, untyped_argument_faults, sequence_faults, statement_faults};
 ghost use Rattle.ob0_types_check.specs.CheckerViews.{facts_in, formal_of, operand_of};
 
 use crate::reporting::checker_state::{CheckerState, Meaning, report_at_token};
@@ -262,7 +262,7 @@ impl<'t> CheckerState<'t> {
     ) -> Result<(), AllocError>
         ensures { OnOk result (faults.new.items
             ≡ faults.old.items
-            ++ call_faults_by_meaning (facts_in self.now false) procedure
+            ++ call_faults_from_meaning (facts_in self.now false) procedure
             (Some (a_procedure (map formal_of formals.now))) (map expression_of arguments.now)) }
     {
         if formals.len() != arguments.len() {

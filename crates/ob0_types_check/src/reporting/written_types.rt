@@ -4,20 +4,20 @@
 ghost use Rattle.std.specs.Prelude.{◌≡◌, ◌∷◌, ◌++◌, [], false, IfOk, OnOk, Some};
 ghost use Rattle.ob0_types_table.specs.declared.types.TypeId.TheVariants as type;
 ghost use Rattle.ob0_tree.specs.Tree.{array_type, some_fields};
-ghost use Rattle.ob0_tree.specs.View.{expression_of, optional_field_group_of, further_field_group_of, items_of, names_of, record_type_of, type_of};
+ghost use Rattle.ob0_tree.specs.View.{expression_of, optional_field_group_of, field_group_after_semicolon_of, items_of, names_of, record_type_of, type_of};
 ghost use Rattle.ob0_language_types.specs.Typing.{array_length};
 ghost use Rattle.ob0_language_values.specs.Scalars.{scalar_value};
-ghost use Rattle.ob0_types_check.specs.Known.{a_variable};
-ghost use Rattle.ob0_types_check.specs.Operations.{ReturnsAndReports};
+ghost use Rattle.ob0_types_check.specs.TypesAndMeanings.{a_variable};
+ghost use Rattle.ob0_types_check.specs.OperandFaults.{ReturnsAndReports};
 ghost use Rattle.ob0_types_check.specs.KnownDeclarations.{zero_size};
 ghost use Rattle.ob0_types_check.specs.CheckerViews.{AddsKnownFields, HasKnownFields, facts_in, known_fields_of, operand_of, size_of, declarations_in_state};
-ghost use Rattle.ob0_types_check.specs.TypeFaults.{length_by_operand, type_by_meaning, type_named_at};
+ghost use Rattle.ob0_types_check.specs.TypeFaults.{length_from_operand, type_from_meaning, type_named_at};
 ghost use Rattle.ob0_types_check.specs.WrittenTypeFaults.{made_array_type, no_known_fields, made_record_type, record_keyword_token, report_on_field_group, report_on_further_field_groups, report_on_written_type, with_known_field, with_known_fields};
 ghost use Rattle.ob0_types_check.specs.WrittenTypeFaults as spec;
 
 use crate::reporting::ReportingWalk;
 use crate::reporting::checker_state::{
-    CheckerState, Meaning, Size, ZERO_SIZE, report_at_token, sum_or_error,
+    CheckerState, Meaning, TypeSize, ZERO_SIZE, report_at_token, sum_or_error,
 };
 use crate::reporting::expressions::{Operand, report_at_operand, same_type};
 use ob0_language_values::Scalar;
@@ -52,7 +52,7 @@ fn array_length(value: Scalar) -> Option<usize>
 #[derive(Drop)]
 pub(crate) struct KnownFields {
     fields: Vec<Field>,
-    size: Size,
+    size: TypeSize,
 }
 
 impl KnownFields {
@@ -84,7 +84,7 @@ impl KnownFields {
 /// and the first field's name there are only semicolons, one for each empty group before this name.
 /// Returns 0 if the record has no fields.
 fn record_keyword_token(groups: &[OptionalFieldGroup]) -> usize
-    ensures { result ≡ record_keyword_token (items_of further_field_group_of groups.now) }
+    ensures { result ≡ record_keyword_token (items_of field_group_after_semicolon_of groups.now) }
 {
     for (before, group) in groups.iter().enumerate() {
         match group {
@@ -128,7 +128,7 @@ impl<'t> CheckerState<'t> {
         token: usize,
     ) -> Result<TypeId, AllocError>
         ensures { IfOk result (λ t. ReturnsAndReports faults.old.items faults.new.items t
-            (type_by_meaning (facts_in self.now false) token (Some (a_variable type.Integer)))) }
+            (type_from_meaning (facts_in self.now false) token (Some (a_variable type.Integer)))) }
     {
         report_at_token(faults, FaultCode::WrongKind, token)?;
         Ok(TypeId::Unknown)
@@ -143,7 +143,7 @@ impl<'t> CheckerState<'t> {
         operand: Operand,
     ) -> Result<Option<usize>, AllocError>
         ensures { IfOk result (λ n. ReturnsAndReports faults.old.items faults.new.items n
-            (length_by_operand (facts_in self.now false) (operand_of operand))) }
+            (length_from_operand (facts_in self.now false) (operand_of operand))) }
     {
         let of = self.require_type(faults, TypeId::Integer, operand)?;
         if !same_type(of, TypeId::Integer) {
@@ -272,7 +272,7 @@ impl<'t> ReportingWalk<'t> {
             AddsKnownFields self.old.faults.items self.new.faults.items self.new.checker_state gathered
             (report_on_further_field_groups around (no_known_fields
             (declarations_in_state self.old.checker_state))
-            (items_of further_field_group_of groups.now))) }
+            (items_of field_group_after_semicolon_of groups.now))) }
     {
         let mut gathered = KnownFields::new(self.alloc);
         for group in groups {

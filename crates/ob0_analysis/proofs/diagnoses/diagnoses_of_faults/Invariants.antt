@@ -1,5 +1,5 @@
 use Rattle.std.proofs.Common.{◌≡◌, map, take}
-use Rattle.ob0_analysis.specs.Diagnosed.{reported_diagnosis_of, reported_diagnosis_of_fault}
+use Rattle.ob0_analysis.specs.ReportedErrors.{reported_diagnosis_of, reported_diagnosis_of_fault}
 use Rattle.ob0_analysis.proofs.diagnoses.diagnoses_of_faults.Given as goal
 
 abbrev pub invariant-loop-fault : goal.invariant-loop-fault

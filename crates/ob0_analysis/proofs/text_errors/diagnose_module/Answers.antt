@@ -1,7 +1,7 @@
 use Rattle.std.proofs.Common.{map, sym, ap, ◌∙◌, subst}
 use Rattle.ob0_scan.specs.TextWithTokens.{IsScan}
 use Rattle.ob0_scope_table.specs.Resolution.{Resolution}
-use Rattle.ob0_analysis.specs.Diagnosed.{ReportsErrorsOf, reported_diagnosis_of, reported_diagnosis_of_fault}
+use Rattle.ob0_analysis.specs.ReportedErrors.{ReportsErrorsOf, reported_diagnosis_of, reported_diagnosis_of_fault}
 use Rattle.ob0_analysis.proofs.Scanning.{reports_module}
 use Rattle.ob0_analysis.proofs.text_errors.diagnose_module.Goals as goal
 

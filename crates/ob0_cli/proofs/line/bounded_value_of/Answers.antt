@@ -5,7 +5,7 @@ use Rattle.clap.specs.Lexer.{without_minus}
 use Rattle.clap.specs.Matches.{ReadsOne}
 use Rattle.clap.specs.Words.{found_of}
 use Rattle.clap.proofs.WalkLemmas.{one_text-rows}
-use Rattle.ob0_cli.specs.Given.{max_option_value}
+use Rattle.ob0_cli.specs.RequestedCommands.{max_option_value}
 use Rattle.ob0_cli.proofs.Numbers.{bounded_reads}
 use Rattle.ob0_cli.proofs.line.bounded_value_of.Goals as goal
 

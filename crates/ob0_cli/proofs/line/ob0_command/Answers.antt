@@ -4,7 +4,7 @@ use Rattle.ob0_cli.proofs.line.ob0_command.Goals as goal
 
 pub returns : goal.returns
 returns c =
-    let one_is = c.add_subcommand-with_serve.ensures lines.ob0_without_subcommands lines.serve refl c.program_without_subcommands.ensures c.serve_definition.ensures in
-    let two_is = c.add_subcommand-with_check.ensures _ lines.check refl one_is c.check_definition.ensures in
-    let three_is = c.add_subcommand-with_run.ensures _ lines.run refl two_is c.run_definition.ensures in
-    c.add_subcommand.ensures _ lines.rename refl three_is c.rename_definition.ensures
+    let one_is = c.add_subcommand-with_serve.ensures lines.ob0_without_subcommands lines.serve refl c.program_without_subcommands.ensures c.serve_subcommand.ensures in
+    let two_is = c.add_subcommand-with_check.ensures _ lines.check refl one_is c.check_subcommand.ensures in
+    let three_is = c.add_subcommand-with_run.ensures _ lines.run refl two_is c.run_subcommand.ensures in
+    c.add_subcommand.ensures _ lines.rename refl three_is c.rename_subcommand.ensures

@@ -2,7 +2,7 @@ use Rattle.std.proofs.Common.{◌≡◌, ◌++◌, ◌∙◌, List, map, take, a
 use Rattle.std.proofs.lemmas.List.{take_all}
 use Rattle.ob0_scan.specs.declared.lexeme.Token.{Token}
 use Rattle.ob0_text.specs.declared.position_types.Range.{Range}
-use Rattle.ob0_edits_tokens.specs.Replaced.{range_and_text, span_at}
+use Rattle.ob0_edits_tokens.specs.Replacements.{range_and_text, span_at}
 use Rattle.ob0_text.specs.Units.{width_of}
 use Rattle.ob0_edits_tokens.specs.Ranges.{range_of}
 use Rattle.ob0_edits_tokens.proofs.Ranged.{edits_at_places}

@@ -4,7 +4,7 @@ use Rattle.std.proofs.lemmas.List.{drop_more}
 use Rattle.ob0_scan.specs.declared.lexeme.Span.{Span}
 use Rattle.ob0_scan.specs.declared.lexeme.Token.{Token}
 use Rattle.ob0_edits_tokens.specs.ByteCuts.{length_with_cuts}
-use Rattle.ob0_edits_tokens.specs.Replaced.{replacement_cut, span_at}
+use Rattle.ob0_edits_tokens.specs.Replacements.{replacement_cut, span_at}
 use Rattle.ob0_edits_tokens.proofs.token_edits.is_edited_text_too_long.Goals as goal
 
 pub loop-token_index-preserved : goal.loop-token_index-preserved

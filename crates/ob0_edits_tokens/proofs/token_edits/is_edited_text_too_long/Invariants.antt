@@ -1,6 +1,6 @@
 use Rattle.std.proofs.Common.{◌≡◌, ◌+◌, ◌≤◌, ◌^◌, drop, length, map}
 use Rattle.ob0_edits_tokens.specs.ByteCuts.{length_with_cuts}
-use Rattle.ob0_edits_tokens.specs.Replaced.{replacement_cut}
+use Rattle.ob0_edits_tokens.specs.Replacements.{replacement_cut}
 use Rattle.ob0_edits_tokens.proofs.token_edits.is_edited_text_too_long.Given as goal
 
 abbrev pub invariant-loop-token_index : goal.invariant-loop-token_index

@@ -5,10 +5,10 @@ use Rattle.ob0_scan.specs.declared.lexeme.Span.{Span}
 use Rattle.ob0_scan.specs.declared.lexeme.Token.{Token}
 use Rattle.ob0_text.specs.Units.{width_of}
 use Rattle.ob0_edits_tokens.specs.ByteCuts.{length_with_cuts}
-use Rattle.ob0_edits_tokens.specs.Changed.{words_of, changed_words, changes_at}
+use Rattle.ob0_edits_tokens.specs.WordReplacements.{words_of, changed_words, changes_at_indexes}
 use Rattle.ob0_edits_tokens.specs.Ranges.{range_of}
-use Rattle.ob0_edits_tokens.specs.Removed.{changes_with_removal, span_of_tokens}
-use Rattle.ob0_edits_tokens.specs.Replaced.{span_at, replacement_cut, range_and_text, replacement_at_token, EditsGiveWords}
+use Rattle.ob0_edits_tokens.specs.Removals.{changes_with_removal, span_of_tokens}
+use Rattle.ob0_edits_tokens.specs.Replacements.{span_at, replacement_cut, range_and_text, replacement_at_token, EditsGiveWords}
 use Rattle.ob0_edits_tokens.proofs.Made.{leaves_words_without, length_after_removal}
 use Rattle.ob0_edits_tokens.proofs.token_edits.removal_edits.Goals as goal
 
@@ -54,6 +54,6 @@ returns-clause-words g c = λ ws may.
     let s = c.args.tokens.now in
     let unit = g.T.TextStore.unit_of c.args.store.now in
     let edits = c.add_replacement_edits.new.edits.items in
-    subst (λ t. EditsGiveWords unit t edits (changed_words (changes_with_removal c.args.first c.args.last (changes_at c.args.token_indexes.now ws)) 0 (words_of s))) (sym c.requires.content)
+    subst (λ t. EditsGiveWords unit t edits (changed_words (changes_with_removal c.args.first c.args.last (changes_at_indexes c.args.token_indexes.now ws)) 0 (words_of s))) (sym c.requires.content)
     (leaves_words_without s c.text-text.ensures.scan c.args.new.now c.utf8.new unit ws may c.args.first c.args.last c.args.token_indexes.now c.requires.declaration c.requires.names edits
     (subst (λ t. map range_and_text edits ≡ (range_of (width_of unit) t (span_of_tokens s.tokens c.args.first c.args.last), []) ∷ map (replacement_at_token unit t s.tokens c.args.new.now) c.args.token_indexes.now) c.requires.content (returns-clause-edits g c)) (returns-clause-short g c))

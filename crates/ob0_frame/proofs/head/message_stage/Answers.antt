@@ -5,8 +5,8 @@ use Rattle.ob0_frame.proofs.Heads.{no_line_within}
 use Rattle.ob0_frame.proofs.Messages.{bad_head_to}
 use Rattle.ob0_frame.proofs.head.message_stage.Goals as goal
 
-pub head_len-requires : goal.head_len-requires
-head_len-requires c = no_line_within c.args.bytes.now c.args.searched c.min.result c.requires
+pub head_length-requires : goal.head_length-requires
+head_length-requires c = no_line_within c.args.bytes.now c.args.searched c.min.result c.requires
 
 pub returns-in-None-announced_content_length : goal.returns-in-None-announced_content_length
 returns-in-None-announced_content_length c =

@@ -16,12 +16,12 @@ pub returns-in-Truth-true : goal.returns-in-Truth-true
 returns-in-Truth-true c =
     let m = named_tree_of c.args.names.now.module_read in
     let value : c.args.constant.value ≡ scalar.Truth true = c.in-Truth-true.is ∙ ap scalar.Truth c.in-Truth-true.field-0-test in
-    subst (λ (v : Scalar). IfOk c.any_use_would_be_bound_elsewhere.result (λ hidden. hidden ≡ list_any (λ k. same_ordinal (ordinal_bound_at m k) c.args.constant.ordinal && not (value_text_keeps_meaning m k v)) (range_with_len 0 (length (bindings m))))) (sym value)
-    c.any_use_would_be_bound_elsewhere.ensures
+    subst (λ (v : Scalar). IfOk c.is_name_shadowed_at_some_use.result (λ hidden. hidden ≡ list_any (λ k. same_ordinal (ordinal_bound_at m k) c.args.constant.ordinal && not (value_text_keeps_meaning m k v)) (range_with_len 0 (length (bindings m))))) (sym value)
+    c.is_name_shadowed_at_some_use.ensures
 
 pub returns-in-Truth-false : goal.returns-in-Truth-false
 returns-in-Truth-false c =
     let m = named_tree_of c.args.names.now.module_read in
     let value : c.args.constant.value ≡ scalar.Truth false = c.in-Truth-false.is ∙ ap scalar.Truth c.in-Truth-false.field-0-test in
-    subst (λ (v : Scalar). IfOk c.any_use_would_be_bound_elsewhere-in-Truth-false.result (λ hidden. hidden ≡ list_any (λ k. same_ordinal (ordinal_bound_at m k) c.args.constant.ordinal && not (value_text_keeps_meaning m k v)) (range_with_len 0 (length (bindings m))))) (sym value)
-    c.any_use_would_be_bound_elsewhere-in-Truth-false.ensures
+    subst (λ (v : Scalar). IfOk c.is_name_shadowed_at_some_use-in-Truth-false.result (λ hidden. hidden ≡ list_any (λ k. same_ordinal (ordinal_bound_at m k) c.args.constant.ordinal && not (value_text_keeps_meaning m k v)) (range_with_len 0 (length (bindings m))))) (sym value)
+    c.is_name_shadowed_at_some_use-in-Truth-false.ensures

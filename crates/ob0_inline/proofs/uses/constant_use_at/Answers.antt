@@ -10,7 +10,7 @@ returns-in-Some-occurrence_number_of_token-clause-at c =
     let r = c.args.«module».now in
     let back = c.resolved-names.ensures.value in
     use_found r c.resolved-names.ensures.well_typed c.args.offset c.in-Some.found c.in-Some-occurrence_number_of_token.occurrence c.in-Some-constant.value
-    (sym c.in-Some.is ∙ (c.name_at.ensures ∙ ap (λ (q : Resolution). name_at_offset q.module_read c.args.offset) back))
+    (sym c.in-Some.is ∙ (c.name_at_offset.ensures ∙ ap (λ (q : Resolution). name_at_offset q.module_read c.args.offset) back))
     (ap (λ (q : Resolution). position_from (λ i. i == c.in-Some.found.token) 0 q.uses) (sym back) ∙ (sym c.occurrence_number_of_token.ensures ∙ c.in-Some-occurrence_number_of_token.is))
     c.in-Some-constant.ensures
 
@@ -20,7 +20,7 @@ returns-in-Some-occurrence_number_of_token-clause-is_use c =
     let back = c.resolved-names.ensures.value in
     λ u e. use_is_one r c.resolved-names.ensures.well_typed c.args.offset _ u
     (use_found r c.resolved-names.ensures.well_typed c.args.offset c.in-Some.found c.in-Some-occurrence_number_of_token.occurrence c.in-Some-constant.value
-    (sym c.in-Some.is ∙ (c.name_at.ensures ∙ ap (λ (q : Resolution). name_at_offset q.module_read c.args.offset) back))
+    (sym c.in-Some.is ∙ (c.name_at_offset.ensures ∙ ap (λ (q : Resolution). name_at_offset q.module_read c.args.offset) back))
     (ap (λ (q : Resolution). position_from (λ i. i == c.in-Some.found.token) 0 q.uses) (sym back) ∙ (sym c.occurrence_number_of_token.ensures ∙ c.in-Some-occurrence_number_of_token.is))
     c.in-Some-constant.ensures) e
 
@@ -29,5 +29,5 @@ returns-in-None-occurrence_number_of_token-clause-at c =
     let r = c.args.«module».now in
     let back = c.resolved-names.ensures.value in
     no_use r c.resolved-names.ensures.well_typed c.args.offset c.in-Some.found
-    (sym c.in-Some.is ∙ (c.name_at.ensures ∙ ap (λ (q : Resolution). name_at_offset q.module_read c.args.offset) back))
+    (sym c.in-Some.is ∙ (c.name_at_offset.ensures ∙ ap (λ (q : Resolution). name_at_offset q.module_read c.args.offset) back))
     (ap (λ (q : Resolution). position_from (λ i. i == c.in-Some.found.token) 0 q.uses) (sym back) ∙ (sym c.occurrence_number_of_token.ensures ∙ c.in-None-occurrence_number_of_token.is))

@@ -1,6 +1,6 @@
 use Rattle.std.proofs.Common.{◌==◌, length, subst, sym, ap, ◌∙◌}
 use Rattle.std.specs.List.{position_from}
-use Rattle.ob0_tree.specs.Order.{AreAscendingWithin}
+use Rattle.ob0_tree.specs.IdentifierIndexes.{AreAscendingWithin}
 use Rattle.ob0_inline.proofs.OccurrenceAt.{halved}
 use Rattle.ob0_inline.proofs.UsesAreIdentifiers.{uses_ascend}
 use Rattle.ob0_inline.proofs.uses.occurrence_number_of_token.Goals as goal

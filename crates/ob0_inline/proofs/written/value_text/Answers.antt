@@ -1,6 +1,6 @@
 use Rattle.std.proofs.Common.{sym, subst}
 use Rattle.ob0_language_values.specs.declared.scalar.Scalar.{Scalar}
-use Rattle.ob0_edits_tokens.specs.Replaced.{MayReplaceIdentifier}
+use Rattle.ob0_edits_tokens.specs.Replacements.{MayReplaceIdentifier}
 use Rattle.ob0_edits_tokens.proofs.Values.{a_truth}
 use Rattle.ob0_inline.specs.Values.{value_text, value_words}
 use Rattle.ob0_inline.proofs.written.value_text.Goals as goal

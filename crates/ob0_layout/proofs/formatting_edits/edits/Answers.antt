@@ -2,8 +2,8 @@ use Rattle.std.proofs.Common.{map, ap, ◌∙◌}
 use Rattle.ob0_text.specs.Texts.{position_of}
 use Rattle.ob0_text.specs.Units.{width_of}
 use Rattle.ob0_layout.specs.declared.gap.Gap.TheVariants.{Nothing}
-use Rattle.ob0_layout.specs.declared.sites.GapSite.{GapSite}
-use Rattle.ob0_edits_tokens.specs.Replaced.{range_and_text}
+use Rattle.ob0_layout.specs.declared.gap_sites.GapSite.{GapSite}
+use Rattle.ob0_edits_tokens.specs.Replacements.{range_and_text}
 use Rattle.ob0_layout.proofs.EditSteps.{position_at, edit_further}
 use Rattle.ob0_layout.proofs.formatting_edits.edits.Goals as goal
 
@@ -11,7 +11,7 @@ pub loop-i-preserved : goal.loop-i-preserved
 loop-i-preserved g c =
     let content = g.T.TextStore.content c.args.store.now in
     let unit = g.T.TextStore.unit_of c.args.store.now in
-    let gs = c.args.sites.now in
+    let gs = c.args.gap_sites.now in
     let none : GapSite = record { start = 0; end = 0; gap = Nothing } in
     let from = c.in_ok-from.ensures ∙ ap (map (position_of (width_of unit) content)) c.deref.ensures.value in
     let to = c.in_ok-to.ensures ∙ ap (map (position_of (width_of unit) content)) c.deref-2.ensures.value in

@@ -9,12 +9,12 @@ use Rattle.ob0_text.specs.Units.{width_of}
 use Rattle.ob0_text.specs.declared.edits.Indent.{Indent}
 use Rattle.ob0_tree.specs.ParsedModule.{ParsedModule, tree_of, named_tree_of}
 use Rattle.ob0_tree.specs.Places.{token_text_at, token_value_at}
-use Rattle.ob0_edits_tokens.specs.ByteCuts.{edit_at_cut, length_with_cuts}
+use Rattle.ob0_edits_tokens.specs.ByteCuts.{edit_of_cut, length_with_cuts}
 use Rattle.ob0_edits_tokens.proofs.TextCuts.{AreCuts}
 use Rattle.ob0_layout.specs.Layout.{formatted_lexemes, formatted_text}
 use Rattle.ob0_text.specs.Patches.{Cut, patched_text}
 use Rattle.ob0_layout.proofs.Unnamed.{roles_mapped}
-use Rattle.ob0_layout.specs.declared.sites.GapSite.{GapSite}
+use Rattle.ob0_layout.specs.declared.gap_sites.GapSite.{GapSite}
 use Rattle.ob0_layout.specs.declared.line_role.LineRole.{LineRole}
 use Rattle.ob0_layout.specs.LineRoles.{line_roles}
 use Rattle.ob0_layout.specs.Cuts.{GapLiesWithin, gap_cut}
@@ -54,18 +54,18 @@ pub is_formatted_text_within_limit-requires-clause-within : goal.is_formatted_te
 is_formatted_text_within_limit-requires-clause-within g c =
     let long = ap length (c.text.ensures.value ∙ ap (λ (x : TextWithTokens). x.text) c.tokens-tokens.ensures.source) in
     lie_in_source c.tokens-tokens.ensures.source c.args.indent (length c.text.result.now) c.deref-2.result.now (line_roles 0 (tree_of c.args.module.now)) c.text.ensures.scan long
-    (of_source c.tokens-tokens.ensures.source c.args.indent c.in_ok-sites.sites.items c.deref-2.result.now c.deref.result.now _ c.deref-2.ensures.value (c.deref.ensures.value ∙ c.in_ok-roles.ensures) c.in_ok-sites.ensures)
+    (of_source c.tokens-tokens.ensures.source c.args.indent c.in_ok-gap_sites.gap_sites.items c.deref-2.result.now c.deref.result.now _ c.deref-2.ensures.value (c.deref.ensures.value ∙ c.in_ok-roles.ensures) c.in_ok-gap_sites.ensures)
 
 pub returns-then-not-is_formatted_text_within_limit-clause-too_long : goal.returns-then-not-is_formatted_text_within_limit-clause-too_long
 returns-then-not-is_formatted_text_within_limit-clause-too_long g c = λ scan reported.
     let long = ap length (c.text.ensures.value ∙ ap (λ (x : TextWithTokens). x.text) c.tokens-tokens.ensures.source) in
-    let same = of_source c.tokens-tokens.ensures.source c.args.indent c.in_ok-sites.sites.items c.deref-2.result.now c.deref.result.now (line_roles 0 (tree_of c.args.module.now)) c.deref-2.ensures.value (c.deref.ensures.value ∙ c.in_ok-roles.ensures) c.in_ok-sites.ensures scan in
+    let same = of_source c.tokens-tokens.ensures.source c.args.indent c.in_ok-gap_sites.gap_sites.items c.deref-2.result.now c.deref.result.now (line_roles 0 (tree_of c.args.module.now)) c.deref-2.ensures.value (c.deref.ensures.value ∙ c.in_ok-roles.ensures) c.in_ok-gap_sites.ensures scan in
     subst (λ (n : ℕ). max_text_length < n) ((λ i. length_with_cuts (long i) 0 (same i)) ∙ counted c.args.module.now c.args.indent scan) (past c.is_formatted_text_within_limit.result _ max_text_length c.is_formatted_text_within_limit.ensures.1 c.if-not-is_formatted_text_within_limit.true)
 
 pub returns-clause-edits : goal.returns-clause-edits
 returns-clause-edits g c = λ scan.
-    let same = of_source c.tokens-tokens.ensures.source c.args.indent c.in_ok-sites.sites.items c.deref-3.result.now c.deref.result.now (line_roles 0 (tree_of c.args.module.now)) c.deref-3.ensures.value (c.deref.ensures.value ∙ c.in_ok-roles.ensures) c.in_ok-sites.ensures scan in
-    let edit = edit_at_cut (g.T.TextStore.unit_of c.args.store.now) (g.T.TextStore.content c.args.store.now) in
+    let same = of_source c.tokens-tokens.ensures.source c.args.indent c.in_ok-gap_sites.gap_sites.items c.deref-3.result.now c.deref.result.now (line_roles 0 (tree_of c.args.module.now)) c.deref-3.ensures.value (c.deref.ensures.value ∙ c.in_ok-roles.ensures) c.in_ok-gap_sites.ensures scan in
+    let edit = edit_of_cut (g.T.TextStore.unit_of c.args.store.now) (g.T.TextStore.content c.args.store.now) in
     c.in_ok-edits.ensures ∙ sym (map-map edit (gap_cut c.args.indent) c.deref-3.result.now)
     ∙ ap (map edit)
     (same ∙ ap (λ (ss : List LineRole). changed_in c.args.indent ss c.args.module.now.source scan) (sym (roles_mapped (token_text_at c.args.module.now.source) (token_value_at c.args.module.now.source) 0 (tree_of c.args.module.now))))
@@ -73,7 +73,7 @@ returns-clause-edits g c = λ scan.
 pub returns-clause-fits : goal.returns-clause-fits
 returns-clause-fits g c = λ scan.
     let long = ap length (c.text.ensures.value ∙ ap (λ (x : TextWithTokens). x.text) c.tokens-tokens.ensures.source) in
-    let same = of_source c.tokens-tokens.ensures.source c.args.indent c.in_ok-sites.sites.items c.deref-2.result.now c.deref.result.now (line_roles 0 (tree_of c.args.module.now)) c.deref-2.ensures.value (c.deref.ensures.value ∙ c.in_ok-roles.ensures) c.in_ok-sites.ensures scan in
+    let same = of_source c.tokens-tokens.ensures.source c.args.indent c.in_ok-gap_sites.gap_sites.items c.deref-2.result.now c.deref.result.now (line_roles 0 (tree_of c.args.module.now)) c.deref-2.ensures.value (c.deref.ensures.value ∙ c.in_ok-roles.ensures) c.in_ok-gap_sites.ensures scan in
     subst (λ (n : ℕ). n ≤ max_text_length) ((λ i. length_with_cuts (long i) 0 (same i)) ∙ counted c.args.module.now c.args.indent scan) (c.is_formatted_text_within_limit.ensures.0 c.if-not-is_formatted_text_within_limit.false)
 
 pub returns-clause-patched_text : goal.returns-clause-patched_text
@@ -84,5 +84,5 @@ returns-clause-patched_text g c = λ scan held.
     let edits = c.in_ok-edits.field-0.items in
     let gs = changed_in c.args.indent (line_roles 0 (named_tree_of m)) m.source scan in
     let made = gaps_patched c.args.indent m.source scan (line_roles 0 (named_tree_of m)) unit edits
-    (returns-clause-edits g c scan ∙ ap (λ (t : List ℕ). map (edit_at_cut unit t) gs) held) in
+    (returns-clause-edits g c scan ∙ ap (λ (t : List ℕ). map (edit_of_cut unit t) gs) held) in
     ap (λ (t : List ℕ). patched_text (width_of unit) t edits) held ∙ made

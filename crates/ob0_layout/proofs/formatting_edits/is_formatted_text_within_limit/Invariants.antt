@@ -7,5 +7,5 @@ use Rattle.ob0_layout.proofs.formatting_edits.is_formatted_text_within_limit.Giv
 abbrev pub invariant-loop-site : goal.invariant-loop-site
 invariant-loop-site l = record {
   short : l.made ≤ max_text_length;
-  counted : l.made + length_with_cuts l.len l.at (map (gap_cut l.indent) (drop l.site-index l.sites)) ≡ length_with_cuts l.len 0 (map (gap_cut l.indent) l.sites);
+  counted : l.made + length_with_cuts l.len l.at (map (gap_cut l.indent) (drop l.site-index l.gap_sites)) ≡ length_with_cuts l.len 0 (map (gap_cut l.indent) l.gap_sites);
 }

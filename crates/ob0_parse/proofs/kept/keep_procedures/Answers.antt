@@ -1,14 +1,14 @@
 use Rattle.std.proofs.Common.{List, subst}
 use Rattle.std.proofs.lemmas.List.Elements.{All-push}
 use Rattle.ob0_tree.specs.declared.tree.Procedure.{Procedure}
-use Rattle.ob0_parse.specs.KeptTokens.{AreSpelled, IsKeptTreeInPlace}
+use Rattle.ob0_parse.specs.KeptTreeTokens.{TokensContainProcedures, IsKeptTreeInPlace}
 use Rattle.ob0_parse.proofs.FromTree.{last_procedure}
 use Rattle.ob0_parse.proofs.kept.keep_procedures.Goals as goal
 
 pub loop-procedure-preserved : goal.loop-procedure-preserved
 loop-procedure-preserved c = λ ts spelled kept.
     let so_far = c.loop-procedure.invariant ts spelled kept in
-    let parts = last_procedure ts c.pop.new.self.items c.in-Some.procedure (subst (λ (l : List Procedure). AreSpelled ts l) c.in-Some.ensures.items so_far.0) in
+    let parts = last_procedure ts c.pop.new.self.items c.in-Some.procedure (subst (λ (l : List Procedure). TokensContainProcedures ts l) c.in-Some.ensures.items so_far.0) in
     (parts.0, rw c.in_ok-push.ensures.items (All-push (IsKeptTreeInPlace ts) c.loop-procedure.kept.items _ so_far.1 (rw (c.saturating_sub-at.ensures, c.in-Some-checked_add.ensures.1) parts.1)))
 
 pub returns-in_err-push : goal.returns-in_err-push

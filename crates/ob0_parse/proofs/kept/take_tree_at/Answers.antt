@@ -1,6 +1,6 @@
 use Rattle.std.proofs.Common.{Some}
 use Rattle.std.proofs.lemmas.List.Elements.{All-pop}
-use Rattle.ob0_parse.specs.KeptTokens.{IsKeptTreeInPlace}
+use Rattle.ob0_parse.specs.KeptTreeTokens.{IsKeptTreeInPlace}
 use Rattle.ob0_parse.proofs.kept.take_tree_at.Goals as goal
 
 pub is_reusable_at-requires : goal.is_reusable_at-requires

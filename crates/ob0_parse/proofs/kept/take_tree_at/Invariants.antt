@@ -1,5 +1,5 @@
 use Rattle.std.proofs.Common.{All, vec_len}
-use Rattle.ob0_parse.specs.KeptTokens.{IsKeptTreeInPlace}
+use Rattle.ob0_parse.specs.KeptTreeTokens.{IsKeptTreeInPlace}
 use Rattle.ob0_parse.proofs.kept.take_tree_at.Given as goal
 
 abbrev pub invariant-loop-tree : goal.invariant-loop-tree

@@ -1,7 +1,7 @@
 use Rattle.std.proofs.Common.{◌-◌, All, length}
 use Rattle.ob0_tree.specs.Module.{max_nesting}
 use Rattle.ob0_tree.specs.View.{items_of, procedure_of}
-use Rattle.ob0_parse.specs.KeptTokens.{IsKeptTreeInPlace}
+use Rattle.ob0_parse.specs.KeptTreeTokens.{IsKeptTreeInPlace}
 use Rattle.ob0_parse_descent.proofs.Items.{Taking}
 use Rattle.ob0_parse.proofs.parse_module_block.parse_module_procedures.Given as goal
 

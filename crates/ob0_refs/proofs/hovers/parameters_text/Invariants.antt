@@ -1,6 +1,6 @@
 use Rattle.std.proofs.Common.{◌≡◌, ◌++◌, map, drop, string_bytes}
 use Rattle.ob0_refs.specs.Hovers.{further_parameters_text, parameters_text}
-use Rattle.ob0_refs.specs.Parameters.{parameter_view}
+use Rattle.ob0_refs.specs.HoverParameters.{parameter_view}
 use Rattle.ob0_refs.proofs.hovers.parameters_text.Given as goal
 
 abbrev pub invariant-loop-other : goal.invariant-loop-other

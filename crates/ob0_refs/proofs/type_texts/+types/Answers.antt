@@ -1,7 +1,7 @@
 use Rattle.std.proofs.Common.{ap, ◌∙◌, rules}
 use Rattle.std.proofs.lemmas.Result.{IfOk-weaker}
 use Rattle.ob0_refs.specs.Hovers.{type_text}
-use Rattle.ob0_types_table.specs.KnownTables.{shapes_of}
+use Rattle.ob0_types_table.specs.DeclarationTables.{shapes_of}
 use Rattle.ob0_types_table.specs.DeclarationTableView.{field_shapes, type_shape}
 use Rattle.ob0_language_values.specs.Values.{no_field_shape}
 use Rattle.ob0_refs.proofs.Counted.{fields_counted}

@@ -1,5 +1,5 @@
 use Rattle.std.proofs.Common.{◌+◌, ◌*◌}
-use Rattle.ob0_types_table.specs.KnownTables.{shapes_of}
+use Rattle.ob0_types_table.specs.DeclarationTables.{shapes_of}
 use Rattle.ob0_types_table.specs.DeclarationTableView.{type_shape}
 use Rattle.ob0_language_types.specs.Typing.{depth}
 use Rattle.ob0_refs.proofs.type_texts.+types.Given as goal

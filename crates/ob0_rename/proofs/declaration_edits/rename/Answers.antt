@@ -1,9 +1,9 @@
 use Rattle.std.proofs.Common.{◌≡◌, ◌∙◌, ℕ, Err, None, Some, inl, inr, sym, ap, subst, arith}
-use Rattle.ob0_scan.specs.Classes.{IsIdentifier}
+use Rattle.ob0_scan.specs.LexemeClasses.{IsIdentifier}
 use Rattle.ob0_text.specs.declared.refusals.EditRefusal.TheVariants as refusal
 use Rattle.ob0_tree.specs.Places.{token_text_at}
 use Rattle.ob0_types.specs.IdentifierMeanings.{MeansField}
-use Rattle.ob0_rename.specs.Renaming.{declaration, field_of, rename_target_at, nothing, predeclared}
+use Rattle.ob0_rename.specs.Renaming.{declaration, record_field, rename_target_at, nothing, predeclared}
 use Rattle.ob0_rename.proofs.FieldOutcomes.{field_answered_there}
 use Rattle.ob0_rename.proofs.Outcomes.{answered_there, is_declaration, is_predeclared, requested, takes_declaration, takes_field, takes_none, target_of, target_there}
 use Rattle.ob0_rename.proofs.declaration_edits.rename.Goals as goal
@@ -61,8 +61,8 @@ returns-in-Field g c =
       answers = field_answered_there (requested unit text c.args.place c.args.new.now k r) k f means c.rename_field.result (c.rename_field.ensures.answers c.args.place);
       memory = λ refused. record {
         identifier = c.rename_field.ensures.memory refused;
-        some = λ e. let both : field_of k f ≡ nothing = sym means ∙ e in cc;
-        declared = λ e. let both : field_of k f ≡ predeclared = sym means ∙ e in cc;
+        some = λ e. let both : record_field k f ≡ nothing = sym means ∙ e in cc;
+        declared = λ e. let both : record_field k f ≡ predeclared = sym means ∙ e in cc;
       };
       own_name = takes_field (requested unit text c.args.place c.args.new.now k r) k f c.rename_field.result means (λ own. c.rename_field.ensures.own_name (subst IsIdentifier (sym own) id) own);
     }

@@ -4,7 +4,7 @@ use Rattle.ob0_tree.specs.ParsedModule.{named_tree_of}
 use Rattle.ob0_scope.specs.Renames.{other_declaration_in_conflict, conflict_of}
 use Rattle.ob0_scope_table.specs.Resolution.{Resolution}
 use Rattle.ob0_types.specs.CheckedModules.{IsWellTyped}
-use Rattle.ob0_edits_tokens.specs.Replaced.{AreIdentifierIndexes}
+use Rattle.ob0_edits_tokens.specs.Replacements.{AreIdentifierIndexes}
 use Rattle.ob0_rename.specs.Answers.{AnswersRenamingOfDeclaration, IsFirstRefusalForDeclaration}
 use Rattle.ob0_rename.specs.Renaming.{is_declared_as}
 use Rattle.ob0_rename.proofs.Outcomes.{Edited, answered, requested, captured, once_of, own_answered}
@@ -60,7 +60,7 @@ returns-in_ok-tokens-in-None g c =
     let are = subst (AreIdentifierIndexes names.module_read.source.tokens 0) c.in_ok-tokens-in-None.ensures.value c.in_ok-tokens-in-None.ensures.names in
     record {
       answers = λ place. subst (λ (x : Resolution). AnswersRenamingOfDeclaration (requested unit text place new d x) d c.replacement_edits.result) c.resolved-names.ensures.value
-          (answered unit text place new d names well id free c.free_renaming_keeps_typing_and_runs.ensures c.renaming_keeps_spelling.ensures c.identifier_may_replace_identifier.ensures are c.replacement_edits.result there);
+          (answered unit text place new d names well id free c.free_renaming_keeps_typing_and_runs.ensures c.renamed_tree_spells_renamed_words.ensures c.identifier_may_replace_identifier.ensures are c.replacement_edits.result there);
       memory = λ refused. id;
       own_name = λ own.
           let same = subst (λ (x : Resolution). is_declared_as x.module_read d new ≡ true) (sym c.resolved-names.ensures.value) own in

@@ -1,6 +1,6 @@
 use Rattle.std.proofs.Common.{◌≡◌, drop}
 use Rattle.serde_json.specs.View.{items_view}
-use Rattle.ob0_rpc.specs.Requesting.{contains_text}
+use Rattle.ob0_rpc.specs.Requests.{contains_text}
 use Rattle.ob0_rpc.proofs.clients.contains_text.Given as goal
 
 -- The loop's invariant: the list contains the text exactly if the remaining items do.

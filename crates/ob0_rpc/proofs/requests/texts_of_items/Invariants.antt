@@ -1,6 +1,6 @@
 use Rattle.std.proofs.Common.{◌≡◌, ◌++◌, drop, map, option_map, string_bytes}
 use Rattle.serde_json.specs.View.{items_view}
-use Rattle.ob0_rpc.specs.Requesting.{texts_of_items}
+use Rattle.ob0_rpc.specs.Requests.{texts_of_items}
 use Rattle.ob0_rpc.proofs.requests.texts_of_items.Given as goal
 
 -- The loop's invariant: all texts are the texts so far, followed by the texts of the remaining

@@ -5,13 +5,13 @@ use Rattle.ob0_tree.specs.Tree.{Tree, module_text}
 use Rattle.ob0_language_names.specs.Names.{Name, naming_by_label}
 use Rattle.ob0_language_names.specs.Scopes.{numbered}
 use Rattle.ob0_scope_table.specs.Resolution.{Resolution}
-use Rattle.ob0_types_table.specs.KnownTables.{declared_object_in}
+use Rattle.ob0_types_table.specs.DeclarationTables.{declared_object_in}
 use Rattle.ob0_language_types.specs.Bindings.{declared_object}
 use Rattle.ob0_language_types.specs.WellTyped.{WellTyped}
 use Rattle.ob0_run_machine.specs.View.{program_of}
 use Rattle.ob0_run_cells.specs.Activations.{ProgramMeansModule}
 use Rattle.ob0_run_lowering.specs.declared.programs.Program.{Program}
-use Rattle.ob0_run.specs.Programs.{RunsAs}
+use Rattle.ob0_run.specs.Programs.{ProgramRunsAsModule}
 use Rattle.ob0_run.proofs.module_runs.lower.Goals as goal
 
 pub returns : goal.returns
@@ -23,7 +23,7 @@ returns c =
     let of_module : (made : Program) → Means c.resolved.result.now made → ProgramMeansModule naming_by_label (numbered m) (program_of made.code) =
     λ made means. subst (λ (z : Resolution). Means z made) c.resolved.ensures.value means well c.declarations.ensures in
     record {
-      runs = IfOk-weaker c.lower.result (Means c.resolved.result.now) (RunsAs m)
+      runs = IfOk-weaker c.lower.result (Means c.resolved.result.now) (ProgramRunsAsModule m)
           (λ made means input calls turns. c.lowering_keeps_runs.ensures m (program_of made.code) calls turns input well (of_module made means)) c.lower.ensures;
       means = IfOk-weaker c.lower.result (Means c.resolved.result.now) (λ made. ProgramMeansModule naming_by_label (numbered m) (program_of made.code)) of_module c.lower.ensures;
     }

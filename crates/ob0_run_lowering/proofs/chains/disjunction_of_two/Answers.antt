@@ -1,5 +1,5 @@
 use Rattle.std.proofs.Common.{◌≡◌, IfOk, suc, ap, sym, subst, ◌∙◌}
-use Rattle.ob0_run_machine.specs.Lowered as machine
+use Rattle.ob0_run_machine.specs.LoweredSyntax as machine
 use Rattle.ob0_run_machine.specs.View.{disjunction_of, truth_of}
 use Rattle.ob0_run_machine.proofs.TruthList.{any_made}
 use Rattle.std.proofs.lemmas.Result.{IfOk-weaker}

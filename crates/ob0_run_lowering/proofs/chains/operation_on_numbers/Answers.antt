@@ -1,5 +1,5 @@
 use Rattle.std.proofs.Common.{◌≡◌, IfOk, ap, sym, subst, ◌∙◌}
-use Rattle.ob0_run_machine.specs.Lowered as machine
+use Rattle.ob0_run_machine.specs.LoweredSyntax as machine
 use Rattle.ob0_run_machine.specs.View.{chain_of, number_of, operator_of}
 use Rattle.ob0_run_machine.proofs.Chains.{chain_made}
 use Rattle.ob0_run_lowering.proofs.chains.operation_on_numbers.Goals as goal

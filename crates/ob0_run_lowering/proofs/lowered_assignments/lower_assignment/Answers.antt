@@ -2,11 +2,11 @@ use Rattle.std.proofs.Common.{◌≡◌, subst, sym}
 use Rattle.std.proofs.lemmas.Result.{IfOk-weaker}
 use Rattle.ob0_tree.specs.View.{assignment_of, expression_of, items_of, selector_of}
 use Rattle.ob0_scope_table.specs.LabelledTrees.{tree_with_labels}
-use Rattle.ob0_run_machine.specs.Lowered as lowered
+use Rattle.ob0_run_machine.specs.LoweredSyntax as lowered
 use Rattle.ob0_run_machine.specs.View.{number_of, place_of, statement_of}
 use Rattle.ob0_run_lowering.specs.LoweredBodies.{LowersStatement}
-use Rattle.ob0_run_lowering.specs.LoweredMeans.{LowersExpression}
-use Rattle.ob0_run_lowering.specs.declared.lowered.LoweredExpression.{LoweredExpression}
+use Rattle.ob0_run_lowering.specs.LoweredExpressionMeans.{LowersExpression}
+use Rattle.ob0_run_lowering.specs.declared.lowered_expression.LoweredExpression.{LoweredExpression}
 use Rattle.ob0_run_lowering.proofs.Assigned.{block_assigned, nothing_assigned, number_assigned, truth_assigned}
 use Rattle.ob0_run_lowering.proofs.lowered_assignments.lower_assignment.Goals as goal
 

@@ -2,11 +2,11 @@ use Rattle.std.proofs.Common.{Some, map, sym, ap, ◌∙◌}
 use Rattle.std.proofs.lemmas.Result.{MatchResult-weaker}
 use Rattle.ob0_tree.specs.View.{arguments_of}
 use Rattle.ob0_scope_table.specs.LabelledTrees.{tree_with_labels, label_at_token}
-use Rattle.ob0_types_table.specs.KnownTables.{shapes_of}
+use Rattle.ob0_types_table.specs.DeclarationTables.{shapes_of}
 use Rattle.ob0_types_table.specs.DeclarationTableView.{formal_view, object_view}
 use Rattle.ob0_language_types.specs.Expressions.{a_procedure}
 use Rattle.ob0_language_types.specs.WellTyped.{signature_of}
-use Rattle.ob0_run_machine.specs.Lowered.{writes_line}
+use Rattle.ob0_run_machine.specs.LoweredSyntax.{writes_line}
 use Rattle.ob0_run_lowering.proofs.Called.{uncallable}
 use Rattle.ob0_run_lowering.proofs.lowered_calls.lower_call_statement.Goals as goal
 

@@ -1,5 +1,5 @@
 use Rattle.std.proofs.Common.{sym}
-use Rattle.ob0_run_machine.specs.Lowered.{writes_line}
+use Rattle.ob0_run_machine.specs.LoweredSyntax.{writes_line}
 use Rattle.ob0_run_lowering.proofs.Called.{nothing_written, written}
 use Rattle.ob0_run_lowering.proofs.lowered_calls.lower_write.Goals as goal
 

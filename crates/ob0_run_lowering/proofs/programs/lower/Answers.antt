@@ -3,11 +3,11 @@ use Rattle.ob0_tree.specs.ParsedModule.{named_tree_of}
 use Rattle.ob0_tree.specs.Tree.{Tree, module_text}
 use Rattle.ob0_tree.specs.View.{block_of}
 use Rattle.ob0_language_names.specs.Names.{Name}
-use Rattle.ob0_language_names.specs.Parts.{module_block}
+use Rattle.ob0_language_names.specs.BlockParts.{module_block}
 use Rattle.ob0_language_names.specs.Scopes.{numbered}
 use Rattle.ob0_language_types.specs.Bindings.{declared_object}
 use Rattle.ob0_scope_table.specs.LabelledTrees.{tree_with_labels}
-use Rattle.ob0_types_table.specs.KnownTables.{DeclarationTableView, declared_object_in}
+use Rattle.ob0_types_table.specs.DeclarationTables.{DeclarationTableView, declared_object_in}
 use Rattle.ob0_run_lowering.proofs.LoweredBlocks.{program_means}
 use Rattle.ob0_run_lowering.proofs.programs.lower.Goals as goal
 

@@ -9,7 +9,7 @@ use Rattle.ob0_tree.specs.declared.tree.Statement as written
 use Rattle.ob0_language_names.specs.Names.{Label}
 use Rattle.ob0_scope_table.specs.LabelledTrees.{tree_with_labels}
 use Rattle.ob0_run_machine.proofs.Viewed.{repeat_made, while_made}
-use Rattle.ob0_run_machine.specs.Lowered as lowered
+use Rattle.ob0_run_machine.specs.LoweredSyntax as lowered
 use Rattle.ob0_run_machine.specs.View as code
 use Rattle.ob0_run_machine.specs.View.{branches_of_list, sequence_of, truth_of}
 use Rattle.ob0_run_machine.specs.declared.code.Branch.{Branch}
@@ -50,7 +50,7 @@ lower_if-returns-in-None t c =
     let i = out-If c.args.i.now in
     let last = tree_with_labels r (else_part_of i.otherwise) in
     let first : Branch = record { condition = c.loop-part.first-1; body = c.in_ok-then.then } in
-    let made = lowered.chooses (branches_of_list (first ∷ c.loop-part.others.items)) (sequence_of c.new.result.items) in
+    let made = lowered.chooses_branch (branches_of_list (first ∷ c.loop-part.others.items)) (sequence_of c.new.result.items) in
     let whole = branches_end (sequence_of c.new.result.items) last c.loop-part.invariant c.loop-part-test.false (none_otherwise scene r i.otherwise c.new.result.items c.in-None.is c.new.ensures.items) in
     let P : List Elsif → Type 0 = λ parts. LowersStatement scene made (branches (tree_with_labels r (expression_of i.condition)) (tree_with_labels r (sequence_of_list i.then.items)) (tree_with_labels r (items_of elsif_of parts)) last) in
     let Q : Tree Label sort.statement → Type 0 = λ a. LowersStatement scene made a in
@@ -65,7 +65,7 @@ lower_if-returns-in_ok-otherwise-in-Some t c =
     let last = tree_with_labels r (else_part_of i.otherwise) in
     let otherwise = c.in_ok-otherwise-in-Some.otherwise in
     let first : Branch = record { condition = c.loop-part.first-1; body = c.in_ok-then.then } in
-    let made = lowered.chooses (branches_of_list (first ∷ c.loop-part.others.items)) (sequence_of otherwise.items) in
+    let made = lowered.chooses_branch (branches_of_list (first ∷ c.loop-part.others.items)) (sequence_of otherwise.items) in
     let whole = branches_end (sequence_of otherwise.items) last c.loop-part.invariant c.loop-part-test.false (some_otherwise scene r i.otherwise c.in-Some.statements otherwise.items c.in-Some.is c.in_ok-otherwise-in-Some.ensures) in
     let P : List Elsif → Type 0 = λ parts. LowersStatement scene made (branches (tree_with_labels r (expression_of i.condition)) (tree_with_labels r (sequence_of_list i.then.items)) (tree_with_labels r (items_of elsif_of parts)) last) in
     let Q : Tree Label sort.statement → Type 0 = λ a. LowersStatement scene made a in
@@ -82,7 +82,7 @@ pub lower_sequence-loop-s-preserved : goal.lower_sequence-loop-s-preserved
 lower_sequence-loop-s-preserved t c =
     let scene = c.args.scene.now in
     let P : List Instruction → Type 0 = λ made. SequenceMade scene scene.resolved.now c.deref-s-items.result.now (c.loop-s.s-index + 1) made in
-    subst P (sym c.in_ok-push_if_some.ensures) (sequence_goes_on c.s-item.result c.in_ok-next.next c.loop-s.invariant c.loop-s-test.true c.s-item.is c.in_ok-next.ensures)
+    subst P (sym c.in_ok-push_optional_instruction.ensures) (sequence_goes_on c.s-item.result c.in_ok-next.next c.loop-s.invariant c.loop-s-test.true c.s-item.is c.in_ok-next.ensures)
 
 pub lower_sequence-returns : goal.lower_sequence-returns
 lower_sequence-returns t c =

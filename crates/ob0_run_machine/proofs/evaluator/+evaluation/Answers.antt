@@ -3,12 +3,12 @@ use Rattle.std.proofs.Math.Facts.{to_z-of_z}
 use Rattle.std.proofs.Common.{rules, w32, sym, ap, ◌∙◌}
 use Rattle.std.proofs.lemmas.Result.{err_from_is_err_and}
 use Rattle.ob0_run_machine.specs.declared.code.Chain.{out-Chain}
-use Rattle.ob0_run_machine.specs.Answers.{end_of}
+use Rattle.ob0_run_machine.specs.StepOutcomes.{end_of}
 use Rattle.ob0_run_machine.specs.Evaluation.{ends, number, ◌>>=◌}
 use Rattle.ob0_run_machine.specs.Levels.{levels_of}
 use Rattle.ob0_run_machine.specs.View.{chain_of, first_operand_of, number_of}
 use Rattle.ob0_run_machine.specs.declared.code.Operation.{out-Operation}
-use Rattle.ob0_run_machine.specs.Answers.{outcome_of_applied_link}
+use Rattle.ob0_run_machine.specs.StepOutcomes.{outcome_of_applied_link}
 use Rattle.ob0_run_machine.proofs.Chains.{applied_to, chain_begins, chain_fails, chain_made}
 use Rattle.ob0_run_machine.proofs.Exits.{reported_exit}
 use Rattle.ob0_run_machine.proofs.evaluator.+evaluation.Goals as goal
@@ -22,7 +22,7 @@ evaluate_chain-loop-link-init t c = let a : SFits w32 c.in_ok-left.left = search
     rw (to_z-of_z a) (chain_begins (levels_of c.args.level.now) c.args.cells.now (first_operand_of (out-Chain c.args.c.now).first) (out-Chain c.args.c.now).rest.items _ c.in_ok-left.ensures)
 
 pub evaluate_number-returns-in-Chain : goal.evaluate_number-returns-in-Chain
-evaluate_number-returns-in-Chain t c = c.into_result-in-Chain.ensures ∙ c.evaluate_chain_flat.ensures ∙ ap (number (levels_of c.args.level.now) c.args.cells.now) (ap chain_of c.deref-in-Chain.ensures ∙ sym (chain_made c.in-Chain.c) ∙ ap number_of (sym c.in-Chain.is))
+evaluate_number-returns-in-Chain t c = c.into_result-in-Chain.ensures ∙ c.evaluate_chain_as_flat_outcome.ensures ∙ ap (number (levels_of c.args.level.now) c.args.cells.now) (ap chain_of c.deref-in-Chain.ensures ∙ sym (chain_made c.in-Chain.c) ∙ ap number_of (sym c.in-Chain.is))
 
 pub evaluate_general_operation-returns-in-Ok : goal.evaluate_general_operation-returns-in-Ok
 evaluate_general_operation-returns-in-Ok t c =

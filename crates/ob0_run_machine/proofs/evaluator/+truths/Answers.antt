@@ -1,7 +1,7 @@
 use Rattle.std.proofs.Common.{sym, ap, ◌∙◌}
 use Rattle.std.proofs.lemmas.Result.{err_from_is_err_and}
 use Rattle.ob0_run_machine.specs.declared.code.TruthList.{out-TruthList}
-use Rattle.ob0_run_machine.specs.Answers.{end_of}
+use Rattle.ob0_run_machine.specs.StepOutcomes.{end_of}
 use Rattle.ob0_run_machine.specs.Evaluation.{ends, gives, truth}
 use Rattle.ob0_run_machine.specs.Levels.{levels_of}
 use Rattle.ob0_run_machine.specs.View.{conjunction_of, disjunction_of, truth_of}

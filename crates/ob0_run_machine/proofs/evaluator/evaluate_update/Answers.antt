@@ -1,10 +1,10 @@
 use mir.Val.{SFits}
 use Rattle.std.proofs.Math.Facts.{to_z-of_z}
 use Rattle.std.proofs.Common.{rules, w32, sym, ap, ◌∙◌}
-use Rattle.ob0_run_machine.specs.Answers.{outcome_of_applied_link}
+use Rattle.ob0_run_machine.specs.StepOutcomes.{outcome_of_applied_link}
 use Rattle.ob0_run_machine.specs.Evaluation.{◌>>=◌}
 use Rattle.ob0_run_machine.specs.Levels.{levels_of}
-use Rattle.ob0_run_machine.specs.Lowered.{cell}
+use Rattle.ob0_run_machine.specs.LoweredSyntax.{cell}
 use Rattle.ob0_run_machine.specs.View.{variable_of}
 use Rattle.ob0_run_machine.proofs.Chains.{applied_to}
 use Rattle.ob0_run_machine.proofs.evaluator.evaluate_update.Goals as goal

@@ -115,7 +115,7 @@ run_counting_loop_body-returns-in_err-run_sequence_inline g t c = λ v found. le
 
 pub run_counting_loop_body-returns : goal.run_counting_loop_body-returns
 run_counting_loop_body-returns g t c = λ v found. then_last c.args.turns (levels_of c.args.level.now) c.args.statements.now c.in_ok-run_sequence_inline.field-0 (Increase v c.args.by) c.in_ok-run_sequence_inline.ensures
-    (record { has_effect = λ enters p. steps_as enters c.args.turns (levels_of c.args.level.now) v c.increase_or_stop.result _ _ (to_z-of_z c.ranges.by) (c.increase_or_stop.ensures enters c.args.turns (levels_of c.args.level.now) v (found _)) })
+    (record { has_effect = λ enters p. steps_as enters c.args.turns (levels_of c.args.level.now) v c.increase_cell_or_stop_run.result _ _ (to_z-of_z c.ranges.by) (c.increase_cell_or_stop_run.ensures enters c.args.turns (levels_of c.args.level.now) v (found _)) })
 
 pub run_counting_loop-again-init : goal.run_counting_loop-again-init
 run_counting_loop-again-init g t c = λ n known. while_begins

@@ -1,5 +1,5 @@
 use Rattle.std.proofs.Common.{◌≡◌, take}
-use Rattle.ob0_scan.specs.Reused.{kinds}
+use Rattle.ob0_scan.specs.ReusedLexemes.{kinds}
 use Rattle.ob0_scan.proofs.incremental_scan.have_same_kinds.Given as goal
 
 abbrev pub invariant-loop-index : goal.invariant-loop-index

@@ -1,5 +1,5 @@
 use Rattle.std.proofs.Common.{◌≡◌, take}
-use Rattle.ob0_scan.specs.Reused.{spellings_of_identifiers_in}
+use Rattle.ob0_scan.specs.ReusedLexemes.{spellings_of_identifiers_in}
 use Rattle.ob0_scan.proofs.incremental_scan.have_same_names.Given as goal
 
 abbrev pub invariant-loop-index : goal.invariant-loop-index

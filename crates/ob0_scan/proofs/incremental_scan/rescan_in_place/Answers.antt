@@ -1,7 +1,7 @@
 use Rattle.std.proofs.Common.{◌≡◌, ◌≤◌, ◌+◌, ◌-◌, ℕ, List, length, refl, sym, ap, ap₂, ◌∙◌, subst, take, drop, arith}
 use Rattle.ob0_scan.specs.declared.lexeme.Token.{Token}
 use Rattle.ob0_scan.specs.TextWithTokens.{TextWithTokens, IsScanOf}
-use Rattle.ob0_scan.specs.Reused.{kinds, spellings_of_identifiers_in, words_of_tokens, ReusesOldLexemes}
+use Rattle.ob0_scan.specs.ReusedLexemes.{kinds, spellings_of_identifiers_in, words_of_tokens, ReusesOldLexemes}
 use Rattle.ob0_scan.specs.RescanState.{scan_with_new_middle}
 use Rattle.ob0_scan.proofs.Alike.{kinds_stay}
 use Rattle.ob0_scan.proofs.Named.{back_written, front_written, names_stay, words_stay}

@@ -3,10 +3,10 @@ use Rattle.ob0_scan.specs.declared.lexeme.Span.{Span}
 use Rattle.ob0_scan.specs.declared.lexeme.Token.{Token}
 use Rattle.ob0_scan.specs.declared.old_lexemes.LexemeSlices.{LexemeSlices}
 use Rattle.ob0_scan.specs.TextWithTokens.{IsScannable}
-use Rattle.ob0_scan.specs.Refused.{AreFaultsOfRefusedText}
+use Rattle.ob0_scan.specs.ScanRefusals.{AreFaultsOfRefusedText}
 use Rattle.ob0_scan.specs.Progress.{IsCutIntoLexemesUpTo}
 use Rattle.ob0_scan.specs.RescanState.{end_of_last_lexeme}
-use Rattle.ob0_scan.specs.Reused.{tokens_ending_before, comments_ending_before}
+use Rattle.ob0_scan.specs.ReusedLexemes.{tokens_ending_before, comments_ending_before}
 use Rattle.ob0_scan.proofs.Steps.{too_long_refused, scan_refused}
 use Rattle.ob0_scan.proofs.Reusing.{front_cut}
 use Rattle.ob0_scan.proofs.RescannedMiddle.{settled}

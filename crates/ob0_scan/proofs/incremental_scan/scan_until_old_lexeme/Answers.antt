@@ -2,7 +2,7 @@ use Rattle.std.proofs.Common.{Bor, List, vec_len, ◌≡◌, ◌∙◌, ℕ, ◌
 use Rattle.ob0_scan.specs.declared.lexeme.Span.{Span}
 use Rattle.ob0_scan.specs.declared.lexeme.Token.{Token}
 use Rattle.ob0_scan.specs.declared.old_lexemes.LexemeSlices.{LexemeSlices}
-use Rattle.ob0_scan.specs.Reused.{ReplacesRange, NoLexemeBeginsAt, tokens_beginning_at_or_after, comments_beginning_at_or_after}
+use Rattle.ob0_scan.specs.ReusedLexemes.{ReplacesRange, NoLexemeBeginsAt, tokens_beginning_at_or_after, comments_beginning_at_or_after}
 use Rattle.ob0_scan.specs.RescanState.{first_token_begins_at, first_comment_begins_at}
 use Rattle.ob0_scan.proofs.AtLexemes.{back_again}
 use Rattle.ob0_scan.proofs.RescannedMiddle.{reads_none, reads_more, none_begins, end_met}

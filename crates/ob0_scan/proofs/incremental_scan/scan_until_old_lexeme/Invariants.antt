@@ -1,6 +1,6 @@
 use Rattle.std.proofs.Common.{◌≡◌, ℕ, ◌+◌, ◌-◌, ◌≤◌, length}
-use Rattle.ob0_scan.specs.UnderWay.{IsConsistentScanner}
-use Rattle.ob0_scan.specs.Reused.{tokens_beginning_at_or_after, comments_beginning_at_or_after}
+use Rattle.ob0_scan.specs.ScannerState.{IsConsistentScanner}
+use Rattle.ob0_scan.specs.ReusedLexemes.{tokens_beginning_at_or_after, comments_beginning_at_or_after}
 use Rattle.ob0_scan.specs.RescanState.{AddsNewLexemes}
 use Rattle.ob0_scan.proofs.incremental_scan.scan_until_old_lexeme.Given as goal
 

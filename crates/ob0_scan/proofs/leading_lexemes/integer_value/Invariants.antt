@@ -1,5 +1,5 @@
 use Rattle.std.proofs.Common.{◌≡◌, ◌≤◌, take}
-use Rattle.ob0_scan.specs.Classes.{decimal_value}
+use Rattle.ob0_scan.specs.LexemeClasses.{decimal_value}
 use Rattle.ob0_scan.proofs.leading_lexemes.integer_value.Given as goal
 
 abbrev pub invariant-loop-digit : goal.invariant-loop-digit

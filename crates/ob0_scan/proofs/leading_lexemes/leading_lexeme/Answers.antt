@@ -5,7 +5,7 @@ use Rattle.std.proofs.lemmas.Slice.Eq.{starts_is}
 use Rattle.std.proofs.lemmas.Bool.Decides.{Decides-eqb}
 use Rattle.ob0_scan.specs.declared.lexeme.LexemeKind.TheVariants as lexeme
 use Rattle.ob0_scan.specs.declared.lexeme.TokenKind.TheVariants as token
-use Rattle.ob0_scan.specs.Classes.{is_white_space}
+use Rattle.ob0_scan.specs.LexemeClasses.{is_white_space}
 use Rattle.ob0_scan.specs.TextStart.{StartsWithLexeme, StartsWithNoLexeme}
 use Rattle.ob0_scan.proofs.Families.{family-mark}
 use Rattle.ob0_scan.proofs.Runs.{space_first}

@@ -1,5 +1,5 @@
 use Rattle.std.proofs.Common.{ap, ◌∙◌, ◌<◌, length, arith}
-use Rattle.ob0_scan.specs.Reused.{span_after_shift}
+use Rattle.ob0_scan.specs.ReusedLexemes.{span_after_shift}
 use Rattle.ob0_scan.proofs.Kept.{changed_on}
 use Rattle.ob0_scan.proofs.old_lexemes.shift_comments.Goals as goal
 

@@ -1,6 +1,6 @@
 use Rattle.std.proofs.Common.{ap, ◌∙◌, ◌<◌, length, arith}
 use Rattle.ob0_scan.specs.declared.lexeme.Span.{Span}
-use Rattle.ob0_scan.specs.Reused.{token_after_shift}
+use Rattle.ob0_scan.specs.ReusedLexemes.{token_after_shift}
 use Rattle.ob0_scan.proofs.Kept.{changed_on}
 use Rattle.ob0_scan.proofs.old_lexemes.shift_tokens.Goals as goal
 

@@ -1,4 +1,4 @@
-use Rattle.ob0_scan.specs.Reused.{token_after_shift}
+use Rattle.ob0_scan.specs.ReusedLexemes.{token_after_shift}
 use Rattle.ob0_scan.proofs.Kept.{ChangedTo}
 use Rattle.ob0_scan.proofs.old_lexemes.shift_tokens.Given as goal
 

@@ -2,10 +2,10 @@ use Rattle.std.proofs.Common.{◌≡◌, ◌≤◌, ◌++◌, [], ℕ, List, Opt
 use Rattle.std.specs.List.{list_any}
 use Rattle.ob0_scan.specs.TextWithTokens.{TextWithTokens}
 use Rattle.ob0_tree.specs.ParsedModule.{tree_of}
-use Rattle.ob0_scope_table.specs.Resolution.{is_duplicate_or_end_name, undeclared_faults_by_table}
+use Rattle.ob0_scope_table.specs.Resolution.{is_duplicate_or_end_name, undeclared_faults_from_table}
 use Rattle.ob0_scope_numbering.specs.BodyWalk.{renumber_module, initial_walk_state_with_table}
-use Rattle.ob0_scope_numbering.specs.Written.{original_spellings}
-use Rattle.ob0_scope.specs.Carried.{tokens_in_changed_text, ordinals_in_changed_text}
+use Rattle.ob0_scope_numbering.specs.IdentifierSpellings.{original_spellings}
+use Rattle.ob0_scope.specs.BindingsOutsideBody.{tokens_in_changed_text, ordinals_in_changed_text}
 use Rattle.ob0_scope.proofs.NewBody.{new_body_bound}
 use Rattle.ob0_scope.proofs.StillOnce.{still_once}
 use Rattle.ob0_scope.proofs.body_rebinding.rebind_body_range.Goals as goal
@@ -29,7 +29,7 @@ returns c =
     let declared : c.in_ok-declaration_tokens.declaration_tokens.items ≡ tokens_in_changed_text range b.declaration_tokens.items [] = c.in_ok-declaration_tokens.ensures ∙ ap (λ is. tokens_in_changed_text range is []) c.deref-2.ensures.value in
     let numbered = c.in_ok-ordinals.ensures ∙ (λ i. (renumber_module (c.deref-3.ensures.value i) range.first (tree_of m) (initial_walk_state_with_table (original_spellings m.source) (table i))).marks) in
     let used : c.in_ok-occurrences.occurrences.items ≡ tokens_in_changed_text range b.occurrences.items own = c.in_ok-occurrences.ensures ∙ ap (λ is. tokens_in_changed_text range is own) c.deref-4.ensures.value in
-    let all = c.in_ok-report_undeclared.ensures
-    ∙ (λ i. c.in_ok-faults.faults.items ++ undeclared_faults_by_table (c.deref-6.ensures.value i) (c.deref-7.ensures.value i)) in
-    new_body_bound m b range own c.in_ok-ordinals.ordinals.items c.in_ok-declaration_tokens.declaration_tokens.items c.in_ok-occurrences.occurrences.items c.in_ok-faults.faults.items c.report_undeclared.new.faults.items
+    let all = c.in_ok-report_undeclared_names.ensures
+    ∙ (λ i. c.in_ok-faults.faults.items ++ undeclared_faults_from_table (c.deref-6.ensures.value i) (c.deref-7.ensures.value i)) in
+    new_body_bound m b range own c.in_ok-ordinals.ordinals.items c.in_ok-declaration_tokens.declaration_tokens.items c.in_ok-occurrences.occurrences.items c.in_ok-faults.faults.items c.report_undeclared_names.new.faults.items
     c.requires long declared numbered used c.in_ok-faults.ensures all

@@ -1,4 +1,4 @@
-use Rattle.ob0_language_names.specs.Parts.{constant_names}
+use Rattle.ob0_language_names.specs.BlockParts.{constant_names}
 use Rattle.ob0_tree.specs.View.{items_of, constant_of}
 use Rattle.ob0_scope.proofs.Checking.{Gathering}
 use Rattle.ob0_scope.proofs.checks.append_constant_names.Given as goal

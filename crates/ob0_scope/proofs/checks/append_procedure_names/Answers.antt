@@ -1,6 +1,6 @@
 use Rattle.std.proofs.Common.{[], ◌∷◌, refl, ap}
 use Rattle.ob0_language_names.specs.ConsistentNames.{procedure_names}
-use Rattle.ob0_language_names.specs.Parts.{procedure_name}
+use Rattle.ob0_language_names.specs.BlockParts.{procedure_name}
 use Rattle.ob0_tree.specs.declared.tree.Procedure.{out-Procedure}
 use Rattle.ob0_tree.specs.View.{items_of, procedure_of}
 use Rattle.ob0_tree.proofs.Viewed.{procedure_parts}

@@ -1,4 +1,4 @@
-use Rattle.ob0_language_names.specs.Parts.{declared_type_names}
+use Rattle.ob0_language_names.specs.BlockParts.{declared_type_names}
 use Rattle.ob0_tree.specs.View.{items_of, type_declaration_of}
 use Rattle.ob0_scope.proofs.Checking.{Gathering}
 use Rattle.ob0_scope.proofs.checks.append_type_names.Given as goal

@@ -1,4 +1,4 @@
-use Rattle.ob0_language_names.specs.Parts.{variable_names}
+use Rattle.ob0_language_names.specs.BlockParts.{variable_names}
 use Rattle.ob0_tree.specs.View.{items_of, variable_of}
 use Rattle.ob0_scope.proofs.Checking.{Gathering}
 use Rattle.ob0_scope.proofs.checks.append_variable_names.Given as goal

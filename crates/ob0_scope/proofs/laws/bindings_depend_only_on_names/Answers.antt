@@ -1,4 +1,4 @@
-use Rattle.ob0_scope.proofs.Respelled.{bindings_depend_only_on_names}
+use Rattle.ob0_scope.proofs.SameSpellings.{bindings_depend_only_on_names}
 use Rattle.ob0_scope.proofs.laws.bindings_depend_only_on_names.Goals as goal
 
 pub returns : goal.returns

@@ -1,7 +1,7 @@
 use Rattle.std.proofs.Common.{◌∙◌}
 use Rattle.std.proofs.lemmas.Result.{MatchResult-weaker}
 use Rattle.ob0_tree.specs.View.{block_of}
-use Rattle.ob0_scope.specs.BlockSearches.{namesake_in_block}
+use Rattle.ob0_scope.specs.NamesakeSearches.{namesake_in_block}
 use Rattle.ob0_scope.proofs.Searched.{namesake_found}
 use Rattle.ob0_scope.proofs.name_conflicts.namesake.Goals as goal
 

@@ -1,6 +1,6 @@
 use Rattle.std.proofs.Common.{◌≡◌, drop, map}
-use Rattle.ob0_scope_numbering.specs.Marks.{with_marks}
-use Rattle.ob0_scope_numbering.specs.Marks.{zero_mark_at}
+use Rattle.ob0_scope_numbering.specs.OrdinalMarks.{with_marks}
+use Rattle.ob0_scope_numbering.specs.OrdinalMarks.{zero_mark_at}
 use Rattle.ob0_scope.proofs.occurrence_lookup.occurrence_marks.Given as goal
 
 abbrev pub invariant-loop-token : goal.invariant-loop-token

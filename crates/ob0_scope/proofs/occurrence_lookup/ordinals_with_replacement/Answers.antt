@@ -3,7 +3,7 @@ use Rattle.ob0_tree.specs.ParsedModule.{tree_of}
 use Rattle.ob0_scope_numbering.specs.IdentifierWalk.{visit_module}
 use Rattle.ob0_scope_numbering.specs.MarkWalk as listing
 use Rattle.ob0_scope_numbering.specs.TableWalk.{WalkState, number_module}
-use Rattle.ob0_scope_numbering.specs.Written.{Spellings}
+use Rattle.ob0_scope_numbering.specs.IdentifierSpellings.{Spellings}
 use Rattle.ob0_scope.proofs.SeenInPlaces.{seen_in_places}
 use Rattle.ob0_scope.proofs.occurrence_lookup.ordinals_with_replacement.Goals as goal
 

@@ -1,4 +1,4 @@
-use Rattle.ob0_scope_numbering.specs.Keys.{append_bytes}
+use Rattle.ob0_scope_numbering.specs.NameKeys.{append_bytes}
 use Rattle.ob0_scope_numbering.proofs.Going.{Going}
 use Rattle.ob0_scope_numbering.proofs.newest.number_from_bytes.Given as goal
 

@@ -8,4 +8,4 @@ pub returns : goal.returns
 returns c =
     let m = c.args.read.now in
     let scan = subst IsScan c.tokens.ensures.source c.text-scanned.ensures.scan in
-    MatchResult-weaker c.visit_module.result c.visit_module.ensures (λ n e. e ∙ module_tabled m c.args.writing c.tokens.ensures.parsed scan) (λ y h. h)
+    MatchResult-weaker c.visit_module.result c.visit_module.ensures (λ n e. e ∙ module_tabled m c.args.spellings c.tokens.ensures.parsed scan) (λ y h. h)

@@ -25,7 +25,7 @@ returns-clause-answers g c =
         answered = rw c.in_default.ensures.1 i.answered;
         none_left = ap (λ (f : FramerState). f.waiting) c.in_default.ensures.1 ∙ c.in_default.ensures.0;
         not_ended = i.not_ended;
-        works = i.writes;
+        not_failed = i.writes;
       },
     )
 
@@ -45,7 +45,7 @@ returns-in-End-clause-answers g c =
     let sent = rw c.as_slice-in-Some.ensures.value at c.in-Ok-send.ensures in (
       _,
       Appends-trans _ _ _ i.put _ i.appends sent.0,
-      record { answered = s.answered; ended = ended_phase c.step.new.self.phase c.in-End.status (sym s.next ∙ c.in-End.is); works = sent.1 },
+      record { answered = s.answered; ended = ended_phase c.step.new.self.phase c.in-End.status (sym s.next ∙ c.in-End.is); not_failed = sent.1 },
     )
 
 pub loop-content-preserved : goal.loop-content-preserved

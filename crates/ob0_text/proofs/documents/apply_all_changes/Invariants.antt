@@ -1,7 +1,7 @@
 use Rattle.std.proofs.Common.{◌≡◌, fold, map, take}
 use Rattle.std.specs.Option.{option_map}
 use Rattle.ob0_text.specs.OpenDocuments.{changed_text, text_change_of}
-use Rattle.ob0_text.specs.Entries.{StoredTextUsesUnit}
+use Rattle.ob0_text.specs.DocumentViews.{StoredTextUsesUnit}
 use Rattle.ob0_text.proofs.documents.apply_all_changes.Given as goal
 
 abbrev pub invariant-loop-change : goal.invariant-loop-change

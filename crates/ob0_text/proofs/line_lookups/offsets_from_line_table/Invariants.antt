@@ -2,7 +2,7 @@ use Rattle.std.proofs.Common.{◌≡◌, map, take}
 use Rattle.std.specs.Str.{chars}
 use Rattle.ob0_text.specs.Texts.{offset_of}
 use Rattle.ob0_text.specs.Units.{width_of}
-use Rattle.ob0_text.specs.Places.{CanFindOffsetsFrom}
+use Rattle.ob0_text.specs.PassInvariants.{CanFindOffsetsFrom}
 use Rattle.ob0_text.proofs.line_lookups.offsets_from_line_table.Given as goal
 
 abbrev pub invariant-loop-position : goal.invariant-loop-position

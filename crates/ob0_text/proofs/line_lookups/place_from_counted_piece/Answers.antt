@@ -1,7 +1,7 @@
 use Rattle.std.proofs.Common.{◌≡◌, ◌+◌, ◌<◌, ◌≤◌, drop, length, sym, subst, arith}
 use Rattle.std.specs.Str.{chars}
 use Rattle.ob0_text.specs.Units.{width_of}
-use Rattle.ob0_text.specs.Places.{CanFindOffsets}
+use Rattle.ob0_text.specs.PassInvariants.{CanFindOffsets}
 use Rattle.ob0_text.specs.Stretches.{IsPieceOfLine}
 use Rattle.ob0_text.proofs.LinePlaces.{some_start, seeks}
 use Rattle.ob0_text.proofs.StretchSteps.{sought_past_stretch}

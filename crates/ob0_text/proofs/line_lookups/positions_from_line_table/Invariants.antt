@@ -2,7 +2,7 @@ use Rattle.std.proofs.Common.{◌≡◌, map, take}
 use Rattle.std.specs.Str.{chars}
 use Rattle.ob0_text.specs.Texts.{position_of}
 use Rattle.ob0_text.specs.Units.{width_of}
-use Rattle.ob0_text.specs.Places.{CanCountPositionsFrom}
+use Rattle.ob0_text.specs.PassInvariants.{CanCountPositionsFrom}
 use Rattle.ob0_text.proofs.line_lookups.positions_from_line_table.Given as goal
 
 abbrev pub invariant-loop-offset : goal.invariant-loop-offset

@@ -1,6 +1,6 @@
 use Rattle.std.proofs.Common.{◌-◌, ◌≤◌}
 use Rattle.ob0_text.specs.Units.{width_of}
-use Rattle.ob0_text.specs.Places.{CanCountPositionsFrom}
+use Rattle.ob0_text.specs.PassInvariants.{CanCountPositionsFrom}
 use Rattle.ob0_text.proofs.passes.advance_to_offset.Given as goal
 
 abbrev pub invariant-loop-next : goal.invariant-loop-next

@@ -1,6 +1,6 @@
 use Rattle.std.specs.Str.Iter.{chars_rest}
 use Rattle.ob0_text.specs.Units.{width_of}
-use Rattle.ob0_text.specs.Places.{CanFindOffsets}
+use Rattle.ob0_text.specs.PassInvariants.{CanFindOffsets}
 use Rattle.ob0_text.proofs.passes.advance_to_position.Given as goal
 
 abbrev pub invariant-loop-c : goal.invariant-loop-c

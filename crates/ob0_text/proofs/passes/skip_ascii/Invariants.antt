@@ -1,6 +1,6 @@
 use Rattle.std.proofs.Common.{◌-◌, ◌≤◌, drop}
 use Rattle.ob0_text.specs.Units.{width_of}
-use Rattle.ob0_text.specs.Places.{CanCountPositions}
+use Rattle.ob0_text.specs.PassInvariants.{CanCountPositions}
 use Rattle.ob0_text.proofs.passes.skip_ascii.Given as goal
 
 abbrev pub invariant-loop-reached : goal.invariant-loop-reached

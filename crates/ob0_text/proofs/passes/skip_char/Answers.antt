@@ -4,7 +4,7 @@ use Rattle.std.specs.Str.Iter.{chars_rest}
 use Rattle.std.specs.Char.{len_utf8}
 use Rattle.ob0_text.specs.Texts.{ends_line, position_of}
 use Rattle.ob0_text.specs.Units.{width_of}
-use Rattle.ob0_text.specs.Places.{CanCountPositions}
+use Rattle.ob0_text.specs.PassInvariants.{CanCountPositions}
 use Rattle.ob0_text.proofs.Widths.{narrow}
 use Rattle.ob0_text.proofs.PositionSteps.{counted_past_end, counted_past_cr, counted_past_char, counted_at_stop, counted_at_end, counted_here_at, counted_here_dropped, rest_border}
 use Rattle.ob0_text.proofs.passes.skip_char.Goals as goal

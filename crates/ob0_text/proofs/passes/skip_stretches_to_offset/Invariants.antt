@@ -1,6 +1,6 @@
 use Rattle.std.proofs.Common.{◌-◌, ◌≤◌, length}
 use Rattle.ob0_text.specs.Units.{width_of}
-use Rattle.ob0_text.specs.Places.{CanCountPositionsFrom}
+use Rattle.ob0_text.specs.PassInvariants.{CanCountPositionsFrom}
 use Rattle.ob0_text.proofs.passes.skip_stretches_to_offset.Given as goal
 
 abbrev pub invariant-loop-stretch : goal.invariant-loop-stretch

@@ -1,6 +1,6 @@
 use Rattle.std.proofs.Common.{◌-◌, length}
 use Rattle.ob0_text.specs.Units.{width_of}
-use Rattle.ob0_text.specs.Places.{CanFindOffsetsFrom}
+use Rattle.ob0_text.specs.PassInvariants.{CanFindOffsetsFrom}
 use Rattle.ob0_text.proofs.passes.skip_stretches_to_position.Given as goal
 
 abbrev pub invariant-loop-stretch : goal.invariant-loop-stretch

@@ -1,7 +1,7 @@
 use Rattle.std.proofs.Common.{max, sym, ap, ◌∙◌}
 use Rattle.ob0_tree.proofs.Viewed.{block_parts}
 use Rattle.ob0_tree.specs.declared.tree.Block.{out-Block}
-use Rattle.ob0_tree.specs.Depth.{capped_to_u32}
+use Rattle.ob0_tree.specs.CappedDepth.{capped_to_u32}
 use Rattle.ob0_tree.specs.Tree.{nesting}
 use Rattle.ob0_tree.specs.View.{items_of, constant_section_of, type_section_of, variable_section_of, procedure_of, body_of}
 use Rattle.ob0_tree.proofs.Deepest.{deeper_on, deepest_ends, two_deep, zero_max}

@@ -2,7 +2,7 @@ use Rattle.std.proofs.Common.{sym, ap, ◌∙◌}
 use Rattle.ob0_tree.proofs.Viewed.{addend_parts, designator_made, simple_parts, term_parts}
 use Rattle.ob0_tree.specs.declared.tree.SimpleExpression.{out-SimpleExpression}
 use Rattle.ob0_tree.specs.declared.tree.Term.{out-Term}
-use Rattle.ob0_tree.specs.Depth.{capped_to_u32}
+use Rattle.ob0_tree.specs.CappedDepth.{capped_to_u32}
 use Rattle.ob0_tree.specs.Tree.{nesting}
 use Rattle.ob0_tree.specs.View.{items_of, addend_of, multiplier_of, selector_of, term_of, factor_of}
 use Rattle.ob0_tree.proofs.Deepest.{deeper_on, deepest_ends, list_ends, two_deep}

@@ -2,23 +2,23 @@ use Rattle.std.proofs.Common.{◌≡◌, max, List, [], ◌∷◌, sym, ap, ◌�
 use Rattle.ob0_tree.proofs.Viewed.{while_read, repeat_read, if_parts}
 use Rattle.ob0_tree.specs.declared.tree.If.{out-If}
 use Rattle.ob0_tree.specs.declared.tree.Statement.{Statement}
-use Rattle.ob0_tree.specs.Depth.{capped_to_u32}
+use Rattle.ob0_tree.specs.CappedDepth.{capped_to_u32}
 use Rattle.ob0_tree.specs.Tree.{nesting, branches}
-use Rattle.ob0_tree.specs.View.{items_of, statement_of, further_statement_of, sequence_of_list, expression_of, elsif_of, else_part_of}
+use Rattle.ob0_tree.specs.View.{items_of, statement_of, statement_after_semicolon_of, sequence_of_list, expression_of, elsif_of, else_part_of}
 use Rattle.ob0_tree.proofs.Deepest.{deeper_on, list_ends, two_deep, one_deeper, max_zero}
 use Rattle.ob0_tree.proofs.nesting.+statements.Goals as goal
 
-sequence_nests : (ss : List Statement) → nesting (items_of further_statement_of ss) ≡ nesting (sequence_of_list ss)
+sequence_nests : (ss : List Statement) → nesting (items_of statement_after_semicolon_of ss) ≡ nesting (sequence_of_list ss)
 sequence_nests [] = refl
 sequence_nests (s ∷ ss) = refl
 
 pub sequence_nesting-loop-s-preserved : goal.sequence_nesting-loop-s-preserved
-sequence_nesting-loop-s-preserved t c = deeper_on further_statement_of c.s-item.result c.loop-s.invariant c.loop-s-test.true c.s-item.is c.statement_nesting.ensures c.max-deepest.ensures
+sequence_nesting-loop-s-preserved t c = deeper_on statement_after_semicolon_of c.s-item.result c.loop-s.invariant c.loop-s-test.true c.s-item.is c.statement_nesting.ensures c.max-deepest.ensures
 
 pub sequence_nesting-returns : goal.sequence_nesting-returns
 sequence_nesting-returns t c =
     list_ends c.loop-s.invariant c.loop-s-test.false
-    ∙ ap capped_to_u32 (ap (λ xs. nesting (items_of further_statement_of xs)) c.deref-s-items.ensures.value ∙ sequence_nests c.args.statements.now.items)
+    ∙ ap capped_to_u32 (ap (λ xs. nesting (items_of statement_after_semicolon_of xs)) c.deref-s-items.ensures.value ∙ sequence_nests c.args.statements.now.items)
 
 pub elsifs_nesting-loop-e-preserved : goal.elsifs_nesting-loop-e-preserved
 elsifs_nesting-loop-e-preserved t c =

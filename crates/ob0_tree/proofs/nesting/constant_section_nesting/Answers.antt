@@ -1,5 +1,5 @@
 use Rattle.std.proofs.Common.{sym, ap, ◌∙◌}
-use Rattle.ob0_tree.specs.Depth.{capped_to_u32}
+use Rattle.ob0_tree.specs.CappedDepth.{capped_to_u32}
 use Rattle.ob0_tree.specs.Tree.{nesting}
 use Rattle.ob0_tree.specs.View.{constant_of, items_of, constant_section_of}
 use Rattle.ob0_tree.proofs.Deepest.{deeper_on, list_ends}

@@ -5,7 +5,7 @@ use Rattle.ob0_tree.specs.declared.tree.Procedure.{out-Procedure}
 use Rattle.ob0_tree.specs.declared.tree.Role.TheVariants as role
 use Rattle.ob0_tree.specs.Tree.{identifiers}
 use Rattle.ob0_tree.specs.View.{items_of, constant_section_of, type_section_of, variable_section_of, procedure_of, body_of, formals_of, block_of}
-use Rattle.ob0_tree.specs.Visited.{state_after_visit, state_after_identifiers}
+use Rattle.ob0_tree.specs.VisitorStates.{state_after_visit, state_after_identifiers}
 use Rattle.ob0_tree.proofs.Visits.{all_visited, four_visited, then_visited, visits_on}
 use Rattle.ob0_tree.proofs.walk.+blocks.Goals as goal
 

@@ -10,7 +10,7 @@ use Rattle.ob0_tree.specs.declared.tree.Term.{out-Term}
 use Rattle.ob0_tree.specs.declared.tree.Role.TheVariants as role
 use Rattle.ob0_tree.specs.Tree.{compares, identifiers, one, relates}
 use Rattle.ob0_tree.specs.View.{items_of, addend_of, maybe_comparison_of, comparison_of, multiplier_of, term_of, factor_of, simple_expression_of, compound_expression_of}
-use Rattle.ob0_tree.specs.Visited.{state_after_identifiers, state_after_visit}
+use Rattle.ob0_tree.specs.VisitorStates.{state_after_identifiers, state_after_visit}
 use Rattle.ob0_tree.proofs.Visits.{all_visited, then_visited, visits_on}
 use Rattle.ob0_tree.proofs.walk.+expressions.Goals as goal
 

@@ -4,23 +4,23 @@ use Rattle.ob0_tree.specs.declared.tree.If.{out-If}
 use Rattle.ob0_tree.specs.declared.tree.Role.TheVariants as role
 use Rattle.ob0_tree.specs.declared.tree.Statement.{Statement}
 use Rattle.ob0_tree.specs.Tree.{identifiers, branches}
-use Rattle.ob0_tree.specs.View.{items_of, statement_of, further_statement_of, sequence_of_list, expression_of, elsif_of, else_part_of}
-use Rattle.ob0_tree.specs.Visited.{state_after_visit, state_after_identifiers}
+use Rattle.ob0_tree.specs.View.{items_of, statement_of, statement_after_semicolon_of, sequence_of_list, expression_of, elsif_of, else_part_of}
+use Rattle.ob0_tree.specs.VisitorStates.{state_after_visit, state_after_identifiers}
 use Rattle.ob0_tree.proofs.Visits.{all_visited, four_visited, then_visited, visits_on}
 use Rattle.ob0_tree.proofs.walk.+statements.Goals as goal
 
-sequence_visited : (ss : List Statement) → identifiers role.Declaring (items_of further_statement_of ss) ≡ identifiers role.Declaring (sequence_of_list ss)
+sequence_visited : (ss : List Statement) → identifiers role.Declaring (items_of statement_after_semicolon_of ss) ≡ identifiers role.Declaring (sequence_of_list ss)
 sequence_visited [] = refl
 sequence_visited (s ∷ ss) = refl
 
 pub walk_sequence-loop-s-preserved : goal.walk_sequence-loop-s-preserved
-walk_sequence-loop-s-preserved g t c = visits_on further_statement_of c.s-item.result c.walk_statement.new.visitor c.loop-s.invariant c.loop-s-test.true c.s-item.is c.in_ok-walk_statement.ensures
+walk_sequence-loop-s-preserved g t c = visits_on statement_after_semicolon_of c.s-item.result c.walk_statement.new.visitor c.loop-s.invariant c.loop-s-test.true c.s-item.is c.in_ok-walk_statement.ensures
 
 pub walk_sequence-returns : goal.walk_sequence-returns
 walk_sequence-returns g t c =
     all_visited c.loop-s.invariant c.loop-s-test.false
     ∙ ap (λ is. state_after_identifiers g.V.Visitor.seen is c.args.visitor.now)
-    (ap (λ xs. identifiers role.Declaring (items_of further_statement_of xs)) c.deref-s-items.ensures.value ∙ sequence_visited c.args.statements.now.items)
+    (ap (λ xs. identifiers role.Declaring (items_of statement_after_semicolon_of xs)) c.deref-s-items.ensures.value ∙ sequence_visited c.args.statements.now.items)
 
 pub walk_elsifs-loop-e-preserved : goal.walk_elsifs-loop-e-preserved
 walk_elsifs-loop-e-preserved g t c =

@@ -1,7 +1,7 @@
 use Rattle.std.proofs.Common.{◌≡◌, OnOk, sym, ap, ◌∙◌, subst}
 use Rattle.ob0_tree.proofs.Viewed.{made_record_type}
 use Rattle.ob0_tree.specs.View.{type_of}
-use Rattle.ob0_tree.specs.Visited.{state_after_visit}
+use Rattle.ob0_tree.specs.VisitorStates.{state_after_visit}
 use Rattle.ob0_tree.proofs.walk.+types.Goals as goal
 
 pub walk_type-returns-in-Record : goal.walk_type-returns-in-Record

@@ -2,7 +2,7 @@ use Rattle.std.proofs.Common.{sym, ap, ◌∙◌}
 use Rattle.ob0_tree.specs.declared.tree.Role.TheVariants as role
 use Rattle.ob0_tree.specs.Tree.{identifiers}
 use Rattle.ob0_tree.specs.View.{expression_of, constant_of, items_of, constant_section_of}
-use Rattle.ob0_tree.specs.Visited.{state_after_identifiers}
+use Rattle.ob0_tree.specs.VisitorStates.{state_after_identifiers}
 use Rattle.ob0_tree.proofs.Visits.{all_visited, visits_on}
 use Rattle.ob0_tree.proofs.walk.walk_constant_declarations.Goals as goal
 

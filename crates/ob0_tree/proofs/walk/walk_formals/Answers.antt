@@ -2,20 +2,20 @@ use Rattle.std.proofs.Common.{◌≡◌, List, [], ◌∷◌, refl, sym, ap, ◌
 use Rattle.ob0_tree.specs.declared.tree.Role.TheVariants as role
 use Rattle.ob0_tree.specs.declared.tree.ParameterSection.{ParameterSection}
 use Rattle.ob0_tree.specs.Tree.{identifiers}
-use Rattle.ob0_tree.specs.View.{items_of, further_parameter_section_of, formals_of_list, formals_of}
-use Rattle.ob0_tree.specs.Visited.{state_after_identifiers}
+use Rattle.ob0_tree.specs.View.{items_of, parameter_section_after_semicolon_of, formals_of_list, formals_of}
+use Rattle.ob0_tree.specs.VisitorStates.{state_after_identifiers}
 use Rattle.ob0_tree.proofs.Visits.{all_visited, visits_on}
 use Rattle.ob0_tree.proofs.walk.walk_formals.Goals as goal
 
-sections_listed : (ss : List ParameterSection) → identifiers role.Declaring (items_of further_parameter_section_of ss) ≡ identifiers role.Declaring (formals_of_list ss)
+sections_listed : (ss : List ParameterSection) → identifiers role.Declaring (items_of parameter_section_after_semicolon_of ss) ≡ identifiers role.Declaring (formals_of_list ss)
 sections_listed [] = refl
 sections_listed (s ∷ ss) = refl
 
 pub loop-s-preserved : goal.loop-s-preserved
-loop-s-preserved g c = visits_on further_parameter_section_of c.s-item.result c.walk_formal_section.new.visitor c.loop-s.invariant c.loop-s-test.true c.s-item.is c.in_ok-walk_formal_section.ensures
+loop-s-preserved g c = visits_on parameter_section_after_semicolon_of c.s-item.result c.walk_formal_section.new.visitor c.loop-s.invariant c.loop-s-test.true c.s-item.is c.in_ok-walk_formal_section.ensures
 
 pub returns : goal.returns
 returns g c =
     all_visited c.loop-s.invariant c.loop-s-test.false
     ∙ ap (λ is. state_after_identifiers g.V.Visitor.seen is c.args.visitor.now)
-    (ap (λ xs. identifiers role.Declaring (items_of further_parameter_section_of xs)) c.deref-s-items.ensures.value ∙ (sections_listed c.in-Some.sections.items ∙ sym (ap (λ o. identifiers role.Declaring (formals_of o)) c.in-Some.is)))
+    (ap (λ xs. identifiers role.Declaring (items_of parameter_section_after_semicolon_of xs)) c.deref-s-items.ensures.value ∙ (sections_listed c.in-Some.sections.items ∙ sym (ap (λ o. identifiers role.Declaring (formals_of o)) c.in-Some.is)))

@@ -2,7 +2,7 @@ use Rattle.std.proofs.Common.{sym, ap, ◌∙◌}
 use Rattle.ob0_tree.specs.declared.tree.Role.TheVariants as role
 use Rattle.ob0_tree.specs.Tree.{identifiers}
 use Rattle.ob0_tree.specs.View.{items_of, names_of, type_of, variable_of, variable_section_of}
-use Rattle.ob0_tree.specs.Visited.{state_after_identifiers}
+use Rattle.ob0_tree.specs.VisitorStates.{state_after_identifiers}
 use Rattle.ob0_tree.proofs.Visits.{all_visited, then_visited, visits_on}
 use Rattle.ob0_tree.proofs.walk.walk_variable_declarations.Goals as goal
 

@@ -10,7 +10,7 @@ use Rattle.ob0_types.proofs.checked.check_result_after_body_change.Goals as goal
 pub module_report_walking_some_bodies-requires : goal.module_report_walking_some_bodies-requires
 module_report_walking_some_bodies-requires c =
     let r = c.args.resolved.now in
-    let last = ap (λ (b : OneBody). b.closing) (c.body_containing-body.ensures ∙ ap (λ m. body_with_token_in_module c.args.low (tree_of m)) c.module.ensures.value) in
+    let last = ap (λ (b : OneBody). b.closing) (c.body_with_token_in_module-body.ensures ∙ ap (λ m. body_with_token_in_module c.args.low (tree_of m)) c.module.ensures.value) in
     let bodies = c.as_slice.ensures.value ∙ (c.in_ok-push.ensures.items ∙ (λ i. copied_items c.args.before.bodies_with_faults.items c.in_ok-bodies.bodies.items c.in_ok-bodies.ensures.cases.0 i ++ last i ∷ [])) in
     subst (λ found. IncludesChangedAndFaultyBodies (is_among found) r) (sym bodies) (were_faulty r c.args.before c.args.low c.requires c.module.ensures.resolved)
 

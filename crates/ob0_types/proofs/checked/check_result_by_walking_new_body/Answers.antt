@@ -9,8 +9,8 @@ use Rattle.ob0_types.proofs.checked.check_result_by_walking_new_body.Goals as go
 pub module_report_walking_one_body-requires : goal.module_report_walking_one_body-requires
 module_report_walking_one_body-requires c =
     let r = c.args.resolved.now in
-    let here = ap (λ (b : OneBody). b.closing) (c.body_containing-body.ensures ∙ ap (λ m. body_with_token_in_module c.args.same.prefix (tree_of m)) c.module.ensures.value) in
+    let here = ap (λ (b : OneBody). b.closing) (c.body_with_token_in_module-body.ensures ∙ ap (λ m. body_with_token_in_module c.args.same.prefix (tree_of m)) c.module.ensures.value) in
     subst (PassesTypeCheckWithoutBody r) (sym here) (fits_elsewhere r c.args.before c.args.same c.requires.before c.requires.none)
 
-pub fields_with_new_body-requires-clause-known : goal.fields_with_new_body-requires-clause-known
-fields_with_new_body-requires-clause-known c = known_where_typed c.args.resolved.now c.in_ok-report.report c.typed_modules_have_no_fault.ensures c.module.ensures.resolved c.in_ok-report.ensures
+pub fields_after_body_replacement-requires-clause-known : goal.fields_after_body_replacement-requires-clause-known
+fields_after_body_replacement-requires-clause-known c = known_where_typed c.args.resolved.now c.in_ok-report.report c.typed_modules_have_no_fault.ensures c.module.ensures.resolved c.in_ok-report.ensures

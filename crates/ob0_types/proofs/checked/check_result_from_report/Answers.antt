@@ -1,7 +1,7 @@
 use Rattle.std.proofs.Common.{◌≡◌, ◌↔◌, ◌++◌, [], length, sym, subst, ap}
 use Rattle.std.specs.List.{filter}
 use Rattle.ob0_scope_table.specs.Resolution.{is_duplicate_or_end_name}
-use Rattle.ob0_types.specs.FaultOrder.{AreFirstFaultsWhenSorted, fault_cmp_by_tokens}
+use Rattle.ob0_types.specs.FaultOrder.{AreFirstFaultsWhenSorted, compare_faults_by_tokens}
 use Rattle.ob0_types_check.specs.SomeBodies.{AllClosingNamesPass, faulty_bodies, is_among}
 use Rattle.ob0_types.proofs.Among.{all_among}
 use Rattle.ob0_types.proofs.AllReported.{known_where_typed, reported_if_faulty}
@@ -17,7 +17,7 @@ returns c =
     record {
       resolved = is;
       reported = reported_if_faulty r faults c.modules_without_fault_pass_type_check.ensures none_law is (subst (λ fs. (faults ≡ []) ↔ (fs ≡ [])) found c.in_ok-faults.ensures.none);
-      first = subst (λ fs. AreFirstFaultsWhenSorted (fault_cmp_by_tokens (length r.module_read.source.tokens)) fs faults) found c.in_ok-faults.ensures.first;
+      first = subst (λ fs. AreFirstFaultsWhenSorted (compare_faults_by_tokens (length r.module_read.source.tokens)) fs faults) found c.in_ok-faults.ensures.first;
       table = known_where_typed r c.args.report none_law is c.requires.report;
       fields = c.requires.fields;
       bodies_with_faults = subst (λ bodies. AllClosingNamesPass (is_among bodies) (faulty_bodies r)) (sym c.requires.report.bodies_with_faults) (all_among (faulty_bodies r));

@@ -18,6 +18,6 @@ returns-then-is_empty c =
     let before = c.args.before in
     let ok = before.faults.ok.0 in
     let none = is_nothing before.faults.items (vec_len before.faults) c.is_empty.result (omega (arith, ok)) c.is_empty.ensures c.if-is_empty.true in
-    let here = ap (λ (b : OneBody). b.statements) (c.body_containing-body.ensures ∙ ap (λ m. body_with_token_in_module c.args.low (tree_of m)) c.module.ensures.value) in
+    let here = ap (λ (b : OneBody). b.statements) (c.body_with_token_in_module-body.ensures ∙ ap (λ m. body_with_token_in_module c.args.low (tree_of m)) c.module.ensures.value) in
     fields_over r before c.args.low c.requires.before c.typed_modules_have_no_fault.ensures c.module.ensures.resolved typed none c.in_ok-fields.fields c.in-Some.table
-    (table_holds r c.args.known.now c.module.ensures.resolved c.requires.known c.in-Some.table c.in-Some.is) (body_of c.body_containing-body.result.statements.now) here c.in_ok-fields.ensures.declared c.in_ok-fields.ensures.all
+    (table_holds r c.args.known.now c.module.ensures.resolved c.requires.known c.in-Some.table c.in-Some.is) (body_of c.body_with_token_in_module-body.result.statements.now) here c.in_ok-fields.ensures.declared c.in_ok-fields.ensures.all

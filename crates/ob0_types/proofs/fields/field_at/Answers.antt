@@ -1,7 +1,7 @@
 use Rattle.std.proofs.Common.{◌≡◌, ℕ, List, Option, ◌∙◌, ap, sym, subst}
 use Rattle.std.specs.Prelude.{IfSome}
 use Rattle.ob0_scan.specs.TextWithTokens.{TextWithTokens}
-use Rattle.ob0_tree.specs.Order.{IsIdentifierToken}
+use Rattle.ob0_tree.specs.IdentifierIndexes.{IsIdentifierToken}
 use Rattle.ob0_tree.specs.ParsedModule.{IsParsed}
 use Rattle.ob0_scope_table.specs.Resolution.{Resolution}
 use Rattle.ob0_types_fields.specs.declared.field_name.FieldName.{FieldName}
@@ -20,13 +20,13 @@ pub returns-clause-value : goal.returns-clause-value
 returns-clause-value c =
     let r = c.args.well_typed.now in
     let source = c.tokens.ensures ∙ ap (λ (r : Resolution). r.module_read.source) c.resolved-names.ensures.value in
-    found_at r _ _ c.args.offset _ c.resolved-names.ensures.well_typed.resolved.parsed source c.fields.ensures.1 c.identifier_at.ensures
+    found_at r _ _ c.args.offset _ c.resolved-names.ensures.well_typed.resolved.parsed source c.fields.ensures.1 c.field_identifier_at_offset.ensures
 
 pub returns-clause-are_identifiers : goal.returns-clause-are_identifiers
 returns-clause-are_identifiers c =
     let r = c.args.well_typed.now in
     let parsed = c.resolved-names.ensures.well_typed.resolved.parsed in
     let source = c.tokens.ensures ∙ ap (λ (r : Resolution). r.module_read.source) c.resolved-names.ensures.value in
-    let same = found_at r _ _ c.args.offset _ parsed source c.fields.ensures.1 c.identifier_at.ensures in
+    let same = found_at r _ _ c.args.offset _ parsed source c.fields.ensures.1 c.field_identifier_at_offset.ensures in
     subst (λ found. IfSome found (λ x. IsIdentifierToken r.module_read.source.tokens x.token)) (sym same)
     (field_is_identifier r.module_read.source r.module_read.source.tokens c.args.offset (field_identifiers r) (fields_are_identifiers r parsed))

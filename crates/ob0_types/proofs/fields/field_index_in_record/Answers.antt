@@ -9,4 +9,4 @@ use Rattle.ob0_types.proofs.fields.field_index_in_record.Goals as goal
 pub returns : goal.returns
 returns c =
     let source = c.tokens.ensures ∙ ap (λ (r : Resolution). r.module_read.source) c.resolved-names.ensures.value in
-    c.index_in_record.ensures ∙ (λ i. position_from (λ token. same_name (token_text_at (source i) token) c.args.name.now) 0 (field_tokens_of_record c.args.owner (c.fields.ensures.0 i)))
+    c.field_index_in_record.ensures ∙ (λ i. position_from (λ token. same_name (token_text_at (source i) token) c.args.name.now) 0 (field_tokens_of_record c.args.owner (c.fields.ensures.0 i)))

@@ -1,5 +1,5 @@
 use Rattle.std.proofs.Common.{List, ℕ, length, ◌∙◌, ap, sym, subst}
-use Rattle.ob0_tree.specs.Order.{AreIdentifierTokens, AreAscendingWithin}
+use Rattle.ob0_tree.specs.IdentifierIndexes.{AreIdentifierTokens, AreAscendingWithin}
 use Rattle.ob0_scope_table.specs.Resolution.{Resolution}
 use Rattle.ob0_types_fields.specs.Identifiers.{field_identifiers, tokens_of_field}
 use Rattle.ob0_types_fields.proofs.FieldNameList.{fields_ascend, fields_are_identifiers, kept_ascend, kept_are_identifiers}

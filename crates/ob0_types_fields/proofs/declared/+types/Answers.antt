@@ -3,9 +3,9 @@ use Rattle.ob0_tree.proofs.Viewed.{made_record_type}
 use Rattle.ob0_tree.specs.declared.tree.FieldGroup.{FieldGroup}
 use Rattle.ob0_tree.specs.Tree.{some_fields}
 use Rattle.ob0_tree.specs.View.{optional_field_group_of, names_of, type_of}
-use Rattle.ob0_language_names.specs.Parts.{names_in_list}
+use Rattle.ob0_language_names.specs.BlockParts.{names_in_list}
 use Rattle.ob0_language_types.specs.Typing.{constructor_count}
-use Rattle.ob0_types_fields.specs.Owned.{fields_in_group, fields_at_tokens, fields_in_type}
+use Rattle.ob0_types_fields.specs.IdentifierOwners.{fields_in_group, fields_at_tokens, fields_in_type}
 use Rattle.ob0_types_fields.proofs.MarkWalks.{joined}
 use Rattle.ob0_types_fields.proofs.declared.+types.Goals as goal
 

@@ -1,5 +1,5 @@
 use Rattle.std.proofs.Common.{◌++◌, ◌∷◌, [], sym, ◌∙◌, append_assoc}
-use Rattle.ob0_types_fields.specs.Owned.{fields_at_tokens}
+use Rattle.ob0_types_fields.specs.IdentifierOwners.{fields_at_tokens}
 use Rattle.ob0_types_fields.proofs.GroupWalks.{further_listed, names_end}
 use Rattle.ob0_types_fields.proofs.declared.add_named_fields.Goals as goal
 

@@ -2,10 +2,10 @@ use Rattle.std.proofs.Common.{◌≡◌, ℕ, ◌+◌, ◌++◌, sym, ap, ◌∙
 use Rattle.ob0_tree.proofs.Viewed.{block_parts}
 use Rattle.ob0_tree.specs.declared.tree.Block.{out-Block}
 use Rattle.ob0_tree.specs.View.{block_of, items_of, procedure_of, type_section_of, variable_section_of}
-use Rattle.ob0_language_names.specs.Parts.{section_types, section_variables}
+use Rattle.ob0_language_names.specs.BlockParts.{section_types, section_variables}
 use Rattle.ob0_language_types.specs.Declarations.{block_constructor_count, procedures_constructor_count, types_constructor_count, variables_constructor_count}
 use Rattle.ob0_types_fields.specs.Identifiers.{fields_declared_in_block, fields_declared_in_procedures}
-use Rattle.ob0_types_fields.specs.Owned.{fields_in_types, fields_in_variables}
+use Rattle.ob0_types_fields.specs.IdentifierOwners.{fields_in_types, fields_in_variables}
 use Rattle.ob0_types_fields.proofs.DeclaringWalks.{declaring_end}
 use Rattle.ob0_types_fields.proofs.MarkWalks.{joined}
 use Rattle.ob0_types_fields.proofs.declaring.+blocks.Goals as goal

@@ -1,8 +1,8 @@
 use Rattle.std.proofs.Common.{◌++◌, ap, ◌∙◌}
 use Rattle.ob0_tree.specs.ParsedModule.{ParsedModule}
 use Rattle.ob0_tree.specs.View.{block_of}
-use Rattle.ob0_types_table.specs.KnownTables.{declared_object_in}
-use Rattle.ob0_types_fields.specs.Owned.{fields_in_block, meanings_by_token}
+use Rattle.ob0_types_table.specs.DeclarationTables.{declared_object_in}
+use Rattle.ob0_types_fields.specs.IdentifierOwners.{fields_in_block, meanings_by_token}
 use Rattle.ob0_types_fields.proofs.field_lists.find_fields.Goals as goal
 
 pub returns : goal.returns

@@ -1,6 +1,6 @@
 use Rattle.ob0_tree.specs.ParsedModule.{named_tree_of, tree_of}
 use Rattle.ob0_language_types.specs.Bindings.{declared_object}
-use Rattle.ob0_types_fields.specs.Owned.{meanings_by_token}
+use Rattle.ob0_types_fields.specs.IdentifierOwners.{meanings_by_token}
 use Rattle.ob0_types_fields.proofs.WalkFindsAllFields.{module-fields}
 use Rattle.ob0_types_fields.proofs.laws.walk_finds_all_fields.Goals as goal
 

@@ -8,7 +8,7 @@ use Rattle.ob0_world_determined.proofs.laws.every_exchange_is_served.Goals as go
 
 pub returns : goal.returns
 returns c unit begin now turns begins leads =
-    let holds = c.holds_for_every_exchange.ensures unit begin now turns begins leads in
+    let holds = c.guarantees_hold_for_every_exchange.ensures unit begin now turns begins leads in
     record {
       holds = holds;
       written = λ short put result written served. c.a_conversation_is_served.ensures now.wire.taken (now.wire.got ++ now.wire.to_editor) now.wire.session short holds.conversation put result written served;

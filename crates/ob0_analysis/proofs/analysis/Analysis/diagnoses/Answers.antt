@@ -1,6 +1,6 @@
 use Rattle.std.proofs.Common.{◌∙◌, ℕ, List, ap, inr, map, sym, subst}
 use Rattle.std.proofs.lemmas.Result.{IfOk-weaker}
-use Rattle.ob0_analysis.specs.Diagnosed.{ReportsErrorsOf, reported_diagnosis_of, reported_diagnosis_of_fault}
+use Rattle.ob0_analysis.specs.ReportedErrors.{ReportsErrorsOf, reported_diagnosis_of, reported_diagnosis_of_fault}
 use Rattle.ob0_analysis.specs.AnalysisInvariants.{IsValidAnalysisResult, text_of_analysis_result}
 use Rattle.ob0_analysis.proofs.Scanning.{finds_lexemes}
 use Rattle.ob0_analysis.proofs.analysis.Analysis.diagnoses.Goals as goal

@@ -1,5 +1,5 @@
 use Rattle.std.proofs.Common.{◌∙◌, ℕ, List, ap, sym, subst}
-use Rattle.ob0_analysis.specs.Diagnosed.{IsWellTypedModule}
+use Rattle.ob0_analysis.specs.ReportedErrors.{IsWellTypedModule}
 use Rattle.ob0_analysis.specs.AnalysisInvariants.{IsValidAnalysisResult, text_of_analysis_result}
 use Rattle.ob0_analysis.proofs.Scanning.{no_lexemes_is_none}
 use Rattle.ob0_analysis.proofs.analysis.Analysis.module_parts.Goals as goal

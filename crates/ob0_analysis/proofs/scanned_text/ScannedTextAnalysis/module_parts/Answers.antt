@@ -1,5 +1,5 @@
 use Rattle.std.proofs.Common.{◌∙◌, ℕ, List, ap, sym, subst}
-use Rattle.ob0_analysis.specs.Diagnosed.{IsWellTypedModule}
+use Rattle.ob0_analysis.specs.ReportedErrors.{IsWellTypedModule}
 use Rattle.ob0_analysis.specs.AnalysisInvariants.{IsValidParseOutcome, text_of_parse_outcome}
 use Rattle.ob0_analysis.proofs.Scanning.{refused_is_none}
 use Rattle.ob0_analysis.proofs.scanned_text.ScannedTextAnalysis.module_parts.Goals as goal

@@ -1,5 +1,5 @@
 use Rattle.std.proofs.Common.{◌≡◌, refl}
-use Rattle.ob0_scan.specs.Reused.{kinds}
+use Rattle.ob0_scan.specs.ReusedLexemes.{kinds}
 use Rattle.ob0_scan.specs.declared.tokens.RescanWithComparison.{RescanWithComparison}
 use Rattle.ob0_tree.specs.ParsedModule.{IsParsed, parsed_module}
 use Rattle.ob0_tree.specs.declared.tree.ModuleTree.{ModuleTree}
@@ -24,15 +24,15 @@ pub from_parts-parts-requires-clause-resolved : goal.from_parts-parts-requires-c
 from_parts-parts-requires-clause-resolved c =
     let before = c.requires.earlier_module in
     let parsed = still_parsed c.args.changed c.args.tree c.args.bindings c.args.types before (c.requires.same_kinds c.if-not-same_kinds.false) in
-    c.bindings_depend_on_spellings.ensures before.old c.args.changed.rescan.tokens c.args.tree c.args.bindings (c.requires.same_words c.if-same_words.true) parsed before.resolved
+    c.bindings_depend_only_on_spellings.ensures before.old c.args.changed.rescan.tokens c.args.tree c.args.bindings (c.requires.same_words c.if-same_words.true) parsed before.resolved
 
 pub from_parts-parts-requires-clause-types : goal.from_parts-parts-requires-clause-types
 from_parts-parts-requires-clause-types c =
     let before = c.requires.earlier_module in
     let same = c.requires.same_words c.if-same_words.true in
     let parsed = still_parsed c.args.changed c.args.tree c.args.bindings c.args.types before (c.requires.same_kinds c.if-not-same_kinds.false) in
-    let resolved = c.bindings_depend_on_spellings.ensures before.old c.args.changed.rescan.tokens c.args.tree c.args.bindings same parsed before.resolved in
-    c.types_depend_on_spellings.ensures before.old c.args.changed.rescan.tokens c.args.tree c.args.bindings c.args.types same resolved before.types_are
+    let resolved = c.bindings_depend_only_on_spellings.ensures before.old c.args.changed.rescan.tokens c.args.tree c.args.bindings same parsed before.resolved in
+    c.check_result_depends_only_on_spellings.ensures before.old c.args.changed.rescan.tokens c.args.tree c.args.bindings c.args.types same resolved before.types_are
 
 pub reanalyse_with_same_tree-requires-clause-parsed : goal.reanalyse_with_same_tree-requires-clause-parsed
 reanalyse_with_same_tree-requires-clause-parsed c = still_parsed c.args.changed c.args.tree c.args.bindings c.args.types c.requires.earlier_module (c.requires.same_kinds c.if-not-same_kinds.false)

@@ -1,6 +1,6 @@
 use Rattle.std.proofs.Common.{[], refl}
 use Rattle.std.proofs.lemmas.List.Elements.{All-cons, All-nil}
-use Rattle.ob0_parse.specs.KeptTokens.{IsKeptTreeInPlace}
+use Rattle.ob0_parse.specs.KeptTreeTokens.{IsKeptTreeInPlace}
 use Rattle.ob0_parse.proofs.FromTree.{parts_taken}
 use Rattle.ob0_parse.proofs.kept.KeptTrees.from_tree.Goals.{in-Some+in_ok-push, in_default}
 use Rattle.ob0_parse.proofs.kept.KeptTrees.from_tree.Goals as goal
@@ -11,7 +11,7 @@ returns c = λ s parsed.
     let P = IsKeptTreeInPlace s.tokens in
     record {
       trees = c.in_ok-keep_procedures.ensures s.tokens parts.procedures
-          (elim c.match-locate_body.branch [
+          (elim c.match-kept_tree_of_body.branch [
             | in-Some+in_ok-push w ↦ rw (w.trees-is, w.in_ok-push.ensures.items, c.new-trees.ensures.items) (All-cons P w.in-Some.body [] (w.in-Some.ensures s.tokens parts) (All-nil P))
             | in_default w ↦ rw (w.trees-is, c.new-trees.ensures.items) (All-nil P)
           ]);

@@ -1,6 +1,6 @@
 use Rattle.std.proofs.Common.{arith, refl}
 use Rattle.std.proofs.lemmas.Result.{err_from_is_err_and}
-use Rattle.ob0_tree.specs.View.{items_of, expression_of, statement_of, further_statement_of, sequence_of_vec, elsif_of, elsifs_of_vec, else_part_of}
+use Rattle.ob0_tree.specs.View.{items_of, expression_of, statement_of, statement_after_semicolon_of, sequence_of_vec, elsif_of, elsifs_of_vec, else_part_of}
 use Rattle.ob0_parse_descent.proofs.Refusals.{fails_in, fails_pass, fails_pass_token, fails_maybe}
 use Rattle.ob0_parse_descent.proofs.Expressions.{taken_item, taken_no_item}
 use Rattle.ob0_parse_descent.proofs.Items.{taking_none, taking_more, taking_done, taking_fails}
@@ -17,13 +17,13 @@ pub parse_statement-returns : goal.parse_statement-returns
 parse_statement-returns t c =
     taken_empty c.if-has_identifier_at.ensures c.if-has_reserved_word_at.ensures c.if-has_reserved_word_at-2.ensures c.if-has_reserved_word_at-3.ensures
 
-pub parse_further_statement-returns-in_err-statement : goal.parse_further_statement-returns-in_err-statement
-parse_further_statement-returns-in_err-statement t c =
+pub parse_statement_after_semicolon-returns-in_err-statement : goal.parse_statement_after_semicolon-returns-in_err-statement
+parse_statement_after_semicolon-returns-in_err-statement t c =
     let p = err_from_is_err_and c.from_residual.result c.from_residual.ensures.1 in
     rw (p.1, p.2) (led_fails leads_then_statement c.if-not-has_symbol_at.ensures.0 c.in_err-statement.ensures)
 
-pub parse_further_statement-returns : goal.parse_further_statement-returns
-parse_further_statement-returns t c =
+pub parse_statement_after_semicolon-returns : goal.parse_statement_after_semicolon-returns
+parse_statement_after_semicolon-returns t c =
     (taken_led leads_then_statement (statement_of c.in_ok-statement.statement) c.if-not-has_symbol_at.ensures.0 c.in_ok-statement.ensures, omega (arith, c.in_ok-statement.ensures.forward))
 
 pub parse_sequence-returns-in_err-first : goal.parse_sequence-returns-in_err-first
@@ -33,7 +33,7 @@ parse_sequence-returns-in_err-first t c =
 
 pub parse_sequence-loop-statements-init : goal.parse_sequence-loop-statements-init
 parse_sequence-loop-statements-init t c =
-    rw (c.in_ok-push_with_doubling.ensures.added, c.new-statements.ensures.items) (listing_one statement_of further_statement_of c.in_ok-first.first c.in_ok-first.ensures)
+    rw (c.in_ok-push_with_doubling.ensures.added, c.new-statements.ensures.items) (listing_one statement_of statement_after_semicolon_of c.in_ok-first.first c.in_ok-first.ensures)
 
 pub parse_sequence-returns-in_err-statement : goal.parse_sequence-returns-in_err-statement
 parse_sequence-returns-in_err-statement t c =
@@ -43,7 +43,7 @@ parse_sequence-returns-in_err-statement t c =
 pub parse_sequence-loop-statements-preserved : goal.parse_sequence-loop-statements-preserved
 parse_sequence-loop-statements-preserved t c =
     let item = rw c.in-Some.is at c.in_ok-statement.ensures in
-    rw c.in_ok-push_with_doubling-2.ensures.added (listing_more statement_of further_statement_of c.loop-statements.statements.items _ c.loop-statements.invariant item.0)
+    rw c.in_ok-push_with_doubling-2.ensures.added (listing_more statement_of statement_after_semicolon_of c.loop-statements.statements.items _ c.loop-statements.invariant item.0)
 
 pub parse_sequence-returns : goal.parse_sequence-returns
 parse_sequence-returns t c =

@@ -1,6 +1,6 @@
 use Rattle.std.proofs.Common.{arith}
 use Rattle.std.proofs.lemmas.Result.{err_from_is_err_and}
-use Rattle.ob0_tree.specs.View.{expression_of, type_of, optional_field_group_of, names_of, further_field_group_of}
+use Rattle.ob0_tree.specs.View.{expression_of, type_of, optional_field_group_of, names_of, field_group_after_semicolon_of}
 use Rattle.ob0_tree.proofs.Viewed.{made_record_type}
 use Rattle.ob0_parse_descent.proofs.Leads.{fails_in_token}
 use Rattle.ob0_parse_descent.proofs.Refusals.{fails_in, fails_pass, fails_pass_token}
@@ -56,13 +56,13 @@ pub parse_optional_field_group-returns : goal.parse_optional_field_group-returns
 parse_optional_field_group-returns t c =
     rw c.in_ok-boxed.ensures.ok (taken_fields (names_of c.in_ok-names.names) (type_of c.in_ok-written.written) c.in_ok-names.ensures c.in_ok-start.ensures c.in_ok-written.ensures)
 
-pub parse_further_field_group-returns-in_err-fields : goal.parse_further_field_group-returns-in_err-fields
-parse_further_field_group-returns-in_err-fields t c =
+pub parse_field_group_after_semicolon-returns-in_err-fields : goal.parse_field_group_after_semicolon-returns-in_err-fields
+parse_field_group_after_semicolon-returns-in_err-fields t c =
     let p = err_from_is_err_and c.from_residual.result c.from_residual.ensures.1 in
     rw (p.1, p.2) (led_fails leads_then_fields c.if-not-has_symbol_at.ensures.0 c.in_err-fields.ensures)
 
-pub parse_further_field_group-returns : goal.parse_further_field_group-returns
-parse_further_field_group-returns t c =
+pub parse_field_group_after_semicolon-returns : goal.parse_field_group_after_semicolon-returns
+parse_field_group_after_semicolon-returns t c =
     (taken_led leads_then_fields (optional_field_group_of c.in_ok-fields.fields) c.if-not-has_symbol_at.ensures.0 c.in_ok-fields.ensures, omega (arith, c.in_ok-fields.ensures.forward))
 
 pub parse_record_type-returns-in_err-inner : goal.parse_record_type-returns-in_err-inner
@@ -77,7 +77,7 @@ parse_record_type-returns-in_err-first t c =
 
 pub parse_record_type-loop-groups-init : goal.parse_record_type-loop-groups-init
 parse_record_type-loop-groups-init t c =
-    rw (c.in_ok-push_with_doubling.ensures.added, c.new-groups.ensures.items) (listing_one optional_field_group_of further_field_group_of c.in_ok-first.first c.in_ok-first.ensures)
+    rw (c.in_ok-push_with_doubling.ensures.added, c.new-groups.ensures.items) (listing_one optional_field_group_of field_group_after_semicolon_of c.in_ok-first.first c.in_ok-first.ensures)
 
 pub parse_record_type-returns-in_err-fields : goal.parse_record_type-returns-in_err-fields
 parse_record_type-returns-in_err-fields t c =
@@ -87,7 +87,7 @@ parse_record_type-returns-in_err-fields t c =
 pub parse_record_type-loop-groups-preserved : goal.parse_record_type-loop-groups-preserved
 parse_record_type-loop-groups-preserved t c =
     let item = rw c.in-Some.is at c.in_ok-fields.ensures in
-    rw c.in_ok-push_with_doubling-2.ensures.added (listing_more optional_field_group_of further_field_group_of c.loop-groups.groups.items _ c.loop-groups.invariant item.0)
+    rw c.in_ok-push_with_doubling-2.ensures.added (listing_more optional_field_group_of field_group_after_semicolon_of c.loop-groups.groups.items _ c.loop-groups.invariant item.0)
 
 pub parse_record_type-returns-in_err-end : goal.parse_record_type-returns-in_err-end
 parse_record_type-returns-in_err-end t c =

@@ -1,5 +1,5 @@
 use Rattle.std.proofs.lemmas.Result.{err_from_is_err_and}
-use Rattle.ob0_tree.specs.View.{expression_of, further_argument_of}
+use Rattle.ob0_tree.specs.View.{expression_of, argument_after_comma_of}
 use Rattle.ob0_parse_descent.proofs.Refusals.{fails_in}
 use Rattle.ob0_parse_descent.proofs.Lists.{listing_one, listing_more, listing_done, listing_fails}
 use Rattle.ob0_parse_descent.proofs.parser.Parser.parse_argument_list.Goals as goal
@@ -11,7 +11,7 @@ returns-in_err-first c =
 
 pub loop-arguments-init : goal.loop-arguments-init
 loop-arguments-init c =
-    rw (c.in_ok-push_with_doubling.ensures.added, c.new-arguments.ensures.items) (listing_one expression_of further_argument_of c.in_ok-first.first c.in_ok-first.ensures)
+    rw (c.in_ok-push_with_doubling.ensures.added, c.new-arguments.ensures.items) (listing_one expression_of argument_after_comma_of c.in_ok-first.first c.in_ok-first.ensures)
 
 pub returns-in_err-argument : goal.returns-in_err-argument
 returns-in_err-argument c =
@@ -21,7 +21,7 @@ returns-in_err-argument c =
 pub loop-arguments-preserved : goal.loop-arguments-preserved
 loop-arguments-preserved c =
     let item = rw c.in-Some.is at c.in_ok-argument.ensures in
-    rw c.in_ok-push_with_doubling-2.ensures.added (listing_more expression_of further_argument_of c.loop-arguments.arguments.items _ c.loop-arguments.invariant item.0)
+    rw c.in_ok-push_with_doubling-2.ensures.added (listing_more expression_of argument_after_comma_of c.loop-arguments.arguments.items _ c.loop-arguments.invariant item.0)
 
 pub returns : goal.returns
 returns c =

@@ -8,10 +8,10 @@ use Rattle.ob0_tree.specs.declared.tree.Term.{out-Term}
 use Rattle.ob0_tree.specs.Tree.{compares, one, relates}
 use Rattle.ob0_tree.specs.View.{items_of, compound_expression_of, expression_of, addend_of, multiplier_of, selector_of, factor_of, simple_expression_of}
 use Rattle.ob0_scope_table.specs.LabelledTrees.{tree_with_labels}
-use Rattle.ob0_types_table.specs.KnownTables.{shapes_of}
+use Rattle.ob0_types_table.specs.DeclarationTables.{shapes_of}
 use Rattle.ob0_language_types.proofs.TreeParts.{addend_parts, compound_alone, compound_related}
-use Rattle.ob0_run_lowering.specs.Codes.{addition_code, multiplication_code, relation_code, signed_code}
-use Rattle.ob0_run_lowering.specs.Trees.{addends_code, code_of, expression_code, factor_code, place_with_shape_of, multipliers_code, selected_place, simple_code, term_code}
+use Rattle.ob0_run_lowering.specs.Codes.{addition_code, multiplication_code, relation_code, signed_term_code}
+use Rattle.ob0_run_lowering.specs.TreeCodes.{addends_code, code_of, expression_code, factor_code, place_with_shape_of, multipliers_code, selected_place, simple_expression_code, term_code}
 use Rattle.ob0_run_lowering.proofs.CodeChains.{added_fold, added_once, fold_ends, fold_goes_on, multiplied_fold, selected_fold}
 use Rattle.ob0_run_lowering.proofs.TruthDepths.{still_flat}
 use Rattle.ob0_run_lowering.proofs.scene.Scene.+lowering.Goals as goal
@@ -21,12 +21,12 @@ lower_factor-returns-in-Designator-clause-code t c =
     let scene = c.args.self.now in
     subst (λ z. IfOk c.lower_designator.result (λ l. code_of l ≡ factor_code scene (tree_with_labels scene.resolved.now z))) (sym (designator_made c.in-Designator.d) ∙ sym (ap factor_of c.in-Designator.is)) c.lower_designator.ensures.code
 
-pub locate-loop-selector-preserved : goal.locate-loop-selector-preserved
-locate-loop-selector-preserved t c =
+pub locate_designator-loop-selector-preserved : goal.locate_designator-loop-selector-preserved
+locate_designator-loop-selector-preserved t c =
     fold_goes_on c.selector-item.result _ (selected_fold c.args.self.now) c.loop-selector.invariant c.loop-selector-test.true c.selector-item.is c.in_ok-at-2.ensures
 
-pub locate-returns : goal.locate-returns
-locate-returns t c =
+pub locate_designator-returns : goal.locate_designator-returns
+locate_designator-returns t c =
     let scene = c.args.self.now in
     let r = scene.resolved.now in
     fold_ends (selected_fold scene) c.loop-selector.invariant c.loop-selector-test.false
@@ -57,7 +57,7 @@ lower_compound_expression-returns-in_ok-right-in-Some-clause-code t c =
     let left = simple_expression_of (out-CompoundExpression c.args.c.now).left in
     subst (λ z. IfOk c.lower_relation.result (λ l. code_of l ≡ z))
     (ap (λ a. relation_code compared.relation a (code_of c.in_ok-right-in-Some.right)) c.in_ok-left.ensures.code
-    ∙ ap (relation_code compared.relation (simple_code scene (tree_with_labels r left))) c.in_ok-right-in-Some.ensures.code
+    ∙ ap (relation_code compared.relation (simple_expression_code scene (tree_with_labels r left))) c.in_ok-right-in-Some.ensures.code
     ∙ ap (λ k. expression_code scene (tree_with_labels r (compares left (one (relates (out-Comparison k).relation (simple_expression_of (out-Comparison k).right)))))) c.deref-compared.ensures
     ∙ sym (ap (λ e. expression_code scene (tree_with_labels r e)) (compound_related c.args.c.now c.in-Some.compared c.in-Some.is)))
     c.lower_relation.ensures.code
@@ -85,8 +85,8 @@ lower_simple_expression-returns-clause-code t c =
     let s = out-SimpleExpression c.args.s.now in
     fold_ends (added_fold scene) c.loop-addend.invariant.made c.loop-addend-test.false
     ∙ ap (λ xs. addends_code scene (code_of c.in_ok-so_far.so_far) (tree_with_labels r (items_of addend_of xs))) c.deref-addend-items.ensures.value
-    ∙ ap (λ k. addends_code scene k (tree_with_labels r (items_of addend_of s.more.items))) (c.in_ok-so_far.ensures.code ∙ ap (signed_code s.sign) c.in_ok-first.ensures.code)
-    ∙ sym (ap (λ z. simple_code scene (tree_with_labels r z)) (simple_parts c.args.s.now))
+    ∙ ap (λ k. addends_code scene k (tree_with_labels r (items_of addend_of s.more.items))) (c.in_ok-so_far.ensures.code ∙ ap (signed_term_code s.sign) c.in_ok-first.ensures.code)
+    ∙ sym (ap (λ z. simple_expression_code scene (tree_with_labels r z)) (simple_parts c.args.s.now))
 
 pub lower_term-loop-multiplier-preserved : goal.lower_term-loop-multiplier-preserved
 lower_term-loop-multiplier-preserved t c =

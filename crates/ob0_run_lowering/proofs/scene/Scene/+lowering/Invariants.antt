@@ -1,13 +1,13 @@
 use Rattle.std.proofs.Common.{option_map}
 use Rattle.ob0_tree.specs.View.{addend_of, multiplier_of, selector_of}
-use Rattle.ob0_types_table.specs.KnownTables.{shapes_of}
+use Rattle.ob0_types_table.specs.DeclarationTables.{shapes_of}
 use Rattle.ob0_run_lowering.specs.TruthDepths.{IsNotNestedOnLeft}
-use Rattle.ob0_run_lowering.specs.Trees.{addends_code, code_of, place_with_shape_of, multipliers_code, selected_place}
+use Rattle.ob0_run_lowering.specs.TreeCodes.{addends_code, code_of, place_with_shape_of, multipliers_code, selected_place}
 use Rattle.ob0_run_lowering.proofs.CodeChains.{Folded}
 use Rattle.ob0_run_lowering.proofs.scene.Scene.+lowering.Given as goal
 
-abbrev pub invariant-locate-loop-selector : goal.invariant-locate-loop-selector
-invariant-locate-loop-selector l =
+abbrev pub invariant-locate_designator-loop-selector : goal.invariant-locate_designator-loop-selector
+invariant-locate_designator-loop-selector l =
     Folded (selected_place l.self) l.self.resolved.now selector_of (option_map (place_with_shape_of (shapes_of l.self.types.now)) l.initial.at) l.selector-items l.selector-index (option_map (place_with_shape_of (shapes_of l.self.types.now)) l.at)
 
 abbrev pub invariant-lower_simple_expression-loop-addend : goal.invariant-lower_simple_expression-loop-addend

@@ -2,9 +2,9 @@ use Rattle.std.proofs.Common.{option_map, sym, ap, ◌∙◌}
 use Rattle.std.proofs.lemmas.Result.{IfOk-weaker}
 use Rattle.ob0_tree.specs.View.{expression_of}
 use Rattle.ob0_tree.specs.declared.tree.Designator.{out-Designator}
-use Rattle.ob0_language_types.specs.Selected.{selectors_of_designator}
+use Rattle.ob0_language_types.specs.DesignatorSelectors.{selectors_of_designator}
 use Rattle.ob0_types_table.proofs.DesignatedAlone.{labelled_designator, parts_in}
-use Rattle.ob0_run_lowering.specs.LoweredMeans.{LocatesDesignator, LocatesLoneDesignator}
+use Rattle.ob0_run_lowering.specs.LoweredExpressionMeans.{LocatesDesignator, LocatesLoneDesignator}
 use Rattle.ob0_run_lowering.proofs.Lowerings.{alone-by, alone-not}
 use Rattle.ob0_run_lowering.proofs.scene.Scene.locate_var_argument.Goals as goal
 

@@ -2,8 +2,8 @@ use Rattle.std.proofs.Common.{◌≡◌}
 use Rattle.std.proofs.lemmas.Result.{IfOk-weaker}
 use Rattle.ob0_tree.specs.View.{expression_of}
 use Rattle.ob0_scope_table.specs.LabelledTrees.{tree_with_labels}
-use Rattle.ob0_run_lowering.specs.LoweredMeans.{LowersExpression}
-use Rattle.ob0_run_lowering.specs.Trees.{code_of, expression_code}
+use Rattle.ob0_run_lowering.specs.LoweredExpressionMeans.{LowersExpression}
+use Rattle.ob0_run_lowering.specs.TreeCodes.{code_of, expression_code}
 use Rattle.ob0_run_lowering.proofs.Lowerings.{lowers-by}
 use Rattle.ob0_run_lowering.proofs.scene.Scene.lower_to_code.Goals as goal
 

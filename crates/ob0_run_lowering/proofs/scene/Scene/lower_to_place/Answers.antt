@@ -1,4 +1,4 @@
-use Rattle.ob0_language_types.specs.Selected.{selectors_of_designator}
+use Rattle.ob0_language_types.specs.DesignatorSelectors.{selectors_of_designator}
 use Rattle.ob0_run_lowering.proofs.Lowerings.{locates-by}
 use Rattle.ob0_run_lowering.proofs.scene.Scene.lower_to_place.Goals as goal
 

@@ -1,6 +1,6 @@
 use Rattle.std.proofs.Common.{IfOk, sym, subst}
 use Rattle.ob0_tree.specs.View.{formals_of}
-use Rattle.ob0_language_names.specs.Parts.{formal_sections}
+use Rattle.ob0_language_names.specs.BlockParts.{formal_sections}
 use Rattle.ob0_scope_table.specs.LabelledTrees.{tree_with_labels}
 use Rattle.ob0_run_lowering.specs.PlacedNames as placed
 use Rattle.ob0_run_lowering.specs.PlacedNames.{PlacesNames, declared_size, variable_slot_at_depth}

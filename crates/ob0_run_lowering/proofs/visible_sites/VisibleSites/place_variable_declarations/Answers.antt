@@ -1,6 +1,6 @@
 use Rattle.std.proofs.Common.{refl}
 use Rattle.ob0_tree.specs.View.{names_of}
-use Rattle.ob0_language_names.specs.Parts.{names_in_list}
+use Rattle.ob0_language_names.specs.BlockParts.{names_in_list}
 use Rattle.ob0_scope_table.specs.LabelledTrees.{tree_with_labels}
 use Rattle.ob0_language_types.specs.WellTyped.{by_value}
 use Rattle.ob0_run_lowering.specs.PlacedNames.{declared_size, add_declared_names_to_placement, variable_slot_at_depth}

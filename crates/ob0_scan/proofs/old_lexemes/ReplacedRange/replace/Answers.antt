@@ -3,7 +3,7 @@ use Rattle.std.specs.Prelude.{slice_range}
 use Rattle.std.specs.List.{replace_range}
 use Rattle.std.proofs.lemmas.Result.{MatchResult-weaker}
 use Rattle.std.proofs.lemmas.List.Folds.{drop_split}
-use Rattle.ob0_scan.specs.Reused.{ReplacesRange}
+use Rattle.ob0_scan.specs.ReusedLexemes.{ReplacesRange}
 use Rattle.ob0_scan.proofs.old_lexemes.ReplacedRange.replace.Goals as goal
 
 -- The old text with the changed bytes replaced by the new ones is the new text.

@@ -1,5 +1,5 @@
 use Rattle.std.proofs.Common.{◌≡◌, ◌++◌, drop}
-use Rattle.ob0_scope.specs.Carried.{tokens_after_body}
+use Rattle.ob0_scope.specs.BindingsOutsideBody.{tokens_after_body}
 use Rattle.ob0_scope.proofs.body_range.BodyRange.append_tokens_after.Given as goal
 
 abbrev pub invariant-loop-token : goal.invariant-loop-token

@@ -6,7 +6,7 @@ use Rattle.ob0_tree.specs.View.{block_of, body_of, constant_section_of, formals_
 use Rattle.ob0_tree.proofs.Viewed.{block_parts, procedure_made}
 use Rattle.ob0_language_names.specs.ConsistentNames.{procedure_names}
 use Rattle.ob0_scope_table.specs.DuplicatesAndEndNames.{duplicate_faults, block_declaration_faults, procedure_declaration_faults, procedures_declaration_faults}
-use Rattle.ob0_language_names.specs.Parts.{formal_names, formal_sections, declared_type_names, section_types, section_variables, variable_names}
+use Rattle.ob0_language_names.specs.BlockParts.{formal_names, formal_sections, declared_type_names, section_types, section_variables, variable_names}
 use Rattle.ob0_scope.proofs.Checking.{block_reported, gathered, procedure_reported}
 use Rattle.ob0_scope.proofs.checks.DeclarationFaultCollector.+blocks.Goals as goal
 

@@ -1,5 +1,5 @@
 use Rattle.ob0_tree.specs.View.{items_of, procedure_of}
-use Rattle.ob0_scope.specs.BlockSearches.{namesake_in_procedures}
+use Rattle.ob0_scope.specs.NamesakeSearches.{namesake_in_procedures}
 use Rattle.ob0_scope.proofs.Finding.{Finding}
 use Rattle.ob0_scope.proofs.name_conflicts.NamesakeSearch.+blocks.Given as goal
 

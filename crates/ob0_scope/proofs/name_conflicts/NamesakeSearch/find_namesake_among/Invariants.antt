@@ -1,6 +1,6 @@
 use Rattle.std.proofs.Common.{◌≡◌, ◌||◌, drop, None}
 use Rattle.std.specs.List.{list_any}
-use Rattle.ob0_scope.specs.BlockSearches.{is_bound_to_declaration, last_namesake}
+use Rattle.ob0_scope.specs.NamesakeSearches.{is_bound_to_declaration, last_namesake}
 use Rattle.ob0_scope.proofs.name_conflicts.NamesakeSearch.find_namesake_among.Given as goal
 
 abbrev pub invariant-loop-token : goal.invariant-loop-token

@@ -1,6 +1,6 @@
 use Rattle.std.proofs.Common.{◌≡◌, if◌then◌else◌, ◌++◌, List, [], ◌∷◌, None, Some, length, sym, ap, arith, vec_len, ◌∙◌, refl, subst}
 use Rattle.ob0_scope_numbering.specs.declared.newest.NameEntry.{NameEntry}
-use Rattle.ob0_scope_numbering.specs.Keys.{NameKey}
+use Rattle.ob0_scope_numbering.specs.NameKeys.{NameKey}
 use Rattle.ob0_language_names.specs.Names.{same_name}
 use Rattle.ob0_scope_numbering.specs.NewestNames.{AreNamePositions, newest_binding_in, position_of_name}
 use Rattle.ob0_scope_numbering.proofs.NewestNames.{Renews, none_newer, place_added, places_added}

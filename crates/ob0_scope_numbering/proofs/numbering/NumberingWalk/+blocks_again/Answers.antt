@@ -4,14 +4,14 @@ use Rattle.ob0_tree.specs.View.{procedure_of, body_of, type_section_of, variable
 use Rattle.ob0_tree.proofs.Viewed.{block_parts}
 use Rattle.ob0_tree.specs.declared.tree.Block.{out-Block}
 use Rattle.ob0_tree.specs.declared.tree.Procedure.{out-Procedure}
-use Rattle.ob0_scope_numbering.specs.BodyWalk.{with_procedure_skipped, renumber_block, renumber_procedure}
+use Rattle.ob0_scope_numbering.specs.BodyWalk.{with_skipped_procedure_name, renumber_block, renumber_procedure}
 use Rattle.ob0_scope_numbering.specs.IdentifierWalk.{visit_type_section, visit_variable_section}
 use Rattle.ob0_scope_numbering.proofs.Again.{enters_one, going, passes_one}
 use Rattle.ob0_scope_numbering.proofs.Going.{goes_on, gone_through}
 use Rattle.ob0_scope_numbering.proofs.numbering.NumberingWalk.+blocks_again.Goals as goal
 
-pub revisit_block-returns-then-p-low : goal.revisit_block-returns-then-p-low
-revisit_block-returns-then-p-low t c =
+pub renumber_block-returns-then-p-low : goal.renumber_block-returns-then-p-low
+renumber_block-returns-then-p-low t c =
     let b = out-Block c.args.inner.now in
     let all = c.args.all.now in
     let low = c.args.low in
@@ -29,10 +29,10 @@ revisit_block-returns-then-p-low t c =
     ∙ (ap (λ ys. going all low statements ys c.walk_variable_section.new.self) c.deref-p-items.ensures.value
     ∙ (ap (going all low statements b.procedures.items) declared
     ∙ sym (ap (λ t. renumber_block all low t c.args.self.now) (block_parts c.args.inner.now)))) in
-    subst (λ v. OnOk c.revisit_procedure.result (c.revisit_procedure.new.self ≡ v)) whole c.revisit_procedure.ensures
+    subst (λ v. OnOk c.renumber_procedure.result (c.renumber_procedure.new.self ≡ v)) whole c.renumber_procedure.ensures
 
-pub revisit_block-loop-p-preserved : goal.revisit_block-loop-p-preserved
-revisit_block-loop-p-preserved t c =
+pub renumber_block-loop-p-preserved : goal.renumber_block-loop-p-preserved
+renumber_block-loop-p-preserved t c =
     let all = c.args.all.now in
     let low = c.args.low in
     let statements = body_of (out-Block c.args.inner.now).body in
@@ -40,10 +40,10 @@ revisit_block-loop-p-preserved t c =
     goes_on (going all low statements) q c.skip_procedure.new.self c.loop-p.invariant c.loop-p-test.true c.p-item.is
     (λ rest.
     passes_one all low statements q rest c.loop-p.self (omega (arith, c.if-p-low.false))
-    ∙ ap (going all low statements rest) (sym (c.in_ok-skip_procedure.ensures ∙ ap (with_procedure_skipped (out-Procedure q).name) c.in_ok-append_declarations_before.ensures)))
+    ∙ ap (going all low statements rest) (sym (c.in_ok-skip_procedure.ensures ∙ ap (with_skipped_procedure_name (out-Procedure q).name) c.in_ok-append_declarations_before.ensures)))
 
-pub revisit_block-returns : goal.revisit_block-returns
-revisit_block-returns t c =
+pub renumber_block-returns : goal.renumber_block-returns
+renumber_block-returns t c =
     let b = out-Block c.args.inner.now in
     let all = c.args.all.now in
     let low = c.args.low in

@@ -4,5 +4,5 @@ use Rattle.ob0_scope_numbering.proofs.Again.{going}
 use Rattle.ob0_scope_numbering.proofs.Going.{Going}
 use Rattle.ob0_scope_numbering.proofs.numbering.NumberingWalk.+blocks_again.Given as goal
 
-abbrev pub invariant-revisit_block-loop-p : goal.invariant-revisit_block-loop-p
-invariant-revisit_block-loop-p l = Going (going l.all l.low (body_of (out-Block l.inner).body)) l.p-items l.initial.self l.p-index l.self
+abbrev pub invariant-renumber_block-loop-p : goal.invariant-renumber_block-loop-p
+invariant-renumber_block-loop-p l = Going (going l.all l.low (body_of (out-Block l.inner).body)) l.p-items l.initial.self l.p-index l.self

@@ -4,7 +4,7 @@ use Rattle.ob0_scan.specs.declared.lexeme.Span.{Span}
 use Rattle.ob0_refs.specs.Questions.{definition_at}
 use Rattle.ob0_scope_table.specs.Resolution.{Resolution}
 use Rattle.serde_json.specs.Data.{null}
-use Rattle.ob0_session_answers.specs.Questions.{span_location_value, value_or_null}
+use Rattle.ob0_session_answers.specs.Questions.{location_value_of_span, value_or_null}
 use Rattle.ob0_session_answers.proofs.Naming.{FoundOf, found_of, null_can_be_sent}
 use Rattle.ob0_session_answers.proofs.questions.DefinitionRequestDocumentRequest.answer.Goals as goal
 
@@ -16,11 +16,11 @@ returns-in-Some g c =
     let found = found_of c.args.analysis.now text is c.in_ok-found.field-0 c.in_ok-found.ensures.utf8 (sym c.requires) c.in_ok-found.ensures.found in
     let there = subst (λ (a : Option (Option Span)). FoundOf text is a) c.in-Some.is found in
     let same = there.2 ∙ ap (definition_at there.0) c.offset-offset.ensures in
-    IfOk-weaker c.location_answer.result _ _ (λ bytes sent. (
+    IfOk-weaker c.definition_answer.result _ _ (λ bytes sent. (
       _,
-      inl (there.0, there.1, (λ i. value_or_null (option_map (span_location_value unit (c.as_str.ensures.value i) text) (same i)))),
+      inl (there.0, there.1, (λ i. value_or_null (option_map (location_value_of_span unit (c.as_str.ensures.value i) text) (same i)))),
       sent,
-    )) c.location_answer.ensures
+    )) c.definition_answer.ensures
 
 pub returns-in-None : goal.returns-in-None
 returns-in-None g c =

@@ -1,7 +1,7 @@
 use Rattle.std.proofs.Common.{◌≡◌, ◌∙◌, ℕ, List, Option, ap, option_map, inl, inr, refl, subst, sym}
 use Rattle.std.proofs.lemmas.Result.{IfOk-weaker}
-use Rattle.ob0_refs.specs.Parts.{hover_view}
-use Rattle.ob0_refs.specs.NameHovers.{HoverText}
+use Rattle.ob0_refs.specs.AnswerViews.{hover_view}
+use Rattle.ob0_refs.specs.NameHovers.{HoverTextWithSpan}
 use Rattle.ob0_refs.specs.declared.answers.Hover.{Hover}
 use Rattle.ob0_refs.specs.Questions.{hover_at_offset}
 use Rattle.ob0_scope_table.specs.Resolution.{Resolution}
@@ -18,7 +18,7 @@ returns-in-Some g c =
     let found = found_of c.args.analysis.now text is c.in_ok-found.field-0 c.in_ok-found.ensures.utf8 (sym c.requires) c.in_ok-found.ensures.found in
     let there = subst (λ (a : Option (Option Hover)). FoundOf text is a) c.in-Some.is found in
     let same = there.2 ∙ ap (hover_at_offset there.0) c.offset-offset.ensures in
-    IfOk-weaker c.hover_answer.result _ _ (λ bytes sent. (_, inl (there.0, there.1, ap (λ (f : Option HoverText). value_or_null (option_map (hover_value_with_range unit text) f)) same), sent)) c.hover_answer.ensures
+    IfOk-weaker c.hover_answer.result _ _ (λ bytes sent. (_, inl (there.0, there.1, ap (λ (f : Option HoverTextWithSpan). value_or_null (option_map (hover_value_with_range unit text) f)) same), sent)) c.hover_answer.ensures
 
 pub returns-in-None : goal.returns-in-None
 returns-in-None g c =

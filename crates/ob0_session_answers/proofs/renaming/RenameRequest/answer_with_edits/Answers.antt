@@ -1,6 +1,6 @@
 use Rattle.std.proofs.Math.Facts.{to_z-of_z}
 use Rattle.std.proofs.lemmas.Result.{IfOk-weaker}
-use Rattle.ob0_session_answers.specs.Renamed.{rename_request_view}
+use Rattle.ob0_session_answers.specs.RenamingAnswers.{rename_request_view}
 use Rattle.ob0_session_json.proofs.Plain.{workspace_edit_can_be_sent}
 use Rattle.ob0_session_answers.proofs.renaming.RenameRequest.answer_with_edits.Goals as goal
 

@@ -3,13 +3,13 @@ use Rattle.std.proofs.Math.Facts.{to_z-of_z}
 use Rattle.std.proofs.lemmas.Result.{IfOk-weaker}
 use Rattle.serde_json.specs.Data.{Data}
 use Rattle.ob0_rpc.specs.Shapes.{result_message}
-use Rattle.ob0_rpc.specs.Writing.{Writes}
+use Rattle.ob0_rpc.specs.WrittenMessages.{Writes}
 use Rattle.ob0_text.specs.RefusalTexts.{refusal_text}
 use Rattle.ob0_text.specs.declared.edits.Edit.{Edit}
 use Rattle.ob0_text.specs.declared.refusals.EditRefusal.{EditRefusal}
-use Rattle.ob0_session_answers.specs.Renamed.{rename_request_view, edits_for_client}
+use Rattle.ob0_session_answers.specs.RenamingAnswers.{rename_request_view, edits_for_client}
 use Rattle.ob0_edits.specs.Renamings.{IsOptionalRenameResult}
-use Rattle.ob0_session_json.specs.Shapes.{edit_refusal}
+use Rattle.ob0_session_json.specs.Shapes.{edit_refusal_message}
 use Rattle.ob0_session_answers.proofs.renaming.RenameRequestDocumentRequest.answer.Goals as goal
 
 pub returns-in-Ok : goal.returns-in-Ok
@@ -33,7 +33,7 @@ returns-in-Err g c =
     let requested = rename_request_view c.args.self.now c.args.version in
     let found = subst (λ (a : Option (Result (Vec Edit Global) EditRefusal)). IsOptionalRenameResult unit text requested.at.position requested.new a) c.in-Some.is c.in_ok-outcome.ensures in
     let why = subst (λ (o : Result (Vec Edit Global) EditRefusal). IsOptionalRenameResult unit text requested.at.position requested.new (Some o)) c.in-Err.is found in
-    IfOk-weaker c.refusal_with_reason.result _ _ (λ bytes sent. (edit_refusal requested.id (refusal_text c.in-Err.refusal), inr (inl (c.in-Err.refusal, why, refl)), sent)) c.refusal_with_reason.ensures
+    IfOk-weaker c.refusal_message_for_reason.result _ _ (λ bytes sent. (edit_refusal_message requested.id (refusal_text c.in-Err.refusal), inr (inl (c.in-Err.refusal, why, refl)), sent)) c.refusal_message_for_reason.ensures
 
 pub returns-in-None : goal.returns-in-None
 returns-in-None g c =
@@ -41,4 +41,4 @@ returns-in-None g c =
     let text : List ℕ = g.T.TextStore.content c.args.text.now in
     let requested = rename_request_view c.args.self.now c.args.version in
     let found = subst (λ (a : Option (Result (Vec Edit Global) EditRefusal)). IsOptionalRenameResult unit text requested.at.position requested.new a) c.in-None.is c.in_ok-outcome.ensures in
-    IfOk-weaker c.ill_typed_refusal.result _ _ (λ bytes sent. (edit_refusal requested.id (codes "ill-typed"), inr (inr (found, refl)), sent)) c.ill_typed_refusal.ensures
+    IfOk-weaker c.refusal_message_for_ill_typed_text.result _ _ (λ bytes sent. (edit_refusal_message requested.id (codes "ill-typed"), inr (inr (found, refl)), sent)) c.refusal_message_for_ill_typed_text.ensures

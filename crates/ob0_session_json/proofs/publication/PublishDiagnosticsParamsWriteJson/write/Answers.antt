@@ -5,12 +5,12 @@ use Rattle.serde_json.specs.Data.{Data, array}
 use Rattle.serde_json.specs.View.{items_of}
 use Rattle.ob0_rpc.proofs.Appending.{object_of}
 use Rattle.ob0_session_json.specs.JsonViews.{diagnostic_view}
-use Rattle.ob0_session_json.specs.Shapes.{diagnostic_value, diagnostics_value}
+use Rattle.ob0_session_json.specs.Shapes.{diagnostic_value, diagnostic_list_value}
 use Rattle.ob0_session_json.specs.declared.publication.Diagnostic.{Diagnostic}
 use Rattle.ob0_session_json.proofs.publication.PublishDiagnosticsParamsWriteJson.write.Goals as goal
 
 -- The JSON values of a list of the code's diagnostics are the JSON values of their meanings.
-same_list : (ds : List Diagnostic) → array (items_of (map (λ d. diagnostic_value (diagnostic_view d)) ds)) ≡ diagnostics_value (map diagnostic_view ds)
+same_list : (ds : List Diagnostic) → array (items_of (map (λ d. diagnostic_value (diagnostic_view d)) ds)) ≡ diagnostic_list_value (map diagnostic_view ds)
 same_list ds = sym (ap (λ (es : List Data). array (items_of es)) (map-map diagnostic_value diagnostic_view ds))
 
 pub returns-in_ok-write_next_member-in-Some-2 : goal.returns-in_ok-write_next_member-in-Some-2

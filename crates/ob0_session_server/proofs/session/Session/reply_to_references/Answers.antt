@@ -11,6 +11,6 @@ returns g c =
     let s = c.args.self.now in
     let place = document_place_view c.args.place.now in
     let id = json_of_id c.args.id.now in
-    IfOk-weaker c.reply_about_document.result _ _ (λ sent h.
-    reacts_about s c.reply_about_document.new.self id place.uri (λ version. question_reply s.held.unit id place (references_question c.args.include_declaration)) (λ version unit text message. RepliesToQuestion unit id place (references_question c.args.include_declaration) text message) sent
-    (λ version text message a. (a.0, a.1, (message, refl, a.2))) h) (rw c.as_str.ensures.value at c.reply_about_document.ensures)
+    IfOk-weaker c.reply_to_document_request.result _ _ (λ sent h.
+    reacts_about s c.reply_to_document_request.new.self id place.uri (λ version. question_reply s.held.unit id place (references_question c.args.include_declaration)) (λ version unit text message. RepliesToQuestion unit id place (references_question c.args.include_declaration) text message) sent
+    (λ version text message a. (a.0, a.1, (message, refl, a.2))) h) (rw c.as_str.ensures.value at c.reply_to_document_request.ensures)

@@ -1,5 +1,5 @@
 use Rattle.std.proofs.Common.{◌≤◌, ap, ◌∙◌, subst}
-use Rattle.ob0_tree.specs.Depth.{capped_to_u32}
+use Rattle.ob0_tree.specs.CappedDepth.{capped_to_u32}
 use Rattle.ob0_tree.specs.Tree.{nesting}
 use Rattle.ob0_tree.specs.View.{block_of}
 use Rattle.ob0_tree.specs.ParsedModule.{tree_of}

@@ -4,9 +4,9 @@ use Rattle.ob0_tree.proofs.Viewed.{block_parts}
 use Rattle.ob0_tree.specs.declared.tree.Block.{out-Block}
 use Rattle.ob0_tree.specs.declared.tree.Procedure.{out-Procedure}
 use Rattle.ob0_tree.specs.View.{block_of, body_of, constant_section_of, items_of, procedure_of, type_section_of, variable_section_of}
-use Rattle.ob0_language_names.specs.Parts.{section_types, section_variables}
+use Rattle.ob0_language_names.specs.BlockParts.{section_types, section_variables}
 use Rattle.ob0_types_check.specs.DeclarationFaults.{report_body_if_wanted, report_on_block, report_on_procedures, report_on_type_declarations, report_on_variable_declarations, declarations_after_heading, with_declarations}
-use Rattle.ob0_types_check.specs.Operations.{◌>>=◌}
+use Rattle.ob0_types_check.specs.OperandFaults.{◌>>=◌}
 use Rattle.ob0_types_check.specs.SomeBodies.{walk_progress_of, includes_body}
 use Rattle.ob0_types_check.proofs.Chains.{chain_ends, chain_goes_on, steps, reports_same}
 use Rattle.ob0_types_check.proofs.ReportedDeclarations.{block_reported, procedure_reported, procedures_chain}

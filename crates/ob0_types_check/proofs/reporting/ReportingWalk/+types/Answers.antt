@@ -1,12 +1,12 @@
 use Rattle.std.proofs.Common.{◌≡◌, suc, IfOk, ◌∷◌, false, true, refl, sym, ap, ◌∙◌, subst, arith}
 use Rattle.std.proofs.lemmas.Result.{IfOk-weaker, on_ok_weaker}
 use Rattle.ob0_tree.proofs.Viewed.{made_record_type}
-use Rattle.ob0_tree.specs.View.{expression_of, optional_field_group_of, further_field_group_of, items_of, names_of, type_of}
+use Rattle.ob0_tree.specs.View.{expression_of, optional_field_group_of, field_group_after_semicolon_of, items_of, names_of, type_of}
 use Rattle.ob0_types_check.specs.ExpressionFaults.{report_on_expression}
-use Rattle.ob0_types_check.specs.Operations.{ReturnsAndReports, without_fault, ◌>>=◌}
-use Rattle.ob0_types_check.specs.KnownDeclarations.{TypeWithFollowingDeclarations, facts_at}
+use Rattle.ob0_types_check.specs.OperandFaults.{ReturnsAndReports, without_fault, ◌>>=◌}
+use Rattle.ob0_types_check.specs.KnownDeclarations.{TypeWithFollowingDeclarations, facts_from_declarations}
 use Rattle.ob0_types_check.specs.CheckerViews.{operand_of, declarations_in_state}
-use Rattle.ob0_types_check.specs.TypeFaults.{length_by_operand, type_named_at}
+use Rattle.ob0_types_check.specs.TypeFaults.{length_from_operand, type_named_at}
 use Rattle.ob0_types_check.specs.WrittenTypeFaults.{KnownFields, made_array_type, with_field_group, no_known_fields, next_type_ordinal, record_keyword_token, report_on_field_group, report_on_further_field_groups, report_on_written_type}
 use Rattle.ob0_types_check.specs.WrittenTypeFaults as spec
 use Rattle.ob0_types_check.proofs.Chains.{chain_ends, steps, reports_nothing, reports_same}
@@ -44,10 +44,10 @@ check_array_type-returns t c =
     let ordinal = next_type_ordinal around p in
     let deeper : c.in_ok-inside.inside ≡ suc around = omega (arith, c.in_ok-inside.ensures) in
     let size = reports_same c.in_ok-size.ensures (ap (λ facts. report_on_expression facts e) (facts_same s true)) in
-    let length = reports_same c.in_ok-length.ensures (ap (λ facts. length_by_operand facts o) (facts_same s false)) in
+    let length = reports_same c.in_ok-length.ensures (ap (λ facts. length_from_operand facts o) (facts_same s false)) in
     let element = reports_same c.in_ok-element.ensures (λ i. report_on_written_type (deeper i) p (ap type_of c.deref.ensures i)) in
     IfOk-weaker c.make_array_type.result _ _ (λ of h. reports_same
-    (steps (λ x. length_by_operand (facts_at p false) x >>= (λ k. report_on_written_type (suc around) p u >>= made_array_type ordinal x k)) size
+    (steps (λ x. length_from_operand (facts_from_declarations p false) x >>= (λ k. report_on_written_type (suc around) p u >>= made_array_type ordinal x k)) size
     (steps (λ k. report_on_written_type (suc around) p u >>= made_array_type ordinal o k) length
     (steps (made_array_type ordinal o n) element (reports_same h (ap (λ k. made_array_type k o n (record { of = c.in_ok-element.element; following = declarations_in_state c.check_nested_type.new.self.checker_state })) c.in_ok-ordinal.ensures)))))
     (sym (array_reported around p e u))) c.make_array_type.ensures
@@ -92,8 +92,8 @@ check_record_type-returns t c =
     let gs = c.args.r.now.groups.items in
     let g = c.in_ok-gathered.ensures in
     let deeper : c.in_ok-inside.inside ≡ suc around = omega (arith, c.in_ok-inside.ensures) in
-    let word = c.record_keyword_token-word.ensures ∙ ap (λ fs. record_keyword_token (items_of further_field_group_of fs)) c.deref.ensures.value in
-    let all = report_on_further_field_groups c.in_ok-inside.inside (no_known_fields p) (items_of further_field_group_of c.as_slice.result.now) in
-    let whole = (λ j. report_on_further_field_groups (deeper j) (no_known_fields p) (items_of further_field_group_of (c.as_slice.ensures.value j)) >>= spec.made_record_type (word j) (c.in_ok-ordinal.ensures j)) ∙ sym (record_reported around p gs) in
+    let word = c.record_keyword_token-word.ensures ∙ ap (λ fs. record_keyword_token (items_of field_group_after_semicolon_of fs)) c.deref.ensures.value in
+    let all = report_on_further_field_groups c.in_ok-inside.inside (no_known_fields p) (items_of field_group_after_semicolon_of c.as_slice.result.now) in
+    let whole = (λ j. report_on_further_field_groups (deeper j) (no_known_fields p) (items_of field_group_after_semicolon_of (c.as_slice.ensures.value j)) >>= spec.made_record_type (word j) (c.in_ok-ordinal.ensures j)) ∙ sym (record_reported around p gs) in
     IfOk-weaker c.make_record_type.result _ _ (λ of h. reports_same (steps {x = all.known} (spec.made_record_type c.record_keyword_token-word.result c.in_ok-ordinal.ordinal) (record { reported = g.reported; known = refl }) h) whole)
     (c.make_record_type.ensures all.known g.now)

@@ -1,7 +1,7 @@
 use Rattle.std.proofs.Common.{true, sym, ap}
 use Rattle.ob0_tree.specs.View.{expression_of}
-use Rattle.ob0_types_check.specs.Known.{a_constant}
-use Rattle.ob0_types_check.specs.Operations.{without_fault}
+use Rattle.ob0_types_check.specs.TypesAndMeanings.{a_constant}
+use Rattle.ob0_types_check.specs.OperandFaults.{without_fault}
 use Rattle.ob0_types_check.specs.KnownDeclarations.{define_name_at_token}
 use Rattle.ob0_types_check.specs.CheckerViews.{declarations_in_state}
 use Rattle.ob0_types_check.specs.TypeFaults.{report_on_constant_expression}

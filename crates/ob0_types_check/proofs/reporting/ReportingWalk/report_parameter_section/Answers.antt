@@ -2,7 +2,7 @@ use Rattle.std.proofs.Common.{◌≡◌, ◌∷◌, map, sym, ap, ◌∙◌}
 use Rattle.ob0_types_table.specs.declared.known.FormalParameter as formal
 use Rattle.ob0_tree.specs.View.{type_of}
 use Rattle.ob0_types_check.specs.DeclarationFaults.{with_parameters}
-use Rattle.ob0_types_check.specs.Operations.{without_fault}
+use Rattle.ob0_types_check.specs.OperandFaults.{without_fault}
 use Rattle.ob0_types_check.specs.CheckerViews.{formal_of, heading_in_state, declarations_in_state}
 use Rattle.ob0_types_check.proofs.Chains.{steps, reports_known, reports_same}
 use Rattle.ob0_types_check.proofs.ReportedDeclarations.{parameters_added, section_reported}

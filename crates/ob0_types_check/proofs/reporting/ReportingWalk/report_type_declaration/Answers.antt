@@ -1,7 +1,7 @@
 use Rattle.std.proofs.Common.{sym}
 use Rattle.ob0_tree.specs.View.{type_of}
-use Rattle.ob0_types_check.specs.Known.{a_type}
-use Rattle.ob0_types_check.specs.Operations.{without_fault}
+use Rattle.ob0_types_check.specs.TypesAndMeanings.{a_type}
+use Rattle.ob0_types_check.specs.OperandFaults.{without_fault}
 use Rattle.ob0_types_check.specs.KnownDeclarations.{TypeWithFollowingDeclarations, define_name_at_token}
 use Rattle.ob0_types_check.specs.CheckerViews.{declarations_in_state}
 use Rattle.ob0_types_check.proofs.Chains.{steps, reports_known, reports_same}

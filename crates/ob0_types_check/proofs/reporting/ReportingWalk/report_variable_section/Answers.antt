@@ -1,5 +1,5 @@
 use Rattle.std.proofs.Common.{sym, ap, ◌∙◌}
-use Rattle.ob0_language_names.specs.Parts.{section_variables}
+use Rattle.ob0_language_names.specs.BlockParts.{section_variables}
 use Rattle.ob0_tree.specs.View.{variable_section_of}
 use Rattle.ob0_types_check.specs.DeclarationFaults.{report_on_variable_declarations}
 use Rattle.ob0_types_check.specs.CheckerViews.{declarations_in_state}

@@ -1,9 +1,9 @@
 use Rattle.std.proofs.Common.{sym, ap, ◌∙◌}
 use Rattle.ob0_tree.proofs.Viewed.{made_record_type}
-use Rattle.ob0_tree.specs.View.{further_field_group_of, items_of, type_of}
+use Rattle.ob0_tree.specs.View.{field_group_after_semicolon_of, items_of, type_of}
 use Rattle.ob0_types_fields.specs.FieldTypes.{constructed_types}
 use Rattle.ob0_types_fields.specs.ConstructorSearch.{state_after_constructors, constructor_walk_meanings, search_view_in_walk, shape_in_walk}
-use Rattle.ob0_types_table.specs.KnownTables.{shapes_of}
+use Rattle.ob0_types_table.specs.DeclarationTables.{shapes_of}
 use Rattle.ob0_types_fields.proofs.ConstructorWalks.{items_end, items_go_on, record_walked}
 use Rattle.ob0_types_fields.proofs.field_types.ConstructorWalk.+types.Goals as goal
 
@@ -24,5 +24,5 @@ search_record-returns t c =
     let of = shape_in_walk w c.args.of in
     let gs = c.args.r.now.groups.items in
     items_end c.loop-group.invariant c.loop-group-test.false
-    ∙ (λ i. state_after_constructors (c.after_constructor-search.ensures (shapes_of w.table.now) i) (constructed_types m of (items_of further_field_group_of (c.deref-group-items.ensures.value i))))
+    ∙ (λ i. state_after_constructors (c.after_constructor-search.ensures (shapes_of w.table.now) i) (constructed_types m of (items_of field_group_after_semicolon_of (c.deref-group-items.ensures.value i))))
     ∙ ap (state_after_constructors (search_view_in_walk w c.args.search)) (sym (record_walked m of gs))

@@ -1,4 +1,4 @@
-use Rattle.ob0_types_fields.specs.Walk.{field_walk_meanings}
+use Rattle.ob0_types_fields.specs.FieldWalks.{field_walk_meanings}
 use Rattle.ob0_types_fields.proofs.DeclaredWalks.{OverProcedures}
 use Rattle.ob0_types_fields.proofs.field_walk.FieldWalk.+blocks.Given as goal
 

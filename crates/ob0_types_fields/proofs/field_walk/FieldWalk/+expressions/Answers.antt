@@ -4,8 +4,8 @@ use Rattle.ob0_tree.proofs.Viewed.{designator_made, simple_parts, term_parts}
 use Rattle.ob0_tree.specs.declared.tree.SimpleExpression.{out-SimpleExpression}
 use Rattle.ob0_tree.specs.declared.tree.Term.{out-Term}
 use Rattle.ob0_language_types.specs.Typing.{type_of_variable_or_constant}
-use Rattle.ob0_types_fields.specs.Owned.{fields_in_tree, fields_in_path}
-use Rattle.ob0_types_fields.specs.Walk.{field_walk_meanings}
+use Rattle.ob0_types_fields.specs.IdentifierOwners.{fields_in_tree, fields_in_path}
+use Rattle.ob0_types_fields.specs.FieldWalks.{field_walk_meanings}
 use Rattle.ob0_tree.specs.View.{items_of, compound_expression_of, expression_of, addend_of, multiplier_of, selector_of, term_of, factor_of}
 use Rattle.ob0_types_fields.proofs.MarkWalks.{walk_ends, after_two}
 use Rattle.ob0_types_fields.proofs.MarkPaths.{path_goes_on}

@@ -1,8 +1,8 @@
 use Rattle.std.proofs.Common.{option_map}
-use Rattle.ob0_types_table.specs.KnownTables.{shapes_of}
+use Rattle.ob0_types_table.specs.DeclarationTables.{shapes_of}
 use Rattle.ob0_types_table.specs.DeclarationTableView.{type_shape}
 use Rattle.ob0_types_fields.proofs.MarkPaths.{OnPath}
-use Rattle.ob0_types_fields.specs.Walk.{field_walk_meanings}
+use Rattle.ob0_types_fields.specs.FieldWalks.{field_walk_meanings}
 use Rattle.ob0_tree.specs.View.{addend_of, multiplier_of}
 use Rattle.ob0_types_fields.proofs.MarkWalks.{Walking}
 use Rattle.ob0_types_fields.proofs.field_walk.FieldWalk.+expressions.Given as goal

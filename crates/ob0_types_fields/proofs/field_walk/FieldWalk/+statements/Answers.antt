@@ -2,8 +2,8 @@ use Rattle.std.proofs.Common.{◌≡◌, ◌++◌, IfOk, [], sym, ap, ◌∙◌,
 use Rattle.ob0_tree.proofs.Viewed.{if_parts, repeat_read, while_read}
 use Rattle.ob0_tree.specs.declared.tree.If.{out-If}
 use Rattle.ob0_tree.specs.Tree.{branches}
-use Rattle.ob0_types_fields.specs.Owned.{fields_in_tree}
-use Rattle.ob0_types_fields.specs.Walk.{field_walk_meanings}
+use Rattle.ob0_types_fields.specs.IdentifierOwners.{fields_in_tree}
+use Rattle.ob0_types_fields.specs.FieldWalks.{field_walk_meanings}
 use Rattle.ob0_tree.specs.View.{items_of, statement_of, sequence_of_list, expression_of, elsif_of, else_part_of}
 use Rattle.ob0_types_fields.proofs.MarkWalks.{joined, joined_four}
 use Rattle.ob0_types_fields.proofs.field_walk.FieldWalk.+statements.Goals as goal

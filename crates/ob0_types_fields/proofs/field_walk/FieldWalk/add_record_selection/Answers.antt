@@ -1,9 +1,9 @@
 use Rattle.std.proofs.Common.{◌≡◌, ◌++◌, Some, None, option_map, sym, ap, ◌∙◌, append-nil}
 use Rattle.ob0_tree.specs.Places.{token_text_at}
 use Rattle.ob0_language_types.specs.Typing.{shape_of_field}
-use Rattle.ob0_types_table.specs.KnownTables.{shapes_of}
+use Rattle.ob0_types_table.specs.DeclarationTables.{shapes_of}
 use Rattle.ob0_types_table.specs.DeclarationTableView.{field_shapes, type_shape}
-use Rattle.ob0_types_fields.specs.Walk.{field_walk_meanings}
+use Rattle.ob0_types_fields.specs.FieldWalks.{field_walk_meanings}
 use Rattle.ob0_types_fields.proofs.FieldLookups.{marked_by_type}
 use Rattle.ob0_types_fields.proofs.field_walk.FieldWalk.add_record_selection.Goals as goal
 

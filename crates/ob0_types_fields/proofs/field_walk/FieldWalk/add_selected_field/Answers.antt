@@ -1,10 +1,10 @@
 use Rattle.std.proofs.Common.{◌≡◌, ◌++◌, IfOk, Option, Some, option_and_then, option_map, sym, ap, ◌∙◌, subst}
 use Rattle.ob0_language_types.specs.Typing.{field_type}
-use Rattle.ob0_types_table.specs.KnownTables.{shapes_of}
+use Rattle.ob0_types_table.specs.DeclarationTables.{shapes_of}
 use Rattle.ob0_types_table.specs.TypeWithParts.{shape_of_type_with_parts}
 use Rattle.ob0_types_table.specs.DeclarationTableView.{type_shape}
-use Rattle.ob0_types_fields.specs.Owned.{field_if_owned, owner}
-use Rattle.ob0_types_fields.specs.Walk.{field_walk_meanings, record_shape_in_walk}
+use Rattle.ob0_types_fields.specs.IdentifierOwners.{field_if_owned, owner}
+use Rattle.ob0_types_fields.specs.FieldWalks.{field_walk_meanings, record_shape_in_walk}
 use Rattle.ob0_language_values.specs.Values.{Shape}
 use Rattle.ob0_types_fields.proofs.field_walk.FieldWalk.add_selected_field.Goals as goal
 

@@ -1,17 +1,17 @@
 use Rattle.std.proofs.Common.{ap, subst}
 use Rattle.std.specs.Prelude.{is_ok, is_some}
-use Rattle.ob0_world_editor.specs.Moves.{IsApplyOutcome}
+use Rattle.ob0_world_editor.specs.EditorCalls.{IsApplyOutcome}
 use Rattle.ob0_world_rules.specs.ClientAndServer.{ClientAndServer}
 use Rattle.ob0_world_rules.specs.EditorActs.{apply, act_result, edits_of_answer}
 use Rattle.ob0_world_rules.specs.Happens.{editor_acts}
 use Rattle.ob0_world.specs.Queues.{model_from_fields, wire_from_fields}
 use Rattle.ob0_world.specs.Seen.{nothing, applies, drops, HappensWithReport}
-use Rattle.ob0_world.specs.Worlds.{Connection, WritesContent}
+use Rattle.ob0_world.specs.Worlds.{Connection, QueuesAtMostOneContent}
 use Rattle.ob0_world.proofs.Moved.{writes_none, writes_one, applied_sound, made_says, made_happens, not_held_happens, dropped_happens, maybe_pushed}
 use Rattle.ob0_world.proofs.connection.Connection.apply.Goals as goal
 
-pub invariant_of-self-in-NotHeld : goal.invariant_of-self-in-NotHeld
-invariant_of-self-in-NotHeld g c =
+pub invariant_of-self-in-NoSuchAnswer : goal.invariant_of-self-in-NoSuchAnswer
+invariant_of-self-in-NoSuchAnswer g c =
     let i = c.self.inside in
     applied_sound i.editor c.apply.new.self c.args.k _ i.to_server.items i.to_editor.items i.session c.in_ok-apply.ensures.ok c.self.invariant
 
@@ -44,17 +44,17 @@ invariant_of-self-in-Made g c =
     (subst (λ x. IsApplyOutcome (act_result i.editor (apply c.args.k)) (is_some (edits_of_answer c.args.k i.editor.answers)) x c.apply.new.self) c.in-Made.is c.in_ok-apply.ensures.ok))
     (applied_sound i.editor c.apply.new.self c.args.k _ i.to_server.items i.to_editor.items i.session c.in_ok-apply.ensures.ok c.self.invariant)
 
-pub returns-in-NotHeld-clause-ok : goal.returns-in-NotHeld-clause-ok
-returns-in-NotHeld-clause-ok g c =
+pub returns-in-NoSuchAnswer-clause-ok : goal.returns-in-NoSuchAnswer-clause-ok
+returns-in-NoSuchAnswer-clause-ok g c =
     let i = c.self.inside in
     subst (λ (w : ClientAndServer). HappensWithReport w (editor_acts (apply c.args.k)) nothing (model_from_fields c.apply.new.self i.to_server.items i.session i.to_editor.items i.applied.items i.made.items)) (ap (λ (w : Connection). w.model) c.self.view_is)
     (not_held_happens i.editor c.apply.new.self c.args.k i.to_server.items i.to_editor.items i.session i.applied.items i.made.items
-    (subst (λ x. IsApplyOutcome (act_result i.editor (apply c.args.k)) (is_some (edits_of_answer c.args.k i.editor.answers)) x c.apply.new.self) c.in-NotHeld.is c.in_ok-apply.ensures.ok) c.self.invariant)
+    (subst (λ x. IsApplyOutcome (act_result i.editor (apply c.args.k)) (is_some (edits_of_answer c.args.k i.editor.answers)) x c.apply.new.self) c.in-NoSuchAnswer.is c.in_ok-apply.ensures.ok) c.self.invariant)
 
-pub returns-in-NotHeld-clause-wire : goal.returns-in-NotHeld-clause-wire
-returns-in-NotHeld-clause-wire g c =
+pub returns-in-NoSuchAnswer-clause-wire : goal.returns-in-NoSuchAnswer-clause-wire
+returns-in-NoSuchAnswer-clause-wire g c =
     let i = c.self.inside in
-    subst (λ (w : Connection). WritesContent w.wire (wire_from_fields i.session i.taken.items i.to_server.items i.got.items i.to_editor.items)) c.self.view_is
+    subst (λ (w : Connection). QueuesAtMostOneContent w.wire (wire_from_fields i.session i.taken.items i.to_server.items i.got.items i.to_editor.items)) c.self.view_is
     (writes_none i.session i.taken.items i.to_server.items i.got.items i.to_editor.items)
 
 pub returns-in-Dropped-clause-ok : goal.returns-in-Dropped-clause-ok
@@ -67,7 +67,7 @@ returns-in-Dropped-clause-ok g c =
 pub returns-in-Dropped-clause-wire : goal.returns-in-Dropped-clause-wire
 returns-in-Dropped-clause-wire g c =
     let i = c.self.inside in
-    subst (λ (w : Connection). WritesContent w.wire (wire_from_fields i.session i.taken.items i.to_server.items i.got.items i.to_editor.items)) c.self.view_is
+    subst (λ (w : Connection). QueuesAtMostOneContent w.wire (wire_from_fields i.session i.taken.items i.to_server.items i.got.items i.to_editor.items)) c.self.view_is
     (writes_none i.session i.taken.items i.to_server.items i.got.items i.to_editor.items)
 
 pub returns-in_ok-push-in-Made-clause-ok : goal.returns-in_ok-push-in-Made-clause-ok
@@ -81,5 +81,5 @@ returns-in_ok-push-in-Made-clause-ok g c =
 pub returns-in_ok-push-in-Made-clause-wire : goal.returns-in_ok-push-in-Made-clause-wire
 returns-in_ok-push-in-Made-clause-wire g c =
     let i = c.self.inside in
-    subst (λ (w : Connection). WritesContent w.wire (wire_from_fields i.session i.taken.items c.push_back.new.self.items i.got.items i.to_editor.items)) c.self.view_is
+    subst (λ (w : Connection). QueuesAtMostOneContent w.wire (wire_from_fields i.session i.taken.items c.push_back.new.self.items i.got.items i.to_editor.items)) c.self.view_is
     (writes_one i.session i.taken.items i.to_server.items i.got.items i.to_editor.items c.push_back.new.self.items c.in-Made.content c.in_ok-push_back-in-Made.ensures.items)

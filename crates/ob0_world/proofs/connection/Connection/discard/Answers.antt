@@ -4,7 +4,7 @@ use Rattle.ob0_world_rules.specs.EditorActs as acts
 use Rattle.ob0_world_rules.specs.Happens.{editor_acts}
 use Rattle.ob0_world.specs.Queues.{model_from_fields, wire_from_fields}
 use Rattle.ob0_world.specs.Seen.{drops, nothing, report_of, HappensWithReport}
-use Rattle.ob0_world.specs.Worlds.{Connection, WritesContent}
+use Rattle.ob0_world.specs.Worlds.{Connection, QueuesAtMostOneContent}
 use Rattle.ob0_world.proofs.Moved.{discard_shows, writes_none}
 use Rattle.ob0_world.proofs.connection.Connection.discard.Goals as goal
 use Rattle.ob0_world.proofs.connection.Connection.discard.Goals.{then-discard, else-discard}
@@ -25,5 +25,5 @@ returns-clause-ok g c =
 pub returns-clause-wire : goal.returns-clause-wire
 returns-clause-wire g c =
     let i = c.self.inside in
-    subst (λ (w : Connection). WritesContent w.wire (wire_from_fields i.session i.taken.items i.to_server.items i.got.items i.to_editor.items)) c.self.view_is
+    subst (λ (w : Connection). QueuesAtMostOneContent w.wire (wire_from_fields i.session i.taken.items i.to_server.items i.got.items i.to_editor.items)) c.self.view_is
     (writes_none i.session i.taken.items i.to_server.items i.got.items i.to_editor.items)

@@ -7,7 +7,7 @@ use Rattle.ob0_world_rules.specs.ClientAndServer.{ClientAndServer}
 use Rattle.ob0_world_rules.specs.Happens.{serve}
 use Rattle.ob0_world.specs.Seen.{served, HappensWithReport}
 use Rattle.ob0_world.specs.Queues.{content_bytes, model_from_fields, wire_from_fields, publication_in_first_content}
-use Rattle.ob0_world.specs.Worlds.{Connection, SessionTakesFirst}
+use Rattle.ob0_world.specs.Worlds.{Connection, SessionTakesFirstContent}
 use Rattle.ob0_world.proofs.Serving.{turn, rest_sound, turn_running, turn_sound, turn_happens, turn_taken}
 use Rattle.ob0_world.proofs.connection.Connection.serve.Goals as goal
 use Rattle.ob0_world.proofs.connection.Connection.serve.Goals.{in-Some-made, in_default-made}
@@ -86,8 +86,8 @@ returns-clause-wire g c =
     let taken = turn_taken i.to_server.items c.pop_front.new.self.items i.to_editor.items c.append.new.self.items i.taken.items c.push_reserved.new.self.items i.got.items i.session c.serve_content.new.session c.in-Some.content c.in_ok-sent.sent.items c.in-Some.ensures.items answered
     (c.in_ok-append.ensures.items ∙ ap (λ x. i.to_editor.items ++ x) c.from_vec.ensures.items) (c.push_reserved.ensures.items ∙ ap (λ x. x ++ c.in-Some.content ∷ []) c.reserve.ensures.items) in
     let after = wire_from_fields c.serve_content.new.session c.push_reserved.new.self.items c.pop_front.new.self.items i.got.items c.append.new.self.items in
-    let from_old : SessionTakesFirst c.args.self.now.wire.to_server c.args.self.now.wire after = subst (λ (x : Connection). SessionTakesFirst x.wire.to_server x.wire after) c.self.view_is taken in
+    let from_old : SessionTakesFirstContent c.args.self.now.wire.to_server c.args.self.now.wire after = subst (λ (x : Connection). SessionTakesFirstContent x.wire.to_server x.wire after) c.self.view_is taken in
     elim c.match-made-4.branch [
-      | in-Some-made w ↦ subst (λ (x : Connection). SessionTakesFirst c.args.self.now.wire.to_server c.args.self.now.wire x.wire) (sym w.self-is) from_old
-      | in_default-made w ↦ subst (λ (x : Connection). SessionTakesFirst c.args.self.now.wire.to_server c.args.self.now.wire x.wire) (sym w.self-is) from_old
+      | in-Some-made w ↦ subst (λ (x : Connection). SessionTakesFirstContent c.args.self.now.wire.to_server c.args.self.now.wire x.wire) (sym w.self-is) from_old
+      | in_default-made w ↦ subst (λ (x : Connection). SessionTakesFirstContent c.args.self.now.wire.to_server c.args.self.now.wire x.wire) (sym w.self-is) from_old
     ]

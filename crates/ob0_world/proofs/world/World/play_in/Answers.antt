@@ -1,6 +1,6 @@
 use Rattle.std.proofs.Common.{◌∙◌, ◌+◌, map, refl, ap, subst}
 use Rattle.std.proofs.lemmas.List.{take_all}
-use Rattle.ob0_world.specs.Code.{event_of}
+use Rattle.ob0_world.specs.ModelValues.{event_of}
 use Rattle.ob0_world.specs.Worlds.{IsConnectionCourse}
 use Rattle.ob0_world.proofs.world.World.play_in.Goals as goal
 use Rattle.ob0_world.proofs.Courses.{plays, plays_nothing, plays_before, course_more, come_before, passed_before}

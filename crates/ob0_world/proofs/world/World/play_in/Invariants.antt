@@ -1,5 +1,5 @@
 use Rattle.std.proofs.Common.{◌≡◌, false, take, map}
-use Rattle.ob0_world.specs.Code.{event_of}
+use Rattle.ob0_world.specs.ModelValues.{event_of}
 use Rattle.ob0_world.specs.Worlds.{Connection, IsInitialConnection, IsConnectionCourse}
 use Rattle.ob0_world.proofs.world.World.play_in.Given as goal
 

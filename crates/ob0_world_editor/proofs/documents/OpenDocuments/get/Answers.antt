@@ -2,7 +2,7 @@ use Rattle.std.proofs.Common.{◌≡◌, ◌∙◌, sym, ap, Option, Some, None,
 use Rattle.std.specs.Option.{option_map}
 use Rattle.std.specs.FinMap as map_of
 use Rattle.ob0_world_rules.specs.ClientAndServer.{EditorDocuments}
-use Rattle.ob0_world_editor.specs.Entries.{open_document_of}
+use Rattle.ob0_world_editor.specs.StoredDocuments.{open_document_of}
 use Rattle.ob0_world_editor.proofs.EntryLaws.{get-documents}
 use Rattle.ob0_world_editor.proofs.documents.OpenDocuments.get.Goals as goal
 

@@ -1,8 +1,8 @@
 use Rattle.std.proofs.Common.{◌≡◌, ◌∙◌, ap, sym, map, get_or, Some}
 use Rattle.ob0_world_rules.specs.ClientAndServer.{Editor}
 use Rattle.ob0_world_rules.specs.EditorActs.{edits_of_answer, answers_except}
-use Rattle.ob0_world_editor.specs.Code.{answer_of}
-use Rattle.ob0_world_editor.specs.Moves.{IsIndexOfAnswer}
+use Rattle.ob0_world_editor.specs.ModelValues.{answer_of}
+use Rattle.ob0_world_editor.specs.EditorCalls.{IsIndexOfAnswer}
 use Rattle.ob0_world_editor.proofs.Moving.{none_goes, use_edits}
 use Rattle.ob0_world_editor.proofs.editor.Editor.take_answer.Goals as goal
 

@@ -11,7 +11,7 @@ use Rattle.ob0_tree.specs.Tree.{compares, one, relates}
 use Rattle.ob0_tree.specs.View.{addend_of, compound_expression_of, expression_of, factor_of, items_of, multiplier_of, selector_of, simple_expression_of, term_of}
 use Rattle.ob0_language_types.proofs.TreeParts.{addend_parts, compound_alone, compound_related}
 use Rattle.ob0_types_check.specs.ExpressionFaults.{report_on_addends, report_on_expression, report_on_factor, report_on_multipliers, report_on_selector, report_on_selectors, report_on_simple_expression, report_on_term}
-use Rattle.ob0_types_check.specs.Operations.{add_operands, negated_operand, element_operand, operand_in_parentheses, multiply_operands, relate_operands, without_fault, signed_operand, ◌>>=◌}
+use Rattle.ob0_types_check.specs.OperandFaults.{add_operands, negated_operand, element_operand, operand_in_parentheses, multiply_operands, relate_operands, without_fault, signed_operand, ◌>>=◌}
 use Rattle.ob0_types_check.specs.CheckerViews.{facts_in, operand_of}
 use Rattle.ob0_types_check.proofs.Chains.{chain_ends, chain_goes_on, steps, reports_nothing, reports_same}
 use Rattle.ob0_types_check.proofs.ReportedParts.{added_chain, alone_reported, designator_reported, factor_reported, field_reported, index_reported, integer_reported, multiplied_chain, negation_reported, nothing_selected, parentheses_reported, related_reported, selected_chain, simple_reported, term_reported, reported_added}

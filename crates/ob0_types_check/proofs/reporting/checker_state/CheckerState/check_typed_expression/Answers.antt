@@ -1,6 +1,6 @@
 use Rattle.std.proofs.Common.{◌++◌, false, sym, ap, ◌∙◌}
 use Rattle.ob0_tree.specs.View.{expression_of}
-use Rattle.ob0_types_check.specs.Operations.{required_type}
+use Rattle.ob0_types_check.specs.OperandFaults.{required_type}
 use Rattle.ob0_types_check.specs.CheckerViews.{facts_in}
 use Rattle.ob0_types_check.proofs.Chains.{steps}
 use Rattle.ob0_types_check.proofs.ReportedStatements.{requested_reported}

@@ -1,4 +1,4 @@
-use Rattle.ob0_types_check.specs.Known.{a_variable}
+use Rattle.ob0_types_check.specs.TypesAndMeanings.{a_variable}
 use Rattle.ob0_types_check.specs.CheckerViews.{declarations_in_state}
 use Rattle.ob0_types_check.proofs.ReportedDeclarations.{DefinedSoFar}
 use Rattle.ob0_types_check.proofs.reporting.checker_state.CheckerState.define_names_at_tokens.Given as goal

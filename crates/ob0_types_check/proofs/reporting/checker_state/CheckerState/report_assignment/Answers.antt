@@ -1,7 +1,7 @@
 use Rattle.std.proofs.Common.{◌++◌, false, sym, ap, ◌∙◌}
 use Rattle.std.proofs.lemmas.Result.{on_ok_weaker}
 use Rattle.ob0_tree.specs.View.{expression_of, items_of, selector_of}
-use Rattle.ob0_types_check.specs.Operations.{typed_name_operand}
+use Rattle.ob0_types_check.specs.OperandFaults.{typed_name_operand}
 use Rattle.ob0_types_check.specs.ExpressionFaults.{report_on_selectors}
 use Rattle.ob0_types_check.specs.StatementFaults.{typed_expression_faults}
 use Rattle.ob0_types_check.specs.CheckerViews.{facts_in}

@@ -1,0 +1,144 @@
+//! Renames a declaration or field in a file's text, and prints the result.
+//!
+//! `rename_text` analyses the text once. `rename_edits` of `ob0_edits` computes the edits from that
+//! analysis. If the text isn't a well-typed module, the diagnostics of the same analysis are
+//! printed, as in `validate_or_print_diagnoses`. `rename_utf8_text` does the work once the bytes
+//! are known to be UTF-8. It is a separate function because its proof needs a `&str`. The contract of
+//! `rename_edits` is about the characters of a text, and the contract of `diagnoses` is about the
+//! bytes. A `&str` relates the two.
+
+ghost use Rattle.std.specs.Prelude.{◌≡◌, true, IfOk, IfErr, OnErr};
+ghost use Rattle.ob0_commands.specs.CommandEndings.{EndsWithoutFault};
+ghost use Rattle.ob0_commands.specs.CommandEffects.{RenamesInFile};
+ghost use Rattle.ob0_commands.specs.RenameOutput.{PrintsRefusal, PrintsEditedText, RenameEndsWithoutFault};
+ghost use Rattle.ob0_commands.specs.StderrLines.{PrintsLine};
+ghost use Rattle.ob0_commands.specs.Statuses.{IsMemoryFaultOnlyForShortFile, IsShortNonUtf8File, OutputFailureMatchesFault, PrintsNothingUnlessWriteFault, IsWriteOrMemoryFault, MayStopCommandOnFile};
+
+use crate::check_command::{analyse_without_drop, decode_or_print_too_long, print_diagnoses};
+use crate::faults::{FileFault, print_fault};
+use crate::tracked_output::{Output, print};
+use ob0_edits::rename_edits;
+use ob0_text::{Edit, EditRefusal, Lines, Position, TextStore, patch};
+use std::alloc::Global;
+
+/// Prints a file's text to `out`, with the declaration or field at a position renamed to `new`, and
+/// returns the program's exit status. The position's line and UTF-16 units are counted from 0. If
+/// the name is refused, `refused: TEXT` is printed to `err`. If the file isn't a well-typed module,
+/// its diagnostics are printed as `check_text` prints them. The status is 0 if the text is printed,
+/// and 1 for a refusal or diagnostics. For 4 and 5, see `check_text`.
+pub fn rename_text<O: Output, E: Output>(
+    alloc: Global,
+    file: &[u8],
+    position: Position,
+    new: &str,
+    out: &mut O,
+    err: &mut E,
+) -> u8
+    ensures { RenamesInFile O.contents O.is_flushed O.has_failed out.old out.new
+        (PrintsLine E.contents E.is_flushed E.has_failed err.old err.new) file.now position new.now
+        result }
+{
+    match try_rename_text(alloc, file, position, new, out, err) {
+        Ok(status) => status,
+        Err(fault) => print_fault(fault, err),
+    }
+}
+
+/// Does the work of `rename_text`, but returns a fault instead of printing the line `fault: NAME`
+/// for the fault.
+fn try_rename_text<O: Output, E: Output>(
+    alloc: Global,
+    file: &[u8],
+    position: Position,
+    new: &str,
+    out: &mut O,
+    err: &mut E,
+) -> Result<u8, FileFault>
+    ensures ends { IfOk result (RenameEndsWithoutFault O.contents O.is_flushed out.old out.new
+        (PrintsLine E.contents E.is_flushed E.has_failed err.old err.new) file.now position new.now
+        (¬ IsShortNonUtf8File file.now × (O.has_failed out.new ≡ O.has_failed out.old))) }
+    ensures fault { IfErr result (MayStopCommandOnFile file.now) }
+    ensures failed { IfErr result
+        (OutputFailureMatchesFault (O.has_failed out.old) (O.has_failed out.new)) }
+    ensures memory { IfErr result (IsMemoryFaultOnlyForShortFile file.now) }
+    ensures kept { IfErr result (PrintsNothingUnlessWriteFault out.old out.new) }
+    ensures unsaid { OnErr result (err.new ≡ err.old) }
+{
+    let Some(text) = decode_or_print_too_long(file, out)? else {
+        return Ok(1);
+    };
+    rename_utf8_text(alloc, text, position, new, out, err)
+}
+
+/// Prints a text with the declaration or field at a position renamed, or the refusal of the name.
+/// If the text isn't a well-typed module, prints its diagnostics instead. Returns the program's
+/// exit status: 0 for the renamed text, otherwise 1.
+fn rename_utf8_text<O: Output, E: Output>(
+    alloc: Global,
+    text: &str,
+    position: Position,
+    new: &str,
+    out: &mut O,
+    err: &mut E,
+) -> Result<u8, FileFault>
+    ensures ends { IfOk result (RenameEndsWithoutFault O.contents O.is_flushed out.old out.new
+        (PrintsLine E.contents E.is_flushed E.has_failed err.old err.new) text.now position new.now
+        (O.has_failed out.new ≡ O.has_failed out.old)) }
+    ensures fault { IfErr result IsWriteOrMemoryFault }
+    ensures failed { IfErr result
+        (OutputFailureMatchesFault (O.has_failed out.old) (O.has_failed out.new)) }
+    ensures kept { IfErr result (PrintsNothingUnlessWriteFault out.old out.new) }
+    ensures unsaid { OnErr result (err.new ≡ err.old) }
+{
+    let store = Lines::from_str(alloc, text)?;
+    let analysis = analyse_without_drop(alloc, text)?;
+    match rename_edits(alloc, &store, &analysis, position, new)? {
+        Some(outcome) => print_rename_outcome(alloc, &store, outcome, out, err),
+        None => {
+            let reported = analysis.diagnoses(alloc)?;
+            print_diagnoses(alloc, text, reported.as_slice(), out)?;
+            Ok(1)
+        }
+    }
+}
+
+/// Applies the edits and prints the edited text to `out`, or prints the refusal to `err` as
+/// `refused: TEXT`. Returns the program's exit status: 0 for edits, 1 for a refusal. If an
+/// allocation fails, the fault is `Memory`.
+pub fn print_rename_outcome<T: TextStore, O: Output, E: Output>(
+    alloc: Global,
+    store: &T,
+    edits: Result<Vec<Edit>, EditRefusal>,
+    out: &mut O,
+    err: &mut E,
+) -> Result<u8, FileFault>
+    ensures ends { IfOk result (EndsWithoutFault
+        (PrintsEditedText (T.unit_of store.now) (T.content store.now) edits (O.contents out.old)
+        (O.contents out.new) × (O.is_flushed out.new ≡ true) × (err.new ≡ err.old))
+        (PrintsRefusal edits (PrintsLine E.contents E.is_flushed E.has_failed err.old err.new)
+        × (out.new ≡ out.old))
+        (O.has_failed out.new ≡ O.has_failed out.old)) }
+    ensures fault { IfErr result IsWriteOrMemoryFault }
+    ensures failed { IfErr result
+        (OutputFailureMatchesFault (O.has_failed out.old) (O.has_failed out.new)) }
+    ensures kept { IfErr result (PrintsNothingUnlessWriteFault out.old out.new) }
+    ensures unsaid { OnErr result (err.new ≡ err.old) }
+{
+    match edits {
+        Ok(edits) => match patch(alloc, store, edits.as_slice()) {
+            Ok(text) => {
+                print(out, text.as_str())?;
+                Ok(0)
+            }
+            Err(_) => Err(FileFault::Memory),
+        },
+        Err(EditRefusal::Memory) => Err(FileFault::Memory),
+        Err(refusal) => {
+            let text = refusal.text(alloc)?;
+            let name = text.as_str();
+            let line = format!(in alloc; "refused: {name}\n")?;
+            let _ = print(err, line.as_str());
+            Ok(1)
+        }
+    }
+}

@@ -1,0 +1,104 @@
+//! Checks whether an edited text is nested deeper than a module may be.
+
+ghost use Rattle.std.specs.Prelude.{◌≡◌, ◌≤◌, ◌+◌, List, IfOk, IfErr, map, nat_le, nat_lt, ℕ};
+ghost use Rattle.ob0_edits_tokens.specs.Replacements.{EditsGiveWords};
+ghost use Rattle.ob0_edits_tokens.specs.WordTerminals.{terminal_of_word};
+ghost use Rattle.ob0_scan.specs.TextWithTokens.{IsScan, TextWithTokens, Word};
+ghost use Rattle.ob0_text.specs.declared.refusals.EditRefusal.TheVariants.{Memory};
+ghost use Rattle.ob0_tree.specs.Module.{max_nesting, terminals_of_text};
+ghost use Rattle.ob0_tree.specs.ParsedModule.{tree_of};
+ghost use Rattle.ob0_tree.specs.Tree.{Tree, module_text, nesting, spell};
+
+use ob0_parse::parse;
+use ob0_parse_descent::ParseRefusal;
+use ob0_scan::{ScanRefusal, Tokens, scan};
+use ob0_text::{Edit, EditRefusal, PatchFault, TextStore, patch};
+use ob0_tree::{MAX_NESTING, Module};
+use std::alloc::Global;
+
+/// Returns whether the text that results from the edits is nested deeper than a module may be.
+/// `read` is the module before the edits. The contract assumes that the edits add at most one level
+/// of nesting. So the result is false if `read` has fewer than `MAX_NESTING` levels. Otherwise the
+/// edited text is parsed to find out.
+pub(crate) fn is_edited_text_too_deep<T: TextStore>(
+    alloc: Global,
+    store: &T,
+    read: &Module,
+    edits: &[Edit],
+) -> Result<bool, EditRefusal>
+    ensures deep { (ws : List Word) (t : Tree (List ℕ) module_text)
+        → EditsGiveWords (T.unit_of store.now) (T.content store.now) edits.now ws
+        → map terminal_of_word ws ≡ spell t → nesting t ≤ nesting (tree_of read.now) + 1
+        → IfOk result (λ deep. deep ≡ nat_lt max_nesting (nesting t)) }
+    ensures memory { IfErr result (λ refusal. refusal ≡ Memory) }
+{
+    if read.nesting() < MAX_NESTING {
+        return Ok(false);
+    }
+    is_edited_text_too_deep_by_parsing(alloc, store, edits)
+}
+
+/// Returns whether the text that results from the edits is nested deeper than a module may be. The
+/// edited text is parsed to find out. The result is also true if the edits overlap or the edited
+/// text isn't a module. The contract covers neither case.
+fn is_edited_text_too_deep_by_parsing<T: TextStore>(
+    alloc: Global,
+    store: &T,
+    edits: &[Edit],
+) -> Result<bool, EditRefusal>
+    ensures deep { (ws : List Word) (t : Tree (List ℕ) module_text)
+        → EditsGiveWords (T.unit_of store.now) (T.content store.now) edits.now ws
+        → map terminal_of_word ws ≡ spell t
+        → IfOk result (λ deep. deep ≡ nat_lt max_nesting (nesting t)) }
+    ensures memory { IfErr result (λ refusal. refusal ≡ Memory) }
+{
+    match patch(alloc, store, edits) {
+        Ok(text) => {
+            let module = can_be_parsed(alloc, text.as_str())?;
+            Ok(!module)
+        }
+        Err(fault) => match fault {
+            PatchFault::Overlap => Ok(true),
+            PatchFault::Memory => Err(EditRefusal::Memory),
+        },
+    }
+}
+
+/// Returns whether the text can be scanned and parsed as a module. If the text's tokens spell the
+/// tree of a module, the result is true exactly if the tree isn't nested deeper than a module may
+/// be.
+fn can_be_parsed(alloc: Global, text: &str) -> Result<bool, EditRefusal>
+    ensures shallow { (s : TextWithTokens) (t : Tree (List ℕ) module_text) → IsScan s → s.text ≡ text.now
+        → terminals_of_text s ≡ spell t
+        → IfOk result (λ shallow. shallow ≡ nat_le (nesting t) max_nesting) }
+    ensures memory { IfErr result (λ refusal. refusal ≡ Memory) }
+{
+    match scan(alloc, text) {
+        Ok(tokens) => tokens_can_be_parsed(alloc, &tokens),
+        Err(refusal) => match refusal {
+            ScanRefusal::Faults(_faults) => Ok(false),
+            ScanRefusal::Memory => Err(EditRefusal::Memory),
+        },
+    }
+}
+
+/// Returns whether these tokens can be parsed as a module. If the tokens spell the tree of a
+/// module, the result is true exactly if the tree isn't nested deeper than a module may be.
+fn tokens_can_be_parsed(alloc: Global, tokens: &Tokens) -> Result<bool, EditRefusal>
+    ensures shallow { (t : Tree (List ℕ) module_text)
+        → terminals_of_text tokens.now ≡ spell t
+        → IfOk result (λ shallow. shallow ≡ nat_le (nesting t) max_nesting) }
+    ensures memory { IfErr result (λ refusal. refusal ≡ Memory) }
+{
+    match parse(alloc, tokens) {
+        Ok(_module) => Ok(true),
+        Err(refusal) => match refusal {
+            ParseRefusal::Syntax {
+                token: _,
+                expected: _,
+            } => Ok(false),
+            ParseRefusal::TooDeep { token: _ } => Ok(false),
+            ParseRefusal::Memory => Err(EditRefusal::Memory),
+        },
+    }
+}

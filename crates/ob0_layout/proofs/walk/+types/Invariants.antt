@@ -1,6 +1,0 @@
-use Rattle.ob0_tree.specs.View.{further_field_group_of}
-use Rattle.ob0_layout.proofs.Walks.{Listing}
-use Rattle.ob0_layout.proofs.walk.+types.Given as goal
-
-abbrev pub invariant-add_record_type_roles-loop-group : goal.invariant-add_record_type_roles-loop-group
-invariant-add_record_type_roles-loop-group l = Listing further_field_group_of 0 l.initial.out.items l.group-items l.group-index l.first l.out.items

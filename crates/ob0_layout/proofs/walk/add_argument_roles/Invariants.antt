@@ -1,6 +1,0 @@
-use Rattle.ob0_tree.specs.View.{further_argument_of}
-use Rattle.ob0_layout.proofs.Walks.{Listing}
-use Rattle.ob0_layout.proofs.walk.add_argument_roles.Given as goal
-
-abbrev pub invariant-loop-e : goal.invariant-loop-e
-invariant-loop-e l = Listing further_argument_of 0 l.initial.out.items l.e-items l.e-index l.first l.out.items

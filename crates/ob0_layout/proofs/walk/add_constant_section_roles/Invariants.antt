@@ -1,6 +1,0 @@
-use Rattle.ob0_tree.specs.View.{constant_of}
-use Rattle.ob0_layout.proofs.Walks.{Walking}
-use Rattle.ob0_layout.proofs.walk.add_constant_section_roles.Given as goal
-
-abbrev pub invariant-loop-c : goal.invariant-loop-c
-invariant-loop-c l = Walking constant_of l.level l.initial.out.items l.c-items l.c-index l.out.items

@@ -1,6 +1,0 @@
-use Rattle.ob0_tree.specs.View.{variable_of}
-use Rattle.ob0_layout.proofs.Walks.{Walking}
-use Rattle.ob0_layout.proofs.walk.add_variable_section_roles.Given as goal
-
-abbrev pub invariant-loop-v : goal.invariant-loop-v
-invariant-loop-v l = Walking variable_of l.level l.initial.out.items l.v-items l.v-index l.out.items

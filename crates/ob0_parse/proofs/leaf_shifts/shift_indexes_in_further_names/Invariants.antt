@@ -1,7 +1,0 @@
-use Rattle.std.proofs.Common.{◌≡◌, length}
-use Rattle.ob0_tree.specs.Tree.{then_name}
-use Rattle.ob0_parse.proofs.Moved.{ShiftedTrees}
-use Rattle.ob0_parse.proofs.leaf_shifts.shift_indexes_in_further_names.Given as goal
-
-abbrev pub invariant-loop-i : goal.invariant-loop-i
-invariant-loop-i l = (length l.leaves.items ≡ length l.initial.leaves.items) × ShiftedTrees then_name l.by l.initial.leaves.items l.i l.leaves.items

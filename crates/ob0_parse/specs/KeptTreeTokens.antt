@@ -1,0 +1,101 @@
+-- States which tokens belong to the trees that are kept from earlier parses, before and after a
+-- change of the text.
+-- Rule: none; used in the contracts of `KeptTrees` and of `reparse_tree`.
+use Rattle.std.specs.declared.vec.Vec.{Vec}
+use Rattle.std.specs.declared.alloc.Global.{Global}
+use Rattle.std.specs.Prelude.{◌≡◌, ℕ, ◌+◌, ◌<◌, ◌≤◌, Bool, true, List, [], ◌∷◌, ◌++◌, Option, Some, All, length, slice_range}
+use Rattle.ob0_scan.specs.declared.lexeme.TokenKind.{TokenKind}
+use Rattle.ob0_scan.specs.declared.lexeme.Token.{Token}
+use Rattle.ob0_scan.specs.declared.tokens.CommonPrefixAndSuffix.{CommonPrefixAndSuffix}
+use Rattle.ob0_scan.specs.ReusedLexemes.{kinds}
+use Rattle.ob0_scan.specs.SameKinds.{PrefixAndSuffixHaveSameKinds}
+use Rattle.ob0_tree.specs.declared.tree.Procedure.{Procedure}
+use Rattle.ob0_tree.specs.declared.tree.Statement.{Statement}
+use Rattle.ob0_tree.specs.Lexeme.{Terminal}
+use Rattle.ob0_tree.specs.Module.{max_nesting}
+use Rattle.ob0_tree.specs.Places.{indexed_terminal}
+use Rattle.ob0_tree.specs.Tree.{procedure, body, Sort, item, maybe, Tree, spell, nesting}
+use Rattle.ob0_tree.specs.View.{items_of, procedure_of, body_of}
+use Rattle.ob0_parse_descent.specs.TokenRanks.{level, NextTokenEndsConstruct}
+use Rattle.ob0_parse_descent.specs.ParserPromises.{rest, IsReadTree}
+use Rattle.ob0_parse.specs.declared.kept.ReusableConstruct.{ReusableConstruct}
+use Rattle.ob0_parse.specs.declared.kept.ReusableConstruct.TheVariants as construct
+use Rattle.ob0_parse.specs.declared.kept.KeptTree.{KeptTree}
+use Rattle.ob0_parse.specs.declared.kept.KeptTrees.{KeptTrees}
+
+-- Returns tokens as they are spelled by a tree whose leaves are token indexes, given the kinds of
+-- the tokens. The first token has the index `i`.
+abbrev pub indexed_terminals_of_kinds : ℕ → List TokenKind → List (Terminal ℕ)
+indexed_terminals_of_kinds i [] = []
+indexed_terminals_of_kinds i (k ∷ ks) = indexed_terminal i k ∷ indexed_terminals_of_kinds (i + 1) ks
+
+-- Returns the sort of the construct's tree.
+abbrev pub sort_of : ReusableConstruct → Sort
+sort_of (construct.Procedure p) = item procedure
+sort_of (construct.Body statements) = maybe body
+
+-- Returns the construct's tree. The tree of a body spells BEGIN before the statements.
+abbrev pub tree_of_construct : (c : ReusableConstruct) → Tree ℕ (sort_of c)
+tree_of_construct (construct.Procedure p) = procedure_of p
+tree_of_construct (construct.Body statements) = body_of (Some statements)
+
+-- States that `at..next` is a range of one or more tokens of `ts`, that these tokens have the kinds
+-- that the tree `t` spells, and that `t` isn't nested too deeply. The leaves of `t` are token
+-- indexes in a text in which its first token has the index `from`.
+pub record HasTokensAt {s : Sort} (ts : List Token) (from at next : ℕ) (t : Tree ℕ s) : Type 0 where
+  pub spelled : spell t ≡ indexed_terminals_of_kinds from (slice_range (kinds ts) at next)
+  pub shallow : nesting t ≤ max_nesting
+  pub forward : at < next
+  pub within : next ≤ length ts
+
+-- States that the tokens `at..next` have the kinds that the tree spells, and that the tree isn't
+-- nested too deeply. The leaves of the tree are the indexes of these tokens.
+abbrev pub IsTreeInPlace : {s : Sort} → List Token → ℕ → ℕ → Tree ℕ s → Type 0
+IsTreeInPlace ts at next t = HasTokensAt ts at at next t
+
+-- States that the tokens `k.at..k.next` of `ts` have the kinds that the kept tree `k` spells. The
+-- leaves of the tree may still be the indexes of these tokens in an earlier text.
+abbrev pub IsKeptTreeInPlace : List Token → KeptTree → Type 0
+IsKeptTreeInPlace ts k = HasTokensAt ts k.from k.at k.next (tree_of_construct k.construct)
+
+-- States that every kept tree in `k` has its tokens in its range of `ts`.
+pub record AreKeptTreesInPlace (ts : List Token) (k : KeptTrees) : Type 0 where
+  pub trees : All (IsKeptTreeInPlace ts) k.trees.items
+
+-- States that the tokens `at..next` of `ts` are those of the procedures `ps`, one after another,
+-- and that no procedure is nested too deeply. The leaves of the procedures are the indexes of these
+-- tokens.
+pub record TokensContainProcedures (ts : List Token) (ps : List Procedure) : Type 0 where
+  pub at : ℕ
+  pub next : ℕ
+  pub spelled : rest ts at ≡ spell (items_of procedure_of ps) ++ rest ts next
+  pub shallow : nesting (items_of procedure_of ps) ≤ max_nesting
+  pub within : next ≤ length ts
+
+-- States that the tokens `ts` are those of a module that ends with the procedures `ps`, the body
+-- `statements` and the closing name with the token index `closing`. END is the token after the body
+-- and before the closing name.
+pub record ModuleEndsWithParts
+    (ts : List Token) (ps : List Procedure) (statements : Option (Vec Statement Global)) (closing : ℕ)
+    : Type 0 where
+  pub procedures : TokensContainProcedures ts ps
+  pub next : ℕ
+  pub spelled : rest ts procedures.next ≡ spell (body_of statements) ++ rest ts next
+  pub shallow : nesting (body_of statements) ≤ max_nesting
+  pub within : next ≤ length ts
+  pub closed : next + 1 ≡ closing
+
+-- States that, if `there` is true, the kept tree `b` has its tokens in its range of the new text
+-- whenever `a` has its tokens in its range of the old text. The old and the new text are any two
+-- texts that share the tokens described by `same`.
+abbrev pub RelocatesTree : CommonPrefixAndSuffix → KeptTree → KeptTree → Bool → Type 0
+RelocatesTree same a b there =
+    there ≡ true → (old new : List Token) → PrefixAndSuffixHaveSameKinds same old new → IsKeptTreeInPlace old a → IsKeptTreeInPlace new b
+
+-- States that the token with the index `next` can't continue a tree of the construct.
+abbrev pub TokenEndsTree : List Token → ReusableConstruct → ℕ → Type 0
+TokenEndsTree ts c next = NextTokenEndsConstruct (level (sort_of c)) (rest ts next)
+
+-- States that the construct `x.0` has the tokens `at..x.1` of `ts`, as if the parser had read it.
+abbrev pub IsReadConstructAt : List Token → ℕ → ReusableConstruct × ℕ → Type 0
+IsReadConstructAt ts at x = IsReadTree (tree_of_construct x.0) max_nesting ts at x.1 × (at < x.1)

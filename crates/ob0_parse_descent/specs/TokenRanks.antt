@@ -1,0 +1,152 @@
+-- Defines at which token a construct ends. Each token has a rank, and each construct has a level.
+-- Only a token whose rank is at most the construct's level can continue a complete construct. The
+-- construct ends before a token with a higher rank. A token begins an item exactly if the token has
+-- the item's rank.
+-- Rule: docs/LANGUAGE.md, Grammar 1.
+use Rattle.std.specs.Prelude.{◌≡◌, ℕ, ◌<◌, min, List, [], ◌∷◌, Bool, true, false, Option, Some, None}
+use Rattle.ob0_scan.specs.declared.lexeme.TokenKind.{TokenKind}
+use Rattle.ob0_scan.specs.declared.lexeme.TokenKind.TheVariants as kind
+use Rattle.ob0_scan.specs.declared.lexeme.ReservedWord.TheVariants as reserved
+use Rattle.ob0_scan.specs.declared.lexeme.Symbol.TheVariants as symbol
+use Rattle.ob0_tree.specs.Lexeme.{Terminal, Name, Number, WordOrSymbol, EndOfText}
+use Rattle.ob0_tree.specs.Tree.{GrammarItem, selector, multiplier, addend, comparison, arguments, argument_after_comma, statement_after_semicolon, elsif_part, else_part, name_after_comma, fields_after_semicolon, formals, section_after_semicolon, constant, constants, type_definition, type_definitions, variable, variables, procedure, body, Sort, item, items, maybe, expression, simple, term, factor, statement, sequence, names, written_type, fields, section, declarations, block, module_text}
+
+-- Returns the rank of a kind of token. The higher the rank, the more constructs end before the
+-- token.
+abbrev pub kind_rank : TokenKind → ℕ
+kind_rank (kind.Symbol symbol.Dot) = 1
+kind_rank (kind.Symbol symbol.LeftBracket) = 1
+kind_rank (kind.Symbol symbol.Times) = 2
+kind_rank (kind.ReservedWord reserved.Div) = 2
+kind_rank (kind.ReservedWord reserved.Mod) = 2
+kind_rank (kind.Symbol symbol.And) = 2
+kind_rank (kind.Symbol symbol.Plus) = 3
+kind_rank (kind.Symbol symbol.Minus) = 3
+kind_rank (kind.ReservedWord reserved.Or) = 3
+kind_rank (kind.Symbol symbol.Equal) = 4
+kind_rank (kind.Symbol symbol.NotEqual) = 4
+kind_rank (kind.Symbol symbol.Less) = 4
+kind_rank (kind.Symbol symbol.LessEqual) = 4
+kind_rank (kind.Symbol symbol.Greater) = 4
+kind_rank (kind.Symbol symbol.GreaterEqual) = 4
+kind_rank (kind.Symbol symbol.Comma) = 5
+kind_rank kind.Identifier = 7
+kind_rank (kind.Symbol symbol.LeftParen) = 6
+kind_rank (kind.Symbol symbol.Becomes) = 8
+kind_rank (kind.ReservedWord reserved.If) = 8
+kind_rank (kind.ReservedWord reserved.While) = 8
+kind_rank (kind.ReservedWord reserved.Repeat) = 8
+kind_rank (kind.Symbol symbol.Semicolon) = 9
+kind_rank (kind.ReservedWord reserved.Elsif) = 10
+kind_rank (kind.ReservedWord reserved.Else) = 11
+kind_rank (kind.ReservedWord reserved.Const) = 12
+kind_rank (kind.ReservedWord reserved.Type) = 13
+kind_rank (kind.ReservedWord reserved.Var) = 14
+kind_rank (kind.ReservedWord reserved.Procedure) = 15
+kind_rank (kind.ReservedWord reserved.Begin) = 16
+kind_rank _ = 17
+
+-- Returns the rank of a token. A construct ends before a token whose rank is above the construct's
+-- level.
+abbrev pub rank : {N : Type 0} → Terminal N → ℕ
+rank (Name n) = 7
+rank (Number n) = 17
+rank (WordOrSymbol k) = kind_rank k
+rank EndOfText = 17
+
+-- Returns the rank of the tokens that begin an item.
+abbrev pub item_start_rank : GrammarItem → ℕ
+item_start_rank selector = 1
+item_start_rank multiplier = 2
+item_start_rank addend = 3
+item_start_rank comparison = 4
+item_start_rank arguments = 6
+item_start_rank argument_after_comma = 5
+item_start_rank statement_after_semicolon = 9
+item_start_rank elsif_part = 10
+item_start_rank else_part = 11
+item_start_rank name_after_comma = 5
+item_start_rank fields_after_semicolon = 9
+item_start_rank formals = 6
+item_start_rank section_after_semicolon = 9
+item_start_rank constant = 7
+item_start_rank constants = 12
+item_start_rank type_definition = 7
+item_start_rank type_definitions = 13
+item_start_rank variable = 7
+item_start_rank variables = 14
+item_start_rank procedure = 15
+item_start_rank body = 16
+
+-- Returns the level of a single item: the highest rank of a token that can continue the item.
+-- Returns 0 if no token can continue the item.
+abbrev pub item_level : GrammarItem → ℕ
+item_level selector = 0
+item_level multiplier = 1
+item_level addend = 2
+item_level comparison = 3
+item_level arguments = 0
+item_level argument_after_comma = 4
+item_level statement_after_semicolon = 8
+item_level elsif_part = 9
+item_level else_part = 9
+item_level name_after_comma = 0
+item_level fields_after_semicolon = 7
+item_level formals = 0
+item_level section_after_semicolon = 0
+item_level constant = 0
+item_level constants = 7
+item_level type_definition = 0
+item_level type_definitions = 7
+item_level variable = 0
+item_level variables = 7
+item_level procedure = 0
+item_level body = 9
+
+-- Returns the level of a construct: the highest rank of a token that can continue the construct.
+-- Returns 0 if no token can continue the construct.
+abbrev pub level : Sort → ℕ
+level (item i) = item_level i
+level (items i) = item_start_rank i
+level (maybe i) = item_start_rank i
+level expression = 4
+level simple = 3
+level term = 2
+level factor = 1
+level statement = 8
+level sequence = 9
+level names = 5
+level written_type = 0
+level fields = 7
+level section = 0
+level declarations = 15
+level block = 16
+level module_text = 0
+
+-- States that the next token can't continue a construct of the level `n`, or that no token is left.
+abbrev pub NextTokenEndsConstruct : {N : Type 0} → ℕ → List (Terminal N) → Type 0
+NextTokenEndsConstruct n [] = Unit {0}
+NextTokenEndsConstruct n (x ∷ xs) = n < rank x
+
+-- States that there is a next token and that its rank is `n`.
+abbrev pub NextTokenHasRank : {N : Type 0} → ℕ → List (Terminal N) → Type 0
+NextTokenHasRank n [] = ⊥
+NextTokenHasRank n (x ∷ xs) = rank x ≡ n
+
+-- Returns whether an expression may begin with a token of this kind. At the end of the text (None)
+-- the result is false.
+abbrev pub may_begin_expression : Option TokenKind → Bool
+may_begin_expression (Some kind.Identifier) = true
+may_begin_expression (Some (kind.Integer _)) = true
+may_begin_expression (Some (kind.Symbol symbol.Plus)) = true
+may_begin_expression (Some (kind.Symbol symbol.Minus)) = true
+may_begin_expression (Some (kind.Symbol symbol.LeftParen)) = true
+may_begin_expression (Some (kind.Symbol symbol.Not)) = true
+may_begin_expression _ = false
+
+-- Returns the rank, capped at 5, of a token of this kind: the lower the rank, the more strongly the
+-- token binds the operand before it. Only operators and the tokens that begin a selector have a
+-- rank below 5. At the end of the text (None) the result is 5.
+abbrev pub binding_rank : Option TokenKind → ℕ
+binding_rank None = 5
+binding_rank (Some k) = min (kind_rank k) 5

@@ -1,5 +1,0 @@
-use Rattle.ob0_refs.proofs.ParametersFollowProcedure.{parameters_are_following-holds}
-use Rattle.ob0_refs.proofs.hover_laws.parameters_follow_procedure.Goals as goal
-
-pub returns : goal.returns
-returns c = parameters_are_following-holds

@@ -1,0 +1,24 @@
+-- Defines the result of turning the tokens of an old text into the tokens of a changed text.
+-- Rule: none; used in contracts of `rescan_in_place`.
+use Rattle.std.specs.Prelude.{◌≡◌, ℕ, List, true}
+use Rattle.ob0_scan.specs.declared.tokens.RescanWithComparison.{RescanWithComparison}
+use Rattle.ob0_scan.specs.TextWithTokens.{TextWithTokens, IsScanOf}
+use Rattle.ob0_scan.specs.ReusedLexemes.{ReusesOldLexemes, kinds, spellings_of_identifiers_in, words_of_tokens}
+use Rattle.ob0_scan.specs.SameKinds.{PrefixAndSuffixHaveSameKinds, PrefixAndSuffixHaveSameWords}
+
+-- States that `r` has the scan of the new text, reuses old tokens as `ReusesOldLexemes` says, and compares
+-- the tokens correctly with the old ones. If `same_kinds` is true, all tokens have the same kinds
+-- as the old tokens. If `same_names` is true, the identifiers have the same spellings. If
+-- `same_words` is true, all tokens have the same kinds and spellings. The tokens in the two parts
+-- that `same` describes always have the same kinds and spellings.
+pub record IsRescanOf (old : TextWithTokens) (new : List ℕ) (from removed added : ℕ) (r : RescanWithComparison)
+    : Type 0 where
+  pub scan : IsScanOf new r.rescan.tokens
+  pub reused : ReusesOldLexemes old r.rescan.tokens from removed added r.rescan.read
+  pub same_kinds : r.same_kinds ≡ true → kinds r.rescan.tokens.tokens ≡ kinds old.tokens
+  pub same_names : r.same_names ≡ true
+      → spellings_of_identifiers_in r.rescan.tokens.text r.rescan.tokens.tokens ≡ spellings_of_identifiers_in old.text old.tokens
+  pub same_words : r.same_words ≡ true
+      → words_of_tokens r.rescan.tokens.text r.rescan.tokens.tokens ≡ words_of_tokens old.text old.tokens
+  pub same : PrefixAndSuffixHaveSameKinds r.same old.tokens r.rescan.tokens.tokens
+  pub written : PrefixAndSuffixHaveSameWords r.same old r.rescan.tokens

@@ -1,5 +1,0 @@
-use Rattle.ob0_scope.proofs.Respelled.{bindings_depend_on_spellings}
-use Rattle.ob0_scope.proofs.laws.bindings_depend_on_spellings.Goals as goal
-
-pub returns : goal.returns
-returns c = bindings_depend_on_spellings

@@ -1,0 +1,90 @@
+-- The data about a module's names that is kept when the statements of one body are replaced: the
+-- data about the tokens before that body, and about the tokens after it, which have moved.
+-- Rule: none; used in private contracts about bindings that are kept when one body is replaced (`body_range.rt`).
+use Rattle.std.specs.Prelude.{◌≡◌, ℕ, ◌+◌, ◌-◌, ◌^◌, min, nat_lt, List, [], ◌∷◌, ◌++◌, Option, Some, None, if◌then◌else◌, is_some, length, take, drop, replicate}
+use Rattle.ob0_scan.specs.declared.tokens.CommonPrefixAndSuffix.{CommonPrefixAndSuffix}
+use Rattle.ob0_tree.specs.declared.tree.Role.{Role}
+use Rattle.ob0_tree.specs.declared.tree.Role.TheVariants as role
+use Rattle.ob0_tree.specs.ParsedModule.{ParsedModule, tree_of}
+use Rattle.ob0_tree.specs.Tree.{identifiers, occurrences}
+use Rattle.ob0_tree.specs.FirstIdentifier.{token_of_first_identifier}
+use Rattle.ob0_scope_table.specs.BodyReplacement.{body_at_path, closing_name_at_path, path_to_body_in_module}
+use Rattle.ob0_scope_table.specs.declared.resolved.Bindings.{Bindings}
+use Rattle.ob0_scope.specs.NewBody.{AreBindingsBeforeBodyReplacement}
+use Rattle.ob0_scope.specs.declared.body_range.BodyRange.{BodyRange}
+
+-- the token indexes of the identifiers seen so far while a body is walked: the first identifier
+-- (None if there is none yet) and all occurrences of names (identifiers with the role `LookedUp`)
+pub record BodyNamesView : Type 0 where
+  pub first : Option ℕ
+  pub uses : List ℕ
+
+-- the names of a body in which no identifier has been seen yet
+abbrev pub no_names_seen : BodyNamesView
+no_names_seen = record { first = None; uses = [] }
+
+-- returns `first`, the first identifier seen in a body; if none has been seen (None), returns the identifier `i`
+abbrev pub first_identifier_or : Option ℕ → ℕ → Option ℕ
+first_identifier_or first i = if is_some first then first else Some i
+
+-- adds the token `i` of an occurrence to the names seen in a body
+abbrev pub with_occurrence : ℕ → BodyNamesView → BodyNamesView
+with_occurrence i names = record names { uses = names.uses ++ (i ∷ []) }
+
+-- adds the identifier at token `i` to the names seen in a body; the identifier is an occurrence only if its role is
+-- `LookedUp`
+abbrev pub with_identifier : Role → ℕ → BodyNamesView → BodyNamesView
+with_identifier role.LookedUp i names =
+    record { first = first_identifier_or names.first i; uses = names.uses ++ (i ∷ []) }
+with_identifier role.Declaring i names = record names { first = first_identifier_or names.first i }
+with_identifier role.ClosingName i names = record names { first = first_identifier_or names.first i }
+with_identifier role.FieldName i names = record names { first = first_identifier_or names.first i }
+with_identifier role.ModuleName i names = record names { first = first_identifier_or names.first i }
+
+-- returns the tokens of a list that are before the replaced body in the text
+abbrev pub tokens_before_body : BodyRange → List ℕ → List ℕ
+tokens_before_body range [] = []
+tokens_before_body range (i ∷ is) =
+    if nat_lt i range.first then i ∷ tokens_before_body range is else tokens_before_body range is
+
+-- returns the index in the changed text of a token after the replaced body, given its old index; at most 2^64 - 1
+abbrev pub shifted_token : BodyRange → ℕ → ℕ
+shifted_token range i = min (i - range.old_closing + range.closing) (2 ^ 64 - 1)
+
+-- returns the tokens of a list that are after the replaced body in the text, with their new indexes
+abbrev pub tokens_after_body : BodyRange → List ℕ → List ℕ
+tokens_after_body range [] = []
+tokens_after_body range (i ∷ is) =
+    if nat_lt i range.old_closing then tokens_after_body range is
+    else shifted_token range i ∷ tokens_after_body range is
+
+-- returns a list of tokens of the old text with their indexes in the changed text; the tokens in the old body are
+-- replaced by `own`, the tokens in the new body
+abbrev pub tokens_in_changed_text : BodyRange → List ℕ → List ℕ → List ℕ
+tokens_in_changed_text range tokens own = tokens_before_body range tokens ++ (own ++ tokens_after_body range tokens)
+
+-- returns the first `n` entries of a table, filled up with None if the table is shorter
+abbrev pub padded_with_none : ℕ → List (Option ℕ) → List (Option ℕ)
+padded_with_none n table = take n table ++ replicate (n - length table) None
+
+-- returns a table of ordinals with each entry at its token's new index; the entries of the new body
+-- are None
+abbrev pub ordinals_in_changed_text : BodyRange → List (Option ℕ) → List (Option ℕ)
+ordinals_in_changed_text range table =
+    padded_with_none range.closing (take range.first table) ++ drop range.old_closing table
+
+-- returns the old token index of the closing name after the replaced statements, given its index in the changed text;
+-- at most 2^64 - 1
+abbrev pub old_closing_token : CommonPrefixAndSuffix → ℕ → ℕ
+old_closing_token same closing = min (closing - same.new_suffix + same.old_suffix) (2 ^ 64 - 1)
+
+-- States that `range` is the range of the new statements in a module in which one body's statements were replaced.
+-- `own` has the occurrences in these statements, and `b` has the bindings of the old module.
+pub record IsRangeOfNewBody (m : ParsedModule) (b : Bindings) (range : BodyRange) (own : List ℕ) : Type 0 where
+  pub same : CommonPrefixAndSuffix
+  pub was_bound : AreBindingsBeforeBodyReplacement m b same
+  pub first : token_of_first_identifier (identifiers role.Declaring (body_at_path (path_to_body_in_module same.prefix (tree_of m)) (tree_of m)))
+      ≡ Some range.first
+  pub closing : range.closing ≡ closing_name_at_path (path_to_body_in_module same.prefix (tree_of m)) (tree_of m)
+  pub old_closing : range.old_closing ≡ old_closing_token same range.closing
+  pub uses : own ≡ occurrences (body_at_path (path_to_body_in_module same.prefix (tree_of m)) (tree_of m))

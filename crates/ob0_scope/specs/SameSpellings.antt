@@ -1,0 +1,39 @@
+-- The bindings of a text whose tokens have the same kinds as before, and whose identifiers or all
+-- tokens have the same spellings.
+-- Rule: docs/LANGUAGE.md, Scopes 2 to 4.
+use Rattle.std.specs.Prelude.{◌≡◌, []}
+use Rattle.ob0_scan.specs.ReusedLexemes.{kinds, spellings_of_identifiers_in, words_of_tokens}
+use Rattle.ob0_scan.specs.TextWithTokens.{TextWithTokens}
+use Rattle.ob0_tree.specs.ParsedModule.{IsParsed, parsed_module}
+use Rattle.ob0_tree.specs.declared.tree.ModuleTree.{ModuleTree}
+use Rattle.ob0_scope_table.specs.Bindings.{resolution_with_bindings}
+use Rattle.ob0_scope_table.specs.Resolution.{IsResolution}
+use Rattle.ob0_scope_table.specs.declared.resolved.Bindings.{Bindings}
+
+-- states that the tokens of two texts have the same kinds, one by one, and their identifiers the same spellings
+pub record HaveSameKindsAndNames (old new : TextWithTokens) : Type 0 where
+  pub same_kinds : kinds new.tokens ≡ kinds old.tokens
+  pub same_names : spellings_of_identifiers_in new.text new.tokens ≡ spellings_of_identifiers_in old.text old.tokens
+
+-- States that the bindings of a module without faults of scopes are also the bindings of the same
+-- tree with another text's tokens. The tokens of both texts must have the same kinds, and their
+-- identifiers the same spellings. The tree must also be the tree of the other text's module.
+abbrev pub BindingsDependOnlyOnNames : Type 0
+BindingsDependOnlyOnNames =
+    (old new : TextWithTokens) (tree : ModuleTree) (b : Bindings)
+    → HaveSameKindsAndNames old new
+    → IsParsed (parsed_module new tree)
+    → IsResolution (resolution_with_bindings (parsed_module old tree) b)
+    → b.faults.items ≡ []
+    → IsResolution (resolution_with_bindings (parsed_module new tree) b)
+
+-- States that the bindings of a module are also the bindings of the same tree with the tokens of another text. The
+-- tokens of both texts must have the same kinds and spellings. The tree must also be the tree of the other text's
+-- module.
+abbrev pub BindingsDependOnlyOnSpellings : Type 0
+BindingsDependOnlyOnSpellings =
+    (old new : TextWithTokens) (tree : ModuleTree) (b : Bindings)
+    → words_of_tokens new.text new.tokens ≡ words_of_tokens old.text old.tokens
+    → IsParsed (parsed_module new tree)
+    → IsResolution (resolution_with_bindings (parsed_module old tree) b)
+    → IsResolution (resolution_with_bindings (parsed_module new tree) b)

@@ -1,0 +1,34 @@
+-- Definitions for the contracts of the walk that collects the fields of a module.
+-- Rule: none; used in contracts of private functions.
+use Rattle.std.specs.Prelude.{ℕ, List, Option}
+use Rattle.ob0_tree.specs.Tree.{Tree, field, index, item, selector}
+use Rattle.ob0_language_types.specs.Expressions.{Meanings}
+use Rattle.ob0_types_table.specs.declared.known.RecordShape.{RecordShape}
+use Rattle.ob0_types_table.specs.declared.known.TypeEntry.TheVariants as made
+use Rattle.ob0_types_table.specs.DeclarationTables.{declared_object_in, shapes_of}
+use Rattle.ob0_types_table.specs.DeclarationTableView.{entry_shape}
+use Rattle.ob0_language_types.specs.WellTyped.{Signature}
+use Rattle.ob0_language_values.specs.Values.{Shape}
+use Rattle.ob0_types_fields.specs.declared.field_name.FieldName.{FieldName}
+use Rattle.ob0_types_fields.specs.declared.field_walk.FieldWalk.{FieldWalk}
+use Rattle.ob0_types_fields.specs.IdentifierOwners.{field_if_owned, fields_in_tree, owner, meanings_by_token}
+
+-- returns the meanings of names according to the walk's table of declarations; each name is given
+-- by the index of its token
+abbrev pub field_walk_meanings : FieldWalk → Meanings ℕ Shape Signature
+field_walk_meanings w = meanings_by_token (declared_object_in w.table.now) w.resolved.now
+
+-- converts the record type `r` of the code to a type of the definitions (`Shape`); the walk's table
+-- of declarations has the types of its fields
+abbrev pub record_shape_in_walk : FieldWalk → RecordShape → Shape
+record_shape_in_walk w r = entry_shape (shapes_of w.table.now) (made.Record r)
+
+-- returns the field identifiers in one selector: the selected field, or the fields in an index's
+-- expression; `s` is the type of the designator before the selector
+abbrev pub fields_in_selector : {P : Type 0}
+    → Meanings ℕ Shape P
+    → Option Shape
+    → Tree ℕ (item selector)
+    → List FieldName
+fields_in_selector m s (field x) = field_if_owned x (owner s (m.written x))
+fields_in_selector m s (index e) = fields_in_tree m e

@@ -1,0 +1,9 @@
+use Rattle.std.proofs.Common.{arith}
+use Rattle.ob0_world_editor.proofs.Hearing.{if_ok}
+use Rattle.ob0_world_editor.proofs.Shallow.{closing_reported}
+use Rattle.ob0_world_editor.proofs.message_writer.did_close_notification.Goals as goal
+
+pub returns : goal.returns
+returns c =
+    if_ok c.notification_text.result (λ content sent. closing_reported content.items c.args.uri.now (sent (record { shallow = omega arith })).reads)
+    c.notification_text.ensures

@@ -1,5 +1,0 @@
-use Rattle.ob0_world_rules.proofs.laws.holds_for_every_editor.Goals as goal
-use Rattle.ob0_world_rules.proofs.EveryEditor as proof
-
-pub returns : goal.returns
-returns c = proof.holds_for_every_editor

@@ -1,0 +1,119 @@
+-- Defines the rules for an editor: which moves it may make, and which messages it sends. The
+-- model's editor (`act_result`) also keeps these rules, but its acts have only one result.
+use Rattle.std.specs.Prelude.{◌≡◌, ◌+◌, ℕ, ℤ, List, [], ◌∷◌, ◌++◌, map, Some}
+use Rattle.std.specs.FinMap as map_of
+use Rattle.ob0_text.specs.OpenDocuments.{TextChange, Opened, Changed}
+use Rattle.ob0_world_rules.specs.TextEdits.{Replacement, text_after_edits, text_after_changes}
+use Rattle.ob0_world_rules.specs.Asks.{Ask}
+use Rattle.ob0_world_rules.specs.ClientAndServer.{OpenDocument, SentAsk, Editor, request_with_number, editor_document_at, MessageToServer, notifies}
+use Rattle.ob0_world_rules.specs.EditorActs.{ActResult, result_without_messages, result_with_message, closing_result, asking_result, edits_of_answer, editor_without_answer}
+use Rattle.ob0_world_rules.specs.PublicationsInOrder.{AnnouncedDocument}
+
+-- a revision of a document: its next version and text, and the changes that are sent to the server
+pub record Revision : Type 0 where
+  pub version : ℤ
+  pub text : List ℕ
+  pub sent_changes : List TextChange
+
+-- A move of the editor. It differs from an `Act` in two ways: a document may get any version, and
+-- changes are given as a list of revisions.
+pub data Move : Type 0 where
+  -- the uri, the version and the text
+  editor_opens : List ℕ → ℤ → List ℕ → Move
+  -- the user's changes of an open document; each revision is sent as one notification
+  editor_revises : List ℕ → List Revision → Move
+  editor_closes : List ℕ → Move
+  editor_asks : List ℕ → Ask → Move
+  -- `editor_applies` makes the edits of the answer to the request with this number, and sends them
+  -- as revisions; `editor_discards` discards the answer
+  editor_applies : ℕ → List Revision → Move
+  editor_discards : ℕ → Move
+
+-- ---- revisions
+
+-- returns the document with the version and the text of the revision
+abbrev pub revised_document : OpenDocument → Revision → OpenDocument
+revised_document d r = record d { version = r.version; text = r.text }
+
+-- returns the editor with this document open under this uri
+abbrev pub editor_with_document : Editor → List ℕ → OpenDocument → Editor
+editor_with_document e uri d = record e { documents = map_of.insert e.documents uri d }
+
+-- States that these revisions of the open document `uri`, made in order, lead from editor `e` to
+-- `new`. `announced` is the document after each revision. The changes of each revision turn the
+-- text before it into the text after it. Positions are counted in the editor's unit. Any version
+-- is allowed.
+abbrev pub RevisesDocument : Editor → List ℕ → List Revision → Editor → List AnnouncedDocument → Type 0
+RevisesDocument e uri [] new announced = (new ≡ e) × (announced ≡ [])
+RevisesDocument e uri (r ∷ more) new announced =
+    (d : OpenDocument)
+    × (later : List AnnouncedDocument)
+    × (editor_document_at e uri ≡ Some d)
+    × (text_after_changes e.unit (Some d.text) r.sent_changes ≡ Some r.text)
+    × RevisesDocument (editor_with_document e uri (revised_document d r)) uri more new later
+    × (announced ≡ record { uri = uri; document = revised_document d r } ∷ later)
+
+-- returns one change notification for each of these revisions of the document with this uri, in
+-- order
+abbrev pub notifications_of_revisions : List ℕ → List Revision → List MessageToServer
+notifications_of_revisions uri revisions = map (λ r. notifies (Changed uri r.version r.sent_changes)) revisions
+
+-- returns the changes of all revisions, in order
+abbrev pub changes_of_revisions : List Revision → List TextChange
+changes_of_revisions [] = []
+changes_of_revisions (r ∷ more) = r.sent_changes ++ changes_of_revisions more
+
+-- ---- answers
+
+-- States that all edits of the answer to request `k` are made in the document that was asked about.
+-- The document still has its text from when the request was sent. The changes `first` make the
+-- edited text. The changes `next` are later ones by the user, which an editor may send with them.
+pub record AppliesAnswer (e : Editor) (k : ℕ) (revisions : List Revision) (done : ActResult)
+    (announced : List AnnouncedDocument) : Type 0 where
+  pub edits : List Replacement
+  pub answered : edits_of_answer k e.answers ≡ Some edits
+  pub requested : SentAsk
+  pub numbered : request_with_number e.requested k ≡ Some requested
+  pub document : OpenDocument
+  pub is_open : editor_document_at e requested.uri ≡ Some document
+  pub same_text : document.text ≡ requested.text
+  pub text : List ℕ
+  pub makes : text_after_edits e.unit document.text edits ≡ Some text
+  pub new : Editor
+  pub revises : RevisesDocument (editor_without_answer e k) requested.uri revisions new announced
+  pub first : List TextChange
+  pub next : List TextChange
+  pub cut : changes_of_revisions revisions ≡ first ++ next
+  pub first_changes_make_text : text_after_changes e.unit (Some document.text) first ≡ Some text
+  pub is : done
+      ≡ record {
+        editor = new;
+        sent = notifications_of_revisions requested.uri revisions;
+        applied = record { uri = requested.uri; before = document.text; after = text } ∷ [];
+      }
+
+-- ---- the allowed moves and their results
+
+-- returns the result of opening the document `d`, with its version, text and opening number, under
+-- this uri; a document that is already open may be opened again
+abbrev pub opening_result_for_document : OpenDocument → Editor → List ℕ → ActResult
+opening_result_for_document d e uri =
+    result_with_message (record (editor_with_document e uri d) { openings = d.opening })
+    (notifies (Opened uri d.version d.text)) []
+
+-- States that a move may have this result and announce these documents to the server. Only an open
+-- document can be revised or asked about.
+abbrev pub IsAllowedMove : Editor → Move → ActResult → List AnnouncedDocument → Type 0
+IsAllowedMove e (editor_opens uri version text) done announced =
+    let d : OpenDocument = record { version = version; text = text; opening = e.openings + 1 } in
+    (done ≡ opening_result_for_document d e uri)
+    × (announced ≡ record { uri = uri; document = d } ∷ [])
+IsAllowedMove e (editor_revises uri revisions) done announced =
+    (new : Editor)
+    × RevisesDocument e uri revisions new announced
+    × (done ≡ record { editor = new; sent = notifications_of_revisions uri revisions; applied = [] })
+IsAllowedMove e (editor_closes uri) done announced = (done ≡ closing_result e uri) × (announced ≡ [])
+IsAllowedMove e (editor_asks uri ask) done announced =
+    (d : OpenDocument) × (editor_document_at e uri ≡ Some d) × (done ≡ asking_result e uri ask d) × (announced ≡ [])
+IsAllowedMove e (editor_applies k revisions) done announced = AppliesAnswer e k revisions done announced
+IsAllowedMove e (editor_discards k) done announced = (done ≡ result_without_messages (editor_without_answer e k)) × (announced ≡ [])

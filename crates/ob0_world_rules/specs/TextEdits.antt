@@ -1,0 +1,47 @@
+-- Defines the text after edits, which are all made in the same text, and the text after changes,
+-- which are made one after another.
+use Rattle.std.specs.Prelude.{◌≡◌, ℕ, List, map, fold, Option, None, string_bytes}
+use Rattle.std.specs.Str.{chars}
+use Rattle.ob0_text.specs.declared.edits.Edit.{Edit}
+use Rattle.ob0_text.specs.declared.position_types.Range.{Range}
+use Rattle.ob0_text.specs.declared.position_types.Unit.{Unit}
+use Rattle.ob0_text.specs.Units.{width_of}
+use Rattle.ob0_text.specs.Patches.{cut_of_range, text_patched_by_cuts, patched_text}
+use Rattle.ob0_text.specs.OpenDocuments.{TextChange, changed_text}
+
+-- a range of a text, and the characters that replace it
+pub record Replacement : Type 0 where
+  pub range : Range
+  pub text : List ℕ
+
+-- converts an edit of the code's type `Edit` to a replacement
+abbrev pub replacement_of : Edit → Replacement
+replacement_of e = record { range = e.range; text = chars (string_bytes e.text) }
+
+-- converts edits of the code's type `Edit` to replacements
+abbrev pub replacements : List Edit → List Replacement
+replacements edits = map replacement_of edits
+
+-- Returns the text after all these edits. Each range refers to the text before the edits. Positions
+-- are counted in `unit`. Returns None if two edits share a character.
+unfoldable pub text_after_edits : Unit → List ℕ → List Replacement → Option (List ℕ)
+text_after_edits unit text edits =
+    text_patched_by_cuts text (map (λ e. cut_of_range (width_of unit) text e.range e.text) edits)
+
+-- returns the change that replaces the whole text by this text
+abbrev pub whole_text_change : List ℕ → TextChange
+whole_text_change text = record { range = None; text = text }
+
+-- Returns the text after these changes, each made in the text that results from the previous one.
+-- If the text is unknown (None), only a change of the whole text makes it known.
+abbrev pub text_after_changes : Unit → Option (List ℕ) → List TextChange → Option (List ℕ)
+text_after_changes unit text changes = fold (changed_text unit) text changes
+
+-- ---- the law
+
+-- states that two definitions of an edited text agree: `text_after_edits` for the model's
+-- replacements, and `patched_text` for the code's edits
+abbrev pub EditedTextDefinitionsAgree : Type 0
+EditedTextDefinitionsAgree =
+    (unit : Unit) (text : List ℕ) (edits : List Edit)
+    → text_after_edits unit text (replacements edits) ≡ patched_text (width_of unit) text edits
