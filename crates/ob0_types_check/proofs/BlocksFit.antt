@@ -3,7 +3,7 @@
 use Rattle.std.proofs.Common.{◌≡◌, ◌≢◌, ℕ, suc, ◌+◌, ◌<◌, ◌≤◌, Bool, true, false, ◌&&◌, List, [], ◌∷◌, ◌++◌, length, map, Option, Some, None, option_and_then, refl, sym, ap, ◌∙◌, subst, le_refl, le_trans, arith, length-append, lit<}
 use Rattle.std.proofs.lemmas.List.{length-map}
 use Rattle.std.specs.List.{filter}
-use Rattle.ob0_scan.specs.declared.fault.Fault.{Fault}
+use Rattle.ob0_scope_table.specs.declared.faults.FaultAtTokens.{FaultAtTokens}
 use Rattle.ob0_tree.specs.ParsedModule.{tree_of}
 use Rattle.ob0_tree.specs.Places.{tree_with_names, token_text_at, token_value_at}
 use Rattle.ob0_tree.specs.Tree.{Tree, begins, block, body, constants, declares, declares_procedure, end, formals, forms_block, item, items, mapped_tree, maybe, more, none, one, procedure, type_definitions, variables}
@@ -195,7 +195,7 @@ module _ (w : Numbering) (fit : PartsFit) where
         let t₃ : ResultWithFaults KnownDeclarations = report_on_variable_declarations t₂.known (section_variables vs) in
         let v₃ : WalkProgress = with_declarations v t₃.known in
         let t₄ : ResultWithFaults WalkProgress = report_on_procedures every_body v₃ ps in
-        let last : List Fault = body_faults t₄.known.so_far statements in
+        let last : List FaultAtTokens = body_faults t₄.known.so_far statements in
         let a₁ = none-reported t₁.faults (t₂.faults ++ (t₃.faults ++ (t₄.faults ++ last))) h in
         let a₂ = none-reported t₂.faults (t₃.faults ++ (t₄.faults ++ last)) a₁.1 in
         let a₃ = none-reported t₃.faults (t₄.faults ++ last) a₂.1 in

@@ -3,13 +3,13 @@
 use Rattle.std.proofs.Common.{◌≡◌, ℕ, ◌+◌, true, false, ◌&&◌, List, [], ◌∷◌, ◌++◌, map, Some, None, option_and_then, if◌then◌else◌, refl, sym, ap, ◌∙◌}
 use Rattle.std.proofs.lemmas.Bool.{and_parts}
 use Rattle.ob0_scan.specs.declared.fault.FaultCode.TheVariants as code
-use Rattle.ob0_scan.specs.TextWithTokens.{TextWithTokens}
 use Rattle.ob0_tree.specs.ParsedModule.{named_tree_of, tree_of}
 use Rattle.ob0_tree.specs.Tree.{Tree, begins, block, body, constant, constants, declares, declares_constant, declares_const_section, declares_procedure, declares_type, declares_type_section, declares_variable, declares_var_section, end, formals, section_after_semicolon, forms_block, forms_module, item, items, maybe, module_text, more, no_formals, none, occurrences, one, procedure, section, some_formals, semicolon_then_section, type_definition, type_definitions, value_section, variable, variable_section, variables}
 use Rattle.ob0_language_names.specs.Names.{Label, Naming, naming_by_label, as_written, declared}
 use Rattle.ob0_language_names.specs.Occurrences.{bindings}
 use Rattle.ob0_language_names.specs.BlockParts.{formal_sections, names_in_list, procedure_formals, procedure_name, section_constants, parameter_section_names, parameter_section_type, section_types, section_variables}
-use Rattle.ob0_scope_table.specs.Resolution.{is_unbound, span_at, undeclared_faults_from_labels}
+use Rattle.ob0_scope_table.specs.FaultsAtTokens.{fault_at_token}
+use Rattle.ob0_scope_table.specs.Resolution.{is_unbound, undeclared_faults_from_labels}
 use Rattle.ob0_language_names.specs.Scopes.{numbered}
 use Rattle.ob0_language_types.specs.Declarations.{constructors_before_variables, constructors_before_procedures, declare_constants, declare_constants_and_types, declare_types, formals_constructor_count, procedure_constructor_count}
 use Rattle.ob0_language_types.specs.Environments.{environment_from_binding, meanings, newest_object, outermost_environment}
@@ -126,14 +126,14 @@ pub labels-bound : (m : Tree Label module_text) → passes_type_check naming_by_
 unfolding passes_type_check
 labels-bound (forms_module x b closing) h = block-bound (λ x. is_unbound x ≡ false) naming_by_label label-bound b 0 (outermost_environment naming_by_label) h
 
-none-unbound : (source : TextWithTokens) (tokens : List ℕ) (labels : List Label) → Each (λ x. is_unbound x ≡ false) labels → undeclared_faults_from_labels source tokens labels ≡ []
-none-unbound source [] labels h = refl
-none-unbound source (token ∷ tokens) [] h = refl
-none-unbound source (token ∷ tokens) (label ∷ labels) h =
-    ap (λ b. if b then record { code = code.Undeclared; span = span_at source token } ∷ undeclared_faults_from_labels source tokens labels else undeclared_faults_from_labels source tokens labels) h.0 ∙ none-unbound source tokens labels h.1
+none-unbound : (tokens : List ℕ) (labels : List Label) → Each (λ x. is_unbound x ≡ false) labels → undeclared_faults_from_labels tokens labels ≡ []
+none-unbound [] labels h = refl
+none-unbound (token ∷ tokens) [] h = refl
+none-unbound (token ∷ tokens) (label ∷ labels) h =
+    ap (λ b. if b then fault_at_token code.Undeclared token ∷ undeclared_faults_from_labels tokens labels else undeclared_faults_from_labels tokens labels) h.0 ∙ none-unbound tokens labels h.1
 
 pub typed_modules_have_bound_names-holds : TypedModulesHaveBoundNames
 typed_modules_have_bound_names-holds r is h =
     let m = r.module_read in
     is.reported.undeclared
-    ∙ none-unbound m.source (occurrences (tree_of m)) (bindings (named_tree_of m)) (labels-bound (numbered (named_tree_of m)) (sym (numbering_keeps_type_check-holds (named_tree_of m)) ∙ h))
+    ∙ none-unbound (occurrences (tree_of m)) (bindings (named_tree_of m)) (labels-bound (numbered (named_tree_of m)) (sym (numbering_keeps_type_check-holds (named_tree_of m)) ∙ h))

@@ -1,6 +1,6 @@
 -- If a module fits without the statements of one body, only these statements have faults.
 use Rattle.std.proofs.Common.{◌≡◌, ℕ, zero, suc, Bool, true, false, ◌||◌, List, [], ◌∷◌, ◌++◌, eq-eqb, refl, sym, ap, ◌∙◌, subst}
-use Rattle.ob0_scan.specs.declared.fault.Fault.{Fault}
+use Rattle.ob0_scope_table.specs.declared.faults.FaultAtTokens.{FaultAtTokens}
 use Rattle.ob0_tree.specs.ParsedModule.{tree_of}
 use Rattle.ob0_tree.specs.Tree.{Tree, block, body, constants, declares, declares_procedure, end, forms_block, item, items, maybe, more, none, procedure, type_definitions, variables}
 use Rattle.ob0_language_names.specs.Names.{naming_by_spelling}
@@ -94,7 +94,7 @@ procedures_none own w cs ts vs ps a h =
     let t₂ : ResultWithFaults KnownDeclarations = report_on_type_declarations t₁.known (section_types ts) in
     let t₃ : ResultWithFaults KnownDeclarations = report_on_variable_declarations t₂.known (section_variables vs) in
     let t₄ : ResultWithFaults WalkProgress = report_on_procedures every_body (with_declarations w t₃.known) ps in
-    let last : List Fault = body_faults t₄.known.so_far a in
+    let last : List FaultAtTokens = body_faults t₄.known.so_far a in
     let a₁ = none-reported t₁.faults (t₂.faults ++ (t₃.faults ++ (t₄.faults ++ last))) h in
     let a₂ = none-reported t₂.faults (t₃.faults ++ (t₄.faults ++ last)) a₁.1 in
     let a₃ = none-reported t₃.faults (t₄.faults ++ last) a₂.1 in

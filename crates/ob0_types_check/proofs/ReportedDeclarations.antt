@@ -2,7 +2,7 @@
 use Rattle.std.proofs.Common.{◌≡◌, ◌<◌, ◌≤◌, ℕ, ◌+◌, Bool, true, false, if◌then◌else◌, List, [], ◌∷◌, ◌++◌, length, map, drop, refl, sym, ap, ◌∙◌, subst, arith, length-append}
 use Rattle.std.proofs.lemmas.List.{map-append}
 use Rattle.std.specs.List.{filter}
-use Rattle.ob0_scan.specs.declared.fault.Fault.{Fault}
+use Rattle.ob0_scope_table.specs.declared.faults.FaultAtTokens.{FaultAtTokens}
 use Rattle.ob0_scope_table.specs.Resolution.{Resolution, is_undeclared_fault}
 use Rattle.ob0_language_names.specs.BlockParts.{formal_sections, names_after_first, names_in_list, section_constants, section_types, section_variables}
 use Rattle.ob0_types_table.specs.declared.known.FormalParameter as formal
@@ -154,15 +154,15 @@ module_reported r = refl
 
 -- ---- one body
 
-with_some : (faults : List Fault) (own : ℕ) (xs : List ℕ) → 0 < length faults → with_body_if_faulty faults own xs ≡ xs ++ own ∷ []
+with_some : (faults : List FaultAtTokens) (own : ℕ) (xs : List ℕ) → 0 < length faults → with_body_if_faulty faults own xs ≡ xs ++ own ∷ []
 with_some [] own xs less = absurd (omega (arith, less))
 with_some (fault ∷ faults) own xs less = refl
 
-with_none : (faults : List Fault) (own : ℕ) (xs : List ℕ) → length faults ≤ 0 → with_body_if_faulty faults own xs ≡ xs
+with_none : (faults : List FaultAtTokens) (own : ℕ) (xs : List ℕ) → length faults ≤ 0 → with_body_if_faulty faults own xs ≡ xs
 with_none [] own xs le = refl
 with_none (fault ∷ faults) own xs le = absurd (omega (arith, le))
 
-module _ (wanted : Bool) (own : ℕ) (w : WalkProgress) (a : Tree ℕ (maybe body)) (before after : List Fault) (is_wanted : wanted ≡ true) (r : after ≡ before ++ body_faults w.so_far a) where
+module _ (wanted : Bool) (own : ℕ) (w : WalkProgress) (a : Tree ℕ (maybe body)) (before after : List FaultAtTokens) (is_wanted : wanted ≡ true) (r : after ≡ before ++ body_faults w.so_far a) where
   body_if_with : (bodies_with_faults : List ℕ) → bodies_with_faults ≡ with_body_if_faulty (body_faults w.so_far a) own w.bodies_with_faults → ReturnsAndReports before after (record { so_far = w.so_far; bodies_with_faults = bodies_with_faults }) (report_body_if_wanted wanted own w a)
   body_if_with bodies_with_faults e =
       subst (λ b. ReturnsAndReports before after (record { so_far = w.so_far; bodies_with_faults = bodies_with_faults }) (report_body_if_wanted b own w a)) (sym is_wanted)

@@ -1,7 +1,7 @@
 -- No fault is reported for well-typed blocks, procedures and modules.
 use Rattle.std.proofs.Common.{◌≡◌, ℕ, suc, ◌+◌, Bool, true, ◌&&◌, List, [], ◌∷◌, ◌++◌, Option, Some, option_and_then, refl, sym, ap, ◌∙◌, subst, le_refl, arith}
 use Rattle.std.proofs.lemmas.Bool.{and_parts}
-use Rattle.ob0_scan.specs.declared.fault.Fault.{Fault}
+use Rattle.ob0_scope_table.specs.declared.faults.FaultAtTokens.{FaultAtTokens}
 use Rattle.ob0_tree.specs.ParsedModule.{tree_of}
 use Rattle.ob0_tree.specs.Places.{tree_with_names, token_text_at, token_value_at}
 use Rattle.ob0_tree.specs.Tree.{Tree, block, body, declares, declares_procedure, end, forms_block, item, items, maybe, more, procedure}
@@ -51,7 +51,7 @@ module _ (w : Numbering) (fit : PartsFit) (fine : PartsRight) where
         let t₃ : ResultWithFaults KnownDeclarations = report_on_variable_declarations t₂.known (section_variables vs) in
         let v₃ : WalkProgress = with_declarations v t₃.known in
         let t₄ : ResultWithFaults WalkProgress = report_on_procedures every_body v₃ ps in
-        let last : List Fault = body_faults t₄.known.so_far statements in
+        let last : List FaultAtTokens = body_faults t₄.known.so_far statements in
         let variables : TypeEnvironment Name → Option (TypeEnvironment Name) = declare_typed_variables naming_by_spelling (constructors_before_variables k nb) (section_variables (tree_with_names w.source vs)) in
         let types : TypeEnvironment Name → Option (TypeEnvironment Name) = λ e. declare_types naming_by_spelling e k (section_types (tree_with_names w.source ts)) in
         let test : TypeEnvironment Name → Bool = λ inner. procedures_are_well_typed naming_by_spelling inner (constructors_before_procedures k nb) (tree_with_names w.source statements) (tree_with_names w.source ps) in
