@@ -3,8 +3,8 @@
 //! A *view* (`Module`, `Resolved`, `Checked`) has one part of the results and a reference to the
 //! view of the layer below. The view's invariant says that the part is right for the layer below.
 //! Each view has two constructors, which require this invariant: `new` owns the part, and
-//! `from_parts` borrows it. Those of `Checked` also give the faults their spans, and only they
-//! allocate. In contracts, a `ModuleParts` has the same value as its `Resolved`.
+//! `from_parts` borrows it. The functions of `Checked` also give the faults their spans, and only
+//! they allocate. In contracts, a `ModuleParts` has the same value as its `Resolved`.
 
 ghost use Rattle.std.specs.Prelude.{◌≡◌, IfOk};
 ghost use Rattle.ob0_tree.specs.ParsedModule.{IsParsed, parsed_module};

@@ -113,7 +113,7 @@ merged l (m ∷ ms) belongs apart (inr (space, begins)) =
 abbrev pub IsNoOtherSymbol : LexemeKind → Type 0
 IsNoOtherSymbol kind = (s : Symbol) → kind ≡ lexeme.Token (token.Symbol s) → s ≡ symbol.Semicolon
 
--- What ends before a letter, and is no symbol except a semicolon, meets all lexemes loosely.
+-- A lexeme meets all lexemes loosely if it ends before a letter and is no symbol except a semicolon.
 meets : (kind : LexemeKind) → IsNoOtherSymbol kind → (ns : List Lexeme) (letter : ℕ) → is_ascii_alphanumeric letter ≡ true → continues_lexeme kind letter ≡ false → MeetsLoosely kind ns
 meets lexeme.Space other ns letter is h = ⊎_elim (λ blank. inr (refl, blank)) (λ ends. inl ends) (cases_Bool (is_white_space (first_byte ns)))
 meets lexeme.Comment other ns letter is h = inl refl
@@ -129,7 +129,7 @@ pub record Joined (before old ns : List Lexeme) : Type 0 where
   pub whole : text_of_lexemes lexemes ≡ text_of_lexemes before ++ text_of_lexemes ns
   pub front : (kind : LexemeKind) → (before ≡ [] → IsNoOtherSymbol kind) → continues_lexeme kind (first_byte (before ++ old)) ≡ false → MeetsLoosely kind lexemes
 
--- What follows a semicolon or a reserved word may go, if it begins with a letter.
+-- A lexeme after a semicolon or a reserved word can be removed if it begins with a letter.
 pub joined : (before old ns : List Lexeme) → is_ascii_alphanumeric (first_byte old) ≡ true → EachLexemeEndsBeforeNext (before ++ old) → EachLexemeEndsBeforeNext ns
     → ((xs : List Lexeme) (l : Lexeme) → before ≡ xs ++ (l ∷ []) → IsNoOtherSymbol l.kind) → Joined before old ns
 joined [] old ns letter apart new last = record { lexemes = ns; apart = new; read = refl; whole = refl; front = λ kind may h. meets kind (may refl) ns (first_byte old) letter h }

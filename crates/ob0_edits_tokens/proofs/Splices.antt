@@ -44,13 +44,13 @@ module _ (text : List ℕ) (u : IsUtf8 text) (tokens : List Token) (new : List �
   abbrev cuts_at : List ℕ → List Cut
   cuts_at = map (replacement_cut tokens new)
 
-  -- States that identifiers can be replaced, and that what is left may stand in the place of the
-  -- lexemes `ls`.
+  -- States that identifiers can be replaced, and that the remaining text may stand in the place of
+  -- the lexemes `ls`.
   pub record Replacements (at k : ℕ) (ls : List Lexeme) (indexes : List ℕ) : Type 0 where
     pub leaves : Leaves at k ls (cuts_at indexes) (changes_at_indexes indexes)
     pub fits : (ws : List Word) (may : MayReplaceIdentifier new ws) → IsInPlaceOf ls (leaves.left ws may).lexemes
 
-  -- The text before a token stays if all cuts are after it.
+  -- The text before a token doesn't change if all cuts are after it.
   front_kept : (at k : ℕ) (ls : List Lexeme) (p : ℕ) (cs : List Cut) → AreAt text u tokens at k ls → (t : HasToken text u tokens at k ls p) → AreCuts text t.start cs → text_from_place_with_cuts text at cs ≡ text_of_lexemes t.before ++ text_from_place_with_cuts text t.start cs
   front_kept at k ls p cs r t are =
       pieced_kept text at t.start (text_of_lexemes t.before) (text_of_lexemes (t.here ∷ t.after)) cs (r.rest.whole ∙ ap text_of_lexemes t.whole ∙ joined_append t.before (t.here ∷ t.after)) t.start_is are

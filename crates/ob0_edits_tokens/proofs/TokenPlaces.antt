@@ -1,4 +1,4 @@
--- Proves where the token with an index is among the lexemes of a text.
+-- Proves at which lexeme of a text the token with an index is.
 use Rattle.std.proofs.Common.{◌≡◌, ℕ, zero, suc, ◌+◌, ◌-◌, ◌<◌, ◌≤◌, List, [], ◌∷◌, ◌++◌, length, drop, refl, sym, ap, ◌∙◌, subst, subst₂, arith, add-zero, length-append, length-drop}
 use Rattle.std.specs.Str.{IsUtf8}
 use Rattle.std.proofs.lemmas.List.{drop-drop, drop_at, get_or-drop}
@@ -80,7 +80,7 @@ module _ (text : List ℕ) (u : IsUtf8 text) (tokens : List Token) where
       ap (token_at_or_empty tokens) (sym (add-zero p)) ∙ sym (get_or-drop p tokens 0 _)
       ∙ ap (λ ts. token_at_or_empty ts 0) (r.tokens_are ∙ ap (λ k. tokens_of_lexeme k (span_from at (length l.text)) ++ tokens_of_lexemes_from (at + length l.text) ls) is)
 
-  -- States where the token with the index p is among lexemes.
+  -- States at which lexeme the token with the index p is.
   pub record HasToken (at k : ℕ) (ls : List Lexeme) (p : ℕ) : Type 0 where
     pub before : List Lexeme
     pub here : Lexeme

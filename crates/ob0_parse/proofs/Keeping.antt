@@ -58,7 +58,7 @@ count_slice ts at next h within =
     let left : length (drop at (kinds ts)) ≡ length (kinds ts) - at = length-drop at (kinds ts) in
     length-take-le (next - at) (drop at (kinds ts)) (omega (arith, all, left, h, within))
 
--- If the remaining tokens begin with those of a tree, the tree is in place.
+-- If the remaining tokens begin with the tokens of a tree, the tree is in place.
 pub kept_there : {s : Sort} (ts : List Token) (at next : ℕ) (t : Tree ℕ s) → rest ts at ≡ spell t ++ rest ts next → nesting t ≤ max_nesting → 0 < length (spell t) → next ≤ length ts → IsTreeInPlace ts at next t
 kept_there ts at next t spelled shallow some within =
     let count : length (rest ts at) ≡ length (spell t) + length (rest ts next) = ap (λ (w : List (Terminal ℕ)). length w) spelled ∙ length-append (spell t) (rest ts next) in

@@ -62,9 +62,9 @@ IsKeptTreeInPlace ts k = HasTokensAt ts k.from k.at k.next (tree_of_construct k.
 pub record AreKeptTreesInPlace (ts : List Token) (k : KeptTrees) : Type 0 where
   pub trees : All (IsKeptTreeInPlace ts) k.trees.items
 
--- States that the tokens `at..next` of `ts` are those of the procedures `ps`, one after another,
--- and that no procedure is nested too deeply. The leaves of the procedures are the indexes of these
--- tokens.
+-- States that the tokens `at..next` of `ts` are the tokens of the procedures `ps`, one after
+-- another, and that no procedure is nested too deeply. The leaves of the procedures are the indexes
+-- of these tokens.
 pub record TokensContainProcedures (ts : List Token) (ps : List Procedure) : Type 0 where
   pub at : ℕ
   pub next : ℕ
@@ -72,9 +72,9 @@ pub record TokensContainProcedures (ts : List Token) (ps : List Procedure) : Typ
   pub shallow : nesting (items_of procedure_of ps) ≤ max_nesting
   pub within : next ≤ length ts
 
--- States that the tokens `ts` are those of a module that ends with the procedures `ps`, the body
--- `statements` and the closing name with the token index `closing`. END is the token after the body
--- and before the closing name.
+-- States that the tokens `ts` are the tokens of a module that ends with the procedures `ps`, the
+-- body `statements` and the closing name with the token index `closing`. END is the token after the
+-- body and before the closing name.
 pub record ModuleEndsWithParts
     (ts : List Token) (ps : List Procedure) (statements : Option (Vec Statement Global)) (closing : ℕ)
     : Type 0 where

@@ -1,5 +1,5 @@
 -- States which results of the parser are right, for a module and for the procedures that are
--- declared directly in it. The parser stores these procedures in a list of their own.
+-- declared directly in it. The parser stores these procedures in a separate list.
 -- Rule: none; used in private contracts of the parser.
 use Rattle.std.specs.Prelude.{ℕ, List, [], ◌∷◌, Result, Ok, Err, length}
 use Rattle.ob0_scan.specs.declared.lexeme.Token.{Token}

@@ -15,7 +15,7 @@ pub record HaveSameKindsAndNames (old new : TextWithTokens) : Type 0 where
   pub same_kinds : kinds new.tokens ≡ kinds old.tokens
   pub same_names : spellings_of_identifiers_in new.text new.tokens ≡ spellings_of_identifiers_in old.text old.tokens
 
--- States that the bindings of a module without faults of scopes are also the bindings of the same
+-- States that the bindings of a module without scope faults are also the bindings of the same
 -- tree with another text's tokens. The tokens of both texts must have the same kinds, and their
 -- identifiers the same spellings. The tree must also be the tree of the other text's module.
 abbrev pub BindingsDependOnlyOnNames : Type 0
