@@ -8,12 +8,12 @@ use Rattle.ob0_language_types.specs.WellTyped.{WellTyped}
 use Rattle.ob0_types.specs.CheckedModules.{IsWellTyped}
 use Rattle.ob0_analysis.specs.ReportedErrors.{IsWellTypedModule}
 
--- states that the text is a well-typed module, and `names` is this module with its names bound
+-- States that the text is a well-typed module, and `names` is this module with its names bound.
 pub record IsResolvedWellTypedModule (text : List ℕ) (names : Resolution) : Type 0 where
   pub scan : IsScanOf text names.module_read.source
   pub well_typed : IsWellTyped names
 
--- states that the text is a well-typed module, and `m` has the tokens and the tree of the text
+-- States that the text is a well-typed module, and `m` has the tokens and the tree of the text.
 pub record IsParsedWellTypedModule (text : List ℕ) (m : ParsedModule) : Type 0 where
   pub scan : IsScanOf text m.source
   pub parsed : IsParsed m

@@ -15,18 +15,18 @@ use Rattle.ob0_analysis.specs.declared.scanned_text.ReanalysisFailure.TheVariant
 use Rattle.ob0_analysis.specs.declared.scanned_text.ParseOutcome.{ParseOutcome}
 use Rattle.ob0_analysis.specs.declared.scanned_text.ParseOutcome.TheVariants.{NoTree, Module}
 
--- states that the refusal isn't lack of memory
+-- States that the refusal isn't lack of memory.
 abbrev pub IsNotLackOfMemory : ParseRefusal → Type 0
 IsNotLackOfMemory (Syntax token expected) = Unit {0}
 IsNotLackOfMemory (TooDeep token) = Unit {0}
 IsNotLackOfMemory Memory = ⊥
 
--- states that the parser refuses these tokens with this refusal, and that the refusal isn't lack of
--- memory
+-- States that the parser refuses these tokens with this refusal, and that the refusal isn't lack of
+-- memory.
 abbrev pub IsRefusedByParser : TextWithTokens → ParseRefusal → Type 0
 IsRefusedByParser tokens refusal = IsRightParseRefusal tokens refusal × IsNotLackOfMemory refusal
 
--- returns the text that was parsed
+-- Returns the text that was parsed.
 abbrev pub text_of_parse_outcome : ParseOutcome → List ℕ
 text_of_parse_outcome (NoTree ill) = ill.tokens.text
 text_of_parse_outcome (Module m) = m.module_read.source.text
@@ -49,7 +49,7 @@ abbrev pub IsRightReanalysisFailure : List ℕ → ReanalysisFailure → Type 0
 IsRightReanalysisFailure text (reanalysis_failure.Faults faults last) = (IsScannable text → ⊥) × AreFaultsOfRefusedText text faults.items
 IsRightReanalysisFailure text reanalysis_failure.Memory = Unit {0}
 
--- returns the text that was analysed
+-- Returns the text that was analysed.
 abbrev pub text_of_analysis_result : AnalysisResult → List ℕ
 text_of_analysis_result (Unscannable ill) = string_bytes ill.text
 text_of_analysis_result (Scannable read) = read

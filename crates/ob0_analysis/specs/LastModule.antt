@@ -46,10 +46,9 @@ pub record WidensDifference (narrow wide : CommonPrefixAndSuffix) : Type 0 where
   pub back : narrow.old_suffix ≤ wide.old_suffix
   pub adds_equally_many_tokens : wide.new_suffix + narrow.old_suffix ≡ narrow.new_suffix + wide.old_suffix
 
--- States that a change from an old text to a new text keeps the last module right. If `before`
--- belongs to the old text, `after` belongs to the new text. This must hold for any old text and any
--- scanned new text (`IsScan`) that share the tokens described by `change`. Always holds if `after`
--- is None.
+-- States about a change of the text: if `before` is None or the last module of the old text, then
+-- `after` is None or the last module of the new text (`IsLastModuleOf`). This must hold for any old
+-- text and any scanned new text (`IsScan`) that share the tokens described by `change`.
 abbrev pub KeepsLastModule : Option LastModule → CommonPrefixAndSuffix → Option LastModule → Type 0
 KeepsLastModule before change after =
     (old new : TextWithTokens)

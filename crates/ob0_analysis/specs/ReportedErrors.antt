@@ -24,23 +24,23 @@ use Rattle.ob0_analysis.specs.declared.diagnoses.Diagnosis.{Diagnosis}
 
 -- In this file a text is the list of its UTF-8 bytes. Spans count these bytes.
 
--- a reported error of a text: the name of its code, its message and its span in bytes
+-- A reported error of a text: the name of its code, its message and its span in bytes.
 pub record ReportedDiagnosis : Type 0 where
   pub code : List ℕ
   pub message : List ℕ
   pub span : Span
 
--- returns the code, message and span of a diagnosis
+-- Returns the code, message and span of a diagnosis.
 abbrev pub reported_diagnosis_of : Diagnosis → ReportedDiagnosis
 reported_diagnosis_of d = record { code = d.code.now; message = string_bytes d.message; span = d.span }
 
--- states that the text is a module with this tree
+-- States that the text is a module with this tree.
 pub record IsTextOfTree (tree : Tree Name module_text) (text : List ℕ) : Type 0 where
   pub scanned : TextWithTokens
   pub scan : IsScanOf text scanned
   pub module_of : IsModuleWithTree scanned tree
 
--- states that the text is a well-typed module
+-- States that the text is a well-typed module.
 pub record IsWellTypedModule (text : List ℕ) : Type 0 where
   pub tree : Tree Name module_text
   pub text_of : IsTextOfTree tree text
@@ -48,7 +48,7 @@ pub record IsWellTypedModule (text : List ℕ) : Type 0 where
 
 -- ---- the errors of a text with lexical faults
 
--- returns the reported error for one fault of lexemes, names or types
+-- Returns the reported error for one fault of lexemes, names or types.
 abbrev pub reported_diagnosis_of_fault : Fault → ReportedDiagnosis
 reported_diagnosis_of_fault fault =
     record { code = fault_code_name fault.code; message = fault_code_message fault.code; span = fault.span }
@@ -63,13 +63,13 @@ pub record ReportsLexicalFaults (text : List ℕ) (reported : List ReportedDiagn
 
 -- ---- the error of a text that scans and that the parser refuses
 
--- returns the span of a token, or an empty span at the end of the text if there is no token
+-- Returns the span of a token, or an empty span at the end of the text if there is no token.
 abbrev pub span_or_end : List ℕ → Option Token → Span
 span_or_end text (Some token) = token.span
 span_or_end text None = record { start = length text; end = length text }
 
--- returns the span of the token with this index, or an empty span at the end of the text if there
--- is no such token
+-- Returns the span of the token with this index, or an empty span at the end of the text if there
+-- is no such token.
 abbrev pub token_span_or_end : TextWithTokens → ℕ → Span
 token_span_or_end s token = span_or_end s.text (slice_get s.tokens token)
 
@@ -79,7 +79,7 @@ abbrev pub syntax_error_diagnosis : List ℕ → Span → ReportedDiagnosis
 syntax_error_diagnosis word place =
     record { code = codes "Syntax"; message = codes "expected " ++ word; span = place }
 
--- returns the reported error for a construct at this span that is nested too deep
+-- Returns the reported error for a construct at this span that is nested too deep.
 abbrev pub depth_error_diagnosis : Span → ReportedDiagnosis
 depth_error_diagnosis place = record { code = codes "TooDeep"; message = codes "nested too deep"; span = place }
 

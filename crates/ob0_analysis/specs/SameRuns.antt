@@ -4,8 +4,8 @@ use Rattle.std.specs.Prelude.{ℕ, List}
 use Rattle.ob0_language_runs.specs.EditLaws.{HaveSameRuns}
 use Rattle.ob0_analysis.specs.ReportedErrors.{IsWellTypedModule}
 
--- states that both texts are well-typed modules with the same run for every input and all bounds on
--- calls and on turns of loops
+-- States that both texts are well-typed modules with the same run for every input and all bounds on
+-- calls and on turns of loops.
 pub record RunsAsBefore (before after : List ℕ) : Type 0 where
   pub old : IsWellTypedModule before
   pub new : IsWellTypedModule after

@@ -7,9 +7,9 @@
 //!
 //! A question is a struct with `impl Question`. The impl has the type `Answer` of the answers and
 //! the function `answer`. The contract of `answer` is the ghost member
-//! `answers = { λ question names answer. .. }`. A contract about the characters of the text
-//! (`content`) is an implication with two conditions:
-//! `IsResolvedWellTypedModule (utf8 content) names` and
+//! `answers = { λ question names answer. .. }`. The module `names` has the bytes of the text. A
+//! statement in `answers` about the text's characters, which are called `content`, has two
+//! conditions: `IsResolvedWellTypedModule (utf8 content) names` and
 //! `content ≡ chars names.module_read.source.text`. If a question can be asked about only one text,
 //! the ghost member `is_about` states which text, and callers of `ask` must prove it.
 

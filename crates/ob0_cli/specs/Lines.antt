@@ -1,4 +1,4 @@
--- Defines the commands of `ob0` and their arguments, as values of clap's definition of commands.
+-- Defines the commands of `ob0` (each is an `App` of clap's specs) and their arguments (`Rule`).
 -- Rule: docs/PROTOCOL.md, The program; clap's definition of a command line.
 use Rattle.std.specs.Prelude.{[], ◌∷◌, ℕ, pos, true, Some, codes}
 use Rattle.clap.specs.Words.{App, Rule, Text, new_app, new_rule, with_rule, with_subcommand}

@@ -65,9 +65,9 @@ pub record SpellsCommand (words : List Text) (line : CommandLine) : Type 0 where
   pub has_no_fault : fault_of ob0_app words ≡ []
   pub read : YieldsCommandLine (subcommand_of ob0_app words) line
 
--- States that the words may be refused with this fault. A clap error has a kind that clap's
--- definition allows for the words' first fault, and never the kind `OutOfMemory`. For `help` and
--- for an unknown subcommand, two kinds are allowed. `Memory` is allowed for any words.
+-- States that the words may be refused with this fault. A clap error (`Refused`) has a kind that
+-- clap's specs allow for the first fault of the words, and never the kind `OutOfMemory`. For `help`
+-- and for an unknown subcommand, two kinds are allowed. `Memory` is allowed for any words.
 abbrev pub MayRefuseWords : List Text → CommandFault → Type 0
 MayRefuseWords words (Refused error) =
     IsAmong (kind_of error) (fault_of ob0_app words) × ¬ (kind_of error ≡ OutOfMemory)

@@ -14,7 +14,7 @@
 //! Traps of the proofs:
 //! - No `ghost` clause can depend on a `&str` parameter. So the greatest value of an option is a
 //!   function of the option's name (`max_option_value`).
-//! - The files `Answers.antt` call a local variable `run` of the code `run'`.
+//! - A local variable `run` of the code is called `run'` in the files `Answers.antt`.
 //! - A `where` block needs every `_` written out.
 //!
 //! Help texts are constants, one for each command. A test checks that their lines have at most 80

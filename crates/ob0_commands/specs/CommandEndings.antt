@@ -3,7 +3,7 @@
 -- whether the output or the input has failed. Any other status is the status of a fault.
 -- `MayStopCommandOnFile` and `MayStopRun` state the reason for the fault. A run is printed only if
 -- the bytes of its input are a list of numbers (`IsValidInputOf`) or aren't known. Status 5 (out of
--- memory) doesn't depend on the input. It occurs only for a file that isn't too long
+-- memory) doesn't depend on the input, and occurs only for a file that isn't too long
 -- (`IsMemoryFaultOnlyForShortFile`). For a file that is too long, the commands allocate nothing.
 -- Each command prints after its last allocation. So a fault other than `Write` leaves the output
 -- unchanged (`PrintsNothingUnlessWriteFault`).

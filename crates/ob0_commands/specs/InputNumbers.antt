@@ -13,7 +13,7 @@ pub record SpellsNumber (word : List ℕ) (n : ℤ) : Type 0 where
   pub value : n ≡ signed_digits_value 10 word
   pub fits_in_32_bits : fits_in_32_bits n ≡ true
 
--- States that a word may end right before this text: the text is empty or begins with white space.
+-- States that this text may directly follow a word: it is empty or begins with white space.
 abbrev pub WordMayEndBefore : List ℕ → Type 0
 WordMayEndBefore [] = ⊤
 WordMayEndBefore (b ∷ bs) = IsTrue (is_white_space b)

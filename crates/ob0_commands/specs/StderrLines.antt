@@ -1,7 +1,7 @@
 -- Defines the lines that the commands print on standard error, in bytes of UTF-8, and states when a
--- line is printed (`PrintsLine`). `EndsByFault`, `PrintsStoppedRun` and `RefusesName` have this
--- fact as their parameter `IsPrintedOnStderr`. So they can state that the printed line belongs to
--- the same fault, run or refusal as the status and the output.
+-- line is printed there (`PrintsLine`). `EndsByFault`, `PrintsStoppedRun` and `RefusesName` have a
+-- parameter `IsPrintedOnStderr`, for which the contracts pass `PrintsLine`. So each of them can
+-- state that the printed line belongs to the same fault, run or refusal as the output.
 -- Rule: docs/PROTOCOL.md, The program 2, 3, 5, 6 and 7.
 use Rattle.std.specs.Prelude.{◌≡◌, ◌++◌, ℕ, List, Option, Some, None, Bool, true, false, codes}
 use Rattle.std.specs.Io.KnownBytes.{Appends}

@@ -33,8 +33,8 @@ pub record IsLoweredTo (text : List ℕ) (program : Program) : Type 0 where
   pub runs : lowered.ProgramRunsAsModule tree program
 
 -- States that `r` is a run of the file's module, and that the output of `r` is printed. If the
--- reader's bytes are known (`given`), they spell the numbers of the run's input. `c` and `t` are
--- the bounds of the run (`TextRunsAs`).
+-- bytes of the command's input are known (`given`), they spell the numbers of the run's input. `c`
+-- and `t` are the bounds of the run (`TextRunsAs`).
 pub record PrintsRun (file : List ℕ) (given : Option (List ℕ)) (c t : ℕ)
     (before after : Option (List ℕ)) (r : Run) : Type 0 where
   pub input : List ℤ

@@ -14,7 +14,7 @@ use ob0_cli::CommandLine;
 use std::alloc::Global;
 
 /// Performs the command that a command line requests, on a file with these bytes. Returns the
-/// program's exit status. Output goes to `out`, faults and refusals go to `err`. Only `run` reads
+/// program's exit status. The output goes to `out`, faults and refusals go to `err`. Only `run` reads
 /// from `input`. `serve` isn't allowed here, because it isn't a command on a file.
 pub fn perform_command<R: Input, O: Output, E: Output>(
     alloc: Global,

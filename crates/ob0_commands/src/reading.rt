@@ -1,9 +1,9 @@
 //! Reads all bytes of a file, and all bytes of the input of a run.
 //!
-//! The commands read from an `Input`: a reader that remembers whether a read has failed. So the
-//! contracts can state (by `IsGivenFaultOrMemory`) why the fault is `File` or `Input`.
-//! `TrackedReader` makes any reader an `Input`. If the remaining bytes of a reader aren't known
-//! (`Read::remaining`), the contracts don't say which bytes are read.
+//! The commands read through the trait `Input`: a reader that remembers whether a read has failed. So
+//! the contracts can state why the fault is `File` or `Input` (`IsGivenFaultOrMemory`).
+//! `TrackedReader` implements this trait for any reader. If the remaining bytes of a reader aren't
+//! known (`Read::remaining`), the contracts don't say which bytes are read.
 
 ghost use Rattle.std.specs.Prelude.{◌≡◌, ◌≤◌, ◌<◌, ◌||◌, ◌⊎◌, Bool, true, false, is_err, IfOk, OnOk, IfErr, IfSome, length, suc};
 ghost use Rattle.std.specs.Io.{ReadsAtMost};
@@ -39,7 +39,7 @@ pub trait Input: Read {
         ensures failed { has_failed self.new ≡ (has_failed self.old || is_err result) };
 }
 
-/// A wrapper that makes any reader an `Input`: it remembers whether a read has failed.
+/// A wrapper that implements the trait `Input` for any reader: it remembers whether a read has failed.
 #[derive(Drop)]
 pub struct TrackedReader<R> {
     device: R,

@@ -1,10 +1,10 @@
 //! Prints whole texts.
 //!
-//! The commands print to an `Output`: a writer that remembers whether it has been flushed since the
-//! last write, and whether it has failed. std's contracts of `Write` mention neither fact, but the
-//! contract of `print` needs both. `TrackedWriter` makes any writer an `Output`, including the one
-//! for standard error. The bytes that a writer has written are its `contents`, or None if they
-//! aren't known. If they aren't known, the contracts say nothing about them.
+//! The commands print through the trait `Output`: a writer that remembers whether it has been flushed
+//! since the last write, and whether it has failed. std's contracts of `Write` mention neither fact,
+//! but the contract of `print` needs both. `TrackedWriter` implements this trait for any writer,
+//! including the writer for standard error. The bytes that a writer has written are its `contents`,
+//! or None if they aren't known. If they aren't known, the contracts say nothing about them.
 //!
 //! Each command flushes its output after it has printed. If `rename` refuses a name, nothing is
 //! printed to the output, so the output may still be unflushed (`IsFlushedOrUnchanged`). `check`
@@ -22,8 +22,8 @@ ghost use Rattle.ob0_commands.specs.StderrLines.{PrintsLine};
 use crate::faults::FileFault;
 use std::io::{self, Write};
 
-/// The size in bytes of two buffers. Files and inputs are read through one of them. Output is
-/// collected in the other before it is written.
+/// The size in bytes of two buffers. Files and inputs are read through one of them. The output of a
+/// run is collected in the other before it is written.
 pub(crate) const PIECE_SIZE: usize = 8192;
 
 /// A writer that remembers whether it has been flushed since the last write, and whether a call of
@@ -52,8 +52,9 @@ pub trait Output: Write {
         ensures failed { has_failed self.new ≡ (has_failed self.old || is_err result) };
 }
 
-/// A wrapper that makes any writer an `Output`. It remembers whether `flush_noting_result` has succeeded
-/// since the last write, and whether `write_all_noting_failure` or `flush_noting_result` has failed.
+/// A wrapper that implements the trait `Output` for any writer. It remembers whether
+/// `flush_noting_result` has succeeded since the last write, and whether
+/// `write_all_noting_failure` or `flush_noting_result` has failed.
 #[derive(Drop)]
 pub struct TrackedWriter<W> {
     device: W,

@@ -58,7 +58,7 @@ pub record IsInliningRefusedInText (how : Inlining) (unit : Unit) (text : List â
   pub read : IsParsedWellTypedModule (utf8 text) module_read
   pub refused : IsInlineResult how unit text module_read offset None
 
--- ---- answers to inlinings at a byte offset of a text: edits or None
+-- ---- answers to inlining at a byte offset of a text: edits or None
 
 -- States that `answer` has these edits. None means that `answer` is a refusal other than `Memory`
 -- (a failed allocation).

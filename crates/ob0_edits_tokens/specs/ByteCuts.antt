@@ -13,9 +13,9 @@ abbrev pub edit_of_cut : counting.Unit → List ℕ → Cut → Range × List �
 edit_of_cut unit text c =
     (range_of (width_of unit) text (record { start = c.from; end = c.to }), c.new)
 
--- Returns the length in bytes of the rest of a text, starting at the offset `at`, after all cuts
--- are applied. `len` is the length of the text before the cuts, in bytes. `at` and the ends of the
--- cuts are byte offsets in that text.
+-- Returns the length in bytes that the rest of a text, starting at the offset `at`, has after all
+-- cuts are applied. `len` is the length of the whole text before the cuts, in bytes. `at` and the
+-- ends of the cuts are byte offsets in the text before the cuts.
 abbrev pub length_with_cuts : ℕ → ℕ → List Cut → ℕ
 length_with_cuts len at [] = len - at
 length_with_cuts len at (c ∷ cs) = (c.from - at) + (length c.new + length_with_cuts len c.to cs)

@@ -1,4 +1,4 @@
--- Defines the token that a tree spells for a word.
+-- Defines the terminal for a word of a text: the token as a tree spells it.
 -- Rule: none; used in contracts about making edits.
 use Rattle.std.specs.Prelude.{List, ℕ}
 use Rattle.ob0_scan.specs.TextWithTokens.{Word}

@@ -1,5 +1,5 @@
--- Relates the words of a text to a tree in which each name and each integer is replaced by the
--- index of its word.
+-- Relates the words of a text (the kinds and spellings of its tokens) to a tree. In the tree, each
+-- name and each integer is replaced by the index of its word.
 -- Rule: none; used in contracts about making edits.
 use Rattle.std.specs.Prelude.{◌≡◌, ℕ, suc, if◌then◌else◌, List, [], ◌∷◌, map, slice_index_or}
 use Rattle.ob0_scan.specs.TextWithTokens.{Word, TextWithTokens}

@@ -13,9 +13,10 @@ pub fn identifier_may_replace_identifier()
     ensures { (new : List ℕ) → IsIdentifier new → MayReplaceIdentifier new (name_word new ∷ []) }
 {}
 
-/// Proves that a renamed tree spells the renamed words. Assume that a tree with word indexes instead
-/// of names spells the words of a text. If the identifiers at certain indexes get a new name, both
-/// in the tree and in the words, the renamed tree spells the renamed words.
+/// Proves that a renamed tree spells the renamed words. A word is a token's kind and spelling. Assume
+/// that a tree, with word indexes instead of names, spells the words of a text. If the identifiers at
+/// certain indexes get a new name in the tree and in the words, the renamed tree spells the renamed
+/// words.
 pub fn renamed_tree_spells_renamed_words()
     ensures { RenamedTreeSpellsRenamedWords }
 {}

@@ -18,9 +18,9 @@ use ob0_text::{Edit, EditRefusal, Range, TextStore};
 use std::alloc::Global;
 
 /// Returns the edits that replace identifiers by `new`: one edit for each index in
-/// `token_indexes`, in text order. The indexes are token indexes of identifiers and ascend. Fails
-/// with `TooLong` if the resulting text is longer than a text may be. Fails with `Memory` if an
-/// allocation fails.
+/// `token_indexes`, in text order. `token_indexes` are token indexes of identifiers, in ascending
+/// order. Fails with `TooLong` if the resulting text is longer than a text may be. Fails with `Memory`
+/// if an allocation fails.
 pub fn replacement_edits<T: TextStore>(
     alloc: Global,
     store: &T,
@@ -56,9 +56,9 @@ pub fn replacement_edits<T: TextStore>(
 /// Returns the edits that remove a declaration and replace identifiers after it, in text order.
 /// The first edit removes the text from the start of the token with the index `first` to the end of
 /// the token with the index `last`. The other edits replace the tokens with the indexes
-/// `token_indexes` by `new`, one edit for each. These are token indexes of identifiers, all
-/// greater than `last`, and ascend. Fails with `TooLong` if the resulting text is longer than a
-/// text may be. Fails with `Memory` if an allocation fails.
+/// `token_indexes` by `new`, one edit for each. `token_indexes` are token indexes of identifiers, in
+/// ascending order and all greater than `last`. Fails with `TooLong` if the resulting text is longer
+/// than a text may be. Fails with `Memory` if an allocation fails.
 pub fn removal_edits<T: TextStore>(
     alloc: Global,
     store: &T,
@@ -145,8 +145,8 @@ pub fn range_of<T: TextStore>(store: &T, span: Span) -> Range
 }
 
 /// Returns whether an edited text is longer than a text may be. The edited text is the old text
-/// without the bytes of the span `removed`. In the part after them, `new` replaces each token whose
-/// index is in `token_indexes`.
+/// without the bytes of the span `removed`. After that span, `new` replaces each token whose index is
+/// in `token_indexes`.
 fn is_edited_text_too_long(
     tokens: &Tokens,
     removed: Span,

@@ -28,8 +28,8 @@ use Rattle.ob0_inline.specs.EditedModuleTexts.{EditsGiveModule, size_refusal_or_
 use Rattle.ob0_inline.specs.Values.{value_factor, value_text}
 
 -- States that the byte offset is on a use of a constant of a CONST section, and that `u` is this
--- use. So `u` has the use's token index, its number among the occurrences, and the constant's
--- ordinal and value.
+-- use: `u` has the token index of the use, the number of the use among the occurrences, and the
+-- constant's ordinal and value.
 pub record IsConstantUseAt (m : ParsedModule) (offset : ℕ) (u : ConstantUse) : Type 0 where
   pub named : name_at_offset m offset ≡ Some (record { token = u.token; ordinal = u.constant })
   pub occurs : slice_get (occurrences (tree_of m)) u.occurrence ≡ Some u.token

@@ -18,8 +18,8 @@ use std::alloc::Global;
 
 /// Returns whether the text that results from the edits is nested deeper than a module may be.
 /// `read` is the module before the edits. The contract assumes that the edits add at most one level
-/// of nesting. So the result is false if `read` has fewer than `MAX_NESTING` levels. Otherwise the
-/// edited text is parsed to find out.
+/// of nesting. So if `read` has fewer than `MAX_NESTING` levels, the result is false. Otherwise the
+/// function parses the edited text.
 pub(crate) fn is_edited_text_too_deep<T: TextStore>(
     alloc: Global,
     store: &T,
@@ -39,8 +39,8 @@ pub(crate) fn is_edited_text_too_deep<T: TextStore>(
 }
 
 /// Returns whether the text that results from the edits is nested deeper than a module may be. The
-/// edited text is parsed to find out. The result is also true if the edits overlap or the edited
-/// text isn't a module. The contract covers neither case.
+/// function parses the edited text. The result is also true if the edits overlap or the edited text
+/// isn't a module. The contract covers neither of these two cases.
 fn is_edited_text_too_deep_by_parsing<T: TextStore>(
     alloc: Global,
     store: &T,

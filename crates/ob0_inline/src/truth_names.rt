@@ -121,9 +121,9 @@ fn is_name_shadowed_at_some_use(
     Ok(has_use_with_other_binding(names, &bound, constant, ordinal))
 }
 
-/// Returns whether the item in `bound` for some use of the constant with the ordinal `constant`
-/// isn't `ordinal`. `bound` has an item for each occurrence, in text order: the ordinal of a
-/// declaration, or None.
+/// Returns whether the constant with the ordinal `constant` has a use whose item in `bound` isn't
+/// `ordinal`. `bound` has an item for each occurrence, in text order: the ordinal of a declaration,
+/// or None.
 fn has_use_with_other_binding(
     names: &Resolved,
     bound: &[Option<usize>],

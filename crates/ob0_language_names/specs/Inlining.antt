@@ -152,7 +152,7 @@ single_occurrence occurrence k = k == occurrence
 abbrev pub occurrences_bound_to : Tree Name module_text → ℕ → OccurrenceSet
 occurrences_bound_to m d k = same_ordinal (ordinal_bound_at m k) d
 
--- returns the module in which the factor `v` replaces each whole factor that is a use of the constant with ordinal `d`,
--- and in which the constant's declaration is removed
+-- Returns the module in which the factor `v` replaces each whole factor that is a use of the
+-- constant with ordinal `d`. The declaration of this constant is removed.
 abbrev pub inlined_everywhere : Tree Name module_text → ℕ → Tree Name factor → Tree Name module_text
 inlined_everywhere m d v = module_without_constant d (inlined m (occurrences_bound_to m d) v)

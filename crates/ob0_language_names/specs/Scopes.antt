@@ -68,8 +68,9 @@ Labelling N M = Option ℕ → N → M
 abbrev pub label_of : {N M : Type 0} → Naming N → Labelling N M → Scope N → N → M
 label_of naming label scope x = label (ordinal_in_scope naming scope x) x
 
--- Returns a tree that contains no declarations (an expression, a written type or statements), with labels instead of
--- names. Names are looked up in `scope`. The names of fields aren't looked up: they get the labels of unbound names.
+-- Returns an expression, a written type or statements, with labels instead of names. Such a tree
+-- contains no declarations. Its names are looked up in `scope`. The names of fields aren't looked
+-- up: they get the labels of unbound names.
 abbrev pub relabel_uses : {N M : Type 0} {s : Sort}
     → Naming N
     → Labelling N M

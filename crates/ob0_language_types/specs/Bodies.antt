@@ -37,8 +37,9 @@ unfoldable mutual
       (constructors_before_procedures k (forms_block (declares cs ts vs ps) statements)) statements ps)
 
   -- Returns the bodies of a list of procedures in text order, then the body `statements` of the
-  -- block that contains them. If a parameter's type has an error, the result ends before the bodies
-  -- of this procedure. `k` is the number of words ARRAY and RECORD before the procedures.
+  -- block that contains these procedures. If a parameter's type has an error, the result ends
+  -- before the bodies of that parameter's procedure. `k` is the number of words ARRAY and RECORD
+  -- before the procedures.
   pub procedures_bodies : {N : Type 0}
       → Naming N
       → TypeEnvironment N
@@ -90,8 +91,8 @@ abbrev mutual
 
   -- States that `Q` holds for the environment of each procedure's block, for the environments
   -- within that block, and for the environment after all procedures. If a parameter's type has an
-  -- error, states nothing about this procedure and the environments after it. `k` is the number of
-  -- words ARRAY and RECORD before the procedures.
+  -- error, states nothing about that parameter's procedure and the environments after it. `k` is
+  -- the number of words ARRAY and RECORD before the procedures.
   pub HoldsInProcedures : (TypeEnvironment Label → Type 0)
       → TypeEnvironment Label
       → ℕ
@@ -105,8 +106,8 @@ abbrev mutual
       × HoldsInProcedure Q (bind_typed_parameters ps (bind_procedure (procedure_name p) ps env)) k p
       × HoldsInProcedures Q (bind_procedure (procedure_name p) ps env) (k + procedure_constructor_count p) rest
 
-  -- states that `HoldsInBlock` holds for a procedure's block; `k` is the number of words ARRAY and
-  -- RECORD before the procedure
+  -- states that `HoldsInBlock` holds for a procedure's block; `k` is the number of
+  -- words ARRAY and RECORD before the procedure
   pub HoldsInProcedure : (TypeEnvironment Label → Type 0)
       → TypeEnvironment Label
       → ℕ

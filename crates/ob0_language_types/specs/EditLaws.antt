@@ -29,10 +29,10 @@ Is32BitScalar (truth b) = Unit {0}
 Is32BitScalar (elements vs) = ⊥
 Is32BitScalar (members k ms) = ⊥
 
--- States that a word, TRUE or FALSE, means the predeclared constant at an occurrence of a name. The
--- word is the one for the given truth value. It would be bound to the predeclared constant if it
--- replaced the name at the occurrence with number `occurrence`. Occurrences of names are numbered
--- from 0 in text order. States nothing for any other value.
+-- States that TRUE or FALSE, the word for the given truth value, means the predeclared constant at
+-- an occurrence of a name. This means that the word would be bound to the predeclared constant if
+-- it replaced the name at the occurrence with number `occurrence`. Occurrences of names are
+-- numbered from 0 in text order. States nothing for a value that isn't a truth value.
 abbrev pub MeansPredeclaredTruth : Tree Name module_text → ℕ → Value → Type 0
 MeansPredeclaredTruth m occurrence (truth true) = resolve_name_at_occurrence m occurrence (codes "TRUE") ≡ Some 2
 MeansPredeclaredTruth m occurrence (truth false) = resolve_name_at_occurrence m occurrence (codes "FALSE") ≡ Some 3

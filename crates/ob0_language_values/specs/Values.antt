@@ -49,8 +49,9 @@ mutual
     no_member : Members
     next_member : Name → Value → Members → Members
 
--- the reason why a run ended: the end of the module's body (Done), a fault (Overflow, Divisor, Index or InputEnd), a
--- bound on calls or loop iterations (CallBound or TurnBound), or a step that has no meaning (Stuck)
+-- The reason why a run ended. Done: the module's body ended. Overflow, Divisor, Index and InputEnd:
+-- a fault. CallBound and TurnBound: a bound on calls or on loop iterations. Stuck: a step that has
+-- no meaning.
 pub data End : Type 0 where
   Done Overflow Divisor Index InputEnd CallBound TurnBound Stuck : End
 
@@ -151,9 +152,9 @@ pub data Step : Type 0 where
   at_index : ℕ → Step
   at_field : Name → Step
 
--- a place, which a designator gives: the index of a variable in the store, counted from 0, and a
--- path that leads from the variable's value to an element or member within it; an empty path leads
--- to the whole value
+-- A place, which a designator gives. `variable` is the index of a variable in the store, counted
+-- from 0. `path` leads from the variable's value to an element or member within it. An empty path
+-- leads to the whole value.
 pub record Place : Type 0 where
   pub variable : ℕ
   pub path : List Step

@@ -18,8 +18,8 @@ abbrev pub optional_sign_role : Option Sign → List LineRole
 optional_sign_role None = []
 optional_sign_role (Some s) = JoinsNextToken ∷ []
 
--- Returns a list with the role of the separator before an item of a list. If the argument is true,
--- the item is the first one. Then no separator comes before it, and the result is empty.
+-- Returns a list with the role of the separator that comes before an item of a list. If the item is
+-- the first one (the argument is true), it has no separator, and the result is empty.
 abbrev pub separator_role_unless_first : Bool → List LineRole
 separator_role_unless_first true = []
 separator_role_unless_first false = Plain ∷ []

@@ -197,8 +197,8 @@ fn without_first_item<T>(items: &[T]) -> &[T]
     &items[1..]
 }
 
-/// Returns the role of a comment. If a line break comes before the comment (`broken`), the comment
-/// begins a line of the level `level`. Otherwise its role is `Plain`.
+/// Returns the role of a comment. If `broken` is true, because a line break comes before the
+/// comment, the comment begins a line of the level `level`. Otherwise its role is `Plain`.
 fn comment_role(broken: bool, level: u32) -> LineRole
     ensures { result ≡ comment_role broken level }
 {

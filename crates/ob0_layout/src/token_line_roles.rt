@@ -31,7 +31,7 @@ pub(crate) fn line_roles(alloc: Global, module: &Module) -> Result<Vec<LineRole>
 }
 
 /// Returns `level` plus 1. Fails exactly if the sum doesn't fit in 32 bits. No module is nested that
-/// deep.
+/// deeply.
 fn deeper_level(level: u32) -> Result<u32, AllocError>
     ensures { MatchResult result (λ k. k ≡ level + 1) (λ _. 2 ^ 32 ≤ level + 1) }
 {

@@ -41,7 +41,7 @@ tree_of_construct (construct.Body statements) = body_of (Some statements)
 
 -- States that `at..next` is a range of one or more tokens of `ts`, that these tokens have the kinds
 -- that the tree `t` spells, and that `t` isn't nested too deeply. The leaves of `t` are token
--- indexes in a text in which its first token has the index `from`.
+-- indexes in a text in which the first token of `t` has the index `from`.
 pub record HasTokensAt {s : Sort} (ts : List Token) (from at next : ℕ) (t : Tree ℕ s) : Type 0 where
   pub spelled : spell t ≡ indexed_terminals_of_kinds from (slice_range (kinds ts) at next)
   pub shallow : nesting t ≤ max_nesting
@@ -58,7 +58,8 @@ IsTreeInPlace ts at next t = HasTokensAt ts at at next t
 abbrev pub IsKeptTreeInPlace : List Token → KeptTree → Type 0
 IsKeptTreeInPlace ts k = HasTokensAt ts k.from k.at k.next (tree_of_construct k.construct)
 
--- States that every kept tree in `k` has its tokens in its range of `ts`.
+-- States about every kept tree in `k` that the tokens of `ts` in the tree's range have the kinds
+-- that the tree spells (`IsKeptTreeInPlace`).
 pub record AreKeptTreesInPlace (ts : List Token) (k : KeptTrees) : Type 0 where
   pub trees : All (IsKeptTreeInPlace ts) k.trees.items
 
@@ -85,9 +86,10 @@ pub record ModuleEndsWithParts
   pub within : next ≤ length ts
   pub closed : next + 1 ≡ closing
 
--- States that, if `there` is true, the kept tree `b` has its tokens in its range of the new text
--- whenever `a` has its tokens in its range of the old text. The old and the new text are any two
--- texts that share the tokens described by `same`.
+-- States that `b` can replace the kept tree `a` after a change of the text, if `there` is true. So
+-- if `a` belongs to the tokens of the old text, `b` belongs to the tokens of the new text
+-- (`IsKeptTreeInPlace`). This must hold for any two texts that share the tokens described by
+-- `same`.
 abbrev pub RelocatesTree : CommonPrefixAndSuffix → KeptTree → KeptTree → Bool → Type 0
 RelocatesTree same a b there =
     there ≡ true → (old new : List Token) → PrefixAndSuffixHaveSameKinds same old new → IsKeptTreeInPlace old a → IsKeptTreeInPlace new b

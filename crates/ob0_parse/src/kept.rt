@@ -48,9 +48,9 @@ pub enum ReusableConstruct {
     Body(Vec<Statement>),
 }
 
-/// The tree of a construct from an earlier parse. Its tokens have the indexes `at..next` in the
-/// present text. The first token of a body is BEGIN. The leaves of the tree are token indexes in a
-/// text in which its first token has the index `from`.
+/// The tree of a construct from an earlier parse. The tree's tokens have the indexes `at..next` in
+/// the present text. The first token of a body is BEGIN. The leaves of the tree are token indexes
+/// in a text in which the tree's first token has the index `from`.
 #[derive(Drop)]
 pub struct KeptTree {
     pub construct: ReusableConstruct,

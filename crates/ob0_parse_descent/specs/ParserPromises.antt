@@ -187,8 +187,8 @@ abbrev pub OpensLevel : ℕ → ℕ → Result ℕ ParseRefusal → Type 0
 OpensLevel at room (Ok inner) = room ≡ inner + 1
 OpensLevel at room (Err e) = (room ≡ 0) × (e ≡ TooDeep at)
 
--- States that the token at the index `at` is the whole factor `f`, and that the next token can't
--- continue a construct of the level `level` (see `NextTokenEndsConstruct`).
+-- States that the token at the index `at` is the whole factor `f`, and that the next token, if
+-- there is one, has a rank above `level` (see `NextTokenEndsConstruct`).
 pub record IsSingleTokenFactor (level : ℕ) (f : Tree ℕ factor) (ts : List Token) (at : ℕ) : Type 0 where
   pub taken : (room : ℕ) → IsReadTree f room ts at (at + 1)
   pub stops : NextTokenEndsConstruct level (rest ts (at + 1))

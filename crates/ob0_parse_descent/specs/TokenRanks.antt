@@ -1,7 +1,7 @@
--- Defines at which token a construct ends. Each token has a rank, and each construct has a level.
--- Only a token whose rank is at most the construct's level can continue a complete construct. The
--- construct ends before a token with a higher rank. A token begins an item exactly if the token has
--- the item's rank.
+-- Defines at which token a construct ends. Each token has a rank. For each construct `level` gives
+-- the highest rank of a token that can continue the construct once it is complete. The construct
+-- ends before a token with a higher rank. A token begins an item exactly if the token has the rank
+-- of the item.
 -- Rule: docs/LANGUAGE.md, Grammar 1.
 use Rattle.std.specs.Prelude.{◌≡◌, ℕ, ◌<◌, min, List, [], ◌∷◌, Bool, true, false, Option, Some, None}
 use Rattle.ob0_scan.specs.declared.lexeme.TokenKind.{TokenKind}
@@ -46,8 +46,8 @@ kind_rank (kind.ReservedWord reserved.Procedure) = 15
 kind_rank (kind.ReservedWord reserved.Begin) = 16
 kind_rank _ = 17
 
--- Returns the rank of a token. A construct ends before a token whose rank is above the construct's
--- level.
+-- Returns the rank of a token. A construct ends before a token whose rank is higher than the ranks
+-- of all tokens that can continue the construct.
 abbrev pub rank : {N : Type 0} → Terminal N → ℕ
 rank (Name n) = 7
 rank (Number n) = 17
@@ -78,8 +78,8 @@ item_start_rank variables = 14
 item_start_rank procedure = 15
 item_start_rank body = 16
 
--- Returns the level of a single item: the highest rank of a token that can continue the item.
--- Returns 0 if no token can continue the item.
+-- Returns the highest rank of a token that can continue a single item. Returns 0 if no token can
+-- continue the item.
 abbrev pub item_level : GrammarItem → ℕ
 item_level selector = 0
 item_level multiplier = 1
@@ -103,8 +103,8 @@ item_level variables = 7
 item_level procedure = 0
 item_level body = 9
 
--- Returns the level of a construct: the highest rank of a token that can continue the construct.
--- Returns 0 if no token can continue the construct.
+-- Returns the highest rank of a token that can continue a construct. Returns 0 if no token can
+-- continue the construct.
 abbrev pub level : Sort → ℕ
 level (item i) = item_level i
 level (items i) = item_start_rank i
@@ -123,7 +123,8 @@ level declarations = 15
 level block = 16
 level module_text = 0
 
--- States that the next token can't continue a construct of the level `n`, or that no token is left.
+-- States that the next token can't continue a construct, or that no token is left. `n` is the
+-- highest rank of a token that can continue the construct.
 abbrev pub NextTokenEndsConstruct : {N : Type 0} → ℕ → List (Terminal N) → Type 0
 NextTokenEndsConstruct n [] = Unit {0}
 NextTokenEndsConstruct n (x ∷ xs) = n < rank x

@@ -234,9 +234,9 @@ impl<'t> Parser<'t> {
     }
 
     /// Returns the factor that consists only of the token at `at`. Returns None if that token is
-    /// neither an identifier nor an integer. Also returns None if the rank of the next token
-    /// (`binding_rank`) is at most `level`, the highest rank of a token that can continue the
-    /// construct that the caller parses.
+    /// neither an identifier nor an integer, or if the next token can continue the construct that
+    /// the caller parses. Only a token whose rank (`binding_rank`) is at most `level` can continue
+    /// that construct.
     #[inline(always)]
     fn single_token_factor(&self, at: usize, level: u8) -> Option<Factor>
         requires within { at ≤ length self.now.tokens.now }

@@ -35,7 +35,7 @@ hover_parameter_of_formal name f =
 
 -- Returns the `HoverParameter` of each parameter in a procedure's signature. The first argument has
 -- the names that the text declares after the procedure's name, which begin with the parameters'
--- names. If there are fewer names than parameters, the other parameters are left out.
+-- names. If there are fewer names than parameters, the remaining parameters are left out.
 abbrev pub hover_parameters_of_signature : List Name → Signature → List HoverParameter
 hover_parameters_of_signature (x ∷ xs) (f ∷ fs) = hover_parameter_of_formal x f ∷ hover_parameters_of_signature xs fs
 hover_parameters_of_signature [] fs = []

@@ -32,9 +32,8 @@ pub struct Hover {
 }
 
 /// The first conflict of a new name for a declaration. If another declaration of the same block has
-/// the new name, `span` is the span of the identifier that declares the renamed declaration.
-/// Otherwise it is the span of the first looked-up name whose binding would change. Spans are in
-/// bytes.
+/// the new name, `span` is the span of the old name where it is declared. Otherwise `span` is the
+/// span of the first looked-up name whose binding would change. Spans are in bytes.
 #[derive(Clone, Copy, PartialEq, Eq)]
 pub struct NameConflict {
     pub span: Span,

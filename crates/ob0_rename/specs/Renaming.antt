@@ -71,8 +71,8 @@ abbrev pub target_of_optional_field : TextWithTokens → Option FieldName → Re
 target_of_optional_field source None = nothing
 target_of_optional_field source (Some x) = record_field x.owner (token_text_at source x.token)
 
--- Returns the target for a name and a field that were found at the same place. If there is no name
--- (None), returns the target for the field.
+-- Returns the target for the name. If there is no name (None), returns the target for the field.
+-- The name and the field were looked up at the same place.
 abbrev pub target_of_name_or_field : TextWithTokens → Option named.BoundName → Option FieldName → RenameTarget
 target_of_name_or_field source (Some n) f = target_of_ordinal n.ordinal
 target_of_name_or_field source None f = target_of_optional_field source f

@@ -242,8 +242,8 @@ fn requested_indent(params: &Value) -> Option<Indent>
     })
 }
 
-/// Returns the number of spaces for one level of indentation. That is the requested number `size`,
-/// raised to 1 or lowered to [`MAX_INDENT`] if it lies outside that range.
+/// Returns the number of spaces for one level of indentation: the requested number `size`, but at
+/// least 1 and at most [`MAX_INDENT`].
 fn spaces_per_level(size: u64) -> u8
     ensures { result ≡ indent_spaces_for_tab_size size }
 {

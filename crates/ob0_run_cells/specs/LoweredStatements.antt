@@ -84,7 +84,7 @@ CallsRepresent {N} checked targets b =
     (execution.levels_in_call b.levels (length low.cells) (targets x).up p) record low
     { cells = p.cells }) (b.enters x args s)
 
--- returns the moment of a body at which it has this store
+-- returns the moment of a run (`Moment`) at which the body `b` runs and the store is `store`
 abbrev pub moment : {N : Type 0} → BodyContext N → Store → Moment N
 moment b store = record { typing = b.typing; store = store; active = b.active; levels = b.levels }
 

@@ -32,8 +32,8 @@ BindingsAreDeclared objects (b ∷ env) =
 abbrev pub BlockBindingsAreDeclared : ObjectByOrdinal → TypeEnvironment Label → ℕ → Tree Label block → Type 0
 BlockBindingsAreDeclared objects = HoldsInBlock (BindingsAreDeclared objects)
 
--- States that `BindingsAreDeclared` holds for each environment in which these procedures and their
--- blocks are checked, and for the environment after them.
+-- States that `BindingsAreDeclared` holds for each environment in which some procedures and their
+-- blocks are checked, and for the environment after the last of these procedures.
 abbrev pub ProcedureBindingsAreDeclared : ObjectByOrdinal
     → TypeEnvironment Label
     → ℕ

@@ -136,9 +136,9 @@ pub record HidesMoreSites (w v : VisibleSites) : Type 0 where
   pub longer : length w.sites.items ≤ length v.sites.items
   pub restores_sites : (k : ℕ) → sites_before_hiding more (site_in_table v.sites.items) k ≡ site_in_table w.sites.items k
 
--- States that in the table `v` the sites that were hidden since the table `w` are restored: `v` has
--- the sites and the hidden sites of `w`. `v` also has as many entries as `u`, which is the table
--- before they were restored.
+-- States that restoring hidden sites leads from the table `u` to the table `v`, and undoes all
+-- bindings since the table `w`. `v` has the site of each ordinal and the hidden sites of `w`, and as
+-- many entries as `u`.
 abbrev pub HiddenSitesAreRestored : VisibleSites → VisibleSites → VisibleSites → Type 0
 HiddenSitesAreRestored w u v =
     (v.hidden.items ≡ w.hidden.items)

@@ -7,15 +7,15 @@ use Rattle.ob0_run_machine.specs.declared.code.Truth.{Truth}
 use Rattle.ob0_run_lowering.specs.declared.lowered_expression.LoweredExpression.{LoweredExpression}
 use Rattle.ob0_run_lowering.specs.declared.lowered_expression.LoweredExpression.TheVariants as code
 
--- Returns the number of conjunctions that are nested on the left: a truth, its first operand, the
--- first operand of this operand, and so on. Returns 0 if the truth isn't a conjunction.
+-- Returns how many conjunctions follow one another in first operands: the truth itself, its first
+-- operand, the first operand of this operand, and so on. Returns 0 if the truth isn't a conjunction.
 abbrev pub and_depth : Truth → ℕ
 and_depth (truth.Both' pointer left right) = suc (and_depth left)
 and_depth (truth.All' pointer first shape row) = suc (and_depth first)
 and_depth _ = 0
 
--- Returns the number of disjunctions that are nested on the left: a truth, its first operand, the
--- first operand of this operand, and so on. Returns 0 if the truth isn't a disjunction.
+-- Returns how many disjunctions follow one another in first operands: the truth itself, its first
+-- operand, the first operand of this operand, and so on. Returns 0 if the truth isn't a disjunction.
 abbrev pub or_depth : Truth → ℕ
 or_depth (truth.Either' pointer left right) = suc (or_depth left)
 or_depth (truth.Any' pointer first shape row) = suc (or_depth first)
@@ -33,8 +33,8 @@ abbrev pub or_depth_of_code : LoweredExpression → ℕ
 or_depth_of_code (code.Truth t) = or_depth t
 or_depth_of_code _ = 0
 
--- States about an expression's code that, if it is a conjunction, its first operand isn't a
--- conjunction. States the same for disjunctions.
+-- States that an expression's code isn't a conjunction whose first operand is a conjunction, and
+-- isn't a disjunction whose first operand is a disjunction.
 pub record IsNotNestedOnLeft (l : LoweredExpression) : Type 0 where
   pub bounds_and_depth : and_depth_of_code l ≤ 1
   pub bounds_or_depth : or_depth_of_code l ≤ 1

@@ -2,8 +2,8 @@
 //! the site in lowered code of each declaration in scope (`LoweredSite`).
 //!
 //! Each declaration of a module has an ordinal, which is its index in the table of sites. A
-//! declaration comes into scope when its site is stored at its ordinal. This is a binding. It hides
-//! the site that the ordinal had before, which is recorded (`HiddenSite`), and restored at the
+//! declaration comes into scope by a binding: its site is stored at its ordinal. The binding hides
+//! the earlier site of the ordinal. The hidden site is recorded (`HiddenSite`), and restored at the
 //! end of the procedure. So one table is enough, and a procedure takes time only for the names that
 //! it declares.
 

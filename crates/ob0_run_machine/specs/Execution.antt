@@ -61,7 +61,7 @@ abbrev pub store_at : MachineState → ℕ → ℤ → MachineState
 store_at s a n = record s { cells = slice_set s.cells a n }
 
 -- Returns the cells after the `n` cells that begin at `from` were copied to `to`. The cells are
--- unchanged if fewer than `n` cells begin at one of these addresses.
+-- unchanged if the list has fewer than `from + n` cells, or fewer than `to + n` cells.
 abbrev pub cells_after_copy : List ℤ → (to from n : ℕ) → List ℤ
 cells_after_copy cells to from n =
     if nat_le (to + n) (length cells) && nat_le (from + n) (length cells)
@@ -72,8 +72,8 @@ cells_after_copy cells to from n =
 abbrev pub zeros : ℕ → List ℤ
 zeros n = replicate n (pos 0)
 
--- returns the `n` cells that begin at the address `from`, or `n` zeros if fewer than `n` cells
--- begin there
+-- returns the `n` cells that begin at the address `from`, or `n` zeros if the list has fewer than
+-- `from + n` cells
 abbrev pub block_or_zeros_at : List ℤ → (from n : ℕ) → List ℤ
 block_or_zeros_at cells from n =
     if nat_le (from + n) (length cells) then take n (drop from cells) else zeros n

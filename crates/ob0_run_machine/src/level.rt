@@ -2,8 +2,8 @@
 //!
 //! The list is the static chain. Each `Level` is a local variable of the Rust function that makes
 //! the call. It refers to the level of the activation in which the called procedure is declared.
-//! `levels_of` reads the list by structural recursion, so no invariant about a table of frames is
-//! needed.
+//! `levels_of` reads the list by structural recursion, so no invariant about a table of
+//! activations is needed.
 //!
 //! A call's addresses of VAR parameters are in a `VarParameterAddresses`, which stores up to two addresses
 //! without allocating memory. Only the cells, the output and more than two such addresses are in

@@ -41,7 +41,7 @@ pub(crate) fn store_in_cell(cells: &mut Vec<i32>, address: usize, number: i32)
 }
 
 /// Copies the `count` cells that begin at the address `from` to the address `to`. Does nothing if
-/// fewer than `count` cells begin at one of these addresses.
+/// there are fewer than `from + count` cells, or fewer than `to + count` cells.
 pub(crate) fn copy_existing_cells(cells: &mut Vec<i32>, to: usize, from: usize, count: usize)
     ensures { cells.new.items ≡ cells_after_copy cells.old.items to from count }
 {

@@ -100,8 +100,8 @@ impl Memory {
     }
 
     /// Adds at the end of `cells` a copy of the `count` cells that begin at the address `from`.
-    /// Adds `count` zeros instead if fewer than `count` of the first `base` cells begin at this
-    /// address.
+    /// Only the first `base` cells are copied from: if `base` is less than `from + count`, adds
+    /// `count` zeros instead.
     pub(crate) fn push_copied_cells(
         &mut self,
         cells: &mut Vec<i32>,

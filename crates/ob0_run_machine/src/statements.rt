@@ -393,8 +393,8 @@ pub(crate) fn run_sequence<F: Fn(&mut Machine<'_>, usize, &Level<'_>) -> Result<
     run_sequence_inline(statements, level, turns, machine, enter)
 }
 
-/// Runs statements in order. If there are none, as for an IF without ELSE, `run_sequence`, which
-/// isn't inlined, isn't called.
+/// Runs statements in order. If there are none, as for an IF without ELSE, returns without a call
+/// of `run_sequence`, which isn't inlined.
 #[inline(always)]
 #[cycle(execution)]
 fn run_sequence_unless_empty<F: Fn(&mut Machine<'_>, usize, &Level<'_>) -> Result<(), StopReason>>(

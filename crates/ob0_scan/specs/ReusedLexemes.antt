@@ -78,9 +78,9 @@ pub record NoLexemeBeginsAt (s : TextWithTokens) (place : ℕ) : Type 0 where
   pub tokens : All (λ (t : Token). t.span.start ≢ place) s.tokens
   pub comments : All (λ (c : Span). c.start ≢ place) s.comments
 
--- States about a span of the new text: if the span begins after the change, then no token or
--- comment begins at the corresponding offset in the old text. For a span that begins before the end
--- of the changed bytes, states nothing.
+-- States about a span of the new text: if the span begins after the change, no token or comment
+-- begins at the corresponding offset in the old text. If the span begins before the end of the
+-- changed bytes, states nothing.
 abbrev pub IsNewAfterChange : TextWithTokens → ℕ → ℕ → ℕ → Span → Type 0
 IsNewAfterChange old from removed added span =
     from + added ≤ span.start → NoLexemeBeginsAt old (span.start + removed - added)

@@ -36,9 +36,9 @@
 //! The change needn't begin and end between characters: a lexeme's last byte is ASCII, so the scan
 //! begins and stops at character borders anyway. After a fault, the scanner doesn't look for
 //! reusable tokens but reads to the end. So the faults are the same as the faults that `scan`
-//! reports, each once. Spans fit in 32 bits because of the text's length: `IsScannedUpTo` says so
-//! for a scanner's spans (`short`), and `IsShiftable` says so for shifted spans. Callers have to
-//! show `ReplacesRange`. The law `new_middle_replaces_range` proves this fact for texts joined from
+//! reports, each once. Spans fit in 32 bits, because a text has at most 1,048,576 bytes (the field
+//! `short` of `IsScannedUpTo`, and `IsShiftable` for shifted spans). Callers have to show
+//! `ReplacesRange`. The law `new_middle_replaces_range` proves this fact for texts joined from
 //! parts, and `Difference::between` of `ob0_analysis` ensures it for any two texts.
 //!
 //! In the proof, `proofs/AtLexemes` gives the places of the tokens and comments in a list of

@@ -62,7 +62,7 @@ free_where_none m d new found e = (
     nothing None h = refl
     nothing (Some c) h = absurd (cc)
 
--- If no other declaration of the block has the name, there is no namesake.
+-- If no other declaration of the block has the name, the search finds none.
 pub no_namesake : (m : Tree Name module_text) (d : ℕ) (new : Name) → is_duplicate_name m d new ≡ false → None ≡ namesake m d new
 no_namesake m d new e = nothing (namesake m d new) (sym (duplicate_is m d new (namesake m d new) refl) ∙ e)
   where

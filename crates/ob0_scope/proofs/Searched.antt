@@ -216,7 +216,7 @@ module _ (d : ℕ) (new : Name) where
   module_scopes : (m : Tree Name module_text) → new_in_block [] (module_block (relabel_module naming_by_spelling ordinal_and_spelling m)) ≡ namesake m d new
   module_scopes (forms_module x b closing) = block_scopes (predeclared_scope naming_by_spelling) 7 [] [] b refl
 
--- The search in a module's block finds the namesake.
+-- The search in a module's block finds the other declaration with the name.
 pub namesake_found : (r : Resolution) (d : ℕ) (new : Name) → IsResolution r → namesake_in_block (record { source = r.module_read.source; ordinals = r.ordinals; declaration = d; new = new }) [] (module_block (tree_of r.module_read)) ≡ namesake (named_tree_of r.module_read) d new
 namesake_found r d new is =
     block_bound d new r [] (module_block (tree_of r.module_read))

@@ -75,11 +75,10 @@ impl BodyNames {
     }
 }
 
-/// Searches a block for the body that contains the token `low`, which is the body of the block or
-/// of a procedure inside it. If no body contains `low`, the result may be any of these bodies. The
-/// search continues in the block's first procedure whose closing name isn't before `low`. If there
-/// is no such procedure, the result is the block's own body. `own` is the token of the block's
-/// closing name.
+/// Returns the body that contains the token `low`: the body of this block or of a procedure inside
+/// it. If no body contains `low`, the result may be any of these bodies. The search continues in
+/// the block's first procedure whose closing name is at or after `low`. If there is no such
+/// procedure, the result is the block's own body. `own` is the token of the block's closing name.
 #[cycle(blocks)]
 pub(crate) fn find_body_in_block<'t>(
     inner: &'t Block,
@@ -102,8 +101,8 @@ pub(crate) fn find_body_in_block<'t>(
     }
 }
 
-/// Searches a procedure for the body that contains the token `low`: its own body, or the body of a
-/// procedure inside it. If no body contains `low`, the result may be any of these bodies.
+/// Returns the body that contains the token `low`: the body of this procedure or of a procedure
+/// inside it. If no body contains `low`, the result may be any of these bodies.
 #[cycle(blocks)]
 fn find_body_in_procedure<'t>(p: &'t Procedure, low: usize) -> BodyWithClosingName<'t>
     ensures statements { body_of result.statements.now

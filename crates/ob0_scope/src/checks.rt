@@ -63,10 +63,10 @@ pub(crate) fn check_declarations<'t>(
     Ok(checks.into_faults())
 }
 
-/// Returns the same faults of a changed module as `check_declarations`: the duplicate declarations,
-/// duplicate fields and wrong closing names. `known` has the faults from before the change. It must
-/// contain such a fault exactly if the changed module has one. If `known` contains no such fault,
-/// the module isn't walked and the result is an empty list.
+/// Returns the duplicate declarations, duplicate fields and wrong closing names of a changed module,
+/// as `check_declarations` does. `known` has the faults from before the change. `known` must contain
+/// such a fault exactly if the changed module has one. If `known` contains no such fault, the module
+/// isn't walked, and the result is an empty list.
 pub(crate) fn recheck_declarations<'t>(
     alloc: Global,
     read: &'t Module<'t>,

@@ -1,7 +1,7 @@
 -- Defines the walk over a module's identifiers in text order, by the state after each part of the
 -- module. The walk gives each identifier the ordinal of its declaration, which is the declaration's
--- number in text order. The parameter `put_ordinal` says how the ordinals are collected. It's an
--- argument of the state's type, so the functions of the walk take it from the state.
+-- number in text order. The function `put_ordinal` says how the ordinals are collected. It is a
+-- parameter of the state's type (`WalkState`), so it needn't be an argument of the functions below.
 -- Rule: none; used in contracts of the walk over identifiers.
 use Rattle.std.specs.Prelude.{ℕ, ◌+◌, ◌-◌, List, [], ◌∷◌, ◌++◌, Option, Some, None, map, length, drop}
 use Rattle.ob0_tree.specs.declared.tree.Role.{Role}

@@ -10,9 +10,9 @@
 //! so even names with the same last bytes are found in logarithmic time.
 //!
 //! A small table of recent names is searched before the map. A name's length and a few of its bytes
-//! select a slot, which has the position of the last name that was looked up there. The position is
-//! only a hint: the name at the position is compared with the sought name. So the proof needs no
-//! fact about the table.
+//! give an index of this table. At this index, the table has the list position of the last name that
+//! was looked up with the same index. The position is only a hint: the name at the position is
+//! compared with the sought name. So the proof needs no fact about the table.
 
 ghost use Rattle.std.specs.Prelude.{◌≡◌, [], IfOk, IfSome, OnErr, OnOk, None, Some};
 ghost use Rattle.ob0_scope_numbering.specs.NameKeys.{suffix_number, append_byte, append_bytes};
@@ -23,7 +23,7 @@ use std::alloc::{AllocError, Global};
 use std::collections::BTreeMap;
 use std::marker::Model;
 
-/// The number of slots of the table of recent names. It is a power of two.
+/// The length of the table of recent names. It is a power of two.
 const RECENT_SLOT_COUNT: usize = 1024;
 
 /// A name as a key of the map. The number before the name is made of the name's last eight bytes,
@@ -81,16 +81,16 @@ fn name_fingerprint(name: &str) -> u64 {
     ends << 16 | u64::from(bytes[len - 2]) << 8 | u64::from(bytes[len - 3])
 }
 
-/// Returns the slot of a name in the table of recent names: the ten highest bits of the product of
+/// Returns the index of a name in the table of recent names: the ten highest bits of the product of
 /// the name's fingerprint (`name_fingerprint`) and a large constant. These bits depend on all bits
 /// of the fingerprint.
 fn recent_slot_of_name(name: &str) -> usize {
     (name_fingerprint(name).wrapping_mul(0x9E37_79B9_7F4A_7C15) >> 54) as usize
 }
 
-/// Returns a table of recent names in which each slot has position 0, although no name has been
-/// looked up yet. That is harmless, because a look-up compares the name at a slot's position with
-/// the sought name (`find_position_in_recent_names`).
+/// Returns a table of recent names that has the position 0 at each index, although no name has been
+/// looked up yet. That is harmless, because a look-up compares the name at that position with the
+/// sought name (`find_position_in_recent_names`).
 fn empty_recent_slots(alloc: Global) -> Result<Vec<usize>, AllocError> {
     vec![in alloc; 0; RECENT_SLOT_COUNT]
 }
@@ -162,8 +162,8 @@ impl<'t> NewestBindings<'t> {
         self.entries[0].newest
     }
 
-    /// Returns the position in the slot `slot` of the table of recent names, if `name` is at this
-    /// position of the list. Otherwise returns None.
+    /// Returns the position that the table of recent names has at the index `slot`, if `name` is at
+    /// this position of the list. Otherwise returns None.
     #[inline(always)]
     fn find_position_in_recent_names(&self, slot: usize, name: &'t str) -> Option<usize>
         ensures { IfSome result (λ name_position. position_of_name self.now name.now ≡ Some name_position) }
@@ -179,7 +179,7 @@ impl<'t> NewestBindings<'t> {
         }
     }
 
-    /// Writes a name's position in the list into a slot of the table of recent names.
+    /// Writes a name's position in the list into the table of recent names, at the index `slot`.
     fn remember_position(&mut self, slot: usize, name_position: usize)
         ensures { self.new ≡ self.old }
     {
@@ -202,8 +202,8 @@ impl<'t> NewestBindings<'t> {
         }
     }
 
-    /// Returns the position of a name in the list, found in the map. Writes the position into the
-    /// slot `slot` of the table of recent names. Returns None if the name isn't in the list.
+    /// Returns the position of a name in the list, found in the map. Also writes the position into
+    /// the table of recent names, at the index `slot`. Returns None if the name isn't in the list.
     #[cold]
     fn find_position_in_map(&mut self, slot: usize, name: &'t str) -> Option<usize>
         ensures found { result ≡ position_of_name self.old name.now }

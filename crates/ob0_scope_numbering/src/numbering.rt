@@ -6,11 +6,11 @@
 //! states, for example `self.new ≡ visit_constant c self.old`. With such contracts, most functions
 //! that visit declarations need no proof file.
 //!
-//! `make_names_visible_from` makes declared names visible, in the order of their ordinals. It is
-//! called after each constant, each type, and each group of variables or parameters. It is also
-//! called after a procedure's heading, once the bindings of the parameters are removed. There it
-//! binds the procedure's name first, and then the parameters again. So a parameter with the
-//! procedure's name hides the procedure.
+//! `make_names_visible_from` makes declared names visible, in the order of their
+//! ordinals. It is called after each constant, each type, and each group of variables or
+//! parameters. It is also called after a procedure's heading, once the bindings of the parameters
+//! are removed. There it binds the procedure's name first, and then the parameters again. So a
+//! parameter with the procedure's name hides the procedure.
 //!
 //! Each identifier's ordinal is written into the table, at the index of the identifier's token, as
 //! soon as the ordinal is known. The entries of fields and of the module's name are None. The

@@ -58,7 +58,7 @@ last_below : (least : ℕ) (xs : List ℕ) (c high : ℕ) → AreAscendingWithin
 last_below least [] c high h = omega (arith, h.1)
 last_below least (x ∷ xs) c high h = last_below (x + 1) xs c high h.1
 
--- Translates the test `first_identifier_is_at_or_before` into `Begins`: the first identifier's token isn't after `low`.
+-- Translates `first_identifier_is_at_or_before` into `Begins`: the first identifier's token isn't after `low`.
 begins_names : (low : ℕ) (xs : List (Role × ℕ)) → first_identifier_is_at_or_before low xs ≡ true → Begins low (names_without_roles xs)
 begins_names low [] e = absurd (cc)
 begins_names low (x ∷ xs) e = leb-true x.1 low e

@@ -108,9 +108,9 @@ actions_array requested here everywhere =
     (offered_action_values requested OneUse here ++ offered_action_values requested Everywhere everywhere))
 
 -- States that the request asks for inlining (`wants_inlining`) and that the text is a well-typed
--- module. The JSON value lists the actions that are offered where actions apply in the request's
--- range (`first_offset_in_range`). `here` and `everywhere` are the edits of the two actions. They are None
--- for an action that isn't offered.
+-- module. The JSON value lists the actions that are offered for the request's range: those at the
+-- range's first byte offset (`first_offset_in_range`). `here` and `everywhere` are the edits of the
+-- two actions. The edits of an action that isn't offered are None.
 pub record ListsInlinings (unit : Unit) (requested : VersionedActionsRequest) (text : List ℕ)
     (value : Data) : Type 0 where
   pub here : Option (Vec Edit Global)

@@ -4,7 +4,7 @@
 //! apply at whichever end has the smaller byte offset (`first_position_in_range`, `first_offset_in_range`).
 //! Because offsets are compared, no law about the order of positions is needed. An action's title
 //! and edits depend on its `Inlining` (`OneUse` or `Everywhere`). To add an action, add a variant
-//! of `Inlining` and its title (`title_of` and `title`).
+//! of `Inlining` and its title (`title_of`, here and in `specs/Actions.antt`).
 
 ghost use Rattle.std.specs.Prelude.{◌≡◌, IfOk, map, string_bytes};
 ghost use Rattle.std.specs.List.{list_any};
@@ -81,8 +81,8 @@ impl<'a> ActionsRequest<'a> {
     }
 
     /// Returns the answer that lists the offered actions: first to inline a constant at this use,
-    /// then to inline it everywhere. `found` has the edits of both actions. They are None for an
-    /// action that isn't offered.
+    /// then to inline it everywhere. `found` has the edits of both actions. The edits of an action
+    /// that isn't offered are None.
     fn answer_with_actions(
         &self,
         alloc: Global,

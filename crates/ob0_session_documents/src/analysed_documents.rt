@@ -144,8 +144,8 @@ impl<T: TextStore> AnalysedDocuments<T> {
     }
 
     /// Makes the analysis of a document's text and keeps it. `before` is the analysis of the
-    /// document's previous text, or None if there is none. Parts of it are reused. Does nothing if
-    /// the document isn't open or is out of step.
+    /// document's previous text, parts of which are reused, or None if there is no such analysis.
+    /// Does nothing if the document isn't open or is out of step.
     fn analyse_and_keep(&mut self, uri: &str, before: Option<Analysis>) -> Result<(), AllocError>
         ensures { self.new ≡ self.old }
     {

@@ -1,5 +1,5 @@
--- Converts the code's edits, code actions and diagnostics to JSON values and to diagnostics of the
--- specs.
+-- Converts the code's edits and code actions to JSON values, and the code's diagnostics to
+-- diagnostics of the specs.
 use Rattle.std.specs.Prelude.{◌≡◌, List, map, string_bytes}
 use Rattle.serde_json.specs.Data.{Data}
 use Rattle.ob0_session_json.specs.Shapes as shapes

@@ -52,8 +52,8 @@ members_after_definition_provider client =
     then member (codes "positionEncoding") (text (codes "utf-8")) (members_after_position_encoding client)
     else members_after_position_encoding client))
 
--- Returns the server's capabilities: "codeActionProvider":{..} if the client accepts literal code
--- actions, then "definitionProvider":true, then `members_after_definition_provider`.
+-- Returns the server's capabilities: "codeActionProvider":{..} if the client accepts code actions
+-- that aren't commands, then "definitionProvider":true, then `members_after_definition_provider`.
 abbrev pub server_capabilities : ClientFeatures → Data
 server_capabilities client =
     let members = member (codes "definitionProvider") (boolean true) (members_after_definition_provider client) in

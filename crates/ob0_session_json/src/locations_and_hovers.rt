@@ -80,8 +80,8 @@ fn write_locations(out: &mut Vec<u8>, uri: &str, ranges: &[Range]) -> Result<(),
 }
 
 /// Returns a buffer in which the texts of locations are built, one after another. The buffer begins
-/// with 192 bytes of free space. They are followed by the end of each location's text: a comma, the
-/// member `uri` and the closing brace.
+/// with 192 bytes of free space. After this space it has the bytes with which each location's text
+/// ends: a comma, the member `uri` and the closing brace.
 fn location_buffer_with_uri(alloc: Global, uri: &str) -> Result<Vec<u8>, AllocError>
     ensures { IfOk result (λ buffer. EndsWithUriMember uri.now buffer.items) }
 {

@@ -261,8 +261,8 @@ react_to_message s (request id method params) = react_to_request s.phase s id me
 react_to_message s (notice method params) = react_to_notification s.phase s method params
 
 -- States that a server in the state `before` may reply to this content (the bytes of one message)
--- with the messages `sent`. It is then in the state `after`. This is the case of `AnswersInPhase`
--- in which the session has neither ended nor failed.
+-- with the messages `sent`, and is in the state `after` once it has replied. This is the case of
+-- `AnswersInPhase` in which the session has neither ended nor failed.
 abbrev pub AnswersBeforeEnd : ServerState → List ℕ → List (List ℕ) → ServerState → Type 0
 AnswersBeforeEnd before content sent after =
     (json : Option Data) × ReadsContent content json

@@ -1,4 +1,4 @@
--- States which of the code's messages and outcomes are the replies and reactions that `Answers`
+-- Relates the messages and outcomes of the code to the replies and reactions that `Answers`
 -- defines.
 use Rattle.std.specs.Prelude.{◌≡◌, ℕ, ℤ, List, Option, Some, None, Vec, option_map, codes}
 use Rattle.std.specs.Option.{option_to_list}

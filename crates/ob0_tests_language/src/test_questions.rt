@@ -37,7 +37,8 @@ pub enum TestQuestion {
     Run(&'static [i32], u32, u32),
     /// The names of nodes in the lowered body, as `push_names_of_nodes` appends them.
     NodeNames,
-    /// The text after the name with this line and character (from 0) gets this new name, or the refusal.
+    /// The text after a renaming to this new name, or the refusal. The renamed name has this line
+    /// and character, both counted from 0.
     Rename(u64, u64, &'static str),
     InlineHere(u64, u64),
     InlineAll(u64, u64),

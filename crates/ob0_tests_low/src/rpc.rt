@@ -26,7 +26,8 @@ enum TestedMessage {
 }
 
 /// A message that is sent. `Refusal` is an answer with an error. `NullNotification` and
-/// `NotificationOfEachJsonKind` are notifications. Each other name describes the result of an answer.
+/// `NotificationOfEachJsonKind` are notifications. Each other name describes the result of an
+/// answer.
 #[derive(Clone, Copy)]
 enum SentMessage {
     NullResult,

@@ -21,8 +21,8 @@ const CONVERSATION_WITH_BAD_HEAD: &[u8] = b"Content-Length: 75\r\n\r\n\
     Content-Length: x\r\n\r\n";
 
 /// A conversation and its expected result. The input is the first `len` bytes of `bytes`. The first
-/// `reads` reads succeed, and each returns at most `given` bytes. The writer accepts `capacity`
-/// bytes. The conversation needs exactly `flushes` flushes.
+/// `reads` reads succeed, and each returns at most `given` bytes. The writer accepts
+/// `capacity` bytes. The conversation needs exactly `flushes` flushes.
 struct ConversationCase {
     bytes: &'static [u8],
     len: usize,

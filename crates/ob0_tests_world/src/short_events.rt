@@ -168,7 +168,7 @@ fn event_of(alloc: Global, act: ShortEvent) -> Result<Event, AllocError> {
     }
 }
 
-/// Returns the events of these moments, each of which has the short form of an event.
+/// Returns the events with these short forms. The expected reports in the list are ignored.
 fn events_of_moments(
     alloc: Global,
     moments: &[(ShortEvent, ShortReport)],

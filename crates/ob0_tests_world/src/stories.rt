@@ -53,14 +53,14 @@ const EMOJI_TEXT_RENAMED: &str =
 const EMOJI_TEXT_OVERWRITTEN: &str =
     "MODULE M;\nVAR (* 😀 *) k: INTEGER;\nBEGIN (* 😀 *) n := 1 END M.\n";
 
-/// Builds a list of moments. A moment is an event with its expected report, both in their short
-/// forms, written `EVENT => REPORT`. Moments are separated by commas.
+/// Builds a list of events with their expected reports, both in their short forms. Each pair is
+/// written `EVENT => REPORT`, and pairs are separated by commas.
 macro_rules! moments {
     ($($act:expr => $sight:expr),*) => { &[$(($act, $sight)),*] };
 }
 
-/// Builds a list of stories, each written `TITLE, UNIT, MOMENTS, [BEFORE => AFTER of each edit],
-/// [VERSION, TEXT => EMPTY of each publication];`.
+/// Builds a list of stories, each written `TITLE, UNIT, EVENTS WITH REPORTS, [BEFORE => AFTER of
+/// each edit], [VERSION, TEXT => EMPTY of each publication];`.
 macro_rules! stories {
     ($($name:expr, $unit:expr, $moments:expr, [$($before:expr => $after:expr),*],
         [$($version:expr, $text:expr => $empty:expr);*];)*) => {

@@ -1,15 +1,19 @@
 -- Defines the byte offsets at which the lines of a text start. A line starts after an LF, and after
 -- a CR that no LF follows. So the two bytes next to an offset decide whether a line starts there.
--- The start of the text counts as an offset after an LF. The rest of this comment explains how a
--- change is applied to a list of line starts. The names in parentheses are declared in `StartLaws`.
--- The starts of the whole text are `line_starts_after_bytes 0 (LF ∷ bytes) []` (`table`), which is
--- proved character by character (`following_ends`). If a run of bytes has two parts, the starts in
--- the first part come first, then the starts in the second part (`following-append`). Whether a
--- line starts at the end of a run depends on the first byte after the run, and on no later byte
--- (`following-next`). If the run begins at a greater offset, the starts are greater by the same
--- number of bytes (`following-moved`). So the code for a change keeps the starts before the change,
--- tests the inserted bytes and one byte on either side, and shifts the starts after the change
--- (`table-mended`). A CR and an LF that a change joins or separates need no separate case.
+-- The start of the text counts as an offset after an LF.
+--
+-- A change of the text keeps the line starts before it. The code tests the inserted bytes and one
+-- byte on either side, and shifts the starts after the change (`table-mended` in `StartLaws`). A CR
+-- and an LF that a change joins or separates need no separate case. This is correct because of four
+-- facts, which are lemmas of `StartLaws`:
+-- - The starts of a whole text are `line_starts_after_bytes 0 (LF ∷ bytes) []` (`table`, proved
+--   character by character with `following_ends`).
+-- - If a run of bytes has two parts, the starts in the first part come first, then the starts in
+--   the second part (`following-append`).
+-- - Whether a line starts at the end of a run depends only on the first byte after the run
+--   (`following-next`).
+-- - If a run begins at a greater offset, its starts are greater by the same number of bytes
+--   (`following-moved`).
 -- Rule: docs/PROTOCOL.md, Positions 2 (by bytes, for the table of lines).
 use Rattle.std.specs.Prelude.{◌≡◌, ℕ, suc, ◌+◌, ◌-◌, ◌<◌, ◌≤◌, if◌then◌else◌, List, [], ◌∷◌, ◌++◌, length, map, reverse, slice_index, refl}
 use Rattle.std.specs.Str.{chars}

@@ -57,9 +57,10 @@ impl CountedPiece {
     }
 }
 
-/// Returns a counted piece of one line that begins at the byte offset `start` and has at most
-/// `units` units. If the line has at least `units` units, the piece has nearly `units` units. If
-/// the piece `last` also begins at `start`, only the difference between the two pieces is counted.
+/// Returns the end and the number of units of a piece of one line. The piece begins at the byte
+/// offset `start` and has at most `units` units. If the rest of the line has at least `units`
+/// units, the piece has nearly `units` units. If the piece `last` also begins at `start`, only the
+/// difference between the two pieces is counted.
 pub fn counted_piece_up_to(
     text: &str,
     unit: Unit,

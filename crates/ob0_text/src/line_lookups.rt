@@ -1,8 +1,9 @@
 //! Looks up offsets and positions with the table of a text's lines.
 //!
-//! `count_starts_before` is a binary search. Its contract covers each split of the table into
-//! offsets below a bound and offsets at or above it: the result is the length of the first part.
-//! The loop keeps this length between `low` and `high` (`in_front`, `not_in_front` in `Halving`).
+//! `count_starts_before` is a binary search. Its contract says: if the table is split into line
+//! starts below a byte offset and line starts at or above it, the result is the length of the first
+//! part. The loop keeps this length between `low` and `high` (the lemmas `in_front` and
+//! `not_in_front` in `Halving`).
 //! The pass that looks up an offset or a position may begin at the start of any line that starts at
 //! or before it (`line_counted`, `line_sought` in `LinePlaces`). The result is the same for each of
 //! these lines. Beginning at the nearest line only saves time.

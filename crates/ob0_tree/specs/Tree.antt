@@ -284,7 +284,8 @@ nesting (forms_block ds b) = max (nesting ds) (nesting b)
 nesting (forms_module name b closing) = nesting b
 
 -- Returns the tree with `f` applied to each looked-up name, `h` to each other name, and `g` to each
--- number. Declaring names, closing names, names of fields and the module's name aren't looked up.
+-- number. A name that is declared, a closing name, the name of a field and the module's name aren't
+-- looked up.
 abbrev pub mapped_leaves : {N M : Type 0} {s : Sort} → (N → M) → (N → M) → (ℕ → ℕ) → Tree N s → Tree M s
 mapped_leaves f h g none = none
 mapped_leaves f h g (one t) = one (mapped_leaves f h g t)
@@ -411,8 +412,8 @@ identifiers r (forms_block ds b) = identifiers r ds ++ identifiers r b
 identifiers r (forms_module name b closing) =
     (role.ModuleName, name) ∷ (identifiers r b ++ ((role.ModuleName, closing) ∷ []))
 
--- Returns the occurrences in a tree, in text order: the names that are looked up. Declaring names,
--- closing names, names of fields and the module's name aren't occurrences.
+-- Returns the occurrences in a tree, in text order: the names that are looked up. A name that is
+-- declared, a closing name, the name of a field and the module's name aren't occurrences.
 abbrev pub occurrences : {N : Type 0} {s : Sort} → Tree N s → List N
 occurrences none = []
 occurrences (one t) = occurrences t

@@ -2,11 +2,11 @@
 //!
 //! Each `Visitor` defines a ghost function `seen`, which returns the visitor's state after one
 //! identifier. A walk over a part of the tree leaves the visitor in the state that results from
-//! applying `seen` to each identifier of that part, in text order. In proofs, the invariants of the
-//! recursive functions take the generic parameters `g` first, and `g.V.Visitor.seen` is the
-//! visitor's `seen`. A visitor that contains a `Vec` needs a model (`Model`). Without one, an
-//! equation between two states of the visitor would also compare the capacities of their `Vec`
-//! values.
+//! applying `seen` to each identifier of that part, in text order. In proofs this function is
+//! called `g.V.Visitor.seen`: `g` has the generic parameters, and is the first argument of the
+//! invariants of the recursive functions. A visitor that contains a `Vec` needs a model (`Model`).
+//! Without one, an equation between two states of the visitor would also compare the capacities of
+//! their `Vec` values.
 
 #![tactic(auto, using(std::proofs::lemmas::Grind::common_steps, crate::proofs::Visits::visited_append))]
 

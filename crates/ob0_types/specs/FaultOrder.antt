@@ -68,13 +68,13 @@ pub record AreFirstFaultsWhenSorted {F : Type 0} (cmp : F → F → Ordering) (f
 abbrev pub all_faults_of : Resolution → List FaultAtTokens
 all_faults_of r = undeclared_name_and_type_faults r ++ filter is_duplicate_or_end_name r.faults
 
--- states that the list `faults` has the first 100 faults of the module, with their spans, in the order of `compare_faults`
+-- states that the list `faults` has the module's first 100 faults, with spans, in the order of `compare_faults`
 abbrev pub AreFirstFaultsOfModule : Resolution → List Fault → Type 0
 AreFirstFaultsOfModule r faults =
     AreFirstFaultsWhenSorted compare_faults (map (fault_with_span r.module_read.source) (all_faults_of r)) faults
 
--- States that the list `faults` has the first 100 faults of the module. They are in the order of `compare_faults_by_tokens`,
--- which is also the order of their spans.
+-- States that the list `faults` has the module's first 100 faults in the order of `compare_faults_by_tokens`.
+-- This is also the order of their spans.
 abbrev pub AreFirstFaultsByTokens : Resolution → List FaultAtTokens → Type 0
 AreFirstFaultsByTokens r faults =
     AreFirstFaultsWhenSorted (compare_faults_by_tokens (length r.module_read.source.tokens)) (all_faults_of r) faults

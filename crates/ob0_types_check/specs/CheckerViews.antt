@@ -140,8 +140,8 @@ abbrev pub capped_size : TypeSize → TypeSize
 capped_size z = record { scalars = min z.scalars (2 ^ 64 - 1); depth = min z.depth (2 ^ 64 - 1) }
 
 -- States that the fields `now`, which the code has found, are the fields of `g`. Their total size
--- must be the size in `g`, capped at 2^64 - 1. Also states that the code's state `s` is the state
--- in `g`, which is the state after these fields.
+-- must be the size in `g`, capped at 2^64 - 1. Also states that the declarations known in the code's
+-- state `s` are those that `g` has after these fields (`following`).
 pub record HasKnownFields (g : KnownFields) (s : CheckerState) (now : gathering.KnownFields) : Type 0 where
   pub fields : known_fields_of now.fields.items ≡ g.fields
   pub size : size_of now.size ≡ capped_size g.size

@@ -1,7 +1,7 @@
 -- The faults of a module's declarations and bodies, in the order in which they are reported: text order. A declaration
 -- is known to the text after it. A procedure is known to the text after its heading, which includes its own block. Only
--- the bodies that pass a test are walked, and the walk lists those in which it reports a fault. With every body walked
--- these are the faults of the module.
+-- the bodies that pass a test are walked. The walk lists the walked bodies in which a fault is reported. If every body
+-- passes the test, all faults of the module's declarations and bodies are reported.
 -- Rule: docs/LANGUAGE.md, Faults of scopes and types 2 to 11.
 use Rattle.std.specs.Prelude.{ℕ, Bool, true, false, List, [], ◌∷◌, ◌++◌, map}
 use Rattle.std.specs.List.{filter}

@@ -1,5 +1,5 @@
--- The bodies of a module in which a fault is reported, and the report of a module of which only its
--- declarations and some bodies are walked.
+-- The bodies of a module in which a fault is reported. The report of a module from a walk over only
+-- its declarations and some of its bodies.
 -- Rule: docs/LANGUAGE.md, Faults of scopes and types 2 to 11.
 use Rattle.std.specs.Prelude.{◌≡◌, ℕ, Bool, true, ◌||◌, List, [], ◌∷◌, MatchOption, nat_eq}
 use Rattle.std.specs.List.{list_any}
@@ -61,8 +61,8 @@ pub record IsReportOf (r : Resolution) (report : Report) : Type 0 where
 abbrev pub walk_progress_of : CheckerState → List ℕ → WalkProgress
 walk_progress_of s bodies_with_faults = record { so_far = declarations_in_state s; bodies_with_faults = bodies_with_faults }
 
--- States that a walk has reached the end of the module `r` and has found the module's faults (`found`) and the closing
--- names of its faulty bodies. The code's state `s` has the module's declarations.
+-- States that a walk has reached the end of the module `r`. The walk has found the module's faults (`found`) and the
+-- closing names of its faulty bodies. The code's state `s` has the module's declarations.
 pub record IsFinishedWalk
     (r : Resolution) (found : List FaultAtTokens) (s : CheckerState) (bodies_with_faults : List ℕ) : Type 0 where
   pub faults : found ≡ undeclared_name_and_type_faults r

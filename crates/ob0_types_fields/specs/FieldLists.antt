@@ -38,8 +38,8 @@ field_lists_of t r = record {
 abbrev pub AreFieldListsOf : Resolution → FieldLists → Type 0
 AreFieldListsOf r f = (f.declared ≡ declared_fields r.module_read) × (f.all ≡ field_identifiers r)
 
--- returns the list `xs` in which the items of the second list replace the items that begin at index `k`;
--- items that would lie after the end of `xs` are ignored
+-- returns the list `xs` in which the items from index `k` on are replaced one by one by the items of
+-- the second list; items that would lie after the end of `xs` are ignored
 abbrev pub overwritten_fields : List FieldName → ℕ → List FieldName → List FieldName
 overwritten_fields xs k [] = xs
 overwritten_fields xs k (y ∷ ys) = overwritten_fields (set xs k y) (k + 1) ys

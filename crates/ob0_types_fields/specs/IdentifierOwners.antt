@@ -229,8 +229,8 @@ AgreesWithOwnerList table [] = Unit {0}
 AgreesWithOwnerList table (x ∷ xs) = (table x.0 ≡ x.1) × AgreesWithOwnerList table xs
 
 -- States that a table has the owners of all field identifiers of a well-typed module (`IsOwnerTable`) if it agrees with
--- the list `identifier_owners_in_resolution`. The table agrees if it has, at the token of each identifier in the list, the same
--- owner as the list.
+-- the list `identifier_owners_in_resolution`. The table agrees with this list if it has the owner that the list gives
+-- for each identifier, at the identifier's token.
 abbrev pub AgreeingTableIsOwnerTable : Type 0
 AgreeingTableIsOwnerTable =
     (r : Resolution) (owners : List (Option ℕ))

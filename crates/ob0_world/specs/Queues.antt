@@ -1,12 +1,12 @@
 -- Defines how the fields of the code's `Connection` become a state of the model
 -- (`ClientAndServer`), the connection's invariant, and the clauses of its private functions'
 -- contracts. No contract of a public function mentions these definitions. A connection stores each
--- queue as a list of contents: the bytes of its messages. The messages are read from these contents
--- (`all_messages_to_server`, `all_messages_to_editor`). By the invariant, each queued content is a
--- message. A content keeps its meaning when the editor sends more requests (`proofs/Waiting`).
--- `RunsWithModelEditor` states that the session's client is like the model's editor. That editor's
--- `initialize` declares that it accepts edits with document versions, and literal code actions. So
--- the session always writes a WorkspaceEdit as `documentChanges`.
+-- queue as a list of contents. A content is the bytes of one message. The messages of the model are
+-- read from these contents (`all_messages_to_server`, `all_messages_to_editor`).
+-- By the invariant, each queued content is a message of the model. It is still the same message
+-- after the editor has sent more requests (`proofs/Waiting`). `RunsWithModelEditor` states that the
+-- session's client has two features of the model's editor. So the session writes each WorkspaceEdit
+-- with the member `documentChanges`.
 use Rattle.std.specs.Prelude.{◌≡◌, ◌≤◌, ◌⊎◌, ℕ, ℤ, List, [], ◌∷◌, ◌++◌, map, length, All, Bool, true, Option, Some, None, Vec, option_and_then, filter_map}
 use Rattle.std.specs.declared.alloc.Global.{Global}
 use Rattle.ob0_text.specs.OpenDocuments.{OpenDocuments, Document, InStep, OutOfStep, document_at}
@@ -53,9 +53,9 @@ MeansMessageToEditor requested content = (m : MessageToEditor) × (message_to_ed
 
 -- ---- the session
 
--- States that the session is running, and that its client accepts edits with document versions and
--- literal code actions, as the model's editor does. Such a session writes a WorkspaceEdit with
--- versions, and offers literal code actions.
+-- States that the session is running, and that its client has two features of the model's editor.
+-- The client accepts literal code actions, which contain their edits. And it accepts edits that
+-- mention their documents' versions. So the session writes code actions and edits in these forms.
 abbrev pub RunsWithModelEditor : ServerState → Type 0
 RunsWithModelEditor s =
     (s.phase ≡ Running)
@@ -171,7 +171,7 @@ publication_in_first_content held requested [] = None
 publication_in_first_content held requested (content ∷ contents) =
     option_and_then (publication_in_message held) (message_to_editor_in requested content.items)
 
--- States that a content was appended to the queue `old`, which gave `new`, and that the report
+-- States that the queue `new` is the queue `old` with this content appended, and that the report
 -- `seen` is `sent`. If there is no content (None), the queue is unchanged and the report is
 -- `nothing`.
 abbrev pub QueuesContent : Contents → Option (Vec ℕ Global) → seen.Seen → Contents → Type 0

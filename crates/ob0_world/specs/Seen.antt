@@ -29,10 +29,10 @@ report_if_any (x ∷ xs) some none = some
 abbrev pub report_on_sending : ActResult → Seen
 report_on_sending done = report_if_any done.sent sent nothing
 
--- Returns the report on an act of this editor. For an act about a document, it is given by
--- `report_on_sending`. Applying an answer is reported as `applies` if the editor makes the edits,
--- otherwise as `drops`. Discarding an answer is reported as `drops`. If the editor doesn't have the
--- answer, the report is `nothing`.
+-- Returns the report on an act of this editor. For an act about a document, the report says whether
+-- a message was sent (`report_on_sending`). Applying an answer is reported as `applies` if the
+-- editor makes the edits, otherwise as `drops`. Discarding an answer is reported as `drops`. If the
+-- editor doesn't have the answer, the report is `nothing`.
 abbrev pub report_on_act : Editor → Act → Seen
 report_on_act e (open_document uri text) = report_on_sending (act_result e (open_document uri text))
 report_on_act e (change_document uri how) = report_on_sending (act_result e (change_document uri how))

@@ -138,9 +138,10 @@ ContentsMatch w p =
     × (content_bytes p.got.items ≡ w.got)
     × (content_bytes p.unread.items ≡ w.to_editor)
 
--- States the guarantees (`Headline`) for these events and for the edits and publications in the
--- results `p`. The events lead from an initialized connection to one that has these results and
--- contents. The contents in `p` are a session's conversation, from the session's start.
+-- States that `p` has the results of these events. The guarantees (`Headline`) hold
+-- for its edits and publications. The events lead from an initialized connection to one that has
+-- these results and contents. The contents in `p` are a session's conversation, from the session's
+-- start.
 pub record Plays (unit : Unit) (events : List event.Event) (p : played.Played) : Type 0 where
   pub headline : Headline unit (map event_of events) (played_edits p) (played_publications p)
   pub begin : Connection
@@ -162,9 +163,9 @@ pub record PlaysNothing (unit : Unit) (fault : PlayFault) : Type 0 where
   pub got : fault.played.got.items ≡ []
   pub unread : fault.played.unread.items ≡ []
 
--- States which results `play` may return with this fault. Either the first `fault.steps` events
--- happened, which aren't all of them, and `Plays` holds for these events. Or no event happened, and
--- there are no results (`PlaysNothing`).
+-- States with which results `play` may return this fault. Either only the first `fault.steps`
+-- events happened, fewer than all, and the fault has their results (`Plays`). Or no
+-- event happened, and there are no results (`PlaysNothing`).
 abbrev pub PlaysPrefix : Unit → List event.Event → PlayFault → Type 0
 PlaysPrefix unit events fault =
     ((fault.steps < length events) × Plays unit (take fault.steps events) fault.played)
@@ -194,8 +195,8 @@ pub record MakesStep (old : World) (event : Event) (seen : Seen) (new : World) :
   pub counted : new.steps ≡ old.steps + 1
   pub has_not_ended : new.ended ≡ false
 
--- States that the world makes this step (`MakesStep`). The first argument is true if the world had
--- ended before the step. In that case, the statement is false.
+-- States that the world makes this step (`MakesStep`). The first argument is true
+-- if the world had ended before the step. In that case, the statement is false.
 abbrev pub StepsUnlessEnded : Bool → World → Event → Seen → World → Type 0
 StepsUnlessEnded false old event seen new = MakesStep old event seen new
 StepsUnlessEnded true old event seen new = ⊥

@@ -4,8 +4,8 @@ ghost use Rattle.ob0_world.specs.Exchanges.{ACourseIsAnExchange, GuaranteesHoldF
 ghost use Rattle.ob0_world.specs.Versions.{AnswersMentionVersions, VersionsSufficeForApplying};
 
 /// Proves that an answer with edits mentions the document that was asked about, and the version
-/// that this document had when the request was sent. Both are in `documentChanges`. This excludes
-/// the answer to a formatting request: it is a list of edits and mentions no document.
+/// that this document had when the request was sent. Both are in the member `documentChanges`. The
+/// law excludes answers to formatting requests, which are lists of edits and mention no document.
 pub fn answers_mention_versions()
     ensures { AnswersMentionVersions }
 {}

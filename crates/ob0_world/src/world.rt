@@ -1,4 +1,4 @@
-//! Plays lists of events with an editor and a session.
+//! Makes lists of events happen, with an editor and a session.
 //!
 //! A `Connection` consists of a model and a `Wire`. The model is a client and a server
 //! (`ClientAndServer`), with their documents and messages. The `Wire` is the session, with the
@@ -9,10 +9,11 @@
 //! only for its contract.) The contract of `step` has two cases: the step makes its event happen
 //! (`WorldSteps`), or it fails (`WorldFails`).
 //!
-//! `Plays` states the guarantees (`Headline`), and that the events are a course of the connection
-//! (`IsConnectionCourse`) that starts with an initialized session (`IsInitialConnection`). The code
-//! also returns the exchanged contents, which the contract requires to be a session's conversation.
-//! So a body that only invents edits and publications doesn't meet the contract.
+//! The contract of `play` (`Plays`) states the guarantees (`Headline`).
+//! It also states that the events are a course of the connection (`IsConnectionCourse`) that begins
+//! with an initialized session (`IsInitialConnection`). The code also returns the exchanged
+//! contents, and the contract requires that they are a session's conversation. So a body that only
+//! invents edits and publications doesn't meet the contract.
 ghost use Rattle.std.specs.Prelude.{◌≡◌, ◌<◌, ◌-◌, ◌^◌, [], length, IfOk, OnOk, IfErr};
 ghost use Rattle.ob0_text.specs.declared.position_types.Unit.TheVariants.{Utf16};
 ghost use Rattle.ob0_world_rules.specs.Headline.{GuaranteesHold};
@@ -62,8 +63,8 @@ impl<T: TextStore> Model for World<T> {
 
 impl<T: TextStore> World<T> {
     /// Returns a world in which no document is open and no message waits. The editor has
-    /// initialized the session, and has declared that it accepts edits with document versions and
-    /// literal code actions. Both sides count positions in UTF-16 units.
+    /// initialized the session. It has declared that it accepts literal code actions, and accepts
+    /// edits that mention their documents' versions. Both sides count positions in UTF-16 units.
     pub fn new(alloc: Global) -> Result<World<T>, WorldFault>
         ensures start { IfOk result (IsNewWorld Utf16) }
         ensures err { IfErr result (λ fault. fault ≡ Memory) }
@@ -130,8 +131,8 @@ impl<T: TextStore> World<T> {
         self.connection.into_played()
     }
 
-    /// Plays a list of events in a new world and returns the results. Both sides count positions in
-    /// UTF-16 units.
+    /// Makes a list of events happen in a new world, and returns the results. Both sides count
+    /// positions in UTF-16 units.
     pub fn play(alloc: Global, events: &[Event]) -> Result<Played, PlayFault>
         requires few { length events.now < 2 ^ 63 - 1 }
         ensures ok { IfOk result (λ played. Plays Utf16 events.now played) }
@@ -140,7 +141,7 @@ impl<T: TextStore> World<T> {
         World::<T>::play_in(alloc, Unit::Utf16, events)
     }
 
-    /// Plays a list of events from the start, with positions in this unit.
+    /// Makes a list of events happen in a new world, with positions in this unit.
     ///
     /// In every interleaving of an editor and the server, each edit that the editor applies to a
     /// well-typed document leaves a well-typed module with the same run: the same output and end

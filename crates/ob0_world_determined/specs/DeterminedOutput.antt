@@ -95,9 +95,9 @@ IsFinalResult (Err Memory) taken put = ⊥
 
 -- States how the outputs of two calls of `serve` are related if the first call's input is a prefix
 -- of the second call's input. If the second call returns neither `Memory` nor `Write`, the first
--- call's output is a prefix of the second call's output. The outputs are equal under two
--- conditions. First, the first call also returns neither of these faults. Second, either the inputs
--- are equal, or an `exit` or a bad head ended the first call.
+-- call's output is a prefix of the second call's output. The two outputs are equal if two more
+-- conditions hold. First, the first call also returns neither `Memory` nor `Write`. Second, the two
+-- inputs are equal, or an `exit` or a bad head ended the first call.
 abbrev pub OutputIsDetermined : Type 0
 OutputIsDetermined =
     (taken more put all : List ℕ) (result end : Result ℕ ServeFault) → IsFullyWritten end

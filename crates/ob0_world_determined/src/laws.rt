@@ -52,10 +52,10 @@ pub fn conversation_is_determined()
 
 /// Proves how the outputs of two calls of `serve` are related if the first call's input is a prefix
 /// of the second call's input. If the second call returns neither `Memory` nor `Write`, the first
-/// call's output is a prefix of the second call's output. The outputs are equal under two
-/// conditions. First, the first call also returns neither of these faults. Second, either the
-/// inputs are equal, or an `exit` or a bad head ended the first call. So it makes no difference how
-/// an input is cut into pieces.
+/// call's output is a prefix of the second call's output. The two outputs are equal if two more
+/// conditions hold. First, the first call also returns neither `Memory` nor `Write`. Second, the
+/// two inputs are equal, or an `exit` or a bad head ended the first call. So it makes no difference
+/// how an input is cut into pieces.
 pub fn output_is_determined()
     ensures { OutputIsDetermined }
 {
@@ -120,8 +120,8 @@ pub fn an_ended_conversation_is_served()
 }
 
 /// Proves the guarantees of `serve` for every editor that keeps ob0's rules. Each exchange of the
-/// editor with a session has the guarantees of `GuaranteesHoldForExchange`. Suppose that the input of
-/// `serve` is the frames of the contents that the session took, each of at most
+/// editor with a session has the guarantees of `GuaranteesHoldForExchange`. Suppose that the input
+/// of `serve` is the frames of the contents that the session took, each of at most
 /// `max_content_length` bytes. Then `serve` writes the frames of the contents that the session
 /// sent, unless `serve` returns `Memory` or `Write`. If `serve` returns `Memory` after it has
 /// answered exactly these contents, it has written the same frames.

@@ -27,8 +27,8 @@ abbrev pub has_edits : List Replacement → Bool
 has_edits [] = false
 has_edits (e ∷ es) = true
 
--- States that the list of sent messages has one message, which is the content. For None (no
--- content), states that the list is empty.
+-- States that the content is the only message in the list of sent messages. If there is no content
+-- (None), states that the list is empty.
 abbrev pub IsSentContent : List SentAsk → List MessageToServer → Option (Vec ℕ Global) → Type 0
 IsSentContent requested [] None = ⊤
 IsSentContent requested [] (Some content) = ⊥
@@ -56,9 +56,9 @@ IsApplyOutcome done held (applying.TheVariants.Made applied content) new =
 
 -- ---- applying an answer, step by step
 
--- States that the first answer to request `k` in the list has this index, counted from 0.
--- Removing this answer leaves the other answers (`answers_except`). If there is no index (None),
--- states that there is no such answer.
+-- States that the first answer to request `k` in the list has this index, counted from 0. So the
+-- list without the element at this index is the list without that answer
+-- (`answers_except`). If there is no index (None), states that there is no such answer.
 abbrev pub IsIndexOfAnswer : List answer.ReceivedAnswer → ℕ → Option ℕ → Type 0
 IsIndexOfAnswer answers k (Some i) =
     (i < length answers)
@@ -92,8 +92,9 @@ pub record RewritesDocument (old : Editor) (done : ActResult) (r : rewritten.Rew
   pub says : done.sent ≡ new_text_notification r ∷ []
   pub few : r.version < 2 ^ 63
 
--- states that the act gives the document the new text in `r` (`RewritesDocument`), or that there
--- is neither an act nor a new text (both are None)
+-- States that the act gives the document the new text in `r` (`RewritesDocument`). If there is
+-- neither an act nor a new text (both are None), this is also true. If only one is None, it is
+-- false.
 abbrev pub RewritesDocumentIfAny : Editor → Option ActResult → Option rewritten.RewrittenDocument → Type 0
 RewritesDocumentIfAny e None None = ⊤
 RewritesDocumentIfAny e None (Some r) = ⊥

@@ -7,7 +7,8 @@ use Rattle.ob0_text.specs.declared.position_types.Unit.TheVariants.{Utf16, Utf8}
 use Rattle.ob0_text.specs.Units.{is_utf8}
 use Rattle.ob0_rpc.specs.declared.clients.ClientFeatures.{ClientFeatures}
 
--- the capability to accept literal code actions: {"codeActionLiteralSupport":{}}
+-- the capability to accept literal code actions, which contain their edits:
+-- {"codeActionLiteralSupport":{}}
 abbrev pub code_action_capability : Data
 code_action_capability =
     object (member (codes "codeActionLiteralSupport") (object no_members) no_members)
@@ -16,7 +17,7 @@ code_action_capability =
 abbrev pub text_document_capabilities : Data
 text_document_capabilities = object (member (codes "codeAction") code_action_capability no_members)
 
--- the capability to accept edits with document versions: {"documentChanges":true}
+-- the capability to accept edits that mention their documents' versions: {"documentChanges":true}
 abbrev pub workspace_edit_capability : Data
 workspace_edit_capability = object (member (codes "documentChanges") (boolean true) no_members)
 

@@ -59,17 +59,18 @@ abbrev pub edits_of_items : Items → Option (List Replacement)
 edits_of_items no_items = Some []
 edits_of_items (item d ds) = option_and_then (λ e. option_map (λ es. e ∷ es) (edits_of_items ds)) (edit_of_value d)
 
--- Returns the list of edits in a WorkspaceEdit. The third argument is the value of
--- `documentChanges`. If it isn't None, the list is in its first element, whose uri is ignored.
--- Otherwise the list is in `changes`, under this uri. Returns None if there is no such list.
+-- Returns the list of edits in a WorkspaceEdit. The third argument is the value of the member
+-- `documentChanges`, or None if there is no such member. If it isn't None, the list is in its first
+-- element, whose uri is ignored. Otherwise the list is in the member `changes`, under this uri.
+-- Returns None if there is no such list.
 abbrev pub document_edit_items : List ℕ → Data → Option Data → Option Items
 document_edit_items uri edit (Some documents) =
     option_and_then as_array (option_and_then (get (codes "edits")) (at 0 documents))
 document_edit_items uri edit None =
     option_and_then as_array (option_and_then (get uri) (get (codes "changes") edit))
 
--- Returns the list of edits in a WorkspaceEdit (`document_edit_items`), or None if there is no such
--- list. The uri is used only if the WorkspaceEdit has no `documentChanges`.
+-- Returns the list of edits in a WorkspaceEdit, or None if there is no such list. The uri is used
+-- only if the WorkspaceEdit has no member `documentChanges`.
 abbrev pub workspace_edit_items : List ℕ → Data → Option Items
 workspace_edit_items uri edit = document_edit_items uri edit (get (codes "documentChanges") edit)
 

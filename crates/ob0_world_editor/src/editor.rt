@@ -2,9 +2,10 @@
 //! answers.
 //!
 //! If a call returns an error, the editor is unchanged. To ensure this, a call first makes all
-//! contents and copies. The last step that can fail inserts into the map of documents or into a
-//! list. Other fields are changed after that step. The exception is `apply`, which first removes
-//! the answer. So after an error in `apply` the editor has lost the answer.
+//! contents and copies. The last step that can fail is an insertion into the map of documents or
+//! into a list. Other fields are changed only after that step. The exception is `apply`,
+//! which first removes the answer. So after an error in `apply` the editor has lost the
+//! answer.
 //!
 //! A document's text is stored as a `String`. A text store is made only while changes or edits are
 //! applied. So the editor needs no invariant about the units of text stores.

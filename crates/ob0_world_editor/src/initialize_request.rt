@@ -11,8 +11,9 @@ use ob0_text::Unit;
 use std::alloc::{AllocError, Global};
 
 /// Returns the content of the request `initialize`, which begins a conversation. The client
-/// declares that it accepts edits with document versions and literal code actions. If the unit is
-/// UTF-8, the client also offers to count positions in UTF-8.
+/// declares two capabilities. It accepts literal code actions, which contain their edits. And it
+/// accepts edits that mention their documents' versions. If the unit is UTF-8, the client also
+/// offers to count positions in UTF-8.
 pub fn initialize(alloc: Global, unit: Unit) -> Result<Vec<u8>, AllocError>
     ensures { IfOk result (λ content. ReadsContent content.items (Some (initialize_message unit))) }
 {
@@ -43,7 +44,7 @@ impl WriteJson for ClientCapabilities {
                 value: EmptyObject {},
             },
         };
-        // The client accepts edits with document versions.
+        // The client accepts edits that mention their documents' versions.
         let edits = OneMemberObject {
             key: "workspaceEdit",
             value: OneMemberObject {

@@ -1,5 +1,5 @@
 //! Writes JSON objects of two and three members. The names of members are written without escapes,
-//! so they mustn't contain a character that needs one.
+//! so a name mustn't contain a character that needs an escape.
 //!
 //! Each JSON value in an editor's messages is a type that implements `WriteJson`. An object with
 //! one member is a `OneMemberObject`. An object with two or three members is written by one call of

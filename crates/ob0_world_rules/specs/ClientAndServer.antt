@@ -81,7 +81,7 @@ pub data MessageToEditor : Type 0 where
   -- the ask's number and the edits; a refusal has no edits
   answers : ℕ → List Replacement → MessageToEditor
 
--- ---- what is recorded: applied edits and publications
+-- ---- records of applied edits and publications
 
 -- an edit that the editor applied: the document's uri, and its text before and after the edit
 pub record Applied : Type 0 where

@@ -90,7 +90,7 @@ abbrev pub edits_of_answer : ℕ → List Answer → Option (List Replacement)
 edits_of_answer k [] = None
 edits_of_answer k (a ∷ rest) = if a.number == k then Some a.edits else edits_of_answer k rest
 
--- returns the answers without the first answer to request `k`
+-- removes the first answer to request `k` from the list; the other answers stay in their order
 abbrev pub answers_except : ℕ → List Answer → List Answer
 answers_except k [] = []
 answers_except k (a ∷ rest) = if a.number == k then rest else a ∷ answers_except k rest
@@ -99,8 +99,8 @@ answers_except k (a ∷ rest) = if a.number == k then rest else a ∷ answers_ex
 abbrev pub editor_without_answer : Editor → ℕ → Editor
 editor_without_answer e k = record e { answers = answers_except k e.answers }
 
--- returns the document if its opening number and its version are equal to the request's,
--- otherwise None
+-- returns the document if its opening number and its version are those that are stored with the
+-- request, otherwise None
 abbrev pub document_if_unchanged_since : SentAsk → OpenDocument → Option OpenDocument
 document_if_unchanged_since a d = if d.opening == a.opening && is_same_version d.version a.version then Some d else None
 
@@ -135,8 +135,8 @@ act_result e (apply k) =
     unwrap_or (edits_of_answer k e.answers >>= applying_result rest k) (result_without_messages rest)
 act_result e (discard k) = result_without_messages (editor_without_answer e k)
 
--- Returns the editor after it has read a message. The editor keeps an answer that has edits, and
--- nothing else.
+-- Returns the editor after it has read a message. The editor stores an answer that has edits. Any
+-- other message changes nothing.
 abbrev pub editor_after_reading : Editor → MessageToEditor → Editor
 editor_after_reading e (publishes uri version empty) = e
 editor_after_reading e (answers number []) = e

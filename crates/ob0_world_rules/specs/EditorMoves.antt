@@ -15,8 +15,8 @@ pub record Revision : Type 0 where
   pub text : List ℕ
   pub sent_changes : List TextChange
 
--- A move of the editor. It differs from an `Act` in two ways: a document may get any version, and
--- changes are given as a list of revisions.
+-- A move of an editor. It differs from an act of the model's editor (`Act`) in two ways: a
+-- document may get any version, and changes are given as a list of revisions.
 pub data Move : Type 0 where
   -- the uri, the version and the text
   editor_opens : List ℕ → ℤ → List ℕ → Move
@@ -40,9 +40,9 @@ abbrev pub editor_with_document : Editor → List ℕ → OpenDocument → Edito
 editor_with_document e uri d = record e { documents = map_of.insert e.documents uri d }
 
 -- States that these revisions of the open document `uri`, made in order, lead from editor `e` to
--- `new`. `announced` is the document after each revision. The changes of each revision turn the
--- text before it into the text after it. Positions are counted in the editor's unit. Any version
--- is allowed.
+-- `new`. The list `announced` has the document as it is after each revision. The changes of each
+-- revision turn the text before the revision into the revision's text. Positions are counted in the
+-- editor's unit. Any version is allowed.
 abbrev pub RevisesDocument : Editor → List ℕ → List Revision → Editor → List AnnouncedDocument → Type 0
 RevisesDocument e uri [] new announced = (new ≡ e) × (announced ≡ [])
 RevisesDocument e uri (r ∷ more) new announced =
@@ -66,8 +66,8 @@ changes_of_revisions (r ∷ more) = r.sent_changes ++ changes_of_revisions more
 -- ---- answers
 
 -- States that all edits of the answer to request `k` are made in the document that was asked about.
--- The document still has its text from when the request was sent. The changes `first` make the
--- edited text. The changes `next` are later ones by the user, which an editor may send with them.
+-- The document still has its text from when the request was sent. The revisions begin with the
+-- changes `first`, which make the edited text. Later changes by the user (`next`) may follow.
 pub record AppliesAnswer (e : Editor) (k : ℕ) (revisions : List Revision) (done : ActResult)
     (announced : List AnnouncedDocument) : Type 0 where
   pub edits : List Replacement

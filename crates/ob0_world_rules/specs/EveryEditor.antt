@@ -15,9 +15,9 @@ use Rattle.ob0_world_rules.specs.EditorMoves.{Move, IsAllowedMove}
 
 -- ---- an editor and the server
 
--- An editor and the server. Their queues may contain messages outside the model (`None`): requests
--- that change nothing, such as a hover request, the answers to them, and notifications that the
--- server ignores.
+-- An editor and the server. Their queues may contain messages outside the model (`None`). These are
+-- requests that change nothing, such as a hover request, the answers to such requests, and
+-- notifications that the server ignores.
 pub record EditorAndServer : Type 0 where
   pub editor : Editor
   pub to_server : List (Option MessageToServer)

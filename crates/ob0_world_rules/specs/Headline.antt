@@ -53,9 +53,9 @@ pub record GuaranteesHold (w : ClientAndServer) : Type 0 where
   -- its present text.
   pub latest_are_up_to_date : w.to_server ≡ [] → PublicationsAreUpToDate w.editor w.made
 
--- States that a list of events leads from the start to exactly one state. That state has these
--- applied edits and these publications, in this order, and the guarantees (`GuaranteesHold`) hold
--- in it.
+-- States that a list of events leads from the initial state (`start`) to exactly one state. That
+-- state has these applied edits and these publications, in this order. The guarantees
+-- (`GuaranteesHold`) hold in that state.
 pub record Headline (unit : Unit) (events : List Event) (applied : List Applied)
     (made : List PublicationWithText) : Type 0 where
   pub end : ClientAndServer

@@ -71,8 +71,9 @@ CourseIsDetermined =
     → IsCourse w events other
     → end ≡ other
 
--- States that this request for edits (`Ask`) has an answer for each unit of positions and each
--- text. The formula is a double negation: it is impossible that no list of edits is an answer.
+-- States that this request for edits (`Ask`) has an answer for each text and each unit in which
+-- positions are counted. The formula is a double negation: it is impossible that no list of edits
+-- is an answer.
 abbrev pub AlwaysHasAnswer : Ask → Type 0
 AlwaysHasAnswer ask =
     (unit : Unit) (text : List ℕ)
@@ -104,8 +105,8 @@ abbrev pub GuaranteesHoldInEveryInterleaving : Type 0
 GuaranteesHoldInEveryInterleaving =
     (u : Unit) (events : List Event) (w : ClientAndServer) → IsCourse (start u) events w → GuaranteesHold w
 
--- States that once the server has taken all waiting messages, it has the editor's documents. The
--- law covers each state to which a list of events leads from the start.
+-- States that once the server has taken all waiting messages, it has the editor's documents. This
+-- holds in each state to which a list of events leads from the start.
 abbrev pub ServerMirrorsEditor : Type 0
 ServerMirrorsEditor =
     (u : Unit) (events : List Event) (w : ClientAndServer) → IsCourse (start u) events w → ServerWillMirrorEditor w

@@ -18,7 +18,7 @@ pub record Replacement : Type 0 where
 abbrev pub replacement_of : Edit → Replacement
 replacement_of e = record { range = e.range; text = chars (string_bytes e.text) }
 
--- converts edits of the code's type `Edit` to replacements
+-- converts a list of edits of the code's type `Edit` to values of the type `Replacement`
 abbrev pub replacements : List Edit → List Replacement
 replacements edits = map replacement_of edits
 
@@ -39,8 +39,8 @@ text_after_changes unit text changes = fold (changed_text unit) text changes
 
 -- ---- the law
 
--- states that two definitions of an edited text agree: `text_after_edits` for the model's
--- replacements, and `patched_text` for the code's edits
+-- states that two definitions of an edited text agree: `text_after_edits` for edits of the model's
+-- type `Replacement`, and `patched_text` for edits of the code's type `Edit`
 abbrev pub EditedTextDefinitionsAgree : Type 0
 EditedTextDefinitionsAgree =
     (unit : Unit) (text : List ℕ) (edits : List Edit)
