@@ -139,7 +139,7 @@ def asked_of_trait() -> None:
 @test("mutants: a method is asked for, and named, in the module of its type")
 def asked_of_type() -> None:
     found = [it for it in reading.Source("ob0_run_lowering").functions if it.name in ("locate_var_argument", "number_or_zero")]
-    same([it.file for it in found], ["src/expressions.rt"] * 2, "where they are")
+    same([it.file for it in found], ["src/statement_operands.rt"] * 2, "where they are")
     same(sorted(it.checked_as for it in found), ["expressions::number_or_zero", "scene::Scene::locate_var_argument"], "their names")
     named = {it.name: it.is_named("ob0_run_lowering::scene::Scene::locate_var_argument") for it in found}
     same(named, {"locate_var_argument": True, "number_or_zero": False}, "which of them is meant")

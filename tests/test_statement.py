@@ -133,7 +133,7 @@ def line_of(begin: str) -> int:
 
 @test("statement: the first screen has the sentence; then come what an editor must do, what holds, and of what")
 def in_order() -> None:
-    places = [line_of(it) for it in ("> In every interleaving", "abbrev pub EveryExchangeIsServed", "abbrev pub IsAllowedMove ", "pub record GuaranteesHoldForExchange ", "pub fn serve<")]
+    places = [line_of(it) for it in ("> In every interleaving", "abbrev pub ServeGuaranteesHoldForEveryExchange", "abbrev pub IsAllowedMove ", "pub record GuaranteesHoldForExchange ", "pub fn serve<")]
     same(places, sorted(places), "the order of the page")
     holds(places[0] < 10 and places[1] < 45, f"the sentence and the theorem stand at lines {places[:2]}")
 
@@ -195,10 +195,10 @@ def counts_hold() -> None:
 @test("statement: the contract of what the program calls is on the page, and both sides of that of `play_in` on the second")
 def tie_is_there() -> None:
     first = "\n".join(text for _, text in [*fenced("agda", text_of(PAGE)), *fenced("rust", text_of(PAGE))])
-    for it in ("pub fn serve<", "record IsServedExchange ", "record GuaranteesHoldForExchange ", "record AppliesAnswer ", "IsAllowedMove :", "Exchanges :"):
+    for it in ("pub fn serve<", "record ServeGuaranteesHoldForExchange ", "record GuaranteesHoldForExchange ", "record AppliesAnswer ", "IsAllowedMove :", "ExchangeTakesTurn :"):
         holds(it in first, f"docs/STATEMENT.md hasn't {it!r}")
     rest = "\n".join(text for _, text in [*fenced("agda", second()), *fenced("rust", second())])
-    for it in ("MayServe :", "pub fn play_in(", "record Plays ", "PlaysPrefix :", "record ConnectionSteps ", "record HasServed ", "Serves :", "record Headline "):
+    for it in ("ServeMayReturn :", "pub fn play_in(", "record IsResultOfPlaying ", "IsFaultOfPlaying :", "record ConnectionSteps ", "record AnswersAllButWaiting ", "Serves :", "record GuaranteesHoldForEvents "):
         holds(it in rest, f"the second page hasn't {it!r}")
 
 
@@ -296,8 +296,8 @@ def closed_page() -> None:
     counted = Counted()
     rows_of = re.findall(r"^\| `([^`|]+)` \| .* \| `(\w+)` of `(\w+)` \|$", second(), re.M)
     closed = {counted.home(crate, file, name.split(".")[-1]) for name, file, crate in rows_of}
-    roots = [("ob0_world", "Worlds", name) for name in ("Plays", "PlaysPrefix")]
-    roots += [("ob0_session", "Serving", "Serves"), ("ob0_world_determined", "ServedExchanges", "EveryExchangeIsServed")]
+    roots = [("ob0_world", "Worlds", name) for name in ("IsResultOfPlaying", "IsFaultOfPlaying")]
+    roots += [("ob0_session", "ServeResults", "Serves"), ("ob0_world_determined", "ServeGuarantees", "ServeGuaranteesHoldForEveryExchange")]
     needed = counted.needed(roots, closed)
     holds(len(needed) > 600, f"hardly any definition is needed: {len(needed)}")
     last = {name for part, text in fenced("agda", second()) if str(part).startswith("Part 9") for name in definitions(text)}

@@ -35,8 +35,8 @@ Size = Tuple[int, int]  # how many words, and how many lines
 # ---- what isn't in the template
 
 # (what the second page unfolds last, though the theorem names it: what values of the code mean)
-LATE: list[Key] = [("ob0_world", "ModelValues", name) for name in ("event_of", "played_edits", "played_publications")]
-LATE += [("ob0_session", "Serving", name) for name in ("IsReadInPieces", "UsesAllReads", "max_reads", "LeavesWriterFlushed")]
+LATE: list[Key] = [("ob0_world", "ModelValues", name) for name in ("model_event_of", "played_edits", "played_publications")]
+LATE += [("ob0_session", "ServeResults", name) for name in ("IsReadInPieces", "UsesAllReads", "max_reads", "LeavesWriterFlushed")]
 LATER: list[Key] = [("ob0_scan", "LexemeClasses", name) for name in ("reserved_word_text", "symbol_text")]
 # (types of the code in them)
 LATER_TYPES = [("ob0_scan", "lexeme", "ReservedWord"), ("ob0_scan", "lexeme", "Symbol")]

@@ -3,14 +3,14 @@ use Rattle.std.proofs.Common.{◌≡◌, ◌≤◌, ◌+◌, ◌-◌, ℕ, List,
 use Rattle.std.proofs.lemmas.List.{drop-drop, length-map, take-take}
 use Rattle.ob0_scan.specs.declared.lexeme.Token.{Token}
 use Rattle.ob0_scan.specs.declared.tokens.CommonPrefixAndSuffix.{CommonPrefixAndSuffix}
-use Rattle.ob0_scan.specs.ReusedLexemes.{kinds, kind_without_value, words_of_tokens}
-use Rattle.ob0_scan.specs.SameKinds.{PrefixAndSuffixHaveSameKinds, PrefixAndSuffixHaveSameWords}
+use Rattle.ob0_scan.specs.ReusedLexemes.{token_kinds_without_values, kind_without_value, words_of_tokens}
+use Rattle.ob0_scan.specs.SamePrefixAndSuffix.{PrefixAndSuffixHaveSameKinds, PrefixAndSuffixHaveSameWords}
 use Rattle.ob0_scan.specs.TextWithTokens.{IsScan, TextWithTokens}
 use Rattle.ob0_tree.specs.declared.tree.ModuleTree.{ModuleTree}
-use Rattle.ob0_scope_table.specs.BodyPlaces.{body_bounds_of_range, module_tree_of}
+use Rattle.ob0_scope_table.specs.BoundsOfBodies.{body_bounds_of_range, module_tree_of}
 use Rattle.ob0_scope_table.specs.declared.one_body.BodyBounds.{BodyBounds}
 use Rattle.ob0_scope_table.specs.declared.resolved.Bindings.{Bindings}
-use Rattle.ob0_types.specs.declared.checked.CheckResult.{CheckResult}
+use Rattle.ob0_types.specs.declared.checked_modules.CheckResult.{CheckResult}
 use Rattle.ob0_analysis.specs.LastModule.{IsEarlierModule, WidensDifference, IsLastModuleOf}
 use Rattle.ob0_analysis.specs.declared.last_module.LastModule.{LastModule}
 
@@ -21,14 +21,14 @@ less_back : {A : Type 0} (i j d n m : ℕ) (xs ys : List A) → i + d ≡ n → 
 less_back i j d n m xs ys p q e =
     ap (λ k. drop k xs) (sym p) ∙ (sym (drop-drop d i xs) ∙ (ap (drop d) e ∙ (drop-drop d j ys ∙ ap (λ k. drop k ys) q)))
 
-count_kinds : (ts : List Token) → length (kinds ts) ≡ length ts
+count_kinds : (ts : List Token) → length (token_kinds_without_values ts) ≡ length ts
 count_kinds ts = length-map ts (λ (t : Token). kind_without_value t.kind)
 
 -- Both texts have the same number of tokens after the range of differences.
 as_many : (s : CommonPrefixAndSuffix) (old new : List Token) → PrefixAndSuffixHaveSameKinds s old new → length new + s.old_suffix ≡ length old + s.new_suffix
 as_many s old new h =
-    let left : length (kinds new) - s.new_suffix ≡ length (kinds old) - s.old_suffix =
-    sym (length-drop s.new_suffix (kinds new)) ∙ (ap length h.back ∙ length-drop s.old_suffix (kinds old)) in
+    let left : length (token_kinds_without_values new) - s.new_suffix ≡ length (token_kinds_without_values old) - s.old_suffix =
+    sym (length-drop s.new_suffix (token_kinds_without_values new)) ∙ (ap length h.back ∙ length-drop s.old_suffix (token_kinds_without_values old)) in
     omega (arith, left, count_kinds new, count_kinds old, h.new_inside, h.old_inside)
 
 module _ (s wider : CommonPrefixAndSuffix) (still : WidensDifference s wider) where
@@ -47,8 +47,8 @@ module _ (s wider : CommonPrefixAndSuffix) (still : WidensDifference s wider) wh
     new_range = omega (arith, still.front, still.back, still.adds_equally_many_tokens, h.new_range);
     old_inside = inside;
     new_inside = omega (arith, still.adds_equally_many_tokens, inside, as_many s old new h);
-    front = less_front wider.prefix s.prefix (kinds new) (kinds old) still.front h.front;
-    back = less_back s.new_suffix s.old_suffix more wider.new_suffix wider.old_suffix (kinds new) (kinds old) here there h.back;
+    front = less_front wider.prefix s.prefix (token_kinds_without_values new) (token_kinds_without_values old) still.front h.front;
+    back = less_back s.new_suffix s.old_suffix more wider.new_suffix wider.old_suffix (token_kinds_without_values new) (token_kinds_without_values old) here there h.back;
   }
 
   words_still : (old new : TextWithTokens) → PrefixAndSuffixHaveSameWords s old new → PrefixAndSuffixHaveSameWords wider old new
@@ -69,8 +69,8 @@ joined s t old mid new p q h k = record {
   new_range = omega (arith, p, k.new_range);
   old_inside = h.old_inside;
   new_inside = k.new_inside;
-  front = ap (λ n. take n (kinds new)) (sym p) ∙ (k.front ∙ (ap (λ n. take n (kinds mid)) p ∙ h.front));
-  back = k.back ∙ (ap (λ n. drop n (kinds mid)) q ∙ h.back);
+  front = ap (λ n. take n (token_kinds_without_values new)) (sym p) ∙ (k.front ∙ (ap (λ n. take n (token_kinds_without_values mid)) p ∙ h.front));
+  back = k.back ∙ (ap (λ n. drop n (token_kinds_without_values mid)) q ∙ h.back);
 }
 
 joined_words : (s t : CommonPrefixAndSuffix) (old mid new : TextWithTokens) → t.prefix ≡ s.prefix → t.old_suffix ≡ s.new_suffix → PrefixAndSuffixHaveSameWords s old mid → PrefixAndSuffixHaveSameWords t mid new → PrefixAndSuffixHaveSameWords (record { prefix = s.prefix; old_suffix = s.old_suffix; new_suffix = t.new_suffix }) old new

@@ -7,12 +7,12 @@ use Rattle.ob0_scan.specs.declared.lexeme.TokenKind.{TokenKind}
 use Rattle.ob0_scan.specs.declared.lexeme.TokenKind.TheVariants as kind
 use Rattle.ob0_scan.specs.declared.lexeme.ReservedWord.TheVariants as reserved
 use Rattle.ob0_scan.specs.declared.tokens.CommonPrefixAndSuffix.{CommonPrefixAndSuffix}
-use Rattle.ob0_scan.specs.ReusedLexemes.{kinds, words_of_tokens}
-use Rattle.ob0_scan.specs.SameKinds.{PrefixAndSuffixHaveSameKinds, PrefixAndSuffixHaveSameWords}
+use Rattle.ob0_scan.specs.ReusedLexemes.{token_kinds_without_values, words_of_tokens}
+use Rattle.ob0_scan.specs.SamePrefixAndSuffix.{PrefixAndSuffixHaveSameKinds, PrefixAndSuffixHaveSameWords}
 use Rattle.ob0_scan.specs.TextWithTokens.{IsScan, TextWithTokens, Word}
-use Rattle.ob0_tree.specs.Lexeme.{EndOfText, WordOrSymbol, Name, Number, Terminal, mapped_terminal}
+use Rattle.ob0_tree.specs.Terminals.{EndOfText, WordOrSymbol, Name, Number, Terminal, mapped_terminal}
 use Rattle.ob0_tree.specs.IdentifierIndexes.{names_without_roles}
-use Rattle.ob0_tree.specs.ParsedModule.{IsParsed, ParsedModule, parsed_module, tree_of}
+use Rattle.ob0_tree.specs.ParsedModule.{TreeMatchesText, ParsedModule, parsed_module, tree_of}
 use Rattle.ob0_tree.specs.declared.tree.ModuleTree.{ModuleTree}
 use Rattle.ob0_tree.specs.Tree.{Tree, begins, body, identifiers, item, mapped_tree, maybe, module_text, none, one, spell}
 use Rattle.ob0_tree.specs.declared.tree.Role.{Role}
@@ -22,12 +22,12 @@ use Rattle.ob0_tree.proofs.Mapped.{spell_mapped}
 use Rattle.ob0_parse_descent.proofs.Unique.{same}
 use Rattle.ob0_parse.specs.KeptTreeTokens.{indexed_terminals_of_kinds}
 use Rattle.ob0_parse.proofs.TerminalsOfKinds.{drop_terminals, moved_terminals, name_index, take_terminals, terminals_of_tokens}
-use Rattle.ob0_scope.specs.NewBody.{AreBindingsBeforeBodyReplacement}
+use Rattle.ob0_scope.specs.BindingsBeforeBodyReplacement.{AreBindingsBeforeBodyReplacement}
 use Rattle.ob0_scope_table.specs.Bindings.{resolution_with_bindings}
-use Rattle.ob0_scope_table.specs.BodyPlaces.{body_bounds_of_range, module_tree_of}
+use Rattle.ob0_scope_table.specs.BoundsOfBodies.{body_bounds_of_range, module_tree_of}
 use Rattle.ob0_tree.specs.FirstIdentifier.{token_of_first_identifier}
 use Rattle.ob0_scope_table.specs.BodyReplacement.{ReplacesStatementsOfOneBody, PathToBody, body_at_path, closing_name_at_path, shifted_token_index, path_to_body_in_module, module_without_body}
-use Rattle.ob0_scope_table.specs.OneBody.{is_outside_range}
+use Rattle.ob0_scope_table.specs.SpellingChangesInOneBody.{is_outside_range}
 use Rattle.ob0_scope_table.proofs.BodyPlaces.{body_place_read}
 use Rattle.ob0_scope_table.proofs.Moved.{moved_above, moved_below, out_cases}
 use Rattle.ob0_scope_table.specs.declared.one_body.BodyBounds.{BodyBounds}
@@ -73,10 +73,10 @@ record Opened (statements : Tree ℕ (maybe body)) (n : ℕ) : Type 0 where
   pub spelled : spell statements ≡ begin_mark ∷ (front ++ (Name n ∷ back))
   pub plain : NoBegin front
 
-opened : (statements : Tree ℕ (maybe body)) (n : ℕ) → token_of_first_identifier (identifiers role.Declaring statements) ≡ Some n → Opened statements n
+opened : (statements : Tree ℕ (maybe body)) (n : ℕ) → token_of_first_identifier (identifiers role.DeclaringName statements) ≡ Some n → Opened statements n
 opened none n e = absurd (cc (e))
 opened (one (begins s)) n e =
-    let h = up_to_first (identifiers role.Declaring s) (spell s) n (leaves_spelled role.Declaring s) e in
+    let h = up_to_first (identifiers role.DeclaringName s) (spell s) n (leaves_spelled role.DeclaringName s) e in
     record {
       written = begins s;
       is = refl;
@@ -94,23 +94,23 @@ up_to_last f b u n v z = ap (λ l. f ++ (b ∷ l)) (append_assoc u (n ∷ v) z) 
 up_to_end : {A : Type 0} (f x : List A) (e c : A) (z : List A) → f ++ (x ++ (e ∷ c ∷ z)) ≡ ((f ++ x) ++ (e ∷ [])) ++ (c ∷ z)
 up_to_end f x e c z = sym (append_assoc f x (e ∷ c ∷ z)) ∙ sym (append_assoc (f ++ x) (e ∷ []) (c ∷ z))
 
-spelled_by_kinds : (m : ParsedModule) → IsParsed m → spell (tree_of m) ≡ indexed_terminals_of_kinds 0 (kinds m.source.tokens)
-spelled_by_kinds m parsed = append_cancel_right (spell (tree_of m)) (indexed_terminals_of_kinds 0 (kinds m.source.tokens)) (EndOfText ∷ []) (parsed.places ∙ terminals_of_tokens 0 m.source.tokens)
+spelled_by_kinds : (m : ParsedModule) → TreeMatchesText m → spell (tree_of m) ≡ indexed_terminals_of_kinds 0 (token_kinds_without_values m.source.tokens)
+spelled_by_kinds m parsed = append_cancel_right (spell (tree_of m)) (indexed_terminals_of_kinds 0 (token_kinds_without_values m.source.tokens)) (EndOfText ∷ []) (parsed.places ∙ terminals_of_tokens 0 m.source.tokens)
 
 record Halves (m : ParsedModule) (path : PathToBody) (first closing : ℕ) : Type 0 where
   pub front : List (Terminal ℕ)
   pub inside : List (Terminal ℕ)
   pub back : List (Terminal ℕ)
   pub less : spell (module_without_body path (tree_of m)) ≡ front ++ back
-  pub until : take first (indexed_terminals_of_kinds 0 (kinds m.source.tokens)) ≡ front ++ (begin_mark ∷ inside)
+  pub until : take first (indexed_terminals_of_kinds 0 (token_kinds_without_values m.source.tokens)) ≡ front ++ (begin_mark ∷ inside)
   pub plain : NoBegin inside
   pub shorter : length front < first
-  pub front_is : front ≡ take (length front) (indexed_terminals_of_kinds 0 (kinds m.source.tokens))
+  pub front_is : front ≡ take (length front) (indexed_terminals_of_kinds 0 (token_kinds_without_values m.source.tokens))
   pub before : ℕ
   pub closes : before + 1 ≡ closing
-  pub back_is : back ≡ drop before (indexed_terminals_of_kinds 0 (kinds m.source.tokens))
+  pub back_is : back ≡ drop before (indexed_terminals_of_kinds 0 (token_kinds_without_values m.source.tokens))
 
-halves : (m : ParsedModule) → IsParsed m → (path : PathToBody) (first closing : ℕ) → token_of_first_identifier (identifiers role.Declaring (body_at_path path (tree_of m))) ≡ Some first → closing_name_at_path path (tree_of m) ≡ closing → Halves m path first closing
+halves : (m : ParsedModule) → TreeMatchesText m → (path : PathToBody) (first closing : ℕ) → token_of_first_identifier (identifiers role.DeclaringName (body_at_path path (tree_of m))) ≡ Some first → closing_name_at_path path (tree_of m) ≡ closing → Halves m path first closing
 halves m parsed path first closing is_first is_closing =
     let t : Tree ℕ module_text = tree_of m in
     let c : ℕ = closing_name_at_path path t in
@@ -118,15 +118,15 @@ halves m parsed path first closing is_first is_closing =
     let a = around_body path t o.written o.is in
     let end_mark : Terminal ℕ = WordOrSymbol (kind.ReservedWord reserved.End) in
     let back : List (Terminal ℕ) = end_mark ∷ Name c ∷ a.back in
-    let all : List (Terminal ℕ) = indexed_terminals_of_kinds 0 (kinds m.source.tokens) in
+    let all : List (Terminal ℕ) = indexed_terminals_of_kinds 0 (token_kinds_without_values m.source.tokens) in
     let start : List (Terminal ℕ) = a.front ++ (begin_mark ∷ o.front) in
     let upper : List (Terminal ℕ) = a.front ++ spell (body_at_path path t) in
     let whole : all ≡ a.front ++ (spell (body_at_path path t) ++ back) = sym (spelled_by_kinds m parsed) ∙ a.whole_is in
     let at_first : all ≡ start ++ (Name first ∷ (o.back ++ back)) =
     whole ∙ (ap (λ l. a.front ++ (l ++ back)) o.spelled ∙ up_to_last a.front begin_mark o.front (Name first) o.back back) in
     let at_closing : all ≡ (upper ++ (end_mark ∷ [])) ++ (Name c ∷ a.back) = whole ∙ up_to_end a.front (spell (body_at_path path t)) end_mark (Name c) a.back in
-    let first_index : first ≡ 0 + length start = name_index 0 first (kinds m.source.tokens) start (o.back ++ back) at_first in
-    let closing_index : c ≡ 0 + length (upper ++ (end_mark ∷ [])) = name_index 0 c (kinds m.source.tokens) (upper ++ (end_mark ∷ [])) a.back at_closing in
+    let first_index : first ≡ 0 + length start = name_index 0 first (token_kinds_without_values m.source.tokens) start (o.back ++ back) at_first in
+    let closing_index : c ≡ 0 + length (upper ++ (end_mark ∷ [])) = name_index 0 c (token_kinds_without_values m.source.tokens) (upper ++ (end_mark ∷ [])) a.back at_closing in
     let first_count : length start ≡ length a.front + length (begin_mark ∷ o.front) = length-append a.front (begin_mark ∷ o.front) in
     let closing_count : length (upper ++ (end_mark ∷ [])) ≡ length upper + 1 = length-append upper (end_mark ∷ []) in
     record {
@@ -172,8 +172,8 @@ module _ (old new : ParsedModule) (s : CommonPrefixAndSuffix) (tokens : PrefixAn
   without_same : (path new_path : PathToBody) (first closing now_closing : ℕ) → Halves old path first closing → Halves new new_path first now_closing → first < s.prefix → s.old_suffix < closing → now_closing + s.old_suffix ≡ closing + s.new_suffix
       → module_without_body new_path (tree_of new) ≡ mapped_tree (shifted_token_index s) (shifted_token_index s) (module_without_body path (tree_of old))
   without_same path new_path first closing now_closing was is front_side back_side same_closing =
-      let ks : List TokenKind = kinds old.source.tokens in
-      let js : List TokenKind = kinds new.source.tokens in
+      let ks : List TokenKind = token_kinds_without_values old.source.tokens in
+      let js : List TokenKind = token_kinds_without_values new.source.tokens in
       let r : Terminal ℕ → Terminal ℕ = mapped_terminal (shifted_token_index s) (shifted_token_index s) in
       let same_take : take first ks ≡ take first js =
       sym (take-take first s.prefix ks (omega (arith, front_side))) ∙ (ap (take first) (sym tokens.front) ∙ take-take first s.prefix js (omega (arith, front_side))) in
@@ -217,7 +217,7 @@ words_outside s old new written range i out = ⊎_elim
     ∙ (ap (λ (l : List Word). slice_get l (i - s.old_suffix)) written.back ∙ get_dropped s.old_suffix (words_of_tokens old.text old.tokens) (i - s.old_suffix) i here)))
     (out_cases s.prefix s.old_suffix i out)
 
-pub body_replaced : (old new : ParsedModule) (s : CommonPrefixAndSuffix) → IsScan old.source → IsScan new.source → IsParsed old → IsParsed new → PrefixAndSuffixHaveSameKinds s old.source.tokens new.source.tokens → PrefixAndSuffixHaveSameWords s old.source new.source
+pub body_replaced : (old new : ParsedModule) (s : CommonPrefixAndSuffix) → IsScan old.source → IsScan new.source → TreeMatchesText old → TreeMatchesText new → PrefixAndSuffixHaveSameKinds s old.source.tokens new.source.tokens → PrefixAndSuffixHaveSameWords s old.source new.source
     → (was : BodyBounds) → body_bounds_of_range s.prefix s.old_suffix (tree_of old) ≡ Some was → IsSameBody was (body_bounds_of_range s.prefix s.new_suffix (tree_of new)) s → ReplacesStatementsOfOneBody old new (path_to_body_in_module s.prefix (tree_of old)) s
 body_replaced old new s old_scan new_scan old_parsed new_parsed tokens written place placed b =
     let path : PathToBody = path_to_body_in_module s.prefix (tree_of old) in
@@ -225,7 +225,7 @@ body_replaced old new s old_scan new_scan old_parsed new_parsed tokens written p
     let first : ℕ = place.first in
     let p = body_place_read s.prefix s.old_suffix (tree_of old) place placed in
     let q = body_place_read s.prefix s.new_suffix (tree_of new) b.place b.is in
-    let is_first : token_of_first_identifier (identifiers role.Declaring (body_at_path new_path (tree_of new))) ≡ Some first = q.first ∙ ap Some (sym b.first) in
+    let is_first : token_of_first_identifier (identifiers role.DeclaringName (body_at_path new_path (tree_of new))) ≡ Some first = q.first ∙ ap Some (sym b.first) in
     let was = halves old old_parsed path first place.closing p.first p.closes in
     let is = halves new new_parsed new_path first b.place.closing is_first q.closes in
     let moved_too : module_without_body new_path (tree_of new) ≡ mapped_tree (shifted_token_index s) (shifted_token_index s) (module_without_body path (tree_of old)) =
@@ -249,7 +249,7 @@ body_replaced old new s old_scan new_scan old_parsed new_parsed tokens written p
       new_in_body = q.is_bound_to_declaration;
       first = first;
       first_identifier_of_old_body = p.first;
-      first_identifier_of_new_body = subst (λ w. token_of_first_identifier (identifiers role.Declaring (body_at_path w (tree_of new))) ≡ Some first) one_way is_first;
+      first_identifier_of_new_body = subst (λ w. token_of_first_identifier (identifiers role.DeclaringName (body_at_path w (tree_of new))) ≡ Some first) one_way is_first;
       front = b.front;
       back = subst (λ n. s.old_suffix < n) (sym p.closes) b.back;
       closing = subst (λ w. closing_name_at_path w (tree_of new) ≡ shifted_token_index s (closing_name_at_path path (tree_of old))) one_way closes;
@@ -257,7 +257,7 @@ body_replaced old new s old_scan new_scan old_parsed new_parsed tokens written p
 
 -- ---- the reused results
 
-module _ (new : TextWithTokens) (tree : ModuleTree) (last : LastModule) (now : Option BodyBounds) (h : IsLastModuleOf new last) (placed : now ≡ body_bounds_of_range last.same.prefix last.same.new_suffix (module_tree_of tree)) (parsed : IsParsed (parsed_module new tree)) (one_body : IsSameBody last.place now last.same) where
+module _ (new : TextWithTokens) (tree : ModuleTree) (last : LastModule) (now : Option BodyBounds) (h : IsLastModuleOf new last) (placed : now ≡ body_bounds_of_range last.same.prefix last.same.new_suffix (module_tree_of tree)) (parsed : TreeMatchesText (parsed_module new tree)) (one_body : IsSameBody last.place now last.same) where
   abbrev before_it : ParsedModule
   before_it = parsed_module h.earlier_module.old h.tree
 

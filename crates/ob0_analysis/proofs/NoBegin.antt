@@ -4,7 +4,7 @@ use Rattle.std.proofs.Common.{◌≡◌, Bool, true, false, ◌||◌, Option, So
 use Rattle.ob0_scan.specs.declared.lexeme.TokenKind.{TokenKind}
 use Rattle.ob0_scan.specs.declared.lexeme.TokenKind.TheVariants as kind
 use Rattle.ob0_scan.specs.declared.lexeme.ReservedWord.TheVariants as reserved
-use Rattle.ob0_tree.specs.Lexeme.{Terminal, WordOrSymbol, add_operator_token_kind, multiply_operator_token_kind, relation_token_kind, sign_tokens}
+use Rattle.ob0_tree.specs.Terminals.{Terminal, WordOrSymbol, add_operator_token_kind, multiply_operator_token_kind, relation_token_kind, sign_tokens}
 use Rattle.ob0_tree.specs.declared.tree.AddOperator.{AddOperator}
 use Rattle.ob0_tree.specs.declared.tree.AddOperator.TheVariants as add_operator
 use Rattle.ob0_tree.specs.declared.tree.MultiplyOperator.{MultiplyOperator}

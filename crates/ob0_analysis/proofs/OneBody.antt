@@ -3,21 +3,21 @@
 use Rattle.std.proofs.Common.{◌≡◌, ◌<◌, ◌≤◌, ℕ, zero, suc, ◌+◌, ◌-◌, ◌||◌, Bool, true, false, nat_le, nat_lt, List, [], ◌∷◌, length, take, drop, slice_get, refl, sym, ap, ◌∙◌, arith, length-drop}
 use Rattle.std.proofs.lemmas.Bool.Decides.{nat_tests}
 use Rattle.std.proofs.lemmas.List.{length-map}
-use Rattle.ob0_scan.specs.ReusedLexemes.{kinds, kind_without_value, words_of_tokens}
-use Rattle.ob0_scan.specs.SameKinds.{PrefixAndSuffixHaveSameKinds, PrefixAndSuffixHaveSameWords}
+use Rattle.ob0_scan.specs.ReusedLexemes.{token_kinds_without_values, kind_without_value, words_of_tokens}
+use Rattle.ob0_scan.specs.SamePrefixAndSuffix.{PrefixAndSuffixHaveSameKinds, PrefixAndSuffixHaveSameWords}
 use Rattle.ob0_scan.specs.TextWithTokens.{TextWithTokens, Word, word_of_token}
 use Rattle.ob0_scan.specs.declared.lexeme.Token.{Token}
 use Rattle.ob0_scan.specs.declared.tokens.CommonPrefixAndSuffix.{CommonPrefixAndSuffix}
-use Rattle.ob0_tree.specs.ParsedModule.{IsParsed, parsed_module, tree_of}
+use Rattle.ob0_tree.specs.ParsedModule.{TreeMatchesText, parsed_module, tree_of}
 use Rattle.ob0_tree.specs.declared.tree.ModuleTree.{ModuleTree}
 use Rattle.ob0_scope.proofs.BodyChanges.{ordinals_outside}
-use Rattle.ob0_scope.specs.BodyChanges.{AreBindingsBeforeBodyChange}
+use Rattle.ob0_scope.specs.BindingsBeforeBodyChange.{AreBindingsBeforeBodyChange}
 use Rattle.ob0_scope_table.specs.Bindings.{resolution_with_bindings}
-use Rattle.ob0_scope_table.specs.OneBody.{ChangesSpellingsInOneBody, is_range_in_one_body, is_outside_range}
+use Rattle.ob0_scope_table.specs.SpellingChangesInOneBody.{ChangesSpellingsInOneBody, is_range_in_one_body, is_outside_range}
 use Rattle.ob0_scope_table.specs.Resolution.{IsResolution}
 use Rattle.ob0_scope_table.specs.declared.resolved.Bindings.{Bindings}
 use Rattle.ob0_types.specs.OneBody.{IsCheckResultBeforeBodyChange}
-use Rattle.ob0_types.specs.declared.checked.CheckResult.{CheckResult}
+use Rattle.ob0_types.specs.declared.checked_modules.CheckResult.{CheckResult}
 use Rattle.ob0_analysis.specs.OneBody.{IsEarlierModuleWithSameKinds}
 
 pub get_taken : {A : Type 0} (k : ℕ) (xs : List A) (i : ℕ) → i < k → slice_get (take k xs) i ≡ slice_get xs i
@@ -32,7 +32,7 @@ get_dropped (suc k) [] i j e = refl
 get_dropped (suc k) (x ∷ xs) i zero e = absurd (omega (arith, e))
 get_dropped (suc k) (x ∷ xs) i (suc j) e = get_dropped k xs i j (omega (arith, e))
 
-module _ (s : CommonPrefixAndSuffix) (old new : TextWithTokens) (alike : kinds new.tokens ≡ kinds old.tokens) (same : PrefixAndSuffixHaveSameKinds s old.tokens new.tokens) (written : PrefixAndSuffixHaveSameWords s old new) where
+module _ (s : CommonPrefixAndSuffix) (old new : TextWithTokens) (alike : token_kinds_without_values new.tokens ≡ token_kinds_without_values old.tokens) (same : PrefixAndSuffixHaveSameKinds s old.tokens new.tokens) (written : PrefixAndSuffixHaveSameWords s old new) where
   abbrev before : List Word
   before = words_of_tokens old.text old.tokens
 
@@ -77,7 +77,7 @@ module _ {new : TextWithTokens} {tree : ModuleTree} {b : Bindings} {types : Chec
     in_body = lies;
   }
 
-  pub was_bound : IsParsed (parsed_module new tree) → AreBindingsBeforeBodyChange (parsed_module new tree) b s.prefix s.old_suffix
+  pub was_bound : TreeMatchesText (parsed_module new tree) → AreBindingsBeforeBodyChange (parsed_module new tree) b s.prefix s.old_suffix
   was_bound parsed = record { old = h.earlier_module.old; change = body_change; parsed = parsed; resolved = h.earlier_module.resolved }
 
   -- The old results for types can be reused if the names were bound again.

@@ -6,7 +6,7 @@ use Rattle.std.proofs.lemmas.Str.{encodes-chars}
 use Rattle.ob0_scan.specs.ScanRefusals.{AreFaultsOfRefusedText}
 use Rattle.ob0_scan.specs.TextWithTokens.{TextWithTokens, IsScan, IsScannable, IsScanOf}
 use Rattle.ob0_scan.specs.declared.fault.Fault.{Fault}
-use Rattle.ob0_tree.specs.Lexeme.{Terminal, EndOfText}
+use Rattle.ob0_tree.specs.Terminals.{Terminal, EndOfText}
 use Rattle.ob0_tree.specs.Module.{IsModuleWithTree, terminals_of_text}
 use Rattle.ob0_tree.specs.Tree.{Tree, module_text}
 use Rattle.ob0_parse.specs.IsRightParseRefusal.{NoModuleBeginsWithTokens, IsRightParseRefusal}
@@ -18,8 +18,8 @@ use Rattle.ob0_types.specs.CheckedModules.{CheckedModule, IsCorrectlyChecked, Is
 use Rattle.ob0_language_types.specs.WellTyped.{WellTyped}
 use Rattle.ob0_analysis.specs.AnalysisAnswers.{IsResolvedWellTypedModule}
 use Rattle.ob0_analysis.specs.AnalysisInvariants.{IsNotLackOfMemory}
-use Rattle.ob0_analysis.specs.ReportedErrors.{ReportedDiagnosis, IsWellTypedModule, IsDiagnosisOfRefusal, ReportsErrorsOf, ReportsFaults, reported_diagnosis_of_fault}
-use Rattle.ob0_analysis.specs.Texts.{utf8}
+use Rattle.ob0_analysis.specs.ReportedErrors.{ReportedDiagnosis, IsWellTypedModule, IsDiagnosisOfRefusal, ReportsErrorsOf, ReportsErrorsOfInvalidText, reported_diagnosis_of_fault}
+use Rattle.ob0_analysis.specs.TextBytes.{utf8}
 
 -- The UTF-8 bytes of a text's characters are the bytes of the text.
 pub utf8_of : (bytes text : List ℕ) → IsUtf8 bytes → chars bytes ≡ text → bytes ≡ utf8 text
@@ -32,7 +32,7 @@ scannable : (text : List ℕ) → IsWellTypedModule text → IsScannable text
 scannable text w = subst IsScannable w.text_of.scan.of (w.text_of.scan.scan.short, (w.text_of.scan.scan.lexemes, w.text_of.scan.scan.lexed))
 
 pub finds_lexemes : (text : List ℕ) (faults : List Fault) (reported : List ReportedDiagnosis) → (IsScannable text → ⊥) → AreFaultsOfRefusedText text faults → reported ≡ map reported_diagnosis_of_fault faults
-    → ¬ IsWellTypedModule text × ReportsFaults text reported
+    → ¬ IsWellTypedModule text × ReportsErrorsOfInvalidText text reported
 finds_lexemes text faults reported bad are is =
     (λ w. bad (scannable text w), inl (record { unscannable = bad; faults = faults; of_text = are; all = is }))
 
@@ -57,7 +57,7 @@ refused_is_none s (TooDeep i) one scan by decided = unformed s i one scan by.1
 refused_is_none s Memory one scan by decided = absurd decided
 
 pub finds_parser : (s : TextWithTokens) (refusal : ParseRefusal) (c : ReportedDiagnosis) → OneScan → IsScan s → IsRightParseRefusal s refusal → IsDiagnosisOfRefusal s refusal c
-    → ¬ IsWellTypedModule s.text × ReportsFaults s.text (c ∷ [])
+    → ¬ IsWellTypedModule s.text × ReportsErrorsOfInvalidText s.text (c ∷ [])
 finds_parser s (Syntax i expected) c one scan by at =
     (unformed s i one scan by.1, inr (inl (record { scanned = s; scan = record { of = refl; scan = scan }; refusal = Syntax i expected; refused = by; parser_diagnosis = c; reports_refusal = at; only_diagnosis = refl })))
 finds_parser s (TooDeep i) c one scan by at =
@@ -78,7 +78,7 @@ some_of [] some = absurd (some refl)
 some_of (f ∷ fs) some = omega arith
 
 pub finds_types : (c : CheckedModule) (reported : List ReportedDiagnosis) → OneScan → OneTree → IsScan c.names.module_read.source → IsCorrectlyChecked c → (c.faults ≡ [] → ⊥) → reported ≡ map reported_diagnosis_of_fault c.faults
-    → ¬ IsWellTypedModule c.names.module_read.source.text × ReportsFaults c.names.module_read.source.text reported
+    → ¬ IsWellTypedModule c.names.module_read.source.text × ReportsErrorsOfInvalidText c.names.module_read.source.text reported
 finds_types c reported one only scan checked bad is =
     let s : TextWithTokens = c.names.module_read.source in
     let tree : Tree (List ℕ) module_text = named_tree_of c.names.module_read in

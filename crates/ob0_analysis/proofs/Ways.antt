@@ -3,9 +3,9 @@ use Rattle.std.proofs.Common.{◌≡◌, ℕ, zero, suc, nat_lt, if◌then◌els
 use Rattle.ob0_scan.specs.declared.lexeme.TokenKind.TheVariants as kind
 use Rattle.ob0_scan.specs.declared.lexeme.ReservedWord.TheVariants as reserved
 use Rattle.ob0_scan.specs.declared.lexeme.Symbol.TheVariants as symbol
-use Rattle.ob0_tree.specs.Lexeme.{Terminal, Name, WordOrSymbol}
+use Rattle.ob0_tree.specs.Terminals.{Terminal, Name, WordOrSymbol}
 use Rattle.ob0_tree.specs.Tree.{Tree, block, body, declares, declares_procedure, end, forms_block, forms_module, item, items, mapped_tree, maybe, module_text, more, one, procedure, spell}
-use Rattle.ob0_scope_table.specs.BodyReplacement.{PathToBody, block_without_body, body_at_path_in_procedures, body_at_path, body_at_path_in_block, body_at_path_in_procedure, closing_name_at_path_in_procedures, closing_name_at_path, closing_name_at_path_in_block, closing_name_at_path_in_procedure, path_after_insertion_in_front, procedure_without_body, procedures_without_body, path_to_body_in_procedures, path_to_body_in_block, path_to_body_in_module, module_without_body}
+use Rattle.ob0_scope_table.specs.BodyReplacement.{PathToBody, block_without_body, body_at_path_in_procedure_list, body_at_path, body_at_path_in_block, body_at_path_in_procedure, closing_name_at_path_in_procedure_list, closing_name_at_path, closing_name_at_path_in_block, closing_name_at_path_in_procedure, path_after_inserting_first_procedure, procedure_without_body, procedure_list_without_body, path_to_body_in_procedure_list, path_to_body_in_block, path_to_body_in_module, module_without_body}
 
 -- Holds if `whole` and `less` are the tokens of a part with a body and without it. Both have the same tokens before the
 -- body, and the END and the closing name of its block after it.
@@ -52,11 +52,11 @@ mutual
         front = spell cs ++ (spell ts ++ (spell vs ++ h.front));
         back = h.back;
         whole_is = in_declarations (spell cs) (spell ts) (spell vs) (spell ps) (spell statements) r h.front _ h.whole_is;
-        less_is = in_declarations (spell cs) (spell ts) (spell vs) (spell (procedures_without_body k path ps)) (spell statements) r h.front _ h.less_is;
+        less_is = in_declarations (spell cs) (spell ts) (spell vs) (spell (procedure_list_without_body k path ps)) (spell statements) r h.front _ h.less_is;
       }
 
-  around_among : {N : Type 0} (k : ℕ) (path : PathToBody) (own : N) (ps : Tree N (items procedure)) (after : List (Terminal N)) (y : Tree N (item body)) → body_at_path_in_procedures k path ps ≡ one y
-      → Around (spell ps ++ after) (spell (procedures_without_body k path ps) ++ after) (body_at_path_in_procedures k path ps) (closing_name_at_path_in_procedures k path own ps)
+  around_among : {N : Type 0} (k : ℕ) (path : PathToBody) (own : N) (ps : Tree N (items procedure)) (after : List (Terminal N)) (y : Tree N (item body)) → body_at_path_in_procedure_list k path ps ≡ one y
+      → Around (spell ps ++ after) (spell (procedure_list_without_body k path ps) ++ after) (body_at_path_in_procedure_list k path ps) (closing_name_at_path_in_procedure_list k path own ps)
   around_among k path own end after y e = absurd (cc (e))
   around_among zero path own (more p ps) after y e =
       let h = around_procedure path p (spell ps ++ after) y e in
@@ -72,7 +72,7 @@ mutual
         front = spell p ++ h.front;
         back = h.back;
         whole_is = in_later (spell p) (spell ps) after h.front _ h.whole_is;
-        less_is = in_later (spell p) (spell (procedures_without_body k path ps)) after h.front _ h.less_is;
+        less_is = in_later (spell p) (spell (procedure_list_without_body k path ps)) after h.front _ h.less_is;
       }
 
   around_procedure : {N : Type 0} (path : PathToBody) (p : Tree N (item procedure)) (after : List (Terminal N)) (y : Tree N (item body)) → body_at_path_in_procedure path p ≡ one y
@@ -104,10 +104,10 @@ mutual
   way_less_block low [] (forms_block (declares cs ts vs ps) statements) = refl
   way_less_block low (k ∷ path) (forms_block (declares cs ts vs ps) statements) = way_less_among low k path ps
 
-  way_less_among : (low k : ℕ) (path : PathToBody) (ps : Tree ℕ (items procedure)) → path_to_body_in_procedures low (procedures_without_body k path ps) ≡ path_to_body_in_procedures low ps
+  way_less_among : (low k : ℕ) (path : PathToBody) (ps : Tree ℕ (items procedure)) → path_to_body_in_procedure_list low (procedure_list_without_body k path ps) ≡ path_to_body_in_procedure_list low ps
   way_less_among low k path end = refl
-  way_less_among low zero path (more (declares_procedure n fs b c) ps) = ap (λ w. if nat_lt c low then path_after_insertion_in_front (path_to_body_in_procedures low ps) else zero ∷ w) (way_less_block low path b)
-  way_less_among low (suc k) path (more (declares_procedure n fs b c) ps) = ap (λ w. if nat_lt c low then path_after_insertion_in_front w else zero ∷ path_to_body_in_block low b) (way_less_among low k path ps)
+  way_less_among low zero path (more (declares_procedure n fs b c) ps) = ap (λ w. if nat_lt c low then path_after_inserting_first_procedure (path_to_body_in_procedure_list low ps) else zero ∷ w) (way_less_block low path b)
+  way_less_among low (suc k) path (more (declares_procedure n fs b c) ps) = ap (λ w. if nat_lt c low then path_after_inserting_first_procedure w else zero ∷ path_to_body_in_block low b) (way_less_among low k path ps)
 
 pub way_less : (low : ℕ) (path : PathToBody) (t : Tree ℕ module_text) → path_to_body_in_module low (module_without_body path t) ≡ path_to_body_in_module low t
 way_less low path (forms_module n b c) = way_less_block low path b
@@ -117,12 +117,12 @@ module _ (low : ℕ) (f : ℕ → ℕ) (side : (c : ℕ) → nat_lt (f c) low �
     way_moved_block : (b : Tree ℕ block) → path_to_body_in_block low (mapped_tree f f b) ≡ path_to_body_in_block low b
     way_moved_block (forms_block (declares cs ts vs ps) statements) = way_moved_among ps
 
-    way_moved_among : (ps : Tree ℕ (items procedure)) → path_to_body_in_procedures low (mapped_tree f f ps) ≡ path_to_body_in_procedures low ps
+    way_moved_among : (ps : Tree ℕ (items procedure)) → path_to_body_in_procedure_list low (mapped_tree f f ps) ≡ path_to_body_in_procedure_list low ps
     way_moved_among end = refl
     way_moved_among (more (declares_procedure n fs b c) ps) =
-        ap (λ x. if x then path_after_insertion_in_front (path_to_body_in_procedures low (mapped_tree f f ps)) else zero ∷ path_to_body_in_block low (mapped_tree f f b)) (side c)
-        ∙ (ap (λ w. if nat_lt c low then path_after_insertion_in_front w else zero ∷ path_to_body_in_block low (mapped_tree f f b)) (way_moved_among ps)
-        ∙ ap (λ w. if nat_lt c low then path_after_insertion_in_front (path_to_body_in_procedures low ps) else zero ∷ w) (way_moved_block b))
+        ap (λ x. if x then path_after_inserting_first_procedure (path_to_body_in_procedure_list low (mapped_tree f f ps)) else zero ∷ path_to_body_in_block low (mapped_tree f f b)) (side c)
+        ∙ (ap (λ w. if nat_lt c low then path_after_inserting_first_procedure w else zero ∷ path_to_body_in_block low (mapped_tree f f b)) (way_moved_among ps)
+        ∙ ap (λ w. if nat_lt c low then path_after_inserting_first_procedure (path_to_body_in_procedure_list low ps) else zero ∷ w) (way_moved_block b))
 
   pub way_moved : (t : Tree ℕ module_text) → path_to_body_in_module low (mapped_tree f f t) ≡ path_to_body_in_module low t
   way_moved (forms_module n b c) = way_moved_block b

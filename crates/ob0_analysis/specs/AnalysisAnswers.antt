@@ -2,7 +2,7 @@
 -- Rule: none; used in the contract of `ask`.
 use Rattle.std.specs.Prelude.{ℕ, List, None, Option, Some}
 use Rattle.ob0_scan.specs.TextWithTokens.{IsScanOf}
-use Rattle.ob0_tree.specs.ParsedModule.{ParsedModule, IsParsed, named_tree_of}
+use Rattle.ob0_tree.specs.ParsedModule.{ParsedModule, TreeMatchesText, named_tree_of}
 use Rattle.ob0_scope_table.specs.Resolution.{Resolution}
 use Rattle.ob0_language_types.specs.WellTyped.{WellTyped}
 use Rattle.ob0_types.specs.CheckedModules.{IsWellTyped}
@@ -16,13 +16,13 @@ pub record IsResolvedWellTypedModule (text : List ℕ) (names : Resolution) : Ty
 -- States that the text is a well-typed module, and `m` has the tokens and the tree of the text.
 pub record IsParsedWellTypedModule (text : List ℕ) (m : ParsedModule) : Type 0 where
   pub scan : IsScanOf text m.source
-  pub parsed : IsParsed m
+  pub parsed : TreeMatchesText m
   pub well_typed : WellTyped (named_tree_of m)
 
 -- States that an optional answer about a text is right. For Some, the text must be a well-typed
 -- module, and `answers` must relate this module to the answer. For None, the text must not be a
 -- well-typed module.
-abbrev pub AnswersIfWellTyped : {A : Type 0} → List ℕ → (Resolution → A → Type 0) → Option A → Type 0
-AnswersIfWellTyped text answers (Some answer) =
+abbrev pub AnswersExactlyIfWellTyped : {A : Type 0} → List ℕ → (Resolution → A → Type 0) → Option A → Type 0
+AnswersExactlyIfWellTyped text answers (Some answer) =
     (names : Resolution) × IsResolvedWellTypedModule text names × answers names answer
-AnswersIfWellTyped text answers None = ¬ IsWellTypedModule text
+AnswersExactlyIfWellTyped text answers None = ¬ IsWellTypedModule text

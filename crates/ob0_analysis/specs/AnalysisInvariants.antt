@@ -3,7 +3,7 @@
 use Rattle.std.specs.Prelude.{ℕ, IfSome, List, string_bytes}
 use Rattle.ob0_scan.specs.ScanRefusals.{AreFaultsOfRefusedText}
 use Rattle.ob0_scan.specs.TextWithTokens.{TextWithTokens, IsScannable}
-use Rattle.ob0_parse.specs.KeptTreeTokens.{AreKeptTreesInPlace}
+use Rattle.ob0_parse.specs.KeptTreeTokens.{KeptTreesMatchTokens}
 use Rattle.ob0_parse.specs.IsRightParseRefusal.{IsRightParseRefusal}
 use Rattle.ob0_parse_descent.specs.declared.refusal.ParseRefusal.{ParseRefusal}
 use Rattle.ob0_parse_descent.specs.declared.refusal.ParseRefusal.TheVariants.{Syntax, TooDeep, Memory}
@@ -38,7 +38,7 @@ text_of_parse_outcome (Module m) = m.module_read.source.text
 abbrev pub IsValidParseOutcome : ParseOutcome → Type 0
 IsValidParseOutcome (NoTree ill) =
     IsRefusedByParser ill.tokens ill.refusal
-    × AreKeptTreesInPlace ill.tokens.tokens ill.kept
+    × KeptTreesMatchTokens ill.tokens.tokens ill.kept
     × IfSome ill.last (IsLastModuleOf ill.tokens)
 IsValidParseOutcome (Module m) = Unit {0}
 

@@ -1,17 +1,17 @@
 -- Defines the last text that was a module, and the tokens that the current text shares with it.
 -- Rule: none; used in private contracts about the results that an analysis reuses.
 use Rattle.std.specs.Prelude.{◌≡◌, ◌≤◌, ◌+◌, IfSome, Option, Some}
-use Rattle.ob0_scan.specs.SameKinds.{PrefixAndSuffixHaveSameKinds, PrefixAndSuffixHaveSameWords}
+use Rattle.ob0_scan.specs.SamePrefixAndSuffix.{PrefixAndSuffixHaveSameKinds, PrefixAndSuffixHaveSameWords}
 use Rattle.ob0_scan.specs.TextWithTokens.{IsScan, TextWithTokens}
 use Rattle.ob0_scan.specs.declared.tokens.CommonPrefixAndSuffix.{CommonPrefixAndSuffix}
 use Rattle.ob0_tree.specs.declared.tree.ModuleTree.{ModuleTree}
-use Rattle.ob0_tree.specs.ParsedModule.{IsParsed, parsed_module}
+use Rattle.ob0_tree.specs.ParsedModule.{TreeMatchesText, parsed_module}
 use Rattle.ob0_scope_table.specs.Bindings.{resolution_with_bindings}
-use Rattle.ob0_scope_table.specs.BodyPlaces.{body_bounds_of_range, module_tree_of}
+use Rattle.ob0_scope_table.specs.BoundsOfBodies.{body_bounds_of_range, module_tree_of}
 use Rattle.ob0_scope_table.specs.Resolution.{IsResolution}
 use Rattle.ob0_scope_table.specs.declared.resolved.Bindings.{Bindings}
-use Rattle.ob0_types.specs.CheckedModules.{IsCheckResultOf}
-use Rattle.ob0_types.specs.declared.checked.CheckResult.{CheckResult}
+use Rattle.ob0_types.specs.CheckedModules.{IsCheckResultOfModule}
+use Rattle.ob0_types.specs.declared.checked_modules.CheckResult.{CheckResult}
 use Rattle.ob0_analysis.specs.declared.last_module.LastModule.{LastModule}
 
 -- States that an earlier text was a module with this tree, these bindings and this result of
@@ -24,9 +24,9 @@ pub record IsEarlierModule
   pub old : TextWithTokens
   pub old_scan : IsScan old
   pub new_scan : IsScan new
-  pub parsed : IsParsed (parsed_module old tree)
+  pub parsed : TreeMatchesText (parsed_module old tree)
   pub resolved : IsResolution (resolution_with_bindings (parsed_module old tree) b)
-  pub types_are : IsCheckResultOf (resolution_with_bindings (parsed_module old tree) b) types
+  pub types_are : IsCheckResultOfModule (resolution_with_bindings (parsed_module old tree) b) types
   pub same : PrefixAndSuffixHaveSameKinds s old.tokens new.tokens
   pub written : PrefixAndSuffixHaveSameWords s old new
 

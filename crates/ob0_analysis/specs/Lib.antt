@@ -6,5 +6,5 @@ pub mod LastModule
 pub mod OneBody
 pub mod NewBody
 pub mod SameRuns
-pub mod Texts
+pub mod TextBytes
 pub use Rattle.ob0_types.specs.CheckedModules

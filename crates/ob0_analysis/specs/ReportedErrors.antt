@@ -120,8 +120,8 @@ pub record ReportsNameAndTypeFaults (text : List ℕ) (reported : List ReportedD
 
 -- States that the list reports the errors of a text that isn't a well-typed module. These are the
 -- text's lexical faults, or the parser's refusal, or the faults of names and types.
-abbrev pub ReportsFaults : List ℕ → List ReportedDiagnosis → Type 0
-ReportsFaults text reported =
+abbrev pub ReportsErrorsOfInvalidText : List ℕ → List ReportedDiagnosis → Type 0
+ReportsErrorsOfInvalidText text reported =
     ReportsLexicalFaults text reported ⊎ (ReportsParserRefusal text reported ⊎ ReportsNameAndTypeFaults text reported)
 
 -- States that the list has exactly the errors to report for the text. The list is empty if the text
@@ -129,7 +129,7 @@ ReportsFaults text reported =
 abbrev pub ReportsErrorsOf : List ℕ → List ReportedDiagnosis → Type 0
 ReportsErrorsOf text reported =
     (IsWellTypedModule text × (reported ≡ []))
-    ⊎ (¬ IsWellTypedModule text × ReportsFaults text reported)
+    ⊎ (¬ IsWellTypedModule text × ReportsErrorsOfInvalidText text reported)
 
 -- ---- a law about the parser's refusal
 

@@ -3,22 +3,22 @@
 -- Rule: none; used in private contracts about the results that an analysis reuses.
 use Rattle.std.specs.Prelude.{◌≡◌, ℕ, true, IfSome, List, Option}
 use Rattle.ob0_scan.specs.ScanRefusals.{AreFaultsOfRefusedText}
-use Rattle.ob0_scan.specs.ReusedLexemes.{kinds, spellings_of_identifiers_in, words_of_tokens}
-use Rattle.ob0_scan.specs.SameKinds.{PrefixAndSuffixHaveSameKinds, PrefixAndSuffixHaveSameWords}
+use Rattle.ob0_scan.specs.ReusedLexemes.{token_kinds_without_values, spellings_of_identifiers_in, words_of_tokens}
+use Rattle.ob0_scan.specs.SamePrefixAndSuffix.{PrefixAndSuffixHaveSameKinds, PrefixAndSuffixHaveSameWords}
 use Rattle.ob0_scan.specs.TextWithTokens.{IsScan, IsScannable, TextWithTokens}
 use Rattle.ob0_scan.specs.declared.incremental_scan.RescanRefusal.{RescanRefusal}
 use Rattle.ob0_scan.specs.declared.incremental_scan.RescanRefusal.TheVariants as rescanned
 use Rattle.ob0_scan.specs.declared.tokens.RescanWithComparison.{RescanWithComparison}
 use Rattle.ob0_tree.specs.declared.tree.ModuleTree.{ModuleTree}
-use Rattle.ob0_tree.specs.ParsedModule.{IsParsed, parsed_module}
+use Rattle.ob0_tree.specs.ParsedModule.{TreeMatchesText, parsed_module}
 use Rattle.ob0_scope_table.specs.Bindings.{resolution_with_bindings}
 use Rattle.ob0_scope_table.specs.Resolution.{IsResolution}
 use Rattle.ob0_scope_table.specs.declared.resolved.Bindings.{Bindings}
-use Rattle.ob0_parse.specs.KeptTreeTokens.{AreKeptTreesInPlace}
-use Rattle.ob0_parse.specs.declared.kept.KeptTrees.{KeptTrees}
+use Rattle.ob0_parse.specs.KeptTreeTokens.{KeptTreesMatchTokens}
+use Rattle.ob0_parse.specs.declared.kept_trees.KeptTrees.{KeptTrees}
 use Rattle.ob0_parse_descent.specs.declared.refusal.ParseRefusal.{ParseRefusal}
-use Rattle.ob0_types.specs.CheckedModules.{IsCheckResultOf}
-use Rattle.ob0_types.specs.declared.checked.CheckResult.{CheckResult}
+use Rattle.ob0_types.specs.CheckedModules.{IsCheckResultOfModule}
+use Rattle.ob0_types.specs.declared.checked_modules.CheckResult.{CheckResult}
 use Rattle.ob0_analysis.specs.AnalysisInvariants.{IsRefusedByParser}
 use Rattle.ob0_analysis.specs.LastModule.{IsEarlierModule, IsLastModuleOf}
 use Rattle.ob0_analysis.specs.declared.last_module.LastModule.{LastModule}
@@ -28,23 +28,23 @@ use Rattle.ob0_analysis.specs.declared.last_module.LastModule.{LastModule}
 -- - The kept trees (`kept_trees`) belong to the tokens of `old`. If `c` reports that all tokens
 --   have the same kinds, these trees also belong to the new tokens.
 -- - `last` is None, or it has the names and types of the last module before `old`.
-pub record AreResultsKeptForPreviousText (c : RescanWithComparison) (kept_trees : KeptTrees) (last : Option LastModule) : Type 0 where
+pub record KeptResultsMatchPreviousText (c : RescanWithComparison) (kept_trees : KeptTrees) (last : Option LastModule) : Type 0 where
   pub old : TextWithTokens
   pub new_scan : IsScan c.rescan.tokens
   pub same : PrefixAndSuffixHaveSameKinds c.same old.tokens c.rescan.tokens.tokens
   pub written : PrefixAndSuffixHaveSameWords c.same old c.rescan.tokens
-  pub kept : AreKeptTreesInPlace old.tokens kept_trees
-  pub same_kinds : c.same_kinds ≡ true → AreKeptTreesInPlace c.rescan.tokens.tokens kept_trees
+  pub kept : KeptTreesMatchTokens old.tokens kept_trees
+  pub same_kinds : c.same_kinds ≡ true → KeptTreesMatchTokens c.rescan.tokens.tokens kept_trees
   pub was : IfSome last (IsLastModuleOf old)
 
 -- States that the previous text was a module with this tree, these bindings and this result of
 -- checking its types. The scan `c` of the changed text must be right about the tokens that both
 -- texts share. If `c` reports that all kinds, all names or all spellings are the same, `c` must
 -- also be right about that.
-pub record WasModuleBeforeChange
+pub record PreviousTextWasModule
     (c : RescanWithComparison) (tree : ModuleTree) (b : Bindings) (types : CheckResult) : Type 0 where
   pub earlier_module : IsEarlierModule c.rescan.tokens tree b types c.same
-  pub same_kinds : c.same_kinds ≡ true → kinds c.rescan.tokens.tokens ≡ kinds earlier_module.old.tokens
+  pub same_kinds : c.same_kinds ≡ true → token_kinds_without_values c.rescan.tokens.tokens ≡ token_kinds_without_values earlier_module.old.tokens
   pub same_names : c.same_names ≡ true
       → spellings_of_identifiers_in c.rescan.tokens.text c.rescan.tokens.tokens
       ≡ spellings_of_identifiers_in earlier_module.old.text earlier_module.old.tokens
@@ -66,7 +66,7 @@ IsRightScanFailureAfterRefusal text refusal kept_trees last (rescanned.Faults fa
     (IsScannable text → ⊥)
     × AreFaultsOfRefusedText text faults.items
     × IsRefusedByParser tokens refusal
-    × AreKeptTreesInPlace tokens.tokens kept_trees
+    × KeptTreesMatchTokens tokens.tokens kept_trees
     × IfSome last (IsLastModuleOf tokens)
 IsRightScanFailureAfterRefusal text refusal kept_trees last rescanned.Memory = Unit {0}
 
@@ -83,7 +83,7 @@ abbrev pub IsRightScanFailureAfterModule : List ℕ
 IsRightScanFailureAfterModule text tree b types (rescanned.Faults faults tokens) =
     (IsScannable text → ⊥)
     × AreFaultsOfRefusedText text faults.items
-    × IsParsed (parsed_module tokens tree)
+    × TreeMatchesText (parsed_module tokens tree)
     × IsResolution (resolution_with_bindings (parsed_module tokens tree) b)
-    × IsCheckResultOf (resolution_with_bindings (parsed_module tokens tree) b) types
+    × IsCheckResultOfModule (resolution_with_bindings (parsed_module tokens tree) b) types
 IsRightScanFailureAfterModule text tree b types rescanned.Memory = Unit {0}

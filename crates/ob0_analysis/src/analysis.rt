@@ -18,7 +18,7 @@
 //!   has token indexes instead of names and numbers, so the new text has the same tree
 //!   (`tree_stays` of `ob0_parse`). Bindings are kept if the identifiers have the same spelling and
 //!   no name has a fault. If all tokens that may differ in spelling lie in one body, only the names
-//!   in that body are bound again. The types outside the body are reused (`one_body.rt`). Otherwise
+//!   in that body are bound again. The types outside the body are reused (`changed_body.rt`). Otherwise
 //!   all names are bound and all types are checked again.
 //! - All tokens have the same kinds as before, and the parser refused the old text: the refusal is
 //!   kept (`refusal_stays`). The parser looks only at kinds, so it would stop at the same token.
@@ -26,7 +26,7 @@
 //! - A kind has changed: the text is parsed, but procedures of the module's own block and the
 //!   module's body are reused (`reparse_tree`). If the tokens that differ lie in one body of both
 //!   modules, after its first identifier, all results outside the body are kept. Their token
-//!   indexes are adapted (`new_body.rt`). The two modules are equal outside this body
+//!   indexes are adapted (`replaced_body.rt`). The two modules are equal outside this body
 //!   (`body_replaced` in `proofs/NewBody.antt`). Between the two modules there may be texts that
 //!   the parser refuses. Meanwhile the results for the earlier module are kept (`last_module.rt`).
 //!
@@ -49,7 +49,7 @@ ghost use Rattle.ob0_scan.specs.TextWithTokens.{IsScannable, IsScanOf};
 ghost use Rattle.ob0_analysis.specs.ReportedErrors.{IsWellTypedModule, ReportsErrorsOf, reported_diagnosis_of};
 
 use crate::diagnoses::{Diagnosis, diagnoses_of_faults};
-use crate::parts::ModuleParts;
+use crate::module_parts::ModuleParts;
 use crate::scanned_text::{ReanalysisFailure, ScannedTextAnalysis};
 use ob0_parse::KeptTrees;
 use ob0_scan::{Fault, ScanRefusal, scan};
@@ -130,7 +130,7 @@ impl Analysis {
                 })
             }
             Err(refusal) => match refusal {
-                ScanRefusal::Faults(faults) => Analysis::with_lexical_faults(
+                ScanRefusal::Faults(faults) => Analysis::unscannable_text_analysis(
                     alloc, text, faults, None, 0,
                 ),
                 ScanRefusal::Memory => Err(AllocError),
@@ -177,7 +177,7 @@ impl Analysis {
             }),
             Err(refusal) => match refusal {
                 ReanalysisFailure::Faults(faults, last) => {
-                    Analysis::with_lexical_faults(alloc, text, faults, Some(last), room)
+                    Analysis::unscannable_text_analysis(alloc, text, faults, Some(last), room)
                 }
                 ReanalysisFailure::Memory => Err(AllocError),
             },
@@ -187,7 +187,7 @@ impl Analysis {
     /// Returns the analysis of a text with these lexical faults. `last` is the kept analysis of the
     /// last text that had lexemes, or None. `room` is the number of bytes for which the lists of
     /// `last` have room.
-    fn with_lexical_faults(
+    fn unscannable_text_analysis(
         alloc: Global,
         text: &str,
         faults: Vec<Fault>,

@@ -3,14 +3,14 @@
 #![tactic(auto)]
 
 mod analysis;
+mod changed_body;
 mod diagnoses;
 mod differences;
 mod last_module;
 pub mod laws;
-mod new_body;
-mod one_body;
-mod parts;
+mod module_parts;
 mod questions;
+mod replaced_body;
 mod scanned_text;
 mod text_errors;
 

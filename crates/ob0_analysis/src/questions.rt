@@ -16,7 +16,7 @@
 ghost use Rattle.std.specs.Prelude.{⊤, ℕ, List, IfOk};
 ghost use Rattle.std.specs.Str.{IsUtf8};
 ghost use Rattle.ob0_scope_table.specs.Resolution.{Resolution};
-ghost use Rattle.ob0_analysis.specs.AnalysisAnswers.{AnswersIfWellTyped};
+ghost use Rattle.ob0_analysis.specs.AnalysisAnswers.{AnswersExactlyIfWellTyped};
 
 use crate::analysis::Analysis;
 use ob0_parse::tree_is_unique;
@@ -49,7 +49,7 @@ pub fn ask<Q: Question>(
     question: &Q,
 ) -> Result<Option<Q::Answer>, AllocError>
     requires { Q.is_about question.now analysis.now }
-    ensures found { IfOk result (AnswersIfWellTyped analysis.now (Q.answers question.now)) }
+    ensures found { IfOk result (AnswersExactlyIfWellTyped analysis.now (Q.answers question.now)) }
     ensures utf8 { IsUtf8 analysis.now }
 {
     scan_is_unique();
@@ -60,8 +60,8 @@ pub fn ask<Q: Question>(
         return Ok(None);
     };
     let module = parts.module();
-    let resolved = parts.resolved(&module);
-    let checked = parts.checked(alloc, &resolved)?;
+    let resolved = parts.resolved_module(&module);
+    let checked = parts.checked_module(alloc, &resolved)?;
     match checked.well_typed() {
         Some(module) => {
             // The proof needs the invariant of the module, which this call's contract states.

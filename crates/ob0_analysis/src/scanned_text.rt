@@ -4,12 +4,12 @@
 ghost use Rattle.std.specs.Prelude.{◌≡◌, [], true, IfErr, IfOk, IfSome, MatchOption, map};
 ghost use Rattle.ob0_scan.specs.ScanRefusals.{AreFaultsOfRefusedText};
 ghost use Rattle.ob0_scan.specs.TextWithTokens.{IsScan, IsScanOf};
-ghost use Rattle.ob0_tree.specs.ParsedModule.{IsParsed, parsed_module};
+ghost use Rattle.ob0_tree.specs.ParsedModule.{TreeMatchesText, parsed_module};
 ghost use Rattle.ob0_scope_table.specs.Bindings.{resolution_with_bindings};
 ghost use Rattle.ob0_scope_table.specs.Resolution.{IsResolution};
-ghost use Rattle.ob0_parse.specs.KeptTreeTokens.{AreKeptTreesInPlace};
+ghost use Rattle.ob0_parse.specs.KeptTreeTokens.{KeptTreesMatchTokens};
 ghost use Rattle.ob0_analysis.specs.AnalysisInvariants.{IsValidParseOutcome, IsRefusedByParser, IsRightReanalysisFailure};
-ghost use Rattle.ob0_analysis.specs.ReuseConditions.{AreResultsKeptForPreviousText, WasModuleBeforeChange, IsRightScanFailureAfterModule, IsRightScanFailureAfterRefusal};
+ghost use Rattle.ob0_analysis.specs.ReuseConditions.{KeptResultsMatchPreviousText, PreviousTextWasModule, IsRightScanFailureAfterModule, IsRightScanFailureAfterRefusal};
 ghost use Rattle.ob0_analysis.specs.LastModule.{IsEarlierModule, IsLastModuleOf};
 ghost use Rattle.ob0_analysis.specs.declared.scanned_text.ReanalysisFailure.TheVariants as reanalysis_failure;
 ghost use Rattle.ob0_analysis.specs.declared.scanned_text.ParseOutcome.TheVariants.{NoTree};
@@ -17,12 +17,12 @@ ghost use Rattle.ob0_analysis.specs.ReportedErrors.{IsWellTypedModule, ReportsEr
 ghost use Rattle.ob0_analysis.specs.OneBody.{IsEarlierModuleWithSameKinds};
 ghost use Rattle.ob0_types.specs.OneBody.{IsCheckResultBeforeBodyChange};
 
+use crate::changed_body::{differs_only_in_one_body, rebind_names, recheck_types};
 use crate::diagnoses::Diagnosis;
 use crate::differences::TextDifference;
 use crate::last_module::LastModule;
-use crate::new_body::reuse_last_module;
-use crate::one_body::{differs_only_in_one_body, rebind_names, recheck_types};
-use crate::parts::ModuleParts;
+use crate::module_parts::ModuleParts;
+use crate::replaced_body::reuse_last_module;
 use crate::text_errors::{diagnose_module, diagnose_refusal};
 use ob0_parse::{KeptTrees, reparse_tree};
 use ob0_parse_descent::ParseRefusal;
@@ -100,7 +100,7 @@ impl ScannedTextAnalysis {
         kept: KeptTrees,
         last: Option<LastModule>,
     ) -> Result<ScannedTextAnalysis, AllocError>
-        requires kept { AreKeptTreesInPlace tokens.tokens kept }
+        requires kept { KeptTreesMatchTokens tokens.tokens kept }
         requires last { IfSome last (IsLastModuleOf tokens) }
         ensures { IfOk result (λ r. r ≡ tokens.text) }
     {
@@ -128,7 +128,7 @@ impl ScannedTextAnalysis {
         tree: ModuleTree,
         last: Option<LastModule>,
     ) -> Result<ScannedTextAnalysis, AllocError>
-        requires parsed { IsParsed (parsed_module tokens tree) }
+        requires parsed { TreeMatchesText (parsed_module tokens tree) }
         requires last { IfSome last (IsLastModuleOf tokens) }
         ensures { IfOk result (λ r. r ≡ tokens.text) }
     {
@@ -248,7 +248,7 @@ impl ScannedTextAnalysis {
         last: Option<LastModule>,
     ) -> Result<ScannedTextAnalysis, AllocError>
         requires same_kinds { changed.same_kinds ≡ true → IsRefusedByParser changed.rescan.tokens refusal }
-        requires before { AreResultsKeptForPreviousText changed kept last }
+        requires before { KeptResultsMatchPreviousText changed kept last }
         ensures { IfOk result (λ r. r ≡ changed.rescan.tokens.text) }
     {
         let RescanWithComparison {
@@ -336,7 +336,7 @@ impl ScannedTextAnalysis {
         bindings: Bindings,
         types: CheckResult,
     ) -> Result<ScannedTextAnalysis, AllocError>
-        requires { WasModuleBeforeChange changed tree bindings types }
+        requires { PreviousTextWasModule changed tree bindings types }
         ensures { IfOk result (λ r. r ≡ changed.rescan.tokens.text) }
     {
         bindings_depend_only_on_names();
@@ -396,7 +396,7 @@ impl ScannedTextAnalysis {
         same: CommonPrefixAndSuffix,
         same_names: bool,
     ) -> Result<ScannedTextAnalysis, AllocError>
-        requires parsed { IsParsed (parsed_module tokens tree) }
+        requires parsed { TreeMatchesText (parsed_module tokens tree) }
         requires before { IsEarlierModuleWithSameKinds tokens tree bindings types same }
         requires resolved { same_names ≡ true
             → bindings.faults.items ≡ []
@@ -427,7 +427,7 @@ impl ScannedTextAnalysis {
         same: CommonPrefixAndSuffix,
         in_body: bool,
     ) -> Result<ScannedTextAnalysis, AllocError>
-        requires parsed { IsParsed (parsed_module tokens tree) }
+        requires parsed { TreeMatchesText (parsed_module tokens tree) }
         requires resolved { IsResolution (resolution_with_bindings (parsed_module tokens tree) bindings) }
         requires before { in_body ≡ true
             → IsCheckResultBeforeBodyChange (resolution_with_bindings (parsed_module tokens tree) bindings) types same.prefix }

@@ -5,7 +5,7 @@ ghost use Rattle.ob0_parse.specs.IsRightParseRefusal.{IsRightParseRefusal};
 ghost use Rattle.ob0_analysis.specs.ReportedErrors.{ReportsErrorsOf, reported_diagnosis_of};
 
 use crate::diagnoses::{Diagnosis, diagnoses_of_faults, diagnosis_of_refusal};
-use crate::parts::ModuleParts;
+use crate::module_parts::ModuleParts;
 use ob0_parse::tree_is_unique;
 use ob0_parse_descent::ParseRefusal;
 use ob0_scan::Tokens;
@@ -44,8 +44,8 @@ pub(crate) fn diagnose_module(
     // The proof needs the invariant of the tokens, which this call's contract states.
     let _text = parts.tokens().text();
     let module = parts.module();
-    let resolved = parts.resolved(&module);
-    let checked = parts.checked(alloc, &resolved)?;
+    let resolved = parts.resolved_module(&module);
+    let checked = parts.checked_module(alloc, &resolved)?;
     let reported = diagnoses_of_faults(alloc, checked.faults())?;
     Ok(reported)
 }

@@ -21,7 +21,7 @@ use Rattle.clap.specs.declared.parser.matches.SubCommand.{SubCommand}
 use Rattle.std.specs.Box.{box_value}
 use Rattle.clap.proofs.OnLiterals.{clap_on_literals}
 use Rattle.ob0_cli.specs.RequestedCommands.{FoundSubcommand, HasBoundedValue, IsCompleteSubcommand, HasCoordinateValue, HasTextValue, HasNeededValues, max_option_value}
-use Rattle.ob0_cli.specs.Lines.{calls_rule, required_number_rule, ob0_app, turns_rule, required_word_rule}
+use Rattle.ob0_cli.specs.ClapCommands.{calls_rule, required_number_rule, ob0_app, turns_rule, required_word_rule}
 use Rattle.ob0_cli.proofs.Rows.{Each, Fits, HasPassed, default_passed, found_of, passed_by, required_passed}
 use Rattle.ob0_cli.proofs.Stops.{IsNoHelp, walk_stops}
 use Rattle.ob0_cli.proofs.Walked.{neither}

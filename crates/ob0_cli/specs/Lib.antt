@@ -1,2 +1,2 @@
 pub mod RequestedCommands
-pub mod Lines
+pub mod ClapCommands

@@ -8,7 +8,7 @@ use Rattle.clap.specs.declared.error.kind.ErrorKind.TheVariants.{OutOfMemory}
 use Rattle.clap.specs.Lexer.{without_minus}
 use Rattle.clap.specs.Values.{IsSignedIn, IsUnsignedIn}
 use Rattle.clap.specs.Words.{Row, Text, fault_of, first_of, kind_of, one_of, subcommand_of}
-use Rattle.ob0_cli.specs.Lines.{max_calls, max_turns, ob0_app}
+use Rattle.ob0_cli.specs.ClapCommands.{max_calls, max_turns, ob0_app}
 use Rattle.ob0_cli.specs.declared.line.CommandLine.{CommandLine}
 use Rattle.ob0_cli.specs.declared.line.CommandLine.TheVariants.{Serve, Check, Run, Rename}
 use Rattle.ob0_cli.specs.declared.line.CommandFault.{CommandFault}
@@ -30,17 +30,17 @@ HasNumberValue id rows n =
 -- States that the command belongs to the subcommand with this name, and has the values that clap
 -- found for the subcommand's arguments (`rows`). The numbers `calls` and `turns` are within their
 -- limits.
-abbrev pub HasFoundValues : Text → List Row → CommandLine → Type 0
-HasFoundValues name rows Serve = name ≡ codes "serve"
-HasFoundValues name rows (Check file) =
+abbrev pub IsCommandWithFoundValues : Text → List Row → CommandLine → Type 0
+IsCommandWithFoundValues name rows Serve = name ≡ codes "serve"
+IsCommandWithFoundValues name rows (Check file) =
     (name ≡ codes "check") × (first_of (codes "file") rows ≡ Some file.now)
-HasFoundValues name rows (Run file calls turns) =
+IsCommandWithFoundValues name rows (Run file calls turns) =
     (name ≡ codes "run") × (first_of (codes "file") rows ≡ Some file.now)
     × HasNumberValue (codes "calls") rows calls
     × (calls ≤ max_calls)
     × HasNumberValue (codes "turns") rows turns
     × (turns ≤ max_turns)
-HasFoundValues name rows (Rename file position new) =
+IsCommandWithFoundValues name rows (Rename file position new) =
     (name ≡ codes "rename") × (first_of (codes "file") rows ≡ Some file.now)
     × HasNumberValue (codes "line") rows position.line
     × HasNumberValue (codes "column") rows position.character
@@ -57,7 +57,7 @@ HasFilePath (Rename file position new) path = file.now ≡ path
 -- for its arguments.
 abbrev pub YieldsCommandLine : FoundSubcommand → CommandLine → Type 0
 YieldsCommandLine found line =
-    (name : Text) × (rows : List Row) × (found ≡ Some (name, rows)) × HasFoundValues name rows line
+    (name : Text) × (rows : List Row) × (found ≡ Some (name, rows)) × IsCommandWithFoundValues name rows line
 
 -- States that clap's definition of `ob0` finds no fault in the words, and that the words request
 -- this command.
@@ -68,10 +68,10 @@ pub record SpellsCommand (words : List Text) (line : CommandLine) : Type 0 where
 -- States that the words may be refused with this fault. A clap error (`Refused`) has a kind that
 -- clap's specs allow for the first fault of the words, and never the kind `OutOfMemory`. For `help`
 -- and for an unknown subcommand, two kinds are allowed. `Memory` is allowed for any words.
-abbrev pub MayRefuseWords : List Text → CommandFault → Type 0
-MayRefuseWords words (Refused error) =
+abbrev pub MayBeRefusedWithFault : List Text → CommandFault → Type 0
+MayBeRefusedWithFault words (Refused error) =
     IsAmong (kind_of error) (fault_of ob0_app words) × ¬ (kind_of error ≡ OutOfMemory)
-MayRefuseWords words Memory = Unit {0}
+MayBeRefusedWithFault words Memory = Unit {0}
 
 -- ---- the values that clap finds for the arguments of a subcommand, and their kinds
 

@@ -1,7 +1,7 @@
 //! Reads the command line.
 //!
 //! To add a subcommand, write:
-//! - an `App` in `specs/Lines.antt`, and a case in each of `HasFoundValues`, `HasFilePath` and
+//! - an `App` in `specs/ClapCommands.antt`, and a case in each of `IsCommandWithFoundValues`, `HasFilePath` and
 //!   `HasNeededValues`;
 //! - two lemmas in `proofs/Named.antt`, with names that end in `_fits` and `_needs`, by `refl` under
 //!   `unfolding clap_on_literals nth`;
@@ -22,9 +22,9 @@
 
 ghost use Rattle.std.specs.Prelude.{◌≡◌, ◌≢◌, ◌≤◌, Some, false, true, IfOk, IfErr, MatchOption, map};
 ghost use Rattle.clap.specs.Words.{App, Rule, app_of, first_of, found_of, new_app, rows_of, rule_of, subcommand_rows_of, with_rule, with_subcommand};
-ghost use Rattle.ob0_cli.specs.RequestedCommands.{SpellsCommand, IsCompleteSubcommand, HasBoundedValue, HasCoordinateValue, HasTextValue, HasFoundValues, HasNumberValue, YieldsCommandLine, HasFilePath, HasNeededValues, MayRefuseWords, max_option_value};
+ghost use Rattle.ob0_cli.specs.RequestedCommands.{SpellsCommand, IsCompleteSubcommand, HasBoundedValue, HasCoordinateValue, HasTextValue, IsCommandWithFoundValues, HasNumberValue, YieldsCommandLine, HasFilePath, HasNeededValues, MayBeRefusedWithFault, max_option_value};
 ghost use Rattle.ob0_cli.specs.declared.line.CommandLine.TheVariants.{Serve};
-ghost use Rattle.ob0_cli.specs.Lines.{client_process_rule, ob0_without_subcommands, ob0_app, calls_rule, check as check_app, required_number_rule, rename as rename_app, run as run_app, serve as serve_app, serve_without_options as serve_app_without_options, stdio_rule, turns_rule, required_word_rule};
+ghost use Rattle.ob0_cli.specs.ClapCommands.{client_process_rule, ob0_without_subcommands, ob0_app, calls_rule, check_app, required_number_rule, rename_app, run_app, serve_app, serve_without_options as serve_app_without_options, stdio_rule, turns_rule, required_word_rule};
 
 use clap::error::ErrorKind;
 use clap::{Arg, ArgAction, ArgMatches, Command, Error, value_parser};
@@ -34,7 +34,7 @@ use std::alloc::{AllocError, Global};
 const VERSION: &str = "0.1.0";
 
 /// The end of the program's help: the exit statuses of all commands.
-const OB0_AFTER_HELP: &str = "\
+const OB0_HELP_NOTES: &str = "\
 Exit status:
   0  all went well
   1  the module is wrong, its run ends with a fault or the edit is refused;
@@ -47,7 +47,7 @@ Exit status:
 
 `ob0 help COMMAND` says what a command reads and prints.";
 
-const SERVE_AFTER_HELP: &str = "\
+const SERVE_HELP_NOTES: &str = "\
 An editor starts this. Columns are counted in UTF-16 units, or in bytes of UTF-8
 where the client offers that. A fault is printed to standard error as
 `fault: NAME`.
@@ -60,7 +60,7 @@ Exit status:
   4  a message can't be read or written
   5  out of memory";
 
-const CHECK_AFTER_HELP: &str = "\
+const CHECK_HELP_NOTES: &str = "\
 A line `LINE:COLUMN: CODE: MESSAGE` is printed for each of at most 100 faults,
 and nothing for a correct module. Lines and columns count from 0, columns in
 UTF-16 units; the lines and columns that an editor shows count from 1.
@@ -76,7 +76,7 @@ Exit status:
   4  the file can't be read or isn't UTF-8, or the output can't be written
   5  out of memory";
 
-const RUN_AFTER_HELP: &str = "\
+const RUN_HELP_NOTES: &str = "\
 The numbers are read first, to the end of standard input, and then the module
 runs, also one that reads none. They are whole numbers from -2147483648 to
 2147483647 between spaces or line ends. In a terminal Ctrl-D at the start of a
@@ -103,7 +103,7 @@ Exit status:
      the file can't be read or isn't UTF-8, or the output can't be written
   5  out of memory";
 
-const RENAME_AFTER_HELP: &str = "\
+const RENAME_HELP_NOTES: &str = "\
 LINE and COLUMN are a place in the name or at its end. They count from 0, COLUMN
 in UTF-16 units; the lines and columns that an editor shows count from 1.
 The new text is printed, and the file stays as it is (so don't print into that
@@ -148,7 +148,7 @@ pub enum CommandLine<'a> {
 impl<'a> CommandLine<'a> {
     /// Returns the path of the file that the command reads. Returns None for `serve`, which reads
     /// no file.
-    pub fn file(self) -> Option<&'a str>
+    pub fn file_path(self) -> Option<&'a str>
         ensures { MatchOption result (self.entry ≡ Serve)
             (λ file. (self.entry ≢ Serve) × HasFilePath self.entry file.now) }
     {
@@ -183,7 +183,7 @@ pub enum CommandFault {
 /// request no command. The first word is the program's name.
 pub fn command<'a>(alloc: Global, words: &'a [&'a str]) -> Result<CommandLine<'a>, CommandFault>
     ensures gives { IfOk result (SpellsCommand (map (λ w. w.now) words.entry.now)) }
-    ensures refuses { IfErr result (MayRefuseWords (map (λ w. w.now) words.entry.now)) }
+    ensures refuses { IfErr result (MayBeRefusedWithFault (map (λ w. w.now) words.entry.now)) }
 {
     match ob0_command(alloc) {
         Ok(ob0_command) => parse_command_line(ob0_command, words),
@@ -198,7 +198,7 @@ fn parse_command_line<'a>(
 ) -> Result<CommandLine<'a>, CommandFault>
     requires { app_of ob0_command ≡ ob0_app }
     ensures gives { IfOk result (SpellsCommand (map (λ w. w.now) words.entry.now)) }
-    ensures refuses { IfErr result (MayRefuseWords (map (λ w. w.now) words.entry.now)) }
+    ensures refuses { IfErr result (MayBeRefusedWithFault (map (λ w. w.now) words.entry.now)) }
 {
     match ob0_command.try_get_matches_from(words) {
         Ok(matches) => Ok(command_line_of(&matches)),
@@ -225,7 +225,7 @@ fn command_line_of<'a>(matches: &ArgMatches<'a>) -> CommandLine<'a>
 /// its arguments.
 fn command_line_for_subcommand<'a>(name: &str, given: &ArgMatches<'a>) -> CommandLine<'a>
     requires { HasNeededValues name.now (rows_of (found_of given.now)) }
-    ensures { HasFoundValues name.now (rows_of (found_of given.now)) result }
+    ensures { IsCommandWithFoundValues name.now (rows_of (found_of given.now)) result }
 {
     if name == "serve" {
         CommandLine::Serve
@@ -338,7 +338,7 @@ fn program_without_subcommands<'a>(alloc: Global) -> Command<'a>
         alloc,
         "ob0",
         "A language server for Oberon-0",
-        OB0_AFTER_HELP,
+        OB0_HELP_NOTES,
     )
     .version(VERSION)
     .subcommand_required(true)
@@ -375,7 +375,7 @@ fn serve_without_options<'a>(alloc: Global) -> Command<'a>
         alloc,
         "serve",
         "Serve one conversation with an editor over standard input and output",
-        SERVE_AFTER_HELP,
+        SERVE_HELP_NOTES,
     )
     .args_override_self(true)
 }
@@ -408,7 +408,7 @@ fn check_subcommand<'a>(alloc: Global) -> Result<Command<'a>, AllocError>
         alloc,
         "check",
         "Print what is wrong with a module",
-        CHECK_AFTER_HELP,
+        CHECK_HELP_NOTES,
     )
     .arg(file)
 }
@@ -421,7 +421,7 @@ fn run_subcommand<'a>(alloc: Global) -> Result<Command<'a>, AllocError>
         alloc,
         "run",
         "Run a module on the numbers of standard input",
-        RUN_AFTER_HELP,
+        RUN_HELP_NOTES,
     );
     let with_file = add_argument(Ok(alone), file);
     let with_calls = add_argument(with_file, calls_argument(alloc));
@@ -436,7 +436,7 @@ fn rename_subcommand<'a>(alloc: Global) -> Result<Command<'a>, AllocError>
         alloc,
         "rename",
         "Print a module with another name for one of its names",
-        RENAME_AFTER_HELP,
+        RENAME_HELP_NOTES,
     );
     let with_file = add_argument(Ok(alone), file);
     let line = number_argument(

@@ -6,7 +6,7 @@ use Rattle.std.proofs.Math.Seq.{drop-cons}
 use Rattle.std.proofs.lemmas.List.{drop_all, drop-drop, length-drop, take_all}
 use Rattle.std.proofs.lemmas.List.Folds.{drop_split}
 use Rattle.ob0_commands.proofs.Words.{Begins, after_space, first_word}
-use Rattle.ob0_commands.specs.InputNumbers.{WordMayEndBefore, IsListOfNumbers, SpellsNumber, SpellsNumberList, nothing, number, space}
+use Rattle.ob0_commands.specs.InputNumbers.{MayFollowWord, IsListOfNumbers, SpellsNumber, SpellsNumberList, nothing, number, space}
 use Rattle.ob0_scan.specs.LexemeClasses.{is_white_space}
 
 pub record Gathered (text : List ℕ) (at : ℕ) (ns : List ℤ) : Type 0 where
@@ -30,19 +30,19 @@ space_passed text at ns inside is g =
     }
 
 -- The rest after the first word is empty or begins with white space.
-pub ends_before : (text : List ℕ) → WordMayEndBefore (drop (position_or_len is_white_space text) text)
+pub ends_before : (text : List ℕ) → MayFollowWord (drop (position_or_len is_white_space text) text)
 ends_before [] = tt
 ends_before (b ∷ text) = go (is_white_space b) refl (ends_before text)
   where
-    go : (s : Bool) → is_white_space b ≡ s → WordMayEndBefore (drop (position_or_len is_white_space text) text) → WordMayEndBefore (drop (position_or_len is_white_space (b ∷ text)) (b ∷ text))
+    go : (s : Bool) → is_white_space b ≡ s → MayFollowWord (drop (position_or_len is_white_space text) text) → MayFollowWord (drop (position_or_len is_white_space (b ∷ text)) (b ∷ text))
     go true e more =
         let none : position_or_len is_white_space (b ∷ text) ≡ 0 = rw e refl in
-        let is : WordMayEndBefore (b ∷ text) = e in
-        subst (λ n. WordMayEndBefore (drop n (b ∷ text))) (sym none) is
+        let is : MayFollowWord (b ∷ text) = e in
+        subst (λ n. MayFollowWord (drop n (b ∷ text))) (sym none) is
     go false e more =
         let counted : position_or_len is_white_space (b ∷ text) ≡ 1 + position_or_len is_white_space text = rw e refl in
         let further : position_or_len is_white_space (b ∷ text) ≡ suc (position_or_len is_white_space text) = counted ∙ omega arith in
-        subst (λ n. WordMayEndBefore (drop n (b ∷ text))) (sym further) more
+        subst (λ n. MayFollowWord (drop n (b ∷ text))) (sym further) more
 
 -- The end that the code computes for the word at a place is the first white space after that place.
 word_end : (text : List ℕ) (at end : ℕ) → end ≡ at + position_or_len is_white_space (take (length text - at) (drop at text)) → end ≡ at + position_or_len is_white_space (drop at text)
@@ -70,7 +70,7 @@ pub word_gathered : (text : List ℕ) (at end : ℕ) (ns : List ℤ) (n : ℤ) �
     → SpellsNumber (slice_range text at end) n → Gathered text at ns → Gathered text end (ns ++ n ∷ [])
 word_gathered text at end ns n begins apart forth inside is word g =
     let len = word_end text at end is in
-    let ends : WordMayEndBefore (drop end text) = subst WordMayEndBefore (drop-drop (position_or_len is_white_space (drop at text)) at text ∙ ap (λ i. drop i text) (sym len)) (ends_before (drop at text)) in
+    let ends : MayFollowWord (drop end text) = subst MayFollowWord (drop-drop (position_or_len is_white_space (drop at text)) at text ∙ ap (λ i. drop i text) (sym len)) (ends_before (drop at text)) in
     record {
       within = inside;
       goes_on = λ more h. subst (SpellsNumberList text) (sym (append_assoc ns (n ∷ []) more)) (g.goes_on (n ∷ more)

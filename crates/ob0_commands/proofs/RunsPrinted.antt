@@ -9,12 +9,12 @@ use Rattle.ob0_run_machine.specs.declared.program_runs.End.{End}
 use Rattle.ob0_run_machine.specs.declared.program_runs.End.TheVariants as end
 use Rattle.ob0_run_machine.specs.declared.program_runs.Outcome.{Outcome}
 use Rattle.ob0_run.specs.Outcomes.{meaning_of_end, output_items, run_of}
-use Rattle.ob0_commands.specs.declared.faults.FileFault.{FileFault}
-use Rattle.ob0_commands.specs.declared.faults.FileFault.TheVariants as fault
-use Rattle.ob0_commands.specs.InputNumbers.{IsUnusableInput, IsValidInputOf}
+use Rattle.ob0_commands.specs.declared.faults.FileCommandFault.{FileCommandFault}
+use Rattle.ob0_commands.specs.declared.faults.FileCommandFault.TheVariants as fault
+use Rattle.ob0_commands.specs.InputNumbers.{IsUnusableInput, IsValidInputTextOfNumbers}
 use Rattle.ob0_commands.specs.PrintedTexts.{PrintsDiagnostics, run_end_line, output_text}
-use Rattle.ob0_commands.specs.Statuses.{IsShortNonUtf8File, IsGivenFaultOrMemory, MayStopRun, run_end_status}
-use Rattle.ob0_commands.specs.TextRuns.{IsLoweredTo, PrintsCompleteRun, PrintsErrorsOrStoppedRun, PrintsRun, TextRunsAs}
+use Rattle.ob0_commands.specs.Statuses.{IsShortNonUtf8File, IsFaultForReasonOrMemory, FaultMayStopRun, run_end_status}
+use Rattle.ob0_commands.specs.TextRuns.{ProgramRunsAsText, PrintsCompleteRun, PrintsErrorsOrStoppedRun, PrintsRun, IsRunOfText}
 
 -- If the status is 0, the run reached the end of the module's body.
 done : (e : End) (n : ℕ) → n ≡ run_end_status e → n ≡ 0 → meaning_of_end e ≡ meaning_of_end end.Done
@@ -37,12 +37,12 @@ ended_otherwise end.CallBound n is one = λ e. cc
 ended_otherwise end.TurnBound n is one = λ e. cc
 
 pub prints_run : (file text : List ℕ) (given : Option (List ℕ)) (c t : ℕ) (before mid after : Option (List ℕ)) (numbers input : List ℤ) (o : Outcome) (items : List Item)
-    → text ≡ file → mid ≡ before → input ≡ numbers → IfSome given (IsValidInputOf numbers) → TextRunsAs text input c t (run_of o) → items ≡ o.output.items → Appends mid after (output_text (output_items items))
+    → text ≡ file → mid ≡ before → input ≡ numbers → IfSome given (IsValidInputTextOfNumbers numbers) → IsRunOfText text input c t (run_of o) → items ≡ o.output.items → Appends mid after (output_text (output_items items))
     → PrintsRun file given c t before after (run_of o)
 prints_run file text given c t before mid after numbers input o items same kept is written runs all printed = record {
   input = numbers;
   written = written;
-  runs = subst (λ (ns : List ℤ). TextRunsAs file ns c t (run_of o)) is (subst (λ (f : List ℕ). TextRunsAs f input c t (run_of o)) same runs);
+  runs = subst (λ (ns : List ℤ). IsRunOfText file ns c t (run_of o)) is (subst (λ (f : List ℕ). IsRunOfText f input c t (run_of o)) same runs);
   printed = subst (λ (b : Option (List ℕ)). Appends b after (output_text (output_items o.output.items))) kept (subst (λ (xs : List Item). Appends mid after (output_text (output_items xs))) all printed);
 }
 
@@ -61,8 +61,8 @@ prints_wrong file text given c t before mid after same kept wrong IsPrintedOnStd
     inl (subst (λ (b : Option (List ℕ)). PrintsDiagnostics file b after) kept (subst (λ (f : List ℕ). PrintsDiagnostics f mid after) same wrong), silent)
 
 -- If reading the numbers fails, `run` may stop with that fault.
-pub stops_reading : (file text : List ℕ) (program : Program) (given : Option (List ℕ)) (failed : Bool) (Otherwise : Type 0) (f : FileFault) → text ≡ file → IsLoweredTo text program → ¬ (IsShortNonUtf8File file)
-    → IsGivenFaultOrMemory fault.Input (IsUnusableInput given failed) Otherwise f → MayStopRun file given failed f
+pub stops_reading : (file text : List ℕ) (program : Program) (given : Option (List ℕ)) (failed : Bool) (Otherwise : Type 0) (f : FileCommandFault) → text ≡ file → ProgramRunsAsText text program → ¬ (IsShortNonUtf8File file)
+    → IsFaultForReasonOrMemory fault.Input (IsUnusableInput given failed) Otherwise f → FaultMayStopRun file given failed f
 stops_reading file text program given failed Otherwise f same lowered readable (inl none) =
     let module_there : IsWellTypedModule text = record { tree = lowered.tree; text_of = lowered.text_of; well_typed = lowered.well_typed } in
     inl (none.0, (subst IsWellTypedModule same module_there, none.1))

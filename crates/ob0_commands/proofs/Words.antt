@@ -6,7 +6,7 @@ use Rattle.std.proofs.lemmas.Str.Parse.{digit_from_value}
 use Rattle.std.specs.Bool.{⊤}
 use Rattle.std.specs.List.{position_or_len}
 use Rattle.std.specs.Str.Parse.{AllDigits, IsNumeral}
-use Rattle.ob0_commands.specs.InputNumbers.{WordMayEndBefore, IsListOfNumbers, SpellsNumber, SpellsNumberList, nothing, number, space}
+use Rattle.ob0_commands.specs.InputNumbers.{MayFollowWord, IsListOfNumbers, SpellsNumber, SpellsNumberList, nothing, number, space}
 use Rattle.ob0_scan.specs.LexemeClasses.{is_white_space}
 
 -- Holds if each byte is from `-` to `9`.
@@ -42,7 +42,7 @@ not_space c h = grind (arith, nat_tests)
 no_space_first : (c : ℕ) (cs : List ℕ) → is_white_space c ≡ true → ¬ IsOfSignsAndDigits (c ∷ cs)
 no_space_first c cs is h = let no = not_space c h.0 in absurd (cc)
 
-first_is : (word after : List ℕ) → IsOfSignsAndDigits word → WordMayEndBefore after → position_or_len is_white_space (word ++ after) ≡ length word
+first_is : (word after : List ℕ) → IsOfSignsAndDigits word → MayFollowWord after → position_or_len is_white_space (word ++ after) ≡ length word
 first_is [] [] h e = refl
 first_is [] (b ∷ bs) h e = rw e refl
 first_is (c ∷ cs) after h e =

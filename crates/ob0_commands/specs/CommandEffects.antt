@@ -11,8 +11,8 @@ use Rattle.ob0_commands.specs.InputReaders.{ConsumesAtMost}
 use Rattle.ob0_commands.specs.InputNumbers.{max_input_length}
 use Rattle.ob0_commands.specs.PrintedTexts.{PrintsDiagnostics}
 use Rattle.ob0_commands.specs.RenameOutput.{RenameEndsWithoutFault}
-use Rattle.ob0_commands.specs.Statuses.{IsShortNonUtf8File, KeepsInputFailureUnlessInputFault, MayStopCommandOnFile, MayStopRun}
-use Rattle.ob0_commands.specs.TextRuns.{RunEndsWithoutFault}
+use Rattle.ob0_commands.specs.Statuses.{IsShortNonUtf8File, KeepsInputFailureUnlessInputFault, FaultMayStopCommandOnFile, FaultMayStopRun}
+use Rattle.ob0_commands.specs.TextRuns.{RunCommandEndsWithoutFault}
 
 -- States that `check` ends with this status. With status 0, the file has no diagnostics, and
 -- nothing is printed. With status 1, the file's errors are printed and flushed. With any other
@@ -30,10 +30,10 @@ ChecksFile contents is_flushed has_failed before after IsPrintedOnStderr file st
     (PrintsDiagnostics file (contents before) (contents after) × (is_flushed after ≡ true))
     (¬ IsShortNonUtf8File file × (has_failed after ≡ has_failed before) × IsPrintedOnStderr None)
     status
-    ⊎ EndsByFault has_failed before after file (MayStopCommandOnFile file) IsPrintedOnStderr status
+    ⊎ EndsByFault has_failed before after file (FaultMayStopCommandOnFile file) IsPrintedOnStderr status
 
 -- States that `run` ends with this status. With status 0 or 1, a run of the file's module on the
--- input's numbers is printed, or the file's errors are printed (`RunEndsWithoutFault`). With any
+-- input's numbers is printed, or the file's errors are printed (`RunCommandEndsWithoutFault`). With any
 -- other status, a fault ended the command (`EndsByFault`). At most `c` calls are open at a time in
 -- the run, and each execution of a loop has at most `t` iterations.
 abbrev pub RunsFile : {O I : Type 0}
@@ -49,12 +49,12 @@ abbrev pub RunsFile : {O I : Type 0}
     → ℕ
     → Type 0
 RunsFile contents is_flushed has_failed before after IsPrintedOnStderr file remaining input_failed input input_after c t status =
-    RunEndsWithoutFault contents is_flushed before after IsPrintedOnStderr file (remaining input) c t
+    RunCommandEndsWithoutFault contents is_flushed before after IsPrintedOnStderr file (remaining input) c t
     (¬ IsShortNonUtf8File file × (has_failed after ≡ has_failed before)
     × (input_failed input_after ≡ input_failed input))
     status
     ⊎ EndsByFault has_failed before after file
-    (λ fault. MayStopRun file (remaining input) (input_failed input_after) fault
+    (λ fault. FaultMayStopRun file (remaining input) (input_failed input_after) fault
     × KeepsInputFailureUnlessInputFault (input_failed input) (input_failed input_after) fault)
     IsPrintedOnStderr status
 
@@ -75,7 +75,7 @@ RenamesInFile contents is_flushed has_failed before after IsPrintedOnStderr file
     RenameEndsWithoutFault contents is_flushed before after IsPrintedOnStderr file position new
     (¬ IsShortNonUtf8File file × (has_failed after ≡ has_failed before))
     status
-    ⊎ EndsByFault has_failed before after file (MayStopCommandOnFile file) IsPrintedOnStderr status
+    ⊎ EndsByFault has_failed before after file (FaultMayStopCommandOnFile file) IsPrintedOnStderr status
 
 -- States that the command of this command line ends with this status and has the effect that
 -- `ChecksFile`, `RunsFile` or `RenamesInFile` describes. `input` and `input_after` are the input

@@ -1,17 +1,17 @@
 -- Defines how a command on a file ends: its status, its output and its lines on standard error. If
 -- the status is 0 or 1, the file is UTF-8 or too long. In that case, the call hasn't changed
 -- whether the output or the input has failed. Any other status is the status of a fault.
--- `MayStopCommandOnFile` and `MayStopRun` state the reason for the fault. A run is printed only if
--- the bytes of its input are a list of numbers (`IsValidInputOf`) or aren't known. Status 5 (out of
+-- `FaultMayStopCommandOnFile` and `FaultMayStopRun` state the reason for the fault. A run is printed only if
+-- the bytes of its input are a list of numbers (`IsValidInputTextOfNumbers`) or aren't known. Status 5 (out of
 -- memory) doesn't depend on the input, and occurs only for a file that isn't too long
--- (`IsMemoryFaultOnlyForShortFile`). For a file that is too long, the commands allocate nothing.
+-- (`MemoryFaultImpliesShortFile`). For a file that is too long, the commands allocate nothing.
 -- Each command prints after its last allocation. So a fault other than `Write` leaves the output
 -- unchanged (`PrintsNothingUnlessWriteFault`).
 -- Rule: docs/PROTOCOL.md, The program 5 to 8.
 use Rattle.std.specs.Prelude.{◌≡◌, ◌≤◌, ℕ, List, Option, Some, Bool}
 use Rattle.ob0_commands.specs.PrintedTexts.{fault_line}
-use Rattle.ob0_commands.specs.Statuses.{IsMemoryFaultOnlyForShortFile, OutputFailureMatchesFault, PrintsNothingUnlessWriteFault, status_of}
-use Rattle.ob0_commands.specs.declared.faults.FileFault.{FileFault}
+use Rattle.ob0_commands.specs.Statuses.{MemoryFaultImpliesShortFile, OutputFailureMatchesFault, PrintsNothingUnlessWriteFault, status_of}
+use Rattle.ob0_commands.specs.declared.faults.FileCommandFault.{FileCommandFault}
 
 -- States that no fault stops the command. The status is 0 and `Good` holds, or the status is 1 and
 -- `Other` holds. With either status, `Both` holds.
@@ -26,11 +26,11 @@ pub record EndsWithoutFault (Good Other Both : Type 0) (status : ℕ) : Type 0 w
 -- fault is `Write`, the output has failed. With any other fault, the output is unchanged. The fault
 -- is `Memory` only if the file isn't too long.
 pub record EndsByFault {O : Type 0} (has_failed : O → Bool) (before after : O) (file : List ℕ)
-    (Stops : FileFault → Type 0) (IsPrintedOnStderr : Option (List ℕ) → Type 0) (status : ℕ) : Type 0 where
-  pub ending_fault : FileFault
+    (Stops : FileCommandFault → Type 0) (IsPrintedOnStderr : Option (List ℕ) → Type 0) (status : ℕ) : Type 0 where
+  pub ending_fault : FileCommandFault
   pub is : status ≡ status_of ending_fault
   pub stops : Stops ending_fault
   pub failed : OutputFailureMatchesFault (has_failed before) (has_failed after) ending_fault
   pub kept : PrintsNothingUnlessWriteFault before after ending_fault
-  pub memory : IsMemoryFaultOnlyForShortFile file ending_fault
+  pub memory : MemoryFaultImpliesShortFile file ending_fault
   pub said : IsPrintedOnStderr (Some (fault_line ending_fault))

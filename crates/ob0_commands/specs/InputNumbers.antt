@@ -14,9 +14,9 @@ pub record SpellsNumber (word : List ℕ) (n : ℤ) : Type 0 where
   pub fits_in_32_bits : fits_in_32_bits n ≡ true
 
 -- States that this text may directly follow a word: it is empty or begins with white space.
-abbrev pub WordMayEndBefore : List ℕ → Type 0
-WordMayEndBefore [] = ⊤
-WordMayEndBefore (b ∷ bs) = IsTrue (is_white_space b)
+abbrev pub MayFollowWord : List ℕ → Type 0
+MayFollowWord [] = ⊤
+MayFollowWord (b ∷ bs) = IsTrue (is_white_space b)
 
 -- States that the text spells these numbers. Each word is a number, and words are separated by
 -- white space: space, tab, CR or LF.
@@ -29,7 +29,7 @@ pub data SpellsNumberList : List ℕ → List ℤ → Type 0 where
   number : {text : List ℕ} {ns : List ℤ} (word after : List ℕ) (n : ℤ)
       → text ≡ word ++ after
       → SpellsNumber word n
-      → WordMayEndBefore after → SpellsNumberList after ns → SpellsNumberList text (n ∷ ns)
+      → MayFollowWord after → SpellsNumberList after ns → SpellsNumberList text (n ∷ ns)
 
 -- States that the text spells a list of numbers.
 abbrev pub IsListOfNumbers : List ℕ → Type 0
@@ -40,13 +40,13 @@ abbrev pub max_input_length : ℕ
 max_input_length = 16777216
 
 -- States that the text of an input spells the numbers `ns`, and has at most 16,777,216 bytes.
-pub record IsValidInputOf (ns : List ℤ) (text : List ℕ) : Type 0 where
+pub record IsValidInputTextOfNumbers (ns : List ℤ) (text : List ℕ) : Type 0 where
   pub short : length text ≤ max_input_length
   pub writes : SpellsNumberList text ns
 
 -- States that the text isn't a valid input: it is too long, or isn't a list of numbers.
 abbrev pub IsInvalidInput : List ℕ → Type 0
-IsInvalidInput text = ¬ ((ns : List ℤ) × IsValidInputOf ns text)
+IsInvalidInput text = ¬ ((ns : List ℤ) × IsValidInputTextOfNumbers ns text)
 
 -- States that an input can't be used: its reader has failed (`failed`), or its bytes (`given`)
 -- aren't a valid input. If the bytes aren't known (None), only a failed reader makes it unusable.

@@ -1,9 +1,9 @@
 -- Defines what a `TrackedReader` holds: the wrapped reader, and whether a read has failed. Also
 -- defines a bound on the bytes that are read from a reader.
--- Rule: none; used in the contracts of functions that read from an `Input`.
+-- Rule: none; used in the contracts of functions that read from a `TrackedInput`.
 use Rattle.std.specs.Prelude.{◌≤◌, ℕ, List, Option, Bool, length}
 use Rattle.std.specs.Io.KnownBytes.{Consumes}
-use Rattle.ob0_commands.specs.declared.reading.TrackedReader.{TrackedReader}
+use Rattle.ob0_commands.specs.declared.tracked_input.TrackedReader.{TrackedReader}
 
 -- Returns the reader that a `TrackedReader` wraps.
 abbrev pub wrapped_reader : {R : Type 0} → TrackedReader R → R

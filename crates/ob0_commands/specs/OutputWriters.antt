@@ -1,6 +1,6 @@
 -- Defines what a `TrackedWriter` holds: the wrapped writer, and whether it has been flushed or has
 -- failed.
--- Rule: none; used in the contracts of functions that print to an `Output`.
+-- Rule: none; used in the contracts of functions that print to a `TrackedOutput`.
 use Rattle.std.specs.Prelude.{◌≡◌, ◌⊎◌, Bool, true}
 use Rattle.ob0_commands.specs.declared.tracked_output.TrackedWriter.{TrackedWriter}
 

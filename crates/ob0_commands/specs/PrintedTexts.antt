@@ -4,23 +4,23 @@ use Rattle.std.specs.Prelude.{◌≡◌, ◌⊎◌, ◌<◌, ℕ, List, [], ◌�
 use Rattle.std.specs.Fmt.{signed_decimal}
 use Rattle.std.specs.Io.KnownBytes.{Appends}
 use Rattle.std.specs.Str.{chars}
-use Rattle.ob0_language_runs.specs.Runs.{PrintedItem, line_out, number_out}
+use Rattle.ob0_language_runs.specs.Runs.{PrintedItem, printed_line_end, printed_number}
 use Rattle.ob0_run_machine.specs.declared.program_runs.End.{End}
 use Rattle.ob0_run_machine.specs.declared.program_runs.End.TheVariants as end
 use Rattle.ob0_scan.specs.TextWithTokens.{max_text_length}
 use Rattle.ob0_scan.specs.declared.fault.FaultCode.TheVariants.{TooLong}
-use Rattle.ob0_analysis.specs.ReportedErrors.{ReportedDiagnosis, IsWellTypedModule, ReportsFaults, reported_diagnosis_of_fault}
+use Rattle.ob0_analysis.specs.ReportedErrors.{ReportedDiagnosis, IsWellTypedModule, ReportsErrorsOfInvalidText, reported_diagnosis_of_fault}
 use Rattle.ob0_text.specs.Texts.{position_of}
 use Rattle.ob0_text.specs.Units.{width_of}
 use Rattle.ob0_text.specs.declared.position_types.Position.{Position}
 use Rattle.ob0_text.specs.declared.position_types.Unit.TheVariants.{Utf16}
-use Rattle.ob0_commands.specs.declared.faults.FileFault.{FileFault}
-use Rattle.ob0_commands.specs.declared.faults.FileFault.TheVariants as fault
+use Rattle.ob0_commands.specs.declared.faults.FileCommandFault.{FileCommandFault}
+use Rattle.ob0_commands.specs.declared.faults.FileCommandFault.TheVariants as fault
 
 -- ---- the lines that report faults
 
 -- Returns the line on standard error that reports a fault.
-abbrev pub fault_line : FileFault → List ℕ
+abbrev pub fault_line : FileCommandFault → List ℕ
 fault_line fault.File = codes "fault: File\n"
 fault_line fault.Utf8 = codes "fault: Utf8\n"
 fault_line fault.Input = codes "fault: Input\n"
@@ -71,15 +71,15 @@ PrintsDiagnostics file before after =
     ((max_text_length < length file) × Appends before after too_long_line)
     ⊎ ((reported : List ReportedDiagnosis)
     × (¬ IsWellTypedModule file)
-    × ReportsFaults file reported
+    × ReportsErrorsOfInvalidText file reported
     × Appends before after (all_diagnosis_lines file reported))
 
 -- ---- the output of a run, and the line that reports its end
 
 -- Returns the text of an output item: a space and the digits of a number, or a line feed.
 abbrev pub output_item_text : PrintedItem → List ℕ
-output_item_text (number_out n) = codes " " ++ signed_decimal n
-output_item_text line_out = codes "\n"
+output_item_text (printed_number n) = codes " " ++ signed_decimal n
+output_item_text printed_line_end = codes "\n"
 
 -- Returns the text of a run's output: the texts of the items, one after another.
 abbrev pub output_text : List PrintedItem → List ℕ

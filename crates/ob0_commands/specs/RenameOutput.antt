@@ -30,23 +30,23 @@ pub record PrintsPatchedText (unit : Unit) (content : List ℕ) (edits : List Ed
 
 -- States that the third argument is `Ok` with edits that can be applied to the text `content`, and
 -- that the edited text is printed. A refusal (`Err`) never satisfies this.
-abbrev pub PrintsEditedText : Unit
+abbrev pub IsOkAndPrintsPatchedText : Unit
     → List ℕ
     → Result (Vec Edit Global) EditRefusal
     → Option (List ℕ)
     → Option (List ℕ)
     → Type 0
-PrintsEditedText unit content (Ok edits) before after =
+IsOkAndPrintsPatchedText unit content (Ok edits) before after =
     PrintsPatchedText unit content edits.items before after
-PrintsEditedText unit content (Err refusal) before after = ⊥
+IsOkAndPrintsPatchedText unit content (Err refusal) before after = ⊥
 
 -- States that the first argument is a refusal (`Err`), and that its line is printed on standard
 -- error. A list of edits (`Ok`) never satisfies this.
-abbrev pub PrintsRefusal : Result (Vec Edit Global) EditRefusal
+abbrev pub IsErrAndPrintsRefusal : Result (Vec Edit Global) EditRefusal
     → (Option (List ℕ) → Type 0)
     → Type 0
-PrintsRefusal (Ok edits) IsPrintedOnStderr = ⊥
-PrintsRefusal (Err refusal) IsPrintedOnStderr = IsPrintedOnStderr (Some (refusal_line refusal))
+IsErrAndPrintsRefusal (Ok edits) IsPrintedOnStderr = ⊥
+IsErrAndPrintsRefusal (Err refusal) IsPrintedOnStderr = IsPrintedOnStderr (Some (refusal_line refusal))
 
 -- States that the file has a text (`IsTextFile`), and that this text is printed with the
 -- declaration or field at the position renamed to `new`. `edits` are the edits of this renaming.

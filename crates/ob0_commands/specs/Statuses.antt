@@ -6,12 +6,12 @@ use Rattle.ob0_scan.specs.TextWithTokens.{max_text_length}
 use Rattle.ob0_analysis.specs.ReportedErrors.{IsWellTypedModule}
 use Rattle.ob0_run_machine.specs.declared.program_runs.End.{End}
 use Rattle.ob0_run_machine.specs.declared.program_runs.End.TheVariants as end
-use Rattle.ob0_commands.specs.declared.faults.FileFault.{FileFault}
-use Rattle.ob0_commands.specs.declared.faults.FileFault.TheVariants as fault
+use Rattle.ob0_commands.specs.declared.faults.FileCommandFault.{FileCommandFault}
+use Rattle.ob0_commands.specs.declared.faults.FileCommandFault.TheVariants as fault
 use Rattle.ob0_commands.specs.InputNumbers.{IsUnusableInput}
 
 -- Returns the exit status of a fault: 5 if an allocation failed, otherwise 4.
-abbrev pub status_of : FileFault → ℕ
+abbrev pub status_of : FileCommandFault → ℕ
 status_of fault.File = 4
 status_of fault.Utf8 = 4
 status_of fault.Input = 4
@@ -20,7 +20,7 @@ status_of fault.Memory = 5
 
 -- States that the fault is `Write` or `Memory`: the output can't be written, or an allocation
 -- failed.
-abbrev pub IsWriteOrMemoryFault : FileFault → Type 0
+abbrev pub IsWriteOrMemoryFault : FileCommandFault → Type 0
 IsWriteOrMemoryFault f = (f ≡ fault.Write) ⊎ (f ≡ fault.Memory)
 
 -- States that the file has a text: the file isn't too long, and its bytes are UTF-8.
@@ -33,23 +33,23 @@ IsShortNonUtf8File file = (length file ≤ max_text_length) × ¬ (IsUtf8 file)
 
 -- States that this fault may stop a command on this file. The fault is `Utf8` if the file isn't
 -- UTF-8 (`IsShortNonUtf8File`). Otherwise it is `Write` or `Memory`.
-abbrev pub MayStopCommandOnFile : List ℕ → FileFault → Type 0
-MayStopCommandOnFile file f =
+abbrev pub FaultMayStopCommandOnFile : List ℕ → FileCommandFault → Type 0
+FaultMayStopCommandOnFile file f =
     ((f ≡ fault.Utf8) × IsShortNonUtf8File file) ⊎ (IsWriteOrMemoryFault f × ¬ (IsShortNonUtf8File file))
 
 -- States that the fault `Memory` occurs only if the file isn't too long.
-abbrev pub IsMemoryFaultOnlyForShortFile : List ℕ → FileFault → Type 0
-IsMemoryFaultOnlyForShortFile file f = f ≡ fault.Memory → length file ≤ max_text_length
+abbrev pub MemoryFaultImpliesShortFile : List ℕ → FileCommandFault → Type 0
+MemoryFaultImpliesShortFile file f = f ≡ fault.Memory → length file ≤ max_text_length
 
 -- States that the output is unchanged, unless the fault is `Write`. `before` and `after` are the
 -- output before and after the call.
-abbrev pub PrintsNothingUnlessWriteFault : {O : Type 0} → (before after : O) → FileFault → Type 0
+abbrev pub PrintsNothingUnlessWriteFault : {O : Type 0} → (before after : O) → FileCommandFault → Type 0
 PrintsNothingUnlessWriteFault before after f = f ≢ fault.Write → after ≡ before
 
 -- States that the fault is `name` and `reason` holds, or that the fault is `Memory` and `otherwise`
 -- holds.
-abbrev pub IsGivenFaultOrMemory : (name : FileFault) → (reason otherwise : Type 0) → FileFault → Type 0
-IsGivenFaultOrMemory name reason otherwise f = ((f ≡ name) × reason) ⊎ ((f ≡ fault.Memory) × otherwise)
+abbrev pub IsFaultForReasonOrMemory : (name : FileCommandFault) → (reason otherwise : Type 0) → FileCommandFault → Type 0
+IsFaultForReasonOrMemory name reason otherwise f = ((f ≡ name) × reason) ⊎ ((f ≡ fault.Memory) × otherwise)
 
 -- Returns the exit status for this end of a run: 0 for `Done`, and 1 for a fault or an exceeded
 -- bound.
@@ -65,7 +65,7 @@ run_end_status end.TurnBound = 1
 -- States how a command's fault determines whether the output has failed. `before` and `after` say
 -- whether the output has failed, before and after the call. If the fault is `Write`, `after` is
 -- true. For any other fault, `after` equals `before`.
-abbrev pub OutputFailureMatchesFault : (before after : Bool) → FileFault → Type 0
+abbrev pub OutputFailureMatchesFault : (before after : Bool) → FileCommandFault → Type 0
 OutputFailureMatchesFault before after f =
     (f ≡ fault.Write → after ≡ true) × (f ≢ fault.Write → after ≡ before)
 
@@ -79,12 +79,12 @@ ModuleLacksUsableInput file given input_failed = IsWellTypedModule file × IsUnu
 
 -- States that the call didn't change whether the input has failed, unless the fault is `Input`.
 -- `before` and `after` say whether the input has failed, before and after the call.
-abbrev pub KeepsInputFailureUnlessInputFault : (before after : Bool) → FileFault → Type 0
+abbrev pub KeepsInputFailureUnlessInputFault : (before after : Bool) → FileCommandFault → Type 0
 KeepsInputFailureUnlessInputFault before after f = f ≢ fault.Input → after ≡ before
 
 -- States that this fault may stop `run` on this file and this input. The fault is `Input`, and the
 -- module has no valid input. Or it is a fault that may stop any command on the file
--- (`MayStopCommandOnFile`).
-abbrev pub MayStopRun : List ℕ → Option (List ℕ) → (input_failed : Bool) → FileFault → Type 0
-MayStopRun file given input_failed f =
-    ((f ≡ fault.Input) × ModuleLacksUsableInput file given input_failed) ⊎ MayStopCommandOnFile file f
+-- (`FaultMayStopCommandOnFile`).
+abbrev pub FaultMayStopRun : List ℕ → Option (List ℕ) → (input_failed : Bool) → FileCommandFault → Type 0
+FaultMayStopRun file given input_failed f =
+    ((f ≡ fault.Input) × ModuleLacksUsableInput file given input_failed) ⊎ FaultMayStopCommandOnFile file f

@@ -1,6 +1,6 @@
 -- Defines the lines that the commands print on standard error, in bytes of UTF-8, and states when a
--- line is printed there (`PrintsLine`). `EndsByFault`, `PrintsStoppedRun` and `RefusesName` have a
--- parameter `IsPrintedOnStderr`, for which the contracts pass `PrintsLine`. So each of them can
+-- line is printed there (`PrintsOptionalLine`). `EndsByFault`, `PrintsStoppedRun` and `RefusesName` have a
+-- parameter `IsPrintedOnStderr`, for which the contracts pass `PrintsOptionalLine`. So each of them can
 -- state that the printed line belongs to the same fault, run or refusal as the output.
 -- Rule: docs/PROTOCOL.md, The program 2, 3, 5, 6 and 7.
 use Rattle.std.specs.Prelude.{◌≡◌, ◌++◌, ℕ, List, Option, Some, None, Bool, true, false, codes}
@@ -10,14 +10,14 @@ use Rattle.ob0_text.specs.declared.refusals.EditRefusal.{EditRefusal}
 
 -- States that this line is appended to standard error and flushed, unless the writer for standard
 -- error has failed. For None, states that the writer is unchanged.
-abbrev pub PrintsLine : {E : Type 0}
+abbrev pub PrintsOptionalLine : {E : Type 0}
     → (contents : E → Option (List ℕ))
     → (is_flushed has_failed : E → Bool)
     → (before after : E)
     → Option (List ℕ)
     → Type 0
-PrintsLine contents is_flushed has_failed before after None = after ≡ before
-PrintsLine contents is_flushed has_failed before after (Some line) =
+PrintsOptionalLine contents is_flushed has_failed before after None = after ≡ before
+PrintsOptionalLine contents is_flushed has_failed before after (Some line) =
     has_failed after ≡ false
     → Appends (contents before) (contents after) line × (is_flushed after ≡ true)
 

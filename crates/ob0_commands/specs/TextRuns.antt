@@ -13,12 +13,12 @@ use Rattle.ob0_run_lowering.specs.declared.programs.Program.{Program}
 use Rattle.ob0_run_machine.specs.declared.program_runs.End.{End}
 use Rattle.ob0_run_machine.specs.declared.program_runs.End.TheVariants as end
 use Rattle.ob0_commands.specs.CommandEndings.{EndsWithoutFault}
-use Rattle.ob0_commands.specs.InputNumbers.{IsValidInputOf}
+use Rattle.ob0_commands.specs.InputNumbers.{IsValidInputTextOfNumbers}
 use Rattle.ob0_commands.specs.PrintedTexts.{PrintsDiagnostics, run_end_line, output_text}
 
 -- States that the text is a well-typed module and that `r` is its run on this input. At most `c`
 -- calls are open at a time, and each execution of a loop has at most `t` iterations.
-pub record TextRunsAs (text : List ℕ) (input : List ℤ) (c t : ℕ) (r : Run) : Type 0 where
+pub record IsRunOfText (text : List ℕ) (input : List ℤ) (c t : ℕ) (r : Run) : Type 0 where
   pub tree : Tree Name module_text
   pub text_of : IsTextOfTree tree text
   pub well_typed : WellTyped tree
@@ -26,7 +26,7 @@ pub record TextRunsAs (text : List ℕ) (input : List ℤ) (c t : ℕ) (r : Run)
 
 -- States that the text is a well-typed module and that this program runs like the module
 -- (`ProgramRunsAsModule`).
-pub record IsLoweredTo (text : List ℕ) (program : Program) : Type 0 where
+pub record ProgramRunsAsText (text : List ℕ) (program : Program) : Type 0 where
   pub tree : Tree Name module_text
   pub text_of : IsTextOfTree tree text
   pub well_typed : WellTyped tree
@@ -34,12 +34,12 @@ pub record IsLoweredTo (text : List ℕ) (program : Program) : Type 0 where
 
 -- States that `r` is a run of the file's module, and that the output of `r` is printed. If the
 -- bytes of the command's input are known (`given`), they spell the numbers of the run's input. `c`
--- and `t` are the bounds of the run (`TextRunsAs`).
+-- and `t` are the bounds of the run (`IsRunOfText`).
 pub record PrintsRun (file : List ℕ) (given : Option (List ℕ)) (c t : ℕ)
     (before after : Option (List ℕ)) (r : Run) : Type 0 where
   pub input : List ℤ
-  pub written : IfSome given (IsValidInputOf input)
-  pub runs : TextRunsAs file input c t r
+  pub written : IfSome given (IsValidInputTextOfNumbers input)
+  pub runs : IsRunOfText file input c t r
   pub printed : Appends before after (output_text r.output)
 
 -- States that the output of a run of the file's module is printed (`PrintsRun`), and that the run
@@ -85,7 +85,7 @@ PrintsErrorsOrStoppedRun file given c t before after IsPrintedOnStderr =
 -- a run to the end of the module's body is printed, and nothing is printed on standard error. With
 -- status 1, the output of a run with any other end is printed, or the file's errors are printed.
 -- All output is flushed. With either status, `Both` holds.
-abbrev pub RunEndsWithoutFault : {O : Type 0}
+abbrev pub RunCommandEndsWithoutFault : {O : Type 0}
     → (contents : O → Option (List ℕ))
     → (is_flushed : O → Bool)
     → (before after : O)
@@ -96,7 +96,7 @@ abbrev pub RunEndsWithoutFault : {O : Type 0}
     → (Both : Type 0)
     → ℕ
     → Type 0
-RunEndsWithoutFault contents is_flushed before after IsPrintedOnStderr file given c t =
+RunCommandEndsWithoutFault contents is_flushed before after IsPrintedOnStderr file given c t =
     EndsWithoutFault
     (PrintsCompleteRun file given c t (contents before) (contents after)
     × (is_flushed after ≡ true)

@@ -8,15 +8,15 @@ ghost use Rattle.std.specs.Io.KnownBytes.{Appends};
 ghost use Rattle.std.specs.Mem.{manually_drop_value};
 ghost use Rattle.ob0_commands.specs.CommandEffects.{ChecksFile};
 ghost use Rattle.ob0_commands.specs.PrintedTexts.{PrintsDiagnostics, all_diagnosis_lines, diagnosis_line_at, diagnosis_lines_at_positions, too_long_line};
-ghost use Rattle.ob0_commands.specs.StderrLines.{PrintsLine};
-ghost use Rattle.ob0_commands.specs.Statuses.{IsMemoryFaultOnlyForShortFile, IsShortNonUtf8File, OutputFailureMatchesFault, PrintsNothingUnlessWriteFault, IsWriteOrMemoryFault, MayStopCommandOnFile};
-ghost use Rattle.ob0_commands.specs.declared.faults.FileFault.TheVariants as faults;
+ghost use Rattle.ob0_commands.specs.StderrLines.{PrintsOptionalLine};
+ghost use Rattle.ob0_commands.specs.Statuses.{MemoryFaultImpliesShortFile, IsShortNonUtf8File, OutputFailureMatchesFault, PrintsNothingUnlessWriteFault, IsWriteOrMemoryFault, FaultMayStopCommandOnFile};
+ghost use Rattle.ob0_commands.specs.declared.faults.FileCommandFault.TheVariants as faults;
 ghost use Rattle.ob0_scan.specs.TextWithTokens.{max_text_length};
 ghost use Rattle.ob0_analysis.specs.ReportedErrors.{ReportsErrorsOf, reported_diagnosis_of};
 
-use crate::faults::{FileFault, print_fault};
-use crate::reading::MAX_FILE_BYTES_READ;
-use crate::tracked_output::{Output, print};
+use crate::faults::{FileCommandFault, print_fault};
+use crate::tracked_input::MAX_FILE_BYTES_READ;
+use crate::tracked_output::{TrackedOutput, print};
 use ob0_analysis::{Analysis, Diagnosis};
 use ob0_text::{Lines, Position, TextStore};
 use std::alloc::{AllocError, Global};
@@ -28,9 +28,14 @@ use std::mem::ManuallyDrop;
 /// status is 0 if there are no diagnostics and 1 if there are some. If the bytes aren't UTF-8 or a
 /// write fails, the status is 4. If an allocation fails, it is 5. With status 4 or 5, the line
 /// `fault: NAME` is printed to `err`.
-pub fn check_text<O: Output, E: Output>(alloc: Global, file: &[u8], out: &mut O, err: &mut E) -> u8
+pub fn check_text<O: TrackedOutput, E: TrackedOutput>(
+    alloc: Global,
+    file: &[u8],
+    out: &mut O,
+    err: &mut E,
+) -> u8
     ensures { ChecksFile O.contents O.is_flushed O.has_failed out.old out.new
-        (PrintsLine E.contents E.is_flushed E.has_failed err.old err.new) file.now result }
+        (PrintsOptionalLine E.contents E.is_flushed E.has_failed err.old err.new) file.now result }
 {
     match validate_or_print_diagnoses(alloc, file, out) {
         Ok(Some(_text)) => 0,
@@ -42,24 +47,24 @@ pub fn check_text<O: Output, E: Output>(alloc: Global, file: &[u8], out: &mut O,
 /// Returns the text of a file that has no diagnostics. Otherwise prints the diagnostics, flushes
 /// and returns None. A file that has more bytes than a text may have gets only one diagnostic: it
 /// is too long. If the bytes of any other file aren't UTF-8, the fault is `Utf8`.
-pub fn validate_or_print_diagnoses<'f, O: Output>(
+pub fn validate_or_print_diagnoses<'f, O: TrackedOutput>(
     alloc: Global,
     file: &'f [u8],
     out: &mut O,
-) -> Result<Option<&'f str>, FileFault>
+) -> Result<Option<&'f str>, FileCommandFault>
     ensures found { IfOk result (λ found. MatchOption found
         (PrintsDiagnostics file.entry.now (O.contents out.old) (O.contents out.new))
         (λ text. (text.now ≡ file.entry.now) × ReportsErrorsOf file.entry.now [] × (out.new ≡ out.old))) }
     ensures flushed { IfOk result (λ found. IfNone found (O.is_flushed out.new ≡ true)) }
     ensures readable { OnOk result (¬ IsShortNonUtf8File file.entry.now) }
     ensures unfailed { OnOk result (O.has_failed out.new ≡ O.has_failed out.old) }
-    ensures fault { IfErr result (MayStopCommandOnFile file.entry.now) }
+    ensures fault { IfErr result (FaultMayStopCommandOnFile file.entry.now) }
     ensures failed { IfErr result
         (OutputFailureMatchesFault (O.has_failed out.old) (O.has_failed out.new)) }
-    ensures memory { IfErr result (IsMemoryFaultOnlyForShortFile file.entry.now) }
+    ensures memory { IfErr result (MemoryFaultImpliesShortFile file.entry.now) }
     ensures kept { IfErr result (PrintsNothingUnlessWriteFault out.old out.new) }
 {
-    let Some(text) = decode_or_print_too_long(file, out)? else {
+    let Some(text) = decode_or_print_too_long_line(file, out)? else {
         return Ok(None);
     };
     let reported = diagnose(alloc, text)?;
@@ -89,17 +94,17 @@ pub fn analyse_without_drop(alloc: Global, text: &str) -> Result<ManuallyDrop<An
 
 /// Returns the text of a file. If the file is too long, prints a diagnostic that says so, flushes
 /// and returns None. If the bytes of a shorter file aren't UTF-8, the fault is `Utf8`.
-pub fn decode_or_print_too_long<'f, O: Output>(
+pub fn decode_or_print_too_long_line<'f, O: TrackedOutput>(
     file: &'f [u8],
     out: &mut O,
-) -> Result<Option<&'f str>, FileFault>
+) -> Result<Option<&'f str>, FileCommandFault>
     ensures found { IfOk result (λ found. MatchOption found ((max_text_length < length file.entry.now)
         × Appends (O.contents out.old) (O.contents out.new) too_long_line)
         (λ text. (text.now ≡ file.entry.now) × (out.new ≡ out.old))) }
     ensures flushed { IfOk result (λ found. IfNone found (O.is_flushed out.new ≡ true)) }
     ensures readable { OnOk result (¬ IsShortNonUtf8File file.entry.now) }
     ensures unfailed { OnOk result (O.has_failed out.new ≡ O.has_failed out.old) }
-    ensures fault { IfErr result (MayStopCommandOnFile file.entry.now) }
+    ensures fault { IfErr result (FaultMayStopCommandOnFile file.entry.now) }
     ensures failed { IfErr result
         (OutputFailureMatchesFault (O.has_failed out.old) (O.has_failed out.new)) }
     ensures short { IfOk result (λ found. IfSome found (λ _. length file.entry.now ≤ max_text_length)) }
@@ -112,18 +117,18 @@ pub fn decode_or_print_too_long<'f, O: Output>(
     }
     match str::from_utf8(file) {
         Ok(text) => Ok(Some(text)),
-        Err(_) => Err(FileFault::Utf8),
+        Err(_) => Err(FileCommandFault::Utf8),
     }
 }
 
 /// Prints a line for each of these diagnostics of a text, in order, and flushes. If the write or
 /// the flush fails, the fault is `Write`. If an allocation fails, it is `Memory`.
-pub fn print_diagnoses<O: Output>(
+pub fn print_diagnoses<O: TrackedOutput>(
     alloc: Global,
     text: &str,
     reported: &[Diagnosis],
     out: &mut O,
-) -> Result<(), FileFault>
+) -> Result<(), FileCommandFault>
     ensures printed { OnOk result (Appends (O.contents out.old) (O.contents out.new)
         (all_diagnosis_lines text.now (map reported_diagnosis_of reported.now))) }
     ensures flushed { OnOk result (O.is_flushed out.new ≡ true) }

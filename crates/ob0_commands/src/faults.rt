@@ -3,16 +3,16 @@
 
 ghost use Rattle.std.specs.Prelude.{◌≡◌, ◌≤◌, Some};
 ghost use Rattle.ob0_commands.specs.PrintedTexts.{fault_line};
-ghost use Rattle.ob0_commands.specs.StderrLines.{PrintsLine};
+ghost use Rattle.ob0_commands.specs.StderrLines.{PrintsOptionalLine};
 ghost use Rattle.ob0_commands.specs.Statuses.{status_of};
 
-use crate::tracked_output::{Output, print};
+use crate::tracked_output::{TrackedOutput, print};
 use std::alloc::{AllocError, AllocFailed};
 use thiserror::Error;
 
 /// The reason why a command on a file failed. The name of the fault is printed.
 #[derive(Clone, Copy, Debug, Drop, PartialEq, Eq, Error)]
-pub enum FileFault {
+pub enum FileCommandFault {
     #[error("the file can't be read")]
     File,
     #[error("the file isn't UTF-8")]
@@ -25,15 +25,18 @@ pub enum FileFault {
     Memory,
 }
 
-impl FileFault {
+impl FileCommandFault {
     /// Returns the program's exit status for this fault: 5 for `Memory`, otherwise 4.
     pub fn status(self) -> u8
         ensures status { result ≡ status_of self }
         ensures fails { 4 ≤ result }
     {
         match self {
-            FileFault::Memory => 5,
-            FileFault::File | FileFault::Utf8 | FileFault::Input | FileFault::Write => 4,
+            FileCommandFault::Memory => 5,
+            FileCommandFault::File
+            | FileCommandFault::Utf8
+            | FileCommandFault::Input
+            | FileCommandFault::Write => 4,
         }
     }
 
@@ -42,41 +45,41 @@ impl FileFault {
         ensures { result.now ≡ fault_line self }
     {
         match self {
-            FileFault::File => "fault: File\n",
-            FileFault::Utf8 => "fault: Utf8\n",
-            FileFault::Input => "fault: Input\n",
-            FileFault::Write => "fault: Write\n",
-            FileFault::Memory => "fault: Memory\n",
+            FileCommandFault::File => "fault: File\n",
+            FileCommandFault::Utf8 => "fault: Utf8\n",
+            FileCommandFault::Input => "fault: Input\n",
+            FileCommandFault::Write => "fault: Write\n",
+            FileCommandFault::Memory => "fault: Memory\n",
         }
     }
 }
 
-impl From<AllocError> for FileFault {
-    ghost use Rattle.ob0_commands.specs.declared.faults.FileFault.TheVariants.{Memory};
+impl From<AllocError> for FileCommandFault {
+    ghost use Rattle.ob0_commands.specs.declared.faults.FileCommandFault.TheVariants.{Memory};
 
     ghost from_gives = { λ _ fault. fault ≡ Memory };
 
-    fn from(_error: AllocError) -> FileFault {
-        FileFault::Memory
+    fn from(_error: AllocError) -> FileCommandFault {
+        FileCommandFault::Memory
     }
 }
 
-impl<T: Drop> From<AllocFailed<T>> for FileFault {
-    ghost use Rattle.ob0_commands.specs.declared.faults.FileFault.TheVariants.{Memory};
+impl<T: Drop> From<AllocFailed<T>> for FileCommandFault {
+    ghost use Rattle.ob0_commands.specs.declared.faults.FileCommandFault.TheVariants.{Memory};
 
     ghost from_gives = { λ _ fault. fault ≡ Memory };
 
-    fn from(_error: AllocFailed<T>) -> FileFault {
-        FileFault::Memory
+    fn from(_error: AllocFailed<T>) -> FileCommandFault {
+        FileCommandFault::Memory
     }
 }
 
 /// Prints the line of a fault to `err`, and returns the fault's exit status, even if the line can't
 /// be written.
-pub fn print_fault<E: Output>(fault: FileFault, err: &mut E) -> u8
+pub fn print_fault<E: TrackedOutput>(fault: FileCommandFault, err: &mut E) -> u8
     ensures status { result ≡ status_of fault }
     ensures fails { 4 ≤ result }
-    ensures said { PrintsLine E.contents E.is_flushed E.has_failed err.old err.new
+    ensures said { PrintsOptionalLine E.contents E.is_flushed E.has_failed err.old err.new
         (Some (fault_line fault)) }
 {
     let _ = print(err, fault.fault_line());

@@ -3,15 +3,15 @@
 #![tactic(auto)]
 
 mod check_command;
-mod commands;
+mod command_dispatch;
 mod faults;
-mod numbers;
-mod reading;
+mod input_numbers;
 mod rename_command;
 mod run_command;
+mod tracked_input;
 mod tracked_output;
 
-pub use commands::perform_command;
-pub use faults::{FileFault, print_fault};
-pub use reading::{Input, MAX_FILE_BYTES_READ, TrackedReader, read_file};
-pub use tracked_output::{Output, TrackedWriter};
+pub use command_dispatch::perform_command;
+pub use faults::{FileCommandFault, print_fault};
+pub use tracked_input::{MAX_FILE_BYTES_READ, TrackedInput, TrackedReader, read_file};
+pub use tracked_output::{TrackedOutput, TrackedWriter};

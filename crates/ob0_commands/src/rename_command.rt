@@ -1,23 +1,23 @@
 //! Renames a declaration or field in a file's text, and prints the result.
 //!
-//! `rename_text` analyses the text once. `rename_edits` of `ob0_edits` computes the edits from that
+//! `rename_text` analyses the text once. `renaming_edits` of `ob0_edits` computes the edits from that
 //! analysis. If the text isn't a well-typed module, the diagnostics of the same analysis are
 //! printed, as in `validate_or_print_diagnoses`. `rename_utf8_text` does the work once the bytes
 //! are known to be UTF-8. It is a separate function because its proof needs a `&str`. The contract of
-//! `rename_edits` is about the characters of a text, and the contract of `diagnoses` is about the
+//! `renaming_edits` is about the characters of a text, and the contract of `diagnoses` is about the
 //! bytes. A `&str` relates the two.
 
 ghost use Rattle.std.specs.Prelude.{◌≡◌, true, IfOk, IfErr, OnErr};
 ghost use Rattle.ob0_commands.specs.CommandEndings.{EndsWithoutFault};
 ghost use Rattle.ob0_commands.specs.CommandEffects.{RenamesInFile};
-ghost use Rattle.ob0_commands.specs.RenameOutput.{PrintsRefusal, PrintsEditedText, RenameEndsWithoutFault};
-ghost use Rattle.ob0_commands.specs.StderrLines.{PrintsLine};
-ghost use Rattle.ob0_commands.specs.Statuses.{IsMemoryFaultOnlyForShortFile, IsShortNonUtf8File, OutputFailureMatchesFault, PrintsNothingUnlessWriteFault, IsWriteOrMemoryFault, MayStopCommandOnFile};
+ghost use Rattle.ob0_commands.specs.RenameOutput.{IsErrAndPrintsRefusal, IsOkAndPrintsPatchedText, RenameEndsWithoutFault};
+ghost use Rattle.ob0_commands.specs.StderrLines.{PrintsOptionalLine};
+ghost use Rattle.ob0_commands.specs.Statuses.{MemoryFaultImpliesShortFile, IsShortNonUtf8File, OutputFailureMatchesFault, PrintsNothingUnlessWriteFault, IsWriteOrMemoryFault, FaultMayStopCommandOnFile};
 
-use crate::check_command::{analyse_without_drop, decode_or_print_too_long, print_diagnoses};
-use crate::faults::{FileFault, print_fault};
-use crate::tracked_output::{Output, print};
-use ob0_edits::rename_edits;
+use crate::check_command::{analyse_without_drop, decode_or_print_too_long_line, print_diagnoses};
+use crate::faults::{FileCommandFault, print_fault};
+use crate::tracked_output::{TrackedOutput, print};
+use ob0_edits::renaming_edits;
 use ob0_text::{Edit, EditRefusal, Lines, Position, TextStore, patch};
 use std::alloc::Global;
 
@@ -26,7 +26,7 @@ use std::alloc::Global;
 /// the name is refused, `refused: TEXT` is printed to `err`. If the file isn't a well-typed module,
 /// its diagnostics are printed as `check_text` prints them. The status is 0 if the text is printed,
 /// and 1 for a refusal or diagnostics. For 4 and 5, see `check_text`.
-pub fn rename_text<O: Output, E: Output>(
+pub fn rename_text<O: TrackedOutput, E: TrackedOutput>(
     alloc: Global,
     file: &[u8],
     position: Position,
@@ -35,7 +35,7 @@ pub fn rename_text<O: Output, E: Output>(
     err: &mut E,
 ) -> u8
     ensures { RenamesInFile O.contents O.is_flushed O.has_failed out.old out.new
-        (PrintsLine E.contents E.is_flushed E.has_failed err.old err.new) file.now position new.now
+        (PrintsOptionalLine E.contents E.is_flushed E.has_failed err.old err.new) file.now position new.now
         result }
 {
     match try_rename_text(alloc, file, position, new, out, err) {
@@ -46,25 +46,25 @@ pub fn rename_text<O: Output, E: Output>(
 
 /// Does the work of `rename_text`, but returns a fault instead of printing the line `fault: NAME`
 /// for the fault.
-fn try_rename_text<O: Output, E: Output>(
+fn try_rename_text<O: TrackedOutput, E: TrackedOutput>(
     alloc: Global,
     file: &[u8],
     position: Position,
     new: &str,
     out: &mut O,
     err: &mut E,
-) -> Result<u8, FileFault>
+) -> Result<u8, FileCommandFault>
     ensures ends { IfOk result (RenameEndsWithoutFault O.contents O.is_flushed out.old out.new
-        (PrintsLine E.contents E.is_flushed E.has_failed err.old err.new) file.now position new.now
+        (PrintsOptionalLine E.contents E.is_flushed E.has_failed err.old err.new) file.now position new.now
         (¬ IsShortNonUtf8File file.now × (O.has_failed out.new ≡ O.has_failed out.old))) }
-    ensures fault { IfErr result (MayStopCommandOnFile file.now) }
+    ensures fault { IfErr result (FaultMayStopCommandOnFile file.now) }
     ensures failed { IfErr result
         (OutputFailureMatchesFault (O.has_failed out.old) (O.has_failed out.new)) }
-    ensures memory { IfErr result (IsMemoryFaultOnlyForShortFile file.now) }
+    ensures memory { IfErr result (MemoryFaultImpliesShortFile file.now) }
     ensures kept { IfErr result (PrintsNothingUnlessWriteFault out.old out.new) }
     ensures unsaid { OnErr result (err.new ≡ err.old) }
 {
-    let Some(text) = decode_or_print_too_long(file, out)? else {
+    let Some(text) = decode_or_print_too_long_line(file, out)? else {
         return Ok(1);
     };
     rename_utf8_text(alloc, text, position, new, out, err)
@@ -73,16 +73,16 @@ fn try_rename_text<O: Output, E: Output>(
 /// Prints a text with the declaration or field at a position renamed, or the refusal of the name.
 /// If the text isn't a well-typed module, prints its diagnostics instead. Returns the program's
 /// exit status: 0 for the renamed text, otherwise 1.
-fn rename_utf8_text<O: Output, E: Output>(
+fn rename_utf8_text<O: TrackedOutput, E: TrackedOutput>(
     alloc: Global,
     text: &str,
     position: Position,
     new: &str,
     out: &mut O,
     err: &mut E,
-) -> Result<u8, FileFault>
+) -> Result<u8, FileCommandFault>
     ensures ends { IfOk result (RenameEndsWithoutFault O.contents O.is_flushed out.old out.new
-        (PrintsLine E.contents E.is_flushed E.has_failed err.old err.new) text.now position new.now
+        (PrintsOptionalLine E.contents E.is_flushed E.has_failed err.old err.new) text.now position new.now
         (O.has_failed out.new ≡ O.has_failed out.old)) }
     ensures fault { IfErr result IsWriteOrMemoryFault }
     ensures failed { IfErr result
@@ -92,7 +92,7 @@ fn rename_utf8_text<O: Output, E: Output>(
 {
     let store = Lines::from_str(alloc, text)?;
     let analysis = analyse_without_drop(alloc, text)?;
-    match rename_edits(alloc, &store, &analysis, position, new)? {
+    match renaming_edits(alloc, &store, &analysis, position, new)? {
         Some(outcome) => print_rename_outcome(alloc, &store, outcome, out, err),
         None => {
             let reported = analysis.diagnoses(alloc)?;
@@ -105,17 +105,17 @@ fn rename_utf8_text<O: Output, E: Output>(
 /// Applies the edits and prints the edited text to `out`, or prints the refusal to `err` as
 /// `refused: TEXT`. Returns the program's exit status: 0 for edits, 1 for a refusal. If an
 /// allocation fails, the fault is `Memory`.
-pub fn print_rename_outcome<T: TextStore, O: Output, E: Output>(
+pub fn print_rename_outcome<T: TextStore, O: TrackedOutput, E: TrackedOutput>(
     alloc: Global,
     store: &T,
     edits: Result<Vec<Edit>, EditRefusal>,
     out: &mut O,
     err: &mut E,
-) -> Result<u8, FileFault>
+) -> Result<u8, FileCommandFault>
     ensures ends { IfOk result (EndsWithoutFault
-        (PrintsEditedText (T.unit_of store.now) (T.content store.now) edits (O.contents out.old)
+        (IsOkAndPrintsPatchedText (T.unit_of store.now) (T.content store.now) edits (O.contents out.old)
         (O.contents out.new) × (O.is_flushed out.new ≡ true) × (err.new ≡ err.old))
-        (PrintsRefusal edits (PrintsLine E.contents E.is_flushed E.has_failed err.old err.new)
+        (IsErrAndPrintsRefusal edits (PrintsOptionalLine E.contents E.is_flushed E.has_failed err.old err.new)
         × (out.new ≡ out.old))
         (O.has_failed out.new ≡ O.has_failed out.old)) }
     ensures fault { IfErr result IsWriteOrMemoryFault }
@@ -130,9 +130,9 @@ pub fn print_rename_outcome<T: TextStore, O: Output, E: Output>(
                 print(out, text.as_str())?;
                 Ok(0)
             }
-            Err(_) => Err(FileFault::Memory),
+            Err(_) => Err(FileCommandFault::Memory),
         },
-        Err(EditRefusal::Memory) => Err(FileFault::Memory),
+        Err(EditRefusal::Memory) => Err(FileCommandFault::Memory),
         Err(refusal) => {
             let text = refusal.text(alloc)?;
             let name = text.as_str();

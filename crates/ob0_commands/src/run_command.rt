@@ -2,10 +2,10 @@
 //!
 //! `run_text` analyses the text once and lowers it to a program (`LoweringQuestion`). If the text
 //! isn't a well-typed module, the diagnostics are printed. Otherwise the analysis is dropped, the
-//! input is read, and the program is executed. `IsLoweredTo` states that the program runs like the
+//! input is read, and the program is executed. `ProgramRunsAsText` states that the program runs like the
 //! text's module. The contract of `execute` describes the run of the program (`ProgramRunsAsModule`).
 //!
-//! The output is written in pieces of at most `PIECE_SIZE` bytes (`print_output_items`), so the
+//! The output is written in pieces of at most `IO_BUFFER_SIZE` bytes (`print_output_items`), so the
 //! whole text of the output is never stored. `IsWrittenExceptLastPart` separates the written text from the
 //! piece that isn't written yet. A piece is an `ArrayString`: it is on the stack and doesn't grow.
 //! It is written if the next item might not fit. So nothing is allocated after the first byte is
@@ -22,16 +22,16 @@ ghost use Rattle.ob0_commands.specs.InputReaders.{ConsumesAtMost};
 ghost use Rattle.ob0_commands.specs.InputNumbers.{max_input_length};
 ghost use Rattle.ob0_commands.specs.CommandEffects.{RunsFile};
 ghost use Rattle.ob0_commands.specs.PrintedTexts.{IsWrittenExceptLastPart, PrintsDiagnostics, run_end_line, output_text, output_item_text};
-ghost use Rattle.ob0_commands.specs.StderrLines.{PrintsLine};
-ghost use Rattle.ob0_commands.specs.Statuses.{IsMemoryFaultOnlyForShortFile, IsShortNonUtf8File, KeepsInputFailureUnlessInputFault, OutputFailureMatchesFault, PrintsNothingUnlessWriteFault, IsWriteOrMemoryFault, MayStopRun, run_end_status};
-ghost use Rattle.ob0_commands.specs.declared.faults.FileFault.TheVariants as faults;
-ghost use Rattle.ob0_commands.specs.TextRuns.{IsLoweredTo, RunEndsWithoutFault, TextRunsAs};
+ghost use Rattle.ob0_commands.specs.StderrLines.{PrintsOptionalLine};
+ghost use Rattle.ob0_commands.specs.Statuses.{MemoryFaultImpliesShortFile, IsShortNonUtf8File, KeepsInputFailureUnlessInputFault, OutputFailureMatchesFault, PrintsNothingUnlessWriteFault, IsWriteOrMemoryFault, FaultMayStopRun, run_end_status};
+ghost use Rattle.ob0_commands.specs.declared.faults.FileCommandFault.TheVariants as faults;
+ghost use Rattle.ob0_commands.specs.TextRuns.{ProgramRunsAsText, RunCommandEndsWithoutFault, IsRunOfText};
 
-use crate::check_command::{decode_or_print_too_long, print_diagnoses};
-use crate::faults::{FileFault, print_fault};
-use crate::numbers::read_numbers;
-use crate::reading::Input;
-use crate::tracked_output::{Output, PIECE_SIZE, print, write};
+use crate::check_command::{decode_or_print_too_long_line, print_diagnoses};
+use crate::faults::{FileCommandFault, print_fault};
+use crate::input_numbers::read_numbers;
+use crate::tracked_input::TrackedInput;
+use crate::tracked_output::{IO_BUFFER_SIZE, TrackedOutput, print, write_without_flush};
 use arrayvec::ArrayString;
 use itoa::Buffer;
 use ob0_analysis::{Analysis, Question, WellTyped, ask};
@@ -59,7 +59,7 @@ impl Question for LoweringQuestion {
 /// and the input isn't read. The status is 0 for `Done`, and 1 for another end or diagnostics. If
 /// the input can't be read, is too long or isn't a list of numbers, the status is 4. For the other
 /// uses of 4 and for 5, see `check_text`.
-pub fn run_text<R: Input, O: Output, E: Output>(
+pub fn run_text<R: TrackedInput, O: TrackedOutput, E: TrackedOutput>(
     alloc: Global,
     file: &[u8],
     input: &mut R,
@@ -69,7 +69,7 @@ pub fn run_text<R: Input, O: Output, E: Output>(
     err: &mut E,
 ) -> u8
     ensures ends { RunsFile O.contents O.is_flushed O.has_failed out.old out.new
-        (PrintsLine E.contents E.is_flushed E.has_failed err.old err.new) file.now
+        (PrintsOptionalLine E.contents E.is_flushed E.has_failed err.old err.new) file.now
         R.remaining R.has_failed input.old input.new calls turns result }
     ensures limit { ConsumesAtMost (suc max_input_length) (R.remaining input.old) (R.remaining input.new) }
     ensures unread { ¬ IsWellTypedModule file.now → input.new ≡ input.old }
@@ -82,7 +82,7 @@ pub fn run_text<R: Input, O: Output, E: Output>(
 
 /// Does the work of `run_text`, but returns a fault instead of printing the line `fault: NAME` for
 /// the fault.
-fn try_run_text<R: Input, O: Output, E: Output>(
+fn try_run_text<R: TrackedInput, O: TrackedOutput, E: TrackedOutput>(
     alloc: Global,
     file: &[u8],
     input: &mut R,
@@ -90,24 +90,24 @@ fn try_run_text<R: Input, O: Output, E: Output>(
     turns: u32,
     out: &mut O,
     err: &mut E,
-) -> Result<u8, FileFault>
-    ensures ends { IfOk result (RunEndsWithoutFault O.contents O.is_flushed out.old out.new
-        (PrintsLine E.contents E.is_flushed E.has_failed err.old err.new) file.now
+) -> Result<u8, FileCommandFault>
+    ensures ends { IfOk result (RunCommandEndsWithoutFault O.contents O.is_flushed out.old out.new
+        (PrintsOptionalLine E.contents E.is_flushed E.has_failed err.old err.new) file.now
         (R.remaining input.old) calls turns
         (¬ IsShortNonUtf8File file.now × (O.has_failed out.new ≡ O.has_failed out.old)
         × (R.has_failed input.new ≡ R.has_failed input.old))) }
     ensures limit { ConsumesAtMost (suc max_input_length) (R.remaining input.old) (R.remaining input.new) }
     ensures read { IfErr result (KeepsInputFailureUnlessInputFault (R.has_failed input.old) (R.has_failed input.new)) }
     ensures fault { IfErr result
-        (MayStopRun file.now (R.remaining input.old) (R.has_failed input.new)) }
+        (FaultMayStopRun file.now (R.remaining input.old) (R.has_failed input.new)) }
     ensures failed { IfErr result
         (OutputFailureMatchesFault (O.has_failed out.old) (O.has_failed out.new)) }
-    ensures memory { IfErr result (IsMemoryFaultOnlyForShortFile file.now) }
+    ensures memory { IfErr result (MemoryFaultImpliesShortFile file.now) }
     ensures kept { IfErr result (PrintsNothingUnlessWriteFault out.old out.new) }
     ensures unread { ¬ IsWellTypedModule file.now → input.new ≡ input.old }
     ensures unsaid { OnErr result (err.new ≡ err.old) }
 {
-    let Some(text) = decode_or_print_too_long(file, out)? else {
+    let Some(text) = decode_or_print_too_long_line(file, out)? else {
         return Ok(1);
     };
     let Some(program) = lower_or_print_diagnoses(alloc, text, out)? else {
@@ -121,14 +121,14 @@ fn try_run_text<R: Input, O: Output, E: Output>(
 /// Returns the program that a text is lowered to. If the text isn't a well-typed module, prints its
 /// diagnostics and returns None. The analysis is dropped on return, because a run may take long and
 /// needs only the program.
-fn lower_or_print_diagnoses<O: Output>(
+fn lower_or_print_diagnoses<O: TrackedOutput>(
     alloc: Global,
     text: &str,
     out: &mut O,
-) -> Result<Option<Program>, FileFault>
+) -> Result<Option<Program>, FileCommandFault>
     ensures found { IfOk result (λ found. MatchOption found
         (PrintsDiagnostics text.now (O.contents out.old) (O.contents out.new))
-        (λ program. IsLoweredTo text.now program × (out.new ≡ out.old))) }
+        (λ program. ProgramRunsAsText text.now program × (out.new ≡ out.old))) }
     ensures flushed { IfOk result (λ found. IfNone found (O.is_flushed out.new ≡ true)) }
     ensures unfailed { OnOk result (O.has_failed out.new ≡ O.has_failed out.old) }
     ensures fault { IfErr result IsWriteOrMemoryFault }
@@ -158,8 +158,8 @@ fn execute_lowered_program(
     calls: u32,
     turns: u32,
 ) -> Result<Outcome, AllocError>
-    requires { IsLoweredTo text.now program.now }
-    ensures { IfOk result (λ outcome. TextRunsAs text.now input.now calls turns (run_of outcome)) }
+    requires { ProgramRunsAsText text.now program.now }
+    ensures { IfOk result (λ outcome. IsRunOfText text.now input.now calls turns (run_of outcome)) }
 {
     execute(alloc, program, input, calls, turns)
 }
@@ -182,12 +182,12 @@ fn run_end_line_of(end: End) -> Option<&'static str>
 
 /// Prints a run's output to `out`. If the run has an end other than `Done`, prints the line for
 /// that end to `err`. Returns the program's exit status: 0 for `Done`, otherwise 1.
-pub fn print_run_outcome<O: Output, E: Output>(
+pub fn print_run_outcome<O: TrackedOutput, E: TrackedOutput>(
     output: &[Item],
     end: End,
     out: &mut O,
     err: &mut E,
-) -> Result<u8, FileFault>
+) -> Result<u8, FileCommandFault>
     ensures printed { OnOk result
         (Appends (O.contents out.old) (O.contents out.new) (output_text (output_items output.now))) }
     ensures flushed { OnOk result (O.is_flushed out.new ≡ true) }
@@ -197,7 +197,7 @@ pub fn print_run_outcome<O: Output, E: Output>(
     ensures fault { IfErr result (λ fault. fault ≡ faults.Write) }
     ensures failed { OnErr result (O.has_failed out.new ≡ true) }
     ensures said { OnOk result
-        (PrintsLine E.contents E.is_flushed E.has_failed err.old err.new (run_end_line end)) }
+        (PrintsOptionalLine E.contents E.is_flushed E.has_failed err.old err.new (run_end_line end)) }
     ensures silent { IfOk result (λ status. status ≡ 0 → err.new ≡ err.old) }
     ensures unsaid { OnErr result (err.new ≡ err.old) }
 {
@@ -217,7 +217,10 @@ const MAX_ITEM_TEXT_LENGTH: usize = 12;
 
 /// Prints the items of a run's output, and flushes. Their text is collected in pieces on the stack,
 /// so the whole text is never stored and nothing is allocated.
-fn print_output_items<O: Output>(output: &[Item], out: &mut O) -> Result<(), FileFault>
+fn print_output_items<O: TrackedOutput>(
+    output: &[Item],
+    out: &mut O,
+) -> Result<(), FileCommandFault>
     ensures printed { OnOk result
         (Appends (O.contents out.old) (O.contents out.new) (output_text (output_items output.now))) }
     ensures flushed { OnOk result (O.is_flushed out.new ≡ true) }
@@ -225,7 +228,7 @@ fn print_output_items<O: Output>(output: &[Item], out: &mut O) -> Result<(), Fil
     ensures fault { IfErr result (λ fault. fault ≡ faults.Write) }
     ensures failed { OnErr result (O.has_failed out.new ≡ true) }
 {
-    let mut text = ArrayString::<PIECE_SIZE>::new();
+    let mut text = ArrayString::<IO_BUFFER_SIZE>::new();
     let mut digits = Buffer::new();
     for item in output {
         append_item_writing_if_full(&mut text, &mut digits, *item, out)?;
@@ -235,12 +238,12 @@ fn print_output_items<O: Output>(output: &[Item], out: &mut O) -> Result<(), Fil
 
 /// Appends an output item to `text`, the collected text that isn't written yet. If the item might
 /// not fit, `text` is first written and cleared.
-fn append_item_writing_if_full<O: Output>(
-    text: &mut ArrayString<PIECE_SIZE>,
+fn append_item_writing_if_full<O: TrackedOutput>(
+    text: &mut ArrayString<IO_BUFFER_SIZE>,
     digits: &mut Buffer,
     item: Item,
     out: &mut O,
-) -> Result<(), FileFault>
+) -> Result<(), FileCommandFault>
     ensures written { OnOk result (IsWrittenExceptLastPart (O.contents out.old) (O.contents out.new)
         (text.old.bytes ++ output_item_text (item_of item)) text.new.bytes) }
     ensures unfailed { OnOk result (O.has_failed out.new ≡ O.has_failed out.old) }
@@ -248,7 +251,7 @@ fn append_item_writing_if_full<O: Output>(
     ensures failed { OnErr result (O.has_failed out.new ≡ true) }
 {
     if text.remaining_capacity() < MAX_ITEM_TEXT_LENGTH {
-        write(out, text.as_str())?;
+        write_without_flush(out, text.as_str())?;
         text.clear();
     }
     append_item_text(text, digits, item);
@@ -257,7 +260,7 @@ fn append_item_writing_if_full<O: Output>(
 
 /// Appends an output item to a text. A number becomes a space and its digits, and a line end
 /// becomes a line feed. `text` must have at least 12 bytes of free capacity.
-fn append_item_text(text: &mut ArrayString<PIECE_SIZE>, digits: &mut Buffer, item: Item)
+fn append_item_text(text: &mut ArrayString<IO_BUFFER_SIZE>, digits: &mut Buffer, item: Item)
     requires { array_string_len text.old + 12 ≤ 8192 }
     ensures { text.new.bytes ≡ text.old.bytes ++ output_item_text (item_of item) }
 {

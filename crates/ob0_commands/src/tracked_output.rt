@@ -1,6 +1,6 @@
 //! Prints whole texts.
 //!
-//! The commands print through the trait `Output`: a writer that remembers whether it has been flushed
+//! The commands print through the trait `TrackedOutput`: a writer that remembers whether it has been flushed
 //! since the last write, and whether it has failed. std's contracts of `Write` mention neither fact,
 //! but the contract of `print` needs both. `TrackedWriter` implements this trait for any writer,
 //! including the writer for standard error. The bytes that a writer has written are its `contents`,
@@ -15,20 +15,20 @@
 ghost use Rattle.std.specs.Prelude.{◌≡◌, ◌≢◌, ◌||◌, [], Bool, Some, true, false, is_err, OnOk, OnErr, IfErr};
 ghost use Rattle.std.specs.Io.{WritesAtMost};
 ghost use Rattle.std.specs.Io.KnownBytes.{Appends, Keeps, WriteAppends};
-ghost use Rattle.ob0_commands.specs.declared.faults.FileFault.TheVariants as faults;
+ghost use Rattle.ob0_commands.specs.declared.faults.FileCommandFault.TheVariants as faults;
 ghost use Rattle.ob0_commands.specs.OutputWriters.{wrapped_writer, has_output_failed, has_flushed};
-ghost use Rattle.ob0_commands.specs.StderrLines.{PrintsLine};
+ghost use Rattle.ob0_commands.specs.StderrLines.{PrintsOptionalLine};
 
-use crate::faults::FileFault;
+use crate::faults::FileCommandFault;
 use std::io::{self, Write};
 
 /// The size in bytes of two buffers. Files and inputs are read through one of them. The output of a
 /// run is collected in the other before it is written.
-pub(crate) const PIECE_SIZE: usize = 8192;
+pub(crate) const IO_BUFFER_SIZE: usize = 8192;
 
 /// A writer that remembers whether it has been flushed since the last write, and whether a call of
 /// `write_all_noting_failure` or `flush_noting_result` has failed.
-pub trait Output: Write {
+pub trait TrackedOutput: Write {
     // Returns whether a call of `flush_noting_result` has succeeded since the last write. A call of
     // `write_all_noting_failure` without any bytes doesn't count as a write.
     ghost is_flushed: { Self → Bool };
@@ -52,7 +52,7 @@ pub trait Output: Write {
         ensures failed { has_failed self.new ≡ (has_failed self.old || is_err result) };
 }
 
-/// A wrapper that implements the trait `Output` for any writer. It remembers whether
+/// A wrapper that implements the trait `TrackedOutput` for any writer. It remembers whether
 /// `flush_noting_result` has succeeded since the last write, and whether
 /// `write_all_noting_failure` or `flush_noting_result` has failed.
 #[derive(Drop)]
@@ -101,7 +101,7 @@ impl<W: Write> Write for TrackedWriter<W> {
     }
 }
 
-impl<W: Write> Output for TrackedWriter<W> {
+impl<W: Write> TrackedOutput for TrackedWriter<W> {
     ghost is_flushed = { λ output. has_flushed output };
 
     ghost has_failed = { λ output. has_output_failed output };
@@ -132,7 +132,10 @@ impl<W: Write> Output for TrackedWriter<W> {
 }
 
 /// Writes a whole text, but doesn't flush. If the write fails, the fault is `Write`.
-pub(crate) fn write<W: Output>(out: &mut W, text: &str) -> Result<(), FileFault>
+pub(crate) fn write_without_flush<W: TrackedOutput>(
+    out: &mut W,
+    text: &str,
+) -> Result<(), FileCommandFault>
     ensures written { OnOk result (Appends (W.contents out.old) (W.contents out.new) text.now) }
     ensures unfailed { OnOk result (W.has_failed out.new ≡ W.has_failed out.old) }
     ensures fault { IfErr result (λ fault. fault ≡ faults.Write) }
@@ -140,22 +143,22 @@ pub(crate) fn write<W: Output>(out: &mut W, text: &str) -> Result<(), FileFault>
 {
     match out.write_all_noting_failure(text.as_bytes()) {
         Ok(()) => Ok(()),
-        Err(_) => Err(FileFault::Write),
+        Err(_) => Err(FileCommandFault::Write),
     }
 }
 
 /// Writes a whole text, and flushes. If the write or the flush fails, the fault is `Write`.
-pub fn print<W: Output>(out: &mut W, text: &str) -> Result<(), FileFault>
+pub fn print<W: TrackedOutput>(out: &mut W, text: &str) -> Result<(), FileCommandFault>
     ensures printed { OnOk result (Appends (W.contents out.old) (W.contents out.new) text.now) }
     ensures flushed { OnOk result (W.is_flushed out.new ≡ true) }
     ensures unfailed { OnOk result (W.has_failed out.new ≡ W.has_failed out.old) }
     ensures fault { IfErr result (λ fault. fault ≡ faults.Write) }
     ensures failed { OnErr result (W.has_failed out.new ≡ true) }
-    ensures said { PrintsLine W.contents W.is_flushed W.has_failed out.old out.new (Some text.now) }
+    ensures said { PrintsOptionalLine W.contents W.is_flushed W.has_failed out.old out.new (Some text.now) }
 {
-    write(out, text)?;
+    write_without_flush(out, text)?;
     match out.flush_noting_result() {
         Ok(()) => Ok(()),
-        Err(_) => Err(FileFault::Write),
+        Err(_) => Err(FileCommandFault::Write),
     }
 }

@@ -2,7 +2,7 @@
 use Rattle.std.proofs.Common.{◌≡◌, ◌≤◌, ◌<◌, ◌⊎◌, ◌∙◌, ℕ, List, Option, Some, None, Result, Ok, Err, IfOk, IfErr, IsErrOf, Vec, Global, map, length, inl, inr, refl, sym, ap, subst}
 use Rattle.std.specs.Str.{chars, IsUtf8}
 use Rattle.std.proofs.lemmas.Str.{encodes-chars}
-use Rattle.ob0_scan.specs.Lexed.{Lexeme, LexesInto}
+use Rattle.ob0_scan.specs.TextLexemes.{Lexeme, LexesInto}
 use Rattle.ob0_scan.specs.TextWithTokens.{TextWithTokens, IsScan, max_text_length, tokens_of_lexemes_from, comments_of_lexemes_from}
 use Rattle.ob0_scope_table.specs.Resolution.{Resolution}
 use Rattle.ob0_text.specs.Patches.{patched_text}
@@ -20,9 +20,9 @@ use Rattle.ob0_layout.specs.Gaps.{changed_gaps, all_gaps}
 use Rattle.ob0_layout.specs.LineRoles.{line_roles}
 use Rattle.ob0_text.specs.declared.refusals.EditRefusal.{EditRefusal}
 use Rattle.ob0_text.specs.declared.refusals.EditRefusal.TheVariants.{TooLong, Memory}
-use Rattle.ob0_analysis.specs.AnalysisAnswers.{AnswersIfWellTyped, IsResolvedWellTypedModule}
+use Rattle.ob0_analysis.specs.AnalysisAnswers.{AnswersExactlyIfWellTyped, IsResolvedWellTypedModule}
 use Rattle.ob0_analysis.specs.ReportedErrors.{IsTextOfTree, IsWellTypedModule}
-use Rattle.ob0_analysis.specs.Texts.{utf8}
+use Rattle.ob0_analysis.specs.TextBytes.{utf8}
 use Rattle.ob0_edits.specs.FormattingEdits.{IsOptionalFormatResult, IsFormatResult, FormattedTextIsTooLong, FormatsText, edits_of_changed_gaps, formatted_text_of_module}
 use Rattle.ob0_analysis.proofs.Scanning.{is_module, utf8_of}
 
@@ -103,7 +103,7 @@ formats_or_not unit indent text names m (Err refusal) is h same changes short ma
 
 -- The result of asking for the formatting is the result of formatting the text.
 pub layout_found : (unit : Unit) (indent : Indent) (bytes text : List ℕ) (found : Option (Result (Vec Edit Global) EditRefusal)) → IsUtf8 bytes → chars bytes ≡ text
-    → AnswersIfWellTyped bytes (λ names outcome. IsResolvedWellTypedModule (utf8 text) names → text ≡ chars names.module_read.source.text → IsFormatResult unit indent text outcome) found
+    → AnswersExactlyIfWellTyped bytes (λ names outcome. IsResolvedWellTypedModule (utf8 text) names → text ≡ chars names.module_read.source.text → IsFormatResult unit indent text outcome) found
     → IsOptionalFormatResult unit indent text found
 layout_found unit indent bytes text (Some outcome) u is h =
     h.2 (subst (λ (t : List ℕ). IsResolvedWellTypedModule t h.0) (utf8_of bytes text u is) h.1) (sym is ∙ ap chars (sym h.1.scan.of))

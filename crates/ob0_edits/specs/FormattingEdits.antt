@@ -17,7 +17,7 @@ use Rattle.ob0_layout.specs.Layout.{formatted_text}
 use Rattle.ob0_layout.specs.Gaps.{changed_gaps, all_gaps}
 use Rattle.ob0_layout.specs.LineRoles.{line_roles}
 use Rattle.ob0_analysis.specs.ReportedErrors.{IsTextOfTree, IsWellTypedModule}
-use Rattle.ob0_analysis.specs.Texts.{utf8}
+use Rattle.ob0_analysis.specs.TextBytes.{utf8}
 use Rattle.ob0_analysis.specs.SameRuns.{RunsAsBefore}
 
 -- Returns the formatted text of a module, as a list of bytes.

@@ -11,17 +11,17 @@ use Rattle.ob0_text.specs.declared.refusals.EditRefusal.TheVariants.{Memory}
 use Rattle.ob0_tree.specs.ParsedModule.{ParsedModule}
 use Rattle.ob0_inline.specs.Everywhere.{AnswersInliningEverywhere}
 use Rattle.ob0_inline.specs.Uses.{AnswersInliningHere}
-use Rattle.ob0_analysis.specs.Texts.{utf8}
+use Rattle.ob0_analysis.specs.TextBytes.{utf8}
 use Rattle.ob0_analysis.specs.AnalysisAnswers.{IsParsedWellTypedModule}
 use Rattle.ob0_analysis.specs.ReportedErrors.{IsWellTypedModule}
 use Rattle.ob0_analysis.specs.SameRuns.{RunsAsBefore}
-use Rattle.ob0_edits.specs.declared.inlinings.Inlining.{Inlining}
-use Rattle.ob0_edits.specs.declared.inlinings.Inlining.TheVariants.{OneUse, Everywhere}
-use Rattle.ob0_edits.specs.declared.inlinings.InliningEdits as found_inlinings
+use Rattle.ob0_edits.specs.declared.inline_question.InliningKind.{InliningKind}
+use Rattle.ob0_edits.specs.declared.inline_question.InliningKind.TheVariants.{OneUse, Everywhere}
+use Rattle.ob0_edits.specs.declared.inline_question.InliningEdits as found_inlinings
 
 -- States that `answer`, edits or a refusal, is the right answer to a request for this kind of
 -- inlining at a byte offset of the module, according to the definitions of `ob0_inline`.
-abbrev pub AnswersInlining : Inlining
+abbrev pub AnswersInlining : InliningKind
     → Unit
     → List ℕ
     → ParsedModule
@@ -33,7 +33,7 @@ AnswersInlining Everywhere unit text m offset answer = AnswersInliningEverywhere
 
 -- States that these edits are the right answer to an inlining at a byte offset of a module. None
 -- means that the inlining is refused, but not because an allocation failed.
-abbrev pub IsInlineResult : Inlining → Unit → List ℕ → ParsedModule → ℕ → Option (Vec Edit Global) → Type 0
+abbrev pub IsInlineResult : InliningKind → Unit → List ℕ → ParsedModule → ℕ → Option (Vec Edit Global) → Type 0
 IsInlineResult how unit text m offset (Some edits) = AnswersInlining how unit text m offset (Ok edits)
 IsInlineResult how unit text m offset None =
     (refusal : EditRefusal)
@@ -42,7 +42,7 @@ IsInlineResult how unit text m offset None =
 
 -- States that these edits inline the constant at a byte offset of a well-typed module. Applied
 -- together, the edits give a text whose module has the same runs.
-pub record InlinesInText (how : Inlining) (unit : Unit) (text : List ℕ) (offset : ℕ)
+pub record InlinesInText (how : InliningKind) (unit : Unit) (text : List ℕ) (offset : ℕ)
     (edits : Vec Edit Global) : Type 0 where
   pub module_read : ParsedModule
   pub read : IsParsedWellTypedModule (utf8 text) module_read
@@ -53,7 +53,7 @@ pub record InlinesInText (how : Inlining) (unit : Unit) (text : List ℕ) (offse
 
 -- States that the text is a well-typed module, and that inlining the constant at this byte offset
 -- is refused, but not because an allocation failed.
-pub record IsInliningRefusedInText (how : Inlining) (unit : Unit) (text : List ℕ) (offset : ℕ) : Type 0 where
+pub record IsInliningRefusedInText (how : InliningKind) (unit : Unit) (text : List ℕ) (offset : ℕ) : Type 0 where
   pub module_read : ParsedModule
   pub read : IsParsedWellTypedModule (utf8 text) module_read
   pub refused : IsInlineResult how unit text module_read offset None
@@ -69,7 +69,7 @@ AreEditsUnlessRefused answer None = (refusal : EditRefusal) × ¬ (refusal ≡ M
 -- States that these edits inline the constant at a byte offset of the text. None means that the
 -- text is a well-typed module, and that this inlining is refused, but not because an allocation
 -- failed.
-abbrev pub IsInlineResultInText : Inlining → Unit → List ℕ → ℕ → Option (Vec Edit Global) → Type 0
+abbrev pub IsInlineResultInText : InliningKind → Unit → List ℕ → ℕ → Option (Vec Edit Global) → Type 0
 IsInlineResultInText how unit text offset (Some edits) = InlinesInText how unit text offset edits
 IsInlineResultInText how unit text offset None = IsInliningRefusedInText how unit text offset
 

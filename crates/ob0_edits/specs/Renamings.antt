@@ -12,9 +12,9 @@ use Rattle.ob0_scope_table.specs.Resolution.{Resolution}
 use Rattle.ob0_analysis.specs.AnalysisAnswers.{IsResolvedWellTypedModule}
 use Rattle.ob0_analysis.specs.ReportedErrors.{IsWellTypedModule}
 use Rattle.ob0_analysis.specs.SameRuns.{RunsAsBefore}
-use Rattle.ob0_analysis.specs.Texts.{utf8}
+use Rattle.ob0_analysis.specs.TextBytes.{utf8}
 use Rattle.ob0_rename.specs.Answers.{AreRenameEdits, IsRenameRefusal}
-use Rattle.ob0_rename.specs.Renaming.{Renaming, renaming_of}
+use Rattle.ob0_rename.specs.Renaming.{Renaming, renaming_at_place}
 
 -- States that the result is right for the renaming `r`: edits that rename the declaration or field,
 -- or the refusal of the renaming.
@@ -28,7 +28,7 @@ pub record RenamesInText (unit : Unit) (text : List ℕ) (place : Position) (new
     (edits : List Edit) : Type 0 where
   pub names : Resolution
   pub read : IsResolvedWellTypedModule (utf8 text) names
-  pub are_edits : AreRenameEdits (renaming_of unit text names place new) edits
+  pub are_edits : AreRenameEdits (renaming_at_place unit text names place new) edits
   pub after : List ℕ
   pub made : patched_text (width_of unit) text edits ≡ Some after
   pub runs : RunsAsBefore (utf8 text) (utf8 after)
@@ -39,7 +39,7 @@ pub record IsRenameRefusedInText (unit : Unit) (text : List ℕ) (place : Positi
     (refusal : EditRefusal) : Type 0 where
   pub names : Resolution
   pub read : IsResolvedWellTypedModule (utf8 text) names
-  pub refused : IsRenameRefusal (renaming_of unit text names place new) refusal
+  pub refused : IsRenameRefusal (renaming_at_place unit text names place new) refusal
 
 -- States that this is the result of renaming the declaration or field at a position of a text:
 -- edits, or the refusal. None means that the text isn't a well-typed module.

@@ -3,14 +3,15 @@
 ghost use Rattle.std.specs.Prelude.{◌≡◌, IfOk};
 ghost use Rattle.std.specs.Str.{chars};
 ghost use Rattle.ob0_analysis.specs.AnalysisAnswers.{IsResolvedWellTypedModule};
-ghost use Rattle.ob0_analysis.specs.Texts.{utf8};
+ghost use Rattle.ob0_analysis.specs.TextBytes.{utf8};
 ghost use Rattle.ob0_edits.specs.FormattingEdits.{IsOptionalFormatResult, IsFormatResult};
 
-use crate::refusals::memory_refusal_as_error;
+use crate::memory_refusals::memory_refusal_as_error;
 use ob0_analysis::{Analysis, Question, WellTyped, ask};
 use ob0_layout::format;
 use ob0_layout::laws::{
-    formatting_keeps_module, formatting_keeps_tokens_and_comments, gaps_give_formatted_text,
+    formatting_keeps_module_tree, formatting_keeps_tokens_and_comments,
+    replacing_gaps_gives_formatted_text,
 };
 use ob0_text::{Edit, EditRefusal, Indent, TextStore};
 use std::alloc::{AllocError, Global};
@@ -35,8 +36,8 @@ impl<'a, T: TextStore> Question for FormatQuestion<'a, T> {
         module: &WellTyped<'_>,
     ) -> Result<Result<Vec<Edit>, EditRefusal>, AllocError> {
         formatting_keeps_tokens_and_comments();
-        formatting_keeps_module();
-        gaps_give_formatted_text();
+        formatting_keeps_module_tree();
+        replacing_gaps_gives_formatted_text();
         let module = module.resolved().module();
         memory_refusal_as_error(format(alloc, self.store, module, self.indent))
     }
@@ -45,7 +46,7 @@ impl<'a, T: TextStore> Question for FormatQuestion<'a, T> {
 /// Returns the edits that format a store's text, or the refusal if the formatted text is too long.
 /// Returns None if the text isn't a well-typed module. A failed allocation is an error, never a
 /// refusal.
-pub fn format_edits<T: TextStore>(
+pub fn formatting_edits<T: TextStore>(
     alloc: Global,
     store: &T,
     analysis: &Analysis,

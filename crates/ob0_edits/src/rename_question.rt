@@ -1,6 +1,6 @@
 //! Answers requests for renames in an analysed text.
 //!
-//! `rename_edits` asks a `RenameQuestion`. The function `ask` answers it only for a well-typed text.
+//! `renaming_edits` asks a `RenameQuestion`. The function `ask` answers it only for a well-typed text.
 //!
 //! `AreRenameEdits` and `IsRenameRefusal` of `ob0_rename` each have a case for declarations and a case
 //! for fields. Both cases of `AreRenameEdits` state which tokens get the new name (`WritesNewName`), so
@@ -13,10 +13,10 @@
 
 ghost use Rattle.std.specs.Prelude.{◌≡◌, IfOk};
 ghost use Rattle.std.specs.Str.{chars};
-ghost use Rattle.ob0_rename.specs.Renaming.{renaming_of};
+ghost use Rattle.ob0_rename.specs.Renaming.{renaming_at_place};
 ghost use Rattle.ob0_edits.specs.Renamings.{IsOptionalRenameResult, IsRenameResult};
 
-use crate::refusals::memory_refusal_as_error;
+use crate::memory_refusals::memory_refusal_as_error;
 use ob0_analysis::{Analysis, Question, WellTyped, ask};
 use ob0_rename::rename;
 use ob0_text::{Edit, EditRefusal, Position, TextStore};
@@ -36,7 +36,7 @@ impl<'a, T: TextStore> Question for RenameQuestion<'a, T> {
 
     ghost is_about = { λ q text. T.content q.store.now ≡ chars text };
 
-    ghost answers = { λ q names outcome. IsRenameResult (renaming_of (T.unit_of q.store.now)
+    ghost answers = { λ q names outcome. IsRenameResult (renaming_at_place (T.unit_of q.store.now)
         (T.content q.store.now) names q.place q.new.now) outcome };
 
     fn answer(
@@ -51,7 +51,7 @@ impl<'a, T: TextStore> Question for RenameQuestion<'a, T> {
 /// Returns the edits that rename the declaration or field at a position in a store's text to `new`,
 /// or the refusal. Returns None if the text isn't a well-typed module. A failed allocation is an
 /// error, never a refusal.
-pub fn rename_edits<T: TextStore>(
+pub fn renaming_edits<T: TextStore>(
     alloc: Global,
     store: &T,
     analysis: &Analysis,

@@ -12,7 +12,7 @@ use Rattle.ob0_scan.specs.declared.lexeme.LexemeKind.{LexemeKind}
 use Rattle.ob0_scan.specs.declared.lexeme.LexemeKind.TheVariants as lexeme
 use Rattle.ob0_scan.specs.LexemeClasses.{IsLexemeOfKind, is_white_space, symbol_text}
 use Rattle.ob0_scan.specs.Comments.{IsComment}
-use Rattle.ob0_scan.specs.Lexed.{Lexeme, text_of_lexemes}
+use Rattle.ob0_scan.specs.TextLexemes.{Lexeme, text_of_lexemes}
 use Rattle.ob0_scan.specs.LexemeEnds.{continues_lexeme, EachLexemeEndsBeforeNext}
 use Rattle.ob0_scan.specs.TextWithTokens.{TextWithTokens, IsScan}
 use Rattle.ob0_scan.proofs.Borders.{cut_into_lexemes_depends_only_on_next_bytes}
@@ -49,7 +49,7 @@ comment_last t h =
 
 -- If a lexeme ends with CR, it is white space, so LF would continue it.
 no_ending : (k : LexemeKind) (t : List ℕ) → IsLexemeOfKind k t → (byte : ℕ) → continues_lexeme k byte ≡ false → get_or t (length t - 1) 0 ≡ 13 → byte ≡ 10 → ⊥
-no_ending lexeme.Space t h byte ends cr lf = let clash : true ≡ false = sym (ap is_white_space lf) ∙ ends in cc
+no_ending lexeme.WhiteSpace t h byte ends cr lf = let clash : true ≡ false = sym (ap is_white_space lf) ∙ ends in cc
 no_ending lexeme.Comment t h byte ends cr lf = omega (arith, comment_last t h, cr)
 no_ending (lexeme.Token token.Identifier) t h byte ends cr lf = passing_last is_ascii_alphanumeric t (nonempty (lexeme.Token token.Identifier) t h) h.word.all refl cr
 no_ending (lexeme.Token (token.ReservedWord r)) t h byte ends cr lf =

@@ -12,9 +12,9 @@ use Rattle.ob0_scan.specs.declared.lexeme.TokenKind.TheVariants as token
 use Rattle.ob0_scan.specs.declared.lexeme.LexemeKind.{LexemeKind}
 use Rattle.ob0_scan.specs.declared.lexeme.LexemeKind.TheVariants as lexeme
 use Rattle.ob0_scan.specs.LexemeClasses.{IsLexemeOfKind, IsIdentifier, IsNonEmptySequenceOf, is_white_space}
-use Rattle.ob0_scan.specs.Lexed.{Lexeme, text_of_lexemes}
+use Rattle.ob0_scan.specs.TextLexemes.{Lexeme, text_of_lexemes}
 use Rattle.ob0_scan.specs.LexemeEnds.{continues_symbol, continues_lexeme, EndsBeforeByte, EachLexemeEndsBeforeNext}
-use Rattle.ob0_scan.specs.TextWithTokens.{Word, words_of_lexeme, words_of_lexemes}
+use Rattle.ob0_scan.specs.TextWithTokens.{Word, words_of_one_lexeme, words_of_lexemes}
 use Rattle.ob0_scan.proofs.Cuts.{nonempty}
 use Rattle.ob0_scan.proofs.Families.{Blank, family_of, family-blank, head_family}
 use Rattle.ob0_scan.proofs.Reusing.{joined_append}
@@ -25,7 +25,7 @@ abbrev pub first_byte : List Lexeme → ℕ
 first_byte ls = get_or (text_of_lexemes ls) 0 0
 
 pub words_append : (xs ys : List Lexeme) → words_of_lexemes (xs ++ ys) ≡ words_of_lexemes xs ++ words_of_lexemes ys
-words_append = flat_map-append (λ (l : Lexeme). words_of_lexeme l l.kind)
+words_append = flat_map-append (λ (l : Lexeme). words_of_one_lexeme l l.kind)
 
 same_first : (w xs ys : List ℕ) → 0 < length w → get_or (w ++ xs) 0 0 ≡ get_or (w ++ ys) 0 0
 same_first w xs ys some = get_or_append_left w xs 0 0 some ∙ sym (get_or_append_left w ys 0 0 some)
@@ -73,17 +73,17 @@ name_replaced new ws may l old rest name apart fits =
 
 -- holds if a lexeme ends before others, or if both it and their first byte are white space
 abbrev MeetsLoosely : LexemeKind → List Lexeme → Type 0
-MeetsLoosely kind ns = (continues_lexeme kind (first_byte ns) ≡ false) ⊎ ((kind ≡ lexeme.Space) × (is_white_space (first_byte ns) ≡ true))
+MeetsLoosely kind ns = (continues_lexeme kind (first_byte ns) ≡ false) ⊎ ((kind ≡ lexeme.WhiteSpace) × (is_white_space (first_byte ns) ≡ true))
 
 -- States that a lexeme is in front of others, merged with the first of them if both are white space.
 record Merged (l : Lexeme) (ns : List Lexeme) : Type 0 where
   lexemes : List Lexeme
   apart : EachLexemeEndsBeforeNext lexemes
-  read : words_of_lexemes lexemes ≡ words_of_lexeme l l.kind ++ words_of_lexemes ns
+  read : words_of_lexemes lexemes ≡ words_of_one_lexeme l l.kind ++ words_of_lexemes ns
   whole : text_of_lexemes lexemes ≡ l.text ++ text_of_lexemes ns
 
-blank_kind : (k : LexemeKind) → family_of k ≡ Blank → k ≡ lexeme.Space
-blank_kind lexeme.Space e = refl
+blank_kind : (k : LexemeKind) → family_of k ≡ Blank → k ≡ lexeme.WhiteSpace
+blank_kind lexeme.WhiteSpace e = refl
 blank_kind (lexeme.Token token.Identifier) e = cc
 blank_kind _ e = cc
 
@@ -92,12 +92,12 @@ merged l ns belongs apart (inl ends) = record { lexemes = l ∷ ns; apart = (rec
 merged l [] belongs apart (inr (space, begins)) = absurd (cc)
 merged l (m ∷ ms) belongs apart (inr (space, begins)) =
     let first = get_or_append_left m.text (text_of_lexemes ms) 0 0 (nonempty m.kind m.text apart.0.belongs) in
-    let blank : m.kind ≡ lexeme.Space = blank_kind m.kind (sym (head_family m.kind m.text apart.0.belongs) ∙ family-blank (get_or m.text 0 0) (ap is_white_space (sym first) ∙ begins)) in
+    let blank : m.kind ≡ lexeme.WhiteSpace = blank_kind m.kind (sym (head_family m.kind m.text apart.0.belongs) ∙ family-blank (get_or m.text 0 0) (ap is_white_space (sym first) ∙ begins)) in
     let run : IsNonEmptySequenceOf is_white_space l.text = subst (λ k. IsLexemeOfKind k l.text) space belongs in
     let more : IsNonEmptySequenceOf is_white_space m.text = subst (λ k. IsLexemeOfKind k m.text) blank apart.0.belongs in
     let long = length-append l.text m.text in
     record {
-      lexemes = record { kind = lexeme.Space; text = l.text ++ m.text } ∷ ms;
+      lexemes = record { kind = lexeme.WhiteSpace; text = l.text ++ m.text } ∷ ms;
       apart = (
         record {
           belongs = record { nonempty = omega (arith, long, run.nonempty); all = All-append (λ b. is_white_space b ≡ true) l.text m.text run.all more.all };
@@ -105,7 +105,7 @@ merged l (m ∷ ms) belongs apart (inr (space, begins)) =
         },
         apart.1,
       );
-      read = sym (ap₂ (λ x y. words_of_lexeme l x ++ (words_of_lexeme m y ++ words_of_lexemes ms)) space blank);
+      read = sym (ap₂ (λ x y. words_of_one_lexeme l x ++ (words_of_one_lexeme m y ++ words_of_lexemes ms)) space blank);
       whole = append_assoc l.text m.text (text_of_lexemes ms);
     }
 
@@ -115,7 +115,7 @@ IsNoOtherSymbol kind = (s : Symbol) → kind ≡ lexeme.Token (token.Symbol s) �
 
 -- A lexeme meets all lexemes loosely if it ends before a letter and is no symbol except a semicolon.
 meets : (kind : LexemeKind) → IsNoOtherSymbol kind → (ns : List Lexeme) (letter : ℕ) → is_ascii_alphanumeric letter ≡ true → continues_lexeme kind letter ≡ false → MeetsLoosely kind ns
-meets lexeme.Space other ns letter is h = ⊎_elim (λ blank. inr (refl, blank)) (λ ends. inl ends) (cases_Bool (is_white_space (first_byte ns)))
+meets lexeme.WhiteSpace other ns letter is h = ⊎_elim (λ blank. inr (refl, blank)) (λ ends. inl ends) (cases_Bool (is_white_space (first_byte ns)))
 meets lexeme.Comment other ns letter is h = inl refl
 meets (lexeme.Token (token.Symbol s)) other ns letter is h = inl (ap (λ x. continues_symbol x (first_byte ns)) (other s refl))
 meets _ other ns letter is h = let clash : true ≡ false = sym is ∙ h in absurd (cc)
@@ -140,7 +140,7 @@ joined (l ∷ ls) old ns letter apart new last =
     record {
       lexemes = one.lexemes;
       apart = one.apart;
-      read = one.read ∙ ap (λ t. words_of_lexeme l l.kind ++ t) more.read ∙ sym (append_assoc (words_of_lexeme l l.kind) (words_of_lexemes ls) (words_of_lexemes ns));
+      read = one.read ∙ ap (λ t. words_of_one_lexeme l l.kind ++ t) more.read ∙ sym (append_assoc (words_of_one_lexeme l l.kind) (words_of_lexemes ls) (words_of_lexemes ns));
       whole = one.whole ∙ ap (λ t. l.text ++ t) more.whole ∙ sym (append_assoc l.text (text_of_lexemes ls) (text_of_lexemes ns));
       front = λ kind may h. inl (ap (λ t. continues_lexeme kind (get_or t 0 0)) one.whole ∙ ap (continues_lexeme kind) (same_first l.text (text_of_lexemes more.lexemes) (text_of_lexemes (ls ++ old)) some) ∙ h);
     }

@@ -34,7 +34,7 @@ letter_goes_on b h = grind (arith, nat_tests)
 
 -- A lexeme that ends before a letter ends before every letter or digit.
 pub before_word : (b : ℕ) → is_ascii_alphanumeric b ≡ true → (kind : LexemeKind) (letter : ℕ) → IsTrue (is_ascii_alphabetic letter) → continues_lexeme kind letter ≡ false → continues_lexeme kind b ≡ false
-before_word b h lexeme.Space letter l e = not_space b h
+before_word b h lexeme.WhiteSpace letter l e = not_space b h
 before_word b h lexeme.Comment letter l e = refl
 before_word b h (lexeme.Token (token.Symbol s)) letter l e = not_joined s b (not_this b 61 refl h) (not_this b 42 refl h)
 before_word b h _ letter l e = let clash : true ≡ false = sym (letter_goes_on letter l) ∙ e in cc

@@ -10,7 +10,7 @@ use Rattle.ob0_text.specs.declared.position_types.Range.{Range}
 use Rattle.ob0_text.specs.Texts.{position_of}
 use Rattle.ob0_text.specs.declared.position_types.Unit as counting
 use Rattle.ob0_text.specs.Units.{width_of}
-use Rattle.ob0_edits_tokens.specs.Replacements.{span_at, replacement_at_token}
+use Rattle.ob0_edits_tokens.specs.Replacements.{token_span_or_empty, replacement_at_token}
 use Rattle.ob0_edits_tokens.specs.Ranges.{span_bounds, range_of}
 
 span_bounds-append : (xs ys : List Span) → span_bounds (xs ++ ys) ≡ span_bounds xs ++ span_bounds ys
@@ -90,8 +90,8 @@ part_added unit content spans n found more within so_far is =
 
 -- The ranges of tokens, each with the same text, are the edits at these tokens.
 pub edits_at_places : (unit : counting.Unit) (content : List ℕ) (tokens : List Token) (new places : List ℕ) (spans : List Span) (ranges : List Range)
-    → spans ≡ map (span_at tokens) places → ranges ≡ map (range_of (width_of unit) content) spans → map (λ (r : Range). (r, new)) ranges ≡ map (replacement_at_token unit content tokens new) places
+    → spans ≡ map (token_span_or_empty tokens) places → ranges ≡ map (range_of (width_of unit) content) spans → map (λ (r : Range). (r, new)) ranges ≡ map (replacement_at_token unit content tokens new) places
 edits_at_places unit content tokens new places spans ranges e f =
     ap (map (λ (r : Range). (r, new))) (f ∙ ap (map (range_of (width_of unit) content)) e)
-    ∙ map-map (λ (r : Range). (r, new)) (range_of (width_of unit) content) (map (span_at tokens) places)
-    ∙ map-map (λ (s : Span). (range_of (width_of unit) content s, new)) (span_at tokens) places
+    ∙ map-map (λ (r : Range). (r, new)) (range_of (width_of unit) content) (map (token_span_or_empty tokens) places)
+    ∙ map-map (λ (s : Span). (range_of (width_of unit) content s, new)) (token_span_or_empty tokens) places

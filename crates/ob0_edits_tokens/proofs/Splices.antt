@@ -11,9 +11,9 @@ use Rattle.ob0_scan.specs.declared.lexeme.TokenKind.TheVariants as token
 use Rattle.ob0_scan.specs.declared.lexeme.LexemeKind.TheVariants as lexeme
 use Rattle.ob0_scan.specs.declared.lexeme.Token.{Token}
 use Rattle.ob0_scan.specs.LexemeClasses.{IsLexemeOfKind, IsIdentifier}
-use Rattle.ob0_scan.specs.Lexed.{Lexeme, text_of_lexemes}
+use Rattle.ob0_scan.specs.TextLexemes.{Lexeme, text_of_lexemes}
 use Rattle.ob0_scan.specs.LexemeEnds.{EachLexemeEndsBeforeNext}
-use Rattle.ob0_scan.specs.TextWithTokens.{Word, words_of_lexeme, words_of_lexemes}
+use Rattle.ob0_scan.specs.TextWithTokens.{Word, words_of_one_lexeme, words_of_lexemes}
 use Rattle.ob0_scan.proofs.Cuts.{nonempty}
 use Rattle.ob0_scan.proofs.Reusing.{joined_append}
 use Rattle.ob0_scan.proofs.Runs.{letter_or_digit}
@@ -69,7 +69,7 @@ module _ (text : List ℕ) (u : IsUtf8 text) (tokens : List Token) (new : List �
         subst (λ n. AreCuts text n (cuts_at ps)) (sym t.end_of) later.leaves.cuts,
       ) in
       let words : words_of_lexemes ls ≡ words_of_lexemes t.before ++ (record { kind = token.Identifier; text = t.here.text } ∷ words_of_lexemes t.after) =
-      ap words_of_lexemes t.whole ∙ words_append t.before (t.here ∷ t.after) ∙ ap (λ kind. words_of_lexemes t.before ++ (words_of_lexeme t.here kind ++ words_of_lexemes t.after)) name in
+      ap words_of_lexemes t.whole ∙ words_append t.before (t.here ∷ t.after) ∙ ap (λ kind. words_of_lexemes t.before ++ (words_of_one_lexeme t.here kind ++ words_of_lexemes t.after)) name in
       let here : AreIdentifierIndexes tokens p (p ∷ ps) = (omega arith, names.1, names.2, names.3) in
       let fits : (ws : List Word) (may : MayReplaceIdentifier new ws) → IsInPlaceOf ls (t.before ++ (may.lexemes ++ (later.leaves.left ws may).lexemes)) = λ ws may.
       let rest = later.leaves.left ws may in
@@ -110,11 +110,11 @@ module _ (text : List ℕ) (u : IsUtf8 text) (tokens : List Token) (new : List �
       let name : IsIdentifier a.here.text = subst (λ k. IsLexemeOfKind k a.here.text) (a.kind ∙ ap lexeme.Token declaration.name) belongs in
       let letter : is_ascii_alphanumeric (first_byte (a.here ∷ a.after)) ≡ true =
       ap is_ascii_alphanumeric (get_or_append_left a.here.text (text_of_lexemes a.after) 0 0 (nonempty a.here.kind a.here.text belongs)) ∙ letter_or_digit (get_or a.here.text 0 0) name.word.letter in
-      let gone : List Word = words_of_lexemes b.before ++ words_of_lexeme b.here b.here.kind in
+      let gone : List Word = words_of_lexemes b.before ++ words_of_one_lexeme b.here b.here.kind in
       let words : words_of_lexemes ls ≡ words_of_lexemes a.before ++ (gone ++ words_of_lexemes b.after) =
       ap words_of_lexemes a.whole ∙ words_append a.before (a.here ∷ a.after)
-      ∙ ap (λ x. words_of_lexemes a.before ++ x) (ap words_of_lexemes b.whole ∙ words_append b.before (b.here ∷ b.after) ∙ sym (append_assoc (words_of_lexemes b.before) (words_of_lexeme b.here b.here.kind) (words_of_lexemes b.after))) in
-      let many : first + length gone ≡ suc last = omega (arith, b.count, length-append (words_of_lexemes b.before) (words_of_lexeme b.here b.here.kind), ap (λ k. length (words_of_lexeme b.here k)) b.kind) in
+      ∙ ap (λ x. words_of_lexemes a.before ++ x) (ap words_of_lexemes b.whole ∙ words_append b.before (b.here ∷ b.after) ∙ sym (append_assoc (words_of_lexemes b.before) (words_of_one_lexeme b.here b.here.kind) (words_of_lexemes b.after))) in
+      let many : first + length gone ≡ suc last = omega (arith, b.count, length-append (words_of_lexemes b.before) (words_of_one_lexeme b.here b.here.kind), ap (λ k. length (words_of_one_lexeme b.here k)) b.kind) in
       record {
         cuts = cuts_from text a.start 0 all (omega arith) cuts;
         left = λ ws may.
@@ -141,9 +141,9 @@ module _ (text : List ℕ) (u : IsUtf8 text) (tokens : List Token) (new : List �
           let all : ls ≡ xs ++ (l ∷ (a.here ∷ a.after)) = a.whole ∙ ap (λ x. x ++ (a.here ∷ a.after)) e ∙ append_assoc xs (l ∷ []) (a.here ∷ a.after) in
           let there = further_on text u tokens xs (l ∷ (a.here ∷ a.after)) 0 0 at n (subst (AreAt text u tokens 0 0) all r) (omega arith) (omega arith) in
           let kind : (token_at_or_empty tokens n).kind ≡ token.Symbol s = ap (λ (t : Token). t.kind) (token_here text u tokens at n l (a.here ∷ a.after) (token.Symbol s) there is) in
-          let long : length (words_of_lexemes a.before) ≡ n + length (words_of_lexeme l l.kind) =
-          ap (λ x. length (words_of_lexemes x)) e ∙ ap length (words_append xs (l ∷ [])) ∙ length-append (words_of_lexemes xs) (words_of_lexemes (l ∷ [])) ∙ omega (arith, length-append (words_of_lexeme l l.kind) []) in
+          let long : length (words_of_lexemes a.before) ≡ n + length (words_of_one_lexeme l l.kind) =
+          ap (λ x. length (words_of_lexemes x)) e ∙ ap length (words_append xs (l ∷ [])) ∙ length-append (words_of_lexemes xs) (words_of_lexemes (l ∷ [])) ∙ omega (arith, length-append (words_of_one_lexeme l l.kind) []) in
           ⊎_elim
           (λ c. absurd (let clash : token.Symbol s ≡ token.ReservedWord reserved.Const = sym kind ∙ c in cc))
           (λ c. let same : token.Symbol s ≡ token.Symbol symbol.Semicolon = sym kind ∙ c in cc)
-          (declaration.preceded n (omega (arith, long, a.count, ap (λ k. length (words_of_lexeme l k)) is)))
+          (declaration.preceded n (omega (arith, long, a.count, ap (λ k. length (words_of_one_lexeme l k)) is)))

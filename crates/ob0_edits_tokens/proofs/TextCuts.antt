@@ -13,10 +13,10 @@ use Rattle.ob0_text.specs.declared.position_types.Range.{Range}
 use Rattle.ob0_text.specs.declared.position_types.Unit as counting
 use Rattle.ob0_text.specs.Units.{width_of}
 use Rattle.ob0_text.specs.Texts.{CR, LF, text_before, position_of, byte_len, IsBetweenCrAndLf}
-use Rattle.ob0_text.specs.Patches.{Cut, char_count_before, cut_of_range, are_disjoint, are_all_disjoint, is_cut_before, insert_cut_in_order, cuts_in_text_order, text_from_place_with_cuts, text_patched_by_cuts, patched_text}
+use Rattle.ob0_text.specs.Patches.{Cut, char_count_before_position, cut_of_range, are_disjoint, are_all_disjoint, is_cut_before, insert_cut_in_order, cuts_in_text_order, text_from_place_with_cuts, text_patched_by_cuts, patched_text}
 use Rattle.ob0_text.proofs.Widths.{wide}
 use Rattle.ob0_text.proofs.RoundTrip.{places_go_back}
-use Rattle.ob0_edits_tokens.specs.ByteCuts.{edit_of_cut, length_with_cuts}
+use Rattle.ob0_edits_tokens.specs.ByteCuts.{edit_of_cut, length_from_place_with_cuts}
 use Rattle.ob0_edits_tokens.specs.Replacements.{range_and_text}
 use Rattle.ob0_edits_tokens.proofs.Borders.{IsBorder, IsEnding}
 
@@ -74,7 +74,7 @@ module _ (text : List ℕ) where
       let long : length front ≡ end - at = omega (arith, far) in
       pieced_later at end cs (omega (arith, far)) are ∙ ap (λ xs. xs ++ text_from_place_with_cuts text end cs) (ap (take (end - at)) e ∙ take_at front rest (end - at) long)
 
-  pub made_length : (at : ℕ) (cs : List Cut) → AreCuts text at cs → length (text_from_place_with_cuts text at cs) ≡ length_with_cuts (length text) at cs
+  pub made_length : (at : ℕ) (cs : List Cut) → AreCuts text at cs → length (text_from_place_with_cuts text at cs) ≡ length_from_place_with_cuts (length text) at cs
   unfolding text_from_place_with_cuts
   made_length at [] are = length-drop at text
   made_length at (c ∷ cs) are =
@@ -172,11 +172,11 @@ module _ (unit : counting.Unit) (text : List ℕ) (u : IsUtf8 text) where
 
   -- returns the number of characters before the position of an offset
   abbrev count_at_position : ℕ → ℕ
-  count_at_position at = char_count_before (width_of unit) (chars text) (position_of (width_of unit) (chars text) at)
+  count_at_position at = char_count_before_position (width_of unit) (chars text) (position_of (width_of unit) (chars text) at)
 
   -- The position of a border leads back to it.
   goes_back : (at : ℕ) → IsBorder text at → count_at_position at ≡ char_count at
-  unfolding char_count_before
+  unfolding char_count_before_position
   goes_back at border =
       let front : chars text ≡ chars (take at text) ++ chars (drop at text) = halves at border.place in
       let inside : char_count at ≤ length (chars text) = omega (arith, ap length front, length-append (chars (take at text)) (chars (drop at text))) in

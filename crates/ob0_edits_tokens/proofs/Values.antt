@@ -83,9 +83,9 @@ the_least = record {
   lexemes = record { kind = lexeme.Token (token.Symbol symbol.LeftParen); text = symbol_text symbol.LeftParen }
       ∷ record { kind = lexeme.Token (token.Symbol symbol.Minus); text = symbol_text symbol.Minus }
       ∷ record { kind = lexeme.Token (token.Integer 2147483647); text = codes "2147483647" }
-      ∷ record { kind = lexeme.Space; text = 32 ∷ [] }
+      ∷ record { kind = lexeme.WhiteSpace; text = 32 ∷ [] }
       ∷ record { kind = lexeme.Token (token.Symbol symbol.Minus); text = symbol_text symbol.Minus }
-      ∷ record { kind = lexeme.Space; text = 32 ∷ [] }
+      ∷ record { kind = lexeme.WhiteSpace; text = 32 ∷ [] }
       ∷ record { kind = lexeme.Token (token.Integer 1); text = codes "1" }
       ∷ record { kind = lexeme.Token (token.Symbol symbol.RightParen); text = symbol_text symbol.RightParen } ∷ [];
   whole = refl;

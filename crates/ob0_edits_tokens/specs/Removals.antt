@@ -10,7 +10,7 @@ use Rattle.ob0_scan.specs.declared.lexeme.Token.{Token}
 use Rattle.ob0_scan.specs.TextWithTokens.{TextWithTokens}
 use Rattle.ob0_text.specs.Patches.{Cut, text_from_place_with_cuts}
 use Rattle.ob0_edits_tokens.specs.WordReplacements.{WordChanges}
-use Rattle.ob0_edits_tokens.specs.Replacements.{token_at_or_empty, span_at, replacement_cut}
+use Rattle.ob0_edits_tokens.specs.Replacements.{token_at_or_empty, token_span_or_empty, replacement_cut}
 
 -- Returns a change of words that removes the words from the index `first` to the index `last`, both
 -- included. It changes all other words as `changes` does.
@@ -35,17 +35,17 @@ pub record MayBeConstantDeclaration (tokens : List Token) (first last : ℕ) : T
 -- the index `last`.
 abbrev pub span_of_tokens : List Token → ℕ → ℕ → Span
 span_of_tokens tokens first last =
-    record { start = (span_at tokens first).start; end = (span_at tokens last).end }
+    record { start = (token_span_or_empty tokens first).start; end = (token_span_or_empty tokens last).end }
 
 -- Returns the cut, in byte offsets, that removes the text from the start of the token with the
 -- index `first` to the end of the token with the index `last`.
 abbrev pub removal_cut : List Token → ℕ → ℕ → Cut
 removal_cut tokens first last =
-    record { from = (span_at tokens first).start; to = (span_at tokens last).end; new = [] }
+    record { from = (token_span_or_empty tokens first).start; to = (token_span_or_empty tokens last).end; new = [] }
 
 -- Returns the text that is left if the tokens from the index `first` to the index `last` are
 -- removed with all text between them, and each token whose index is in `token_indexes` is replaced
 -- by `new`.
-abbrev pub text_after_removal : TextWithTokens → ℕ → ℕ → List ℕ → List ℕ → List ℕ
-text_after_removal s first last token_indexes new =
+abbrev pub text_after_removal_and_replacement : TextWithTokens → ℕ → ℕ → List ℕ → List ℕ → List ℕ
+text_after_removal_and_replacement s first last token_indexes new =
     text_from_place_with_cuts s.text 0 (removal_cut s.tokens first last ∷ map (replacement_cut s.tokens new) token_indexes)

@@ -8,7 +8,7 @@ use Rattle.ob0_scan.specs.declared.lexeme.TokenKind.TheVariants as token
 use Rattle.ob0_scan.specs.declared.lexeme.LexemeKind.{LexemeKind}
 use Rattle.ob0_scan.specs.declared.lexeme.Span.{Span}
 use Rattle.ob0_scan.specs.declared.lexeme.Token.{Token}
-use Rattle.ob0_scan.specs.Lexed.{Lexeme, text_of_lexemes}
+use Rattle.ob0_scan.specs.TextLexemes.{Lexeme, text_of_lexemes}
 use Rattle.ob0_scan.specs.LexemeEnds.{continues_lexeme, EndsBeforeByte}
 use Rattle.ob0_scan.specs.TextWithTokens.{Word, words_of_lexemes, TextWithTokens, IsScan}
 use Rattle.ob0_text.specs.declared.edits.Edit.{Edit}
@@ -16,7 +16,7 @@ use Rattle.ob0_text.specs.declared.position_types.Range.{Range}
 use Rattle.ob0_text.specs.declared.position_types.Unit as counting
 use Rattle.ob0_text.specs.Units.{width_of}
 use Rattle.ob0_text.specs.Patches.{Cut, text_from_place_with_cuts, patched_text}
-use Rattle.ob0_edits_tokens.specs.WordReplacements.{words_of}
+use Rattle.ob0_edits_tokens.specs.WordReplacements.{words_of_text}
 use Rattle.ob0_edits_tokens.specs.Ranges.{range_of}
 
 -- Returns the token with this index. If there is no such token, returns an empty identifier at the
@@ -28,8 +28,8 @@ token_at_or_empty tokens p =
 
 -- Returns the span of the token with this index. If there is no such token, returns an empty span
 -- at the text's start.
-abbrev pub span_at : List Token → ℕ → Span
-span_at tokens p = (token_at_or_empty tokens p).span
+abbrev pub token_span_or_empty : List Token → ℕ → Span
+token_span_or_empty tokens p = (token_at_or_empty tokens p).span
 
 -- States that the given numbers are token indexes of identifiers, in ascending order, and that each
 -- is at least `least`.
@@ -44,7 +44,7 @@ AreIdentifierIndexes tokens least (p ∷ ps) =
 -- Returns the cut, in byte offsets, that replaces the token with the index `p` by `new`.
 abbrev pub replacement_cut : List Token → List ℕ → ℕ → Cut
 replacement_cut tokens new p =
-    record { from = (span_at tokens p).start; to = (span_at tokens p).end; new = new }
+    record { from = (token_span_or_empty tokens p).start; to = (token_span_or_empty tokens p).end; new = new }
 
 -- Returns the text in which each token whose index is in `token_indexes` is replaced by `new`.
 abbrev pub text_after_replacement : TextWithTokens → List ℕ → List ℕ → List ℕ
@@ -79,13 +79,13 @@ range_and_text edit = (edit.range, string_bytes edit.text)
 -- Returns the edit, as a pair of its range and text, that replaces the token with the index `p` by
 -- `new`.
 abbrev pub replacement_at_token : counting.Unit → List ℕ → List Token → List ℕ → ℕ → Range × List ℕ
-replacement_at_token unit text tokens new p = (range_of (width_of unit) text (span_at tokens p), new)
+replacement_at_token unit text tokens new p = (range_of (width_of unit) text (token_span_or_empty tokens p), new)
 
 -- States that the edits, applied to `text` together, give a text that can be scanned and has the
 -- words `ws`.
-pub record EditsGiveWords
+pub record EditedTextHasWords
     (unit : counting.Unit) (text : List ℕ) (edits : List Edit) (ws : List Word) : Type 0 where
   pub after : TextWithTokens
   pub scan : IsScan after
   pub made : patched_text (width_of unit) text edits ≡ Some (chars after.text)
-  pub words_are : words_of after ≡ ws
+  pub words_are : words_of_text after ≡ ws

@@ -4,8 +4,8 @@ use Rattle.std.specs.Prelude.{ℕ, suc, ◌==◌, Bool, false, ◌||◌, if◌th
 use Rattle.ob0_scan.specs.TextWithTokens.{TextWithTokens, Word, word_of_token}
 
 -- Returns the words of a scanned text: the kinds and spellings of its tokens.
-abbrev pub words_of : TextWithTokens → List Word
-words_of s = map (word_of_token s.text) s.tokens
+abbrev pub words_of_text : TextWithTokens → List Word
+words_of_text s = map (word_of_token s.text) s.tokens
 
 -- A change of a text's words: a function from the index of each word to the words that replace it.
 -- For a word that doesn't change, the function returns None.

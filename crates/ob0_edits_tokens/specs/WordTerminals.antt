@@ -2,7 +2,7 @@
 -- Rule: none; used in contracts about making edits.
 use Rattle.std.specs.Prelude.{List, ℕ}
 use Rattle.ob0_scan.specs.TextWithTokens.{Word}
-use Rattle.ob0_tree.specs.Lexeme.{Terminal, terminal_of_kind}
+use Rattle.ob0_tree.specs.Terminals.{Terminal, terminal_of_kind}
 
 -- Returns the token (`Terminal`) that a tree spells for a word. The token of an identifier has the
 -- identifier's text, and the token of an integer has the integer's value.

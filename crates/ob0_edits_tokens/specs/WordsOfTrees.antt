@@ -3,11 +3,11 @@
 -- Rule: none; used in contracts about making edits.
 use Rattle.std.specs.Prelude.{◌≡◌, ℕ, suc, if◌then◌else◌, List, [], ◌∷◌, map, slice_index_or}
 use Rattle.ob0_scan.specs.TextWithTokens.{Word, TextWithTokens}
-use Rattle.ob0_tree.specs.Lexeme.{Terminal}
-use Rattle.ob0_tree.specs.Places.{indexed_terminal, integer_value_or_zero}
+use Rattle.ob0_tree.specs.Terminals.{Terminal}
+use Rattle.ob0_tree.specs.TokenIndexLeaves.{indexed_terminal, integer_value_or_zero}
 use Rattle.ob0_edits_tokens.specs.WordTerminals.{terminal_of_word}
 use Rattle.ob0_tree.specs.Tree.{Tree, Sort, spell, mapped_tree}
-use Rattle.ob0_edits_tokens.specs.WordReplacements.{words_of, changed_words, changes_at_indexes, is_in_list}
+use Rattle.ob0_edits_tokens.specs.WordReplacements.{words_of_text, changed_words, changes_at_indexes, is_in_list}
 use Rattle.ob0_edits_tokens.specs.Replacements.{AreIdentifierIndexes}
 use Rattle.ob0_edits_tokens.specs.Written.{name_word}
 
@@ -19,17 +19,17 @@ indexed_terminals_of_words k [] = []
 indexed_terminals_of_words k (w ∷ ws) = indexed_terminal k w.kind ∷ indexed_terminals_of_words (suc k) ws
 
 -- Returns the word with this index, or a name without text if there is no such word.
-abbrev pub word_at : List Word → ℕ → Word
-word_at ws k = slice_index_or ws k (name_word [])
+abbrev pub word_at_or_empty : List Word → ℕ → Word
+word_at_or_empty ws k = slice_index_or ws k (name_word [])
 
 -- Returns the text of the word with this index, or the empty text if there is no such word.
 abbrev pub word_text_at : List Word → ℕ → List ℕ
-word_text_at ws k = (word_at ws k).text
+word_text_at ws k = (word_at_or_empty ws k).text
 
 -- Returns the value of the integer that is the word with this index. Returns 0 if there is no such
 -- word or the word isn't an integer.
 abbrev pub integer_value_at : List Word → ℕ → ℕ
-integer_value_at ws k = integer_value_or_zero (word_at ws k).kind
+integer_value_at ws k = integer_value_or_zero (word_at_or_empty ws k).kind
 
 -- Returns the name `new` if the word index `k` is in `token_indexes`, otherwise the text of the
 -- word with the index `k`.
@@ -43,6 +43,6 @@ abbrev pub RenamedTreeSpellsRenamedWords : Type 0
 RenamedTreeSpellsRenamedWords =
     (s : TextWithTokens) (sort : Sort) (t : Tree ℕ sort) (token_indexes new : List ℕ)
     → AreIdentifierIndexes s.tokens 0 token_indexes
-    → spell t ≡ indexed_terminals_of_words 0 (words_of s)
-    → map terminal_of_word (changed_words (changes_at_indexes token_indexes (name_word new ∷ [])) 0 (words_of s))
-    ≡ spell (mapped_tree (renamed_word_text (words_of s) token_indexes new) (integer_value_at (words_of s)) t)
+    → spell t ≡ indexed_terminals_of_words 0 (words_of_text s)
+    → map terminal_of_word (changed_words (changes_at_indexes token_indexes (name_word new ∷ [])) 0 (words_of_text s))
+    ≡ spell (mapped_tree (renamed_word_text (words_of_text s) token_indexes new) (integer_value_at (words_of_text s)) t)

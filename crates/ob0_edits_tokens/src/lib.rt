@@ -3,8 +3,8 @@
 #![tactic(auto)]
 
 pub mod laws;
-mod positions;
+mod spans_and_ranges;
 mod token_edits;
 
-pub use positions::ranges;
-pub use token_edits::{range_of, removal_edits, replacement_edits};
+pub use spans_and_ranges::ranges_of_spans;
+pub use token_edits::{range_of, removal_and_replacement_edits, replacement_edits};

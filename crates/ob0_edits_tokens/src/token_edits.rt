@@ -5,14 +5,14 @@ ghost use Rattle.std.specs.Prelude.{◌≡◌, ◌⊎◌, ◌+◌, ◌++◌, ◌
 ghost use Rattle.std.specs.Str.{chars};
 ghost use Rattle.ob0_scan.specs.TextWithTokens.{Word, max_text_length};
 ghost use Rattle.ob0_text.specs.declared.refusals.EditRefusal.TheVariants.{TooLong, Memory};
-ghost use Rattle.ob0_edits_tokens.specs.WordReplacements.{words_of, changed_words, changes_at_indexes};
-ghost use Rattle.ob0_edits_tokens.specs.Replacements.{AreIdentifierIndexes, replacement_cut, text_after_replacement, MayReplaceIdentifier, range_and_text, replacement_at_token, EditsGiveWords};
+ghost use Rattle.ob0_edits_tokens.specs.WordReplacements.{words_of_text, changed_words, changes_at_indexes};
+ghost use Rattle.ob0_edits_tokens.specs.Replacements.{AreIdentifierIndexes, replacement_cut, text_after_replacement, MayReplaceIdentifier, range_and_text, replacement_at_token, EditedTextHasWords};
 ghost use Rattle.ob0_text.specs.Units.{width_of};
 ghost use Rattle.ob0_edits_tokens.specs.Ranges.{range_of};
-ghost use Rattle.ob0_edits_tokens.specs.ByteCuts.{length_with_cuts};
-ghost use Rattle.ob0_edits_tokens.specs.Removals.{changes_with_removal, MayBeConstantDeclaration, span_of_tokens, text_after_removal};
+ghost use Rattle.ob0_edits_tokens.specs.ByteCuts.{length_from_place_with_cuts};
+ghost use Rattle.ob0_edits_tokens.specs.Removals.{changes_with_removal, MayBeConstantDeclaration, span_of_tokens, text_after_removal_and_replacement};
 
-use crate::positions::{ranges, span_at, token_spans};
+use crate::spans_and_ranges::{ranges_of_spans, token_span_or_empty, token_spans};
 use ob0_scan::{MAX_TEXT_LENGTH, Span, Tokens};
 use ob0_text::{Edit, EditRefusal, Range, TextStore};
 use std::alloc::Global;
@@ -36,8 +36,8 @@ pub fn replacement_edits<T: TextStore>(
     ensures short { IfOk result
         (λ edits. length (text_after_replacement tokens.now token_indexes.now new.now) ≤ max_text_length) }
     ensures words { (ws : List Word) → MayReplaceIdentifier new.now ws
-        → IfOk result (λ edits. EditsGiveWords (T.unit_of store.now) (T.content store.now) edits.items
-        (changed_words (changes_at_indexes token_indexes.now ws) 0 (words_of tokens.now))) }
+        → IfOk result (λ edits. EditedTextHasWords (T.unit_of store.now) (T.content store.now) edits.items
+        (changed_words (changes_at_indexes token_indexes.now ws) 0 (words_of_text tokens.now))) }
     ensures too_long { IsErrOf result TooLong
         → max_text_length < length (text_after_replacement tokens.now token_indexes.now new.now) }
     ensures refusals { IfErr result (λ refusal. (refusal ≡ TooLong) ⊎ (refusal ≡ Memory)) }
@@ -59,7 +59,7 @@ pub fn replacement_edits<T: TextStore>(
 /// `token_indexes` by `new`, one edit for each. `token_indexes` are token indexes of identifiers, in
 /// ascending order and all greater than `last`. Fails with `TooLong` if the resulting text is longer
 /// than a text may be. Fails with `Memory` if an allocation fails.
-pub fn removal_edits<T: TextStore>(
+pub fn removal_and_replacement_edits<T: TextStore>(
     alloc: Global,
     store: &T,
     tokens: &Tokens,
@@ -79,19 +79,19 @@ pub fn removal_edits<T: TextStore>(
         ) ∷ map (replacement_at_token (T.unit_of store.now)
         (T.content store.now) tokens.now.tokens new.now) token_indexes.now) }
     ensures short { IfOk result
-        (λ edits. length (text_after_removal tokens.now first last token_indexes.now new.now) ≤ max_text_length) }
+        (λ edits. length (text_after_removal_and_replacement tokens.now first last token_indexes.now new.now) ≤ max_text_length) }
     ensures words { (ws : List Word) → MayReplaceIdentifier new.now ws
-        → IfOk result (λ edits. EditsGiveWords (T.unit_of store.now) (T.content store.now) edits.items
+        → IfOk result (λ edits. EditedTextHasWords (T.unit_of store.now) (T.content store.now) edits.items
         (changed_words (changes_with_removal first last (changes_at_indexes token_indexes.now ws)) 0
-        (words_of tokens.now))) }
+        (words_of_text tokens.now))) }
     ensures too_long { IsErrOf result TooLong
-        → max_text_length < length (text_after_removal tokens.now first last token_indexes.now new.now) }
+        → max_text_length < length (text_after_removal_and_replacement tokens.now first last token_indexes.now new.now) }
     ensures refusals { IfErr result (λ refusal. (refusal ≡ TooLong) ⊎ (refusal ≡ Memory)) }
 {
     // The proof needs the contract of this call: the tokens are a scan of their text (`IsScan`).
     let _text = tokens.text();
-    let start = span_at(tokens.tokens(), first).start;
-    let end = span_at(tokens.tokens(), last).end;
+    let start = token_span_or_empty(tokens.tokens(), first).start;
+    let end = token_span_or_empty(tokens.tokens(), last).end;
     let declaration = Span { start, end };
     if is_edited_text_too_long(tokens, declaration, token_indexes, new) {
         return Err(EditRefusal::TooLong);
@@ -122,7 +122,7 @@ fn add_replacement_edits<T: TextStore>(
     ensures memory { IfErr result (λ refusal. refusal ≡ Memory) }
 {
     let spans = token_spans(alloc, tokens.tokens(), token_indexes)?;
-    let ranges = ranges(alloc, store, &spans)?;
+    let ranges = ranges_of_spans(alloc, store, &spans)?;
     for range in &ranges {
         let text = String::from_str(alloc, new)?;
         let edit = Edit {
@@ -154,13 +154,13 @@ fn is_edited_text_too_long(
     new: &str,
 ) -> bool
     ensures { result
-        ≡ nat_lt max_text_length (removed.start + length_with_cuts (length tokens.now.text) removed.end
+        ≡ nat_lt max_text_length (removed.start + length_from_place_with_cuts (length tokens.now.text) removed.end
         (map (replacement_cut tokens.now.tokens new.now) token_indexes.now)) }
 {
     let mut length = removed.start as usize;
     let mut end = removed.end as usize;
     for token_index in token_indexes {
-        let span = span_at(tokens.tokens(), *token_index);
+        let span = token_span_or_empty(tokens.tokens(), *token_index);
         length += (span.start as usize).saturating_sub(end) + new.len();
         end = span.end as usize;
         if length > MAX_TEXT_LENGTH {

@@ -20,16 +20,16 @@ pub record FramerState : Type 0 where
 -- piece, the piece, the contents of the messages that the piece completes, and the rest after the
 -- piece. If no message can begin with the bytes that are left, the last argument is `Broken`. A
 -- broken stream remains broken and completes nothing.
-abbrev pub Feeds : StreamRest → List ℕ → List (List ℕ) → StreamRest → Type 0
-Feeds (Open rest) piece contents (Open left) = Frames (rest ++ piece) contents left × ¬ (CannotBeginMessage left)
-Feeds (Open rest) piece contents Broken =
+abbrev pub FeedsStream : StreamRest → List ℕ → List (List ℕ) → StreamRest → Type 0
+FeedsStream (Open rest) piece contents (Open left) = Frames (rest ++ piece) contents left × ¬ (CannotBeginMessage left)
+FeedsStream (Open rest) piece contents Broken =
     (left : List ℕ) × Frames (rest ++ piece) contents left × CannotBeginMessage left
-Feeds Broken piece contents (Open left) = ⊥
-Feeds Broken piece contents Broken = contents ≡ []
+FeedsStream Broken piece contents (Open left) = ⊥
+FeedsStream Broken piece contents Broken = contents ≡ []
 
 -- States that reading a piece changes the state of a framer from `old` to `new`. The contents of
 -- the messages that the piece completes are added after the contents that already wait.
-pub record TakesPiece (old : FramerState) (piece : List ℕ) (new : FramerState) : Type 0 where
+pub record FeedsFramer (old : FramerState) (piece : List ℕ) (new : FramerState) : Type 0 where
   pub contents : List (List ℕ)
-  pub feeds : Feeds old.rest piece contents new.rest
+  pub feeds : FeedsStream old.rest piece contents new.rest
   pub appended : new.waiting ≡ old.waiting ++ contents

@@ -9,7 +9,7 @@ use Rattle.ob0_frame.specs.Frames.{Frames, CannotBeginMessage}
 -- States that the bytes begin with an accepted head that ends at the byte offset `start`, and that
 -- the content announced by the head ends at the byte offset `end`. Not all bytes of the content
 -- need to have arrived.
-pub record IsContentAt (bytes : List ℕ) (start end : ℕ) : Type 0 where
+pub record AnnouncesContentBetween (bytes : List ℕ) (start end : ℕ) : Type 0 where
   pub within : start ≤ length bytes
   pub ordered : start ≤ end
   pub head_is_nonempty : 0 < start
@@ -18,7 +18,7 @@ pub record IsContentAt (bytes : List ℕ) (start end : ℕ) : Type 0 where
 -- States that the message at the beginning of the bytes is at this stage.
 abbrev pub IsMessageStage : List ℕ → MessageStage → Type 0
 IsMessageStage bytes Head = (length bytes < max_head_length) × HasNoEmptyLine bytes
-IsMessageStage bytes (Content start end) = IsContentAt bytes start end
+IsMessageStage bytes (Content start end) = AnnouncesContentBetween bytes start end
 IsMessageStage bytes Bad = CannotBeginMessage bytes
 
 -- States that the message at the beginning of the bytes, which has this stage, isn't complete. At

@@ -14,18 +14,18 @@ use Rattle.ob0_edits_tokens.specs.Ranges.{range_of}
 use Rattle.ob0_edits_tokens.specs.Removals.{span_of_tokens}
 use Rattle.ob0_edits_tokens.specs.Replacements.{replacement_at_token, range_and_text}
 use Rattle.ob0_language_names.specs.Names.{Label, Name}
-use Rattle.ob0_language_names.specs.Occurrences.{bindings, ordinal_bound_at, label_ordinal}
+use Rattle.ob0_language_names.specs.Occurrences.{bindings, ordinal_bound_at_occurrence, label_ordinal}
 use Rattle.ob0_scope_table.specs.Resolution.{Resolution}
 use Rattle.ob0_language_names.specs.Scopes.{same_ordinal}
 use Rattle.ob0_scope.specs.declared.bound_names.BoundName as named
 use Rattle.ob0_scope.specs.NamesAtPlaces.{name_at_offset}
 use Rattle.ob0_types.specs.CheckedModules.{IsWellTyped}
-use Rattle.ob0_language_types.specs.EditLaws.{ConstantUsesAreFactors, IsConstantWithLiteral, Is32BitScalar, MeansPredeclaredTruth}
+use Rattle.ob0_language_types.specs.EditLaws.{ConstantUsesAreFactors, IsConstantWithLiteral, Is32BitScalar, TruthWordMeansPredeclared}
 use Rattle.ob0_language_runs.specs.EditLaws.{InliningEverywhereKeepsTypingAndRuns}
 use Rattle.ob0_language_values.specs.declared.scalar.Scalar.TheVariants as scalar
 use Rattle.ob0_language_values.specs.Scalars.{scalar_value}
-use Rattle.ob0_inline.specs.declared.constants.DeclaredConstant.{DeclaredConstant}
-use Rattle.ob0_inline.specs.Everywhere.{InlinesEverywhere, IsConstant, IsConstantAt, HasNoConstantAt, UsesAreFactors, has_shadowed_use, declaration_has_comment, tree_inlined_everywhere, is_shadowed_use, refusal_of_inlining_everywhere, text_inlined_everywhere, tokens_of_uses}
+use Rattle.ob0_inline.specs.declared.declared_constants.DeclaredConstant.{DeclaredConstant}
+use Rattle.ob0_inline.specs.Everywhere.{InlinesEverywhere, IsDeclaredConstant, IsConstantAtOffset, HasNoConstantAtOffset, UsesAreFactors, has_shadowed_use, declaration_has_comment, tree_inlined_everywhere, is_shadowed_use, refusal_of_inlining_everywhere, text_inlined_everywhere, tokens_of_uses}
 use Rattle.ob0_inline.specs.Uses.{value_text_keeps_meaning}
 use Rattle.ob0_inline.specs.Values.{value_factor, value_text}
 use Rattle.ob0_inline.proofs.AtUses.{literal_of, shown_is}
@@ -54,7 +54,7 @@ bound_inside (l ∷ ls) zero d e = omega arith
 bound_inside (l ∷ ls) (suc k) d e = let h = bound_inside ls k d e in omega (arith, h)
 
 module _ (m : Tree Name module_text) (c : DeclaredConstant) (none : has_shadowed_use m c ≡ false) where
-  shown_each : (k : ℕ) → ordinal_bound_at m k ≡ Some c.ordinal → value_text_keeps_meaning m k c.value ≡ true
+  shown_each : (k : ℕ) → ordinal_bound_at_occurrence m k ≡ Some c.ordinal → value_text_keeps_meaning m k c.value ≡ true
   shown_each k e =
       let here : is_shadowed_use m c k ≡ false = ap (is_shadowed_use m c) (let z : k ≡ 0 + k = omega arith in z) ∙ none_passes (is_shadowed_use m c) 0 (length (bindings m)) k none (bound_inside (bindings m) k c.ordinal e) in
       one (value_text_keeps_meaning m k c.value) (sym (ap (λ o. same_ordinal o c.ordinal && not (value_text_keeps_meaning m k c.value)) e ∙ ap (λ b. b && not (value_text_keeps_meaning m k c.value)) (eq-eqb c.ordinal c.ordinal refl)) ∙ here)
@@ -64,7 +64,7 @@ module _ (m : Tree Name module_text) (c : DeclaredConstant) (none : has_shadowed
       one false e = absurd (true≢false e)
 
   -- At each use, the truth value would be the predeclared name.
-  pub all_seen : (k : ℕ) → ordinal_bound_at m k ≡ Some c.ordinal → MeansPredeclaredTruth m k (scalar_value c.value)
+  pub all_seen : (k : ℕ) → ordinal_bound_at_occurrence m k ≡ Some c.ordinal → TruthWordMeansPredeclared m k (scalar_value c.value)
   all_seen k e = shown_is m k c.value (shown_each k e)
 
 -- A number is written without a name, so it isn't hidden.
@@ -78,12 +78,12 @@ none_of f (k ∷ ks) = one (f k) ∙ none_of f ks
 
 pub numbers_shown : (m : Tree Name module_text) (c : DeclaredConstant) (n : ℤ) → c.value ≡ scalar.Number n → has_shadowed_use m c ≡ false
 numbers_shown m c n e =
-    (λ i. list_any (λ k. same_ordinal (ordinal_bound_at m k) c.ordinal && not (value_text_keeps_meaning m k (e i))) (range_with_len 0 (length (bindings m))))
-    ∙ none_of (λ k. same_ordinal (ordinal_bound_at m k) c.ordinal) (range_with_len 0 (length (bindings m)))
+    (λ i. list_any (λ k. same_ordinal (ordinal_bound_at_occurrence m k) c.ordinal && not (value_text_keeps_meaning m k (e i))) (range_with_len 0 (length (bindings m))))
+    ∙ none_of (λ k. same_ordinal (ordinal_bound_at_occurrence m k) c.ordinal) (range_with_len 0 (length (bindings m)))
 
 -- The constant with the name at the place is the constant at the place.
-pub constant_named : (m : ParsedModule) (offset : ℕ) (found : named.BoundName) → Some found ≡ name_at_offset m offset → (o : Option DeclaredConstant) → IsSomeAnd o (λ c. (c.ordinal ≡ found.ordinal) × IsConstant m c)
-    → MatchOption o (HasNoConstantAt m offset) (λ c. IsConstantAt m offset c)
+pub constant_named : (m : ParsedModule) (offset : ℕ) (found : named.BoundName) → Some found ≡ name_at_offset m offset → (o : Option DeclaredConstant) → IsSomeAnd o (λ c. (c.ordinal ≡ found.ordinal) × IsDeclaredConstant m c)
+    → MatchOption o (HasNoConstantAtOffset m offset) (λ c. IsConstantAtOffset m offset c)
 constant_named m offset found e None h = absurd h
 constant_named m offset found e (Some c) h =
     record { token = found.token; named = sym e ∙ ap (λ n. Some (let a : named.BoundName = record { token = found.token; ordinal = n } in a)) (sym h.0); is_constant = h.1 }
@@ -100,7 +100,7 @@ IsRefused r c refusal = Refused (UsesAreFactors r.module_read c.ordinal) (text_i
 abbrev others : Bool → Bool → Option EditRefusal
 others hidden comment = if hidden then Some Shadowed else if comment then Some CommentInside else None
 
-module _ (r : Resolution) (well : IsWellTyped r) (c : DeclaredConstant) (constant : IsConstant r.module_read c) (law : ConstantUsesAreFactors) (scalar_so : Is32BitScalar (scalar_value c.value)) where
+module _ (r : Resolution) (well : IsWellTyped r) (c : DeclaredConstant) (constant : IsDeclaredConstant r.module_read c) (law : ConstantUsesAreFactors) (scalar_so : Is32BitScalar (scalar_value c.value)) where
   written_there : IsConstantWithLiteral (named_tree_of r.module_read) c.ordinal (scalar_value c.value) (value_factor c.value)
   written_there = record { value = constant.has_value; scalar = scalar_so; literal = literal_of c.value }
 

@@ -10,13 +10,13 @@ use Rattle.ob0_text.specs.declared.refusals.EditRefusal.{EditRefusal}
 use Rattle.ob0_text.specs.declared.refusals.EditRefusal.TheVariants.{Memory, Shadowed}
 use Rattle.ob0_tree.specs.ParsedModule.{named_tree_of}
 use Rattle.ob0_tree.specs.Tree.{Tree, module_text, spell}
-use Rattle.ob0_edits_tokens.specs.WordReplacements.{changes_at_indexes, changed_words, words_of}
+use Rattle.ob0_edits_tokens.specs.WordReplacements.{changes_at_indexes, changed_words, words_of_text}
 use Rattle.ob0_edits_tokens.specs.WordTerminals.{terminal_of_word}
 use Rattle.ob0_edits_tokens.proofs.WordsOfTrees.{all_put, put}
 use Rattle.ob0_edits_tokens.specs.Replacements.{AreIdentifierIndexes, replacement_at_token, range_and_text, text_after_replacement}
 use Rattle.ob0_language_names.specs.Inlining.{single_occurrence}
 use Rattle.ob0_language_names.specs.Names.{Name}
-use Rattle.ob0_language_names.specs.Occurrences.{ordinal_bound_at}
+use Rattle.ob0_language_names.specs.Occurrences.{ordinal_bound_at_occurrence}
 use Rattle.ob0_language_types.proofs.Leaves.{same_ordinal-true}
 use Rattle.ob0_language_types.proofs.Literals.{some_inverse}
 use Rattle.ob0_scope_table.specs.Resolution.{IsResolution, Resolution, ordinal_in}
@@ -25,18 +25,18 @@ use Rattle.ob0_scope.specs.declared.bound_names.BoundName as named
 use Rattle.ob0_scope.specs.BoundTokens.{is_identifier_at_offset}
 use Rattle.ob0_scope.specs.NamesAtPlaces.{name_at_offset}
 use Rattle.ob0_scope.proofs.Placed.{name_found, named_so}
-use Rattle.ob0_language_types.specs.ConstantValues.{value_of_constant}
+use Rattle.ob0_language_types.specs.ConstantValues.{constant_value_in_module}
 use Rattle.ob0_types.specs.CheckedModules.{IsWellTyped}
-use Rattle.ob0_language_types.specs.EditLaws.{AreInlinableUses, ConstantUsesAreFactors, IsConstantWithLiteral, Is32BitScalar, MeansPredeclaredTruth}
-use Rattle.ob0_language_types.specs.Written.{value_literal}
+use Rattle.ob0_language_types.specs.EditLaws.{AreInlinableUses, ConstantUsesAreFactors, IsConstantWithLiteral, Is32BitScalar, TruthWordMeansPredeclared}
+use Rattle.ob0_language_types.specs.ValueLiterals.{value_literal}
 use Rattle.ob0_language_runs.specs.EditLaws.{InliningKeepsTypingAndRuns}
 use Rattle.ob0_language_values.specs.declared.scalar.Scalar.{Scalar}
 use Rattle.ob0_language_values.specs.declared.scalar.Scalar.TheVariants as scalar
 use Rattle.ob0_language_values.specs.Scalars.{scalar_value}
-use Rattle.ob0_inline.specs.declared.uses.ConstantUse.{ConstantUse}
+use Rattle.ob0_inline.specs.declared.constant_uses.ConstantUse.{ConstantUse}
 use Rattle.ob0_inline.specs.Everywhere.{UsesAreFactors}
-use Rattle.ob0_inline.specs.EditedModuleTexts.{EditsGiveModule}
-use Rattle.ob0_inline.specs.Uses.{InlinesHere, IsConstantUse, IsConstantUseAt, tree_inlined_here, value_text_keeps_meaning, refusal_of_inlining_here}
+use Rattle.ob0_inline.specs.EditedModuleTexts.{EditedTextHasTree}
+use Rattle.ob0_inline.specs.Uses.{InlinesUse, IsConstantUse, IsConstantUseAtOffset, tree_with_inlined_use, value_text_keeps_meaning, refusal_of_inlining_use}
 use Rattle.ob0_inline.specs.Values.{value_factor, value_text, value_words}
 use Rattle.ob0_inline.proofs.ModuleTexts.{spelled_by_words, value_spelled}
 use Rattle.ob0_inline.proofs.Refusals.{MakeText, Refused, other_is_first, refused_first}
@@ -48,7 +48,7 @@ pub literal_of : (value : Scalar) → value_literal (scalar_value value) ≡ Som
 literal_of (scalar.Truth true) = refl
 literal_of _ = refl
 
-pub shown_is : (m : Tree Name module_text) (k : ℕ) (value : Scalar) → value_text_keeps_meaning m k value ≡ true → MeansPredeclaredTruth m k (scalar_value value)
+pub shown_is : (m : Tree Name module_text) (k : ℕ) (value : Scalar) → value_text_keeps_meaning m k value ≡ true → TruthWordMeansPredeclared m k (scalar_value value)
 shown_is m k (scalar.Number n) e = tt
 shown_is m k (scalar.Truth true) e = same_ordinal-true _ 2 e
 shown_is m k (scalar.Truth false) e = same_ordinal-true _ 3 e
@@ -66,7 +66,7 @@ some_named token ordinal (Some i) ordinals e = go (ordinal_in ordinals i) refl e
         ap (ordinal_in ordinals) (sym (ap (λ o. (elim o as (λ _. named.BoundName) [ Some n ↦ n | None ↦ record { token = 0; ordinal = 0 } ]).token) same))
         ∙ (q ∙ ap (λ o. Some ((elim o as (λ _. named.BoundName) [ Some n ↦ n | None ↦ record { token = 0; ordinal = 0 } ]).ordinal)) same)
 
-pub use_is : (r : Resolution) → IsResolution r → (offset : ℕ) (u : ConstantUse) → IsConstantUseAt r.module_read offset u → IsConstantUse r.module_read u
+pub use_is : (r : Resolution) → IsResolution r → (offset : ℕ) (u : ConstantUse) → IsConstantUseAtOffset r.module_read offset u → IsConstantUse r.module_read u
 use_is r is offset u h =
     let m = r.module_read in
     let ordinal : ordinal_in r.ordinals u.token ≡ Some u.constant =
@@ -94,7 +94,7 @@ module _ (r : Resolution) (is : IsResolution r) (u : ConstantUse) (use_so : IsCo
 
   -- The words, with the value's words in place of the use, spell the inlined module.
   pub here_spelled : UsesAreFactors r.module_read u.constant
-      → map terminal_of_word (changed_words (changes_at_indexes (u.token ∷ []) (value_words u.value)) 0 (words_of r.module_read.source)) ≡ spell (tree_inlined_here r.module_read u)
+      → map terminal_of_word (changed_words (changes_at_indexes (u.token ∷ []) (value_words u.value)) 0 (words_of_text r.module_read.source)) ≡ spell (tree_with_inlined_use r.module_read u)
   here_spelled alone =
       let s = r.module_read.source in
       let places = u.token ∷ [] in
@@ -110,22 +110,22 @@ module _ (r : Resolution) (well : IsWellTyped r) (u : ConstantUse) (use_so : IsC
   pub is_alone : ConstantUsesAreFactors → Is32BitScalar (scalar_value u.value) → UsesAreFactors r.module_read u.constant
   is_alone law fits_so = law (named_tree_of r.module_read) u.constant (scalar_value u.value) (value_factor u.value) (written fits_so) well.well_typed
 
-  shown_so : value_text_keeps_meaning (named_tree_of r.module_read) u.occurrence u.value ≡ true → MeansPredeclaredTruth (named_tree_of r.module_read) u.occurrence (scalar_value u.value)
+  shown_so : value_text_keeps_meaning (named_tree_of r.module_read) u.occurrence u.value ≡ true → TruthWordMeansPredeclared (named_tree_of r.module_read) u.occurrence (scalar_value u.value)
   shown_so e = shown_is (named_tree_of r.module_read) u.occurrence u.value e
 
   uses_so : value_text_keeps_meaning (named_tree_of r.module_read) u.occurrence u.value ≡ true → AreInlinableUses (named_tree_of r.module_read) u.constant (scalar_value u.value) (single_occurrence u.occurrence)
   uses_so e =
       let m = named_tree_of r.module_read in
       record {
-        bound = λ k h. ap (ordinal_bound_at m) (eqb-true k u.occurrence h) ∙ use_so.bound;
-        seen = λ k h. subst (λ n. MeansPredeclaredTruth m n (scalar_value u.value)) (sym (eqb-true k u.occurrence h)) (shown_so e);
+        bound = λ k h. ap (ordinal_bound_at_occurrence m) (eqb-true k u.occurrence h) ∙ use_so.bound;
+        seen = λ k h. subst (λ n. TruthWordMeansPredeclared m n (scalar_value u.value)) (sym (eqb-true k u.occurrence h)) (shown_so e);
       }
 
   -- The edits leave the inlined module.
   pub inlines : InliningKeepsTypingAndRuns → Is32BitScalar (scalar_value u.value) → (unit : counting.Unit) (text : List ℕ) (edits : List Edit)
       → map range_and_text edits ≡ replacement_at_token unit text r.module_read.source.tokens (value_text u.value) u.token ∷ []
-      → EditsGiveModule unit text edits (tree_inlined_here r.module_read u)
-      → value_text_keeps_meaning (named_tree_of r.module_read) u.occurrence u.value ≡ true → InlinesHere unit text r.module_read u edits
+      → EditedTextHasTree unit text edits (tree_with_inlined_use r.module_read u)
+      → value_text_keeps_meaning (named_tree_of r.module_read) u.occurrence u.value ≡ true → InlinesUse unit text r.module_read u edits
   inlines law fits_so unit text edits made leaves shown =
       let kept = law (named_tree_of r.module_read) u.constant (scalar_value u.value) (value_factor u.value) (single_occurrence u.occurrence) (written fits_so) (uses_so shown) well.well_typed in
       record { here = made; leaves = leaves; well_typed = kept.0; same_runs = kept.1 }
@@ -137,33 +137,33 @@ new_text r u = text_after_replacement r.module_read.source (u.token ∷ []) (val
 
 pub record Made (r : Resolution) (u : ConstantUse) (unit : counting.Unit) (text : List ℕ) (edits : List Edit) : Type 0 where
   pub edits_are : map range_and_text edits ≡ replacement_at_token unit text r.module_read.source.tokens (value_text u.value) u.token ∷ []
-  pub make_text : MakeText (UsesAreFactors r.module_read u.constant) (new_text r u) (tree_inlined_here r.module_read u) unit text edits
+  pub make_text : MakeText (UsesAreFactors r.module_read u.constant) (new_text r u) (tree_with_inlined_use r.module_read u) unit text edits
 
 abbrev pub IsRefused : Resolution → ConstantUse → EditRefusal → Type 0
-IsRefused r u refusal = Refused (UsesAreFactors r.module_read u.constant) (new_text r u) (tree_inlined_here r.module_read u) refusal
+IsRefused r u refusal = Refused (UsesAreFactors r.module_read u.constant) (new_text r u) (tree_with_inlined_use r.module_read u) refusal
 
 module _ (r : Resolution) (well : IsWellTyped r) (u : ConstantUse) (use_so : IsConstantUse r.module_read u) (law : ConstantUsesAreFactors) (scalar_so : Is32BitScalar (scalar_value u.value)) where
   abbrev hidden : Bool → Option EditRefusal
   hidden shown = if shown then None else Some Shadowed
 
   made_first : (unit : counting.Unit) (text : List ℕ) (edits : List Edit) → Made r u unit text edits → (shown : Bool) → value_text_keeps_meaning (named_tree_of r.module_read) u.occurrence u.value ≡ shown
-      → refusal_of_inlining_here r.module_read u ≡ hidden shown
+      → refusal_of_inlining_use r.module_read u ≡ hidden shown
   made_first unit text edits h shown e =
-      other_is_first (UsesAreFactors r.module_read u.constant) (is_alone r well u use_so law scalar_so) (new_text r u) (tree_inlined_here r.module_read u) (hidden (value_text_keeps_meaning (named_tree_of r.module_read) u.occurrence u.value)) unit text edits h.make_text
+      other_is_first (UsesAreFactors r.module_read u.constant) (is_alone r well u use_so law scalar_so) (new_text r u) (tree_with_inlined_use r.module_read u) (hidden (value_text_keeps_meaning (named_tree_of r.module_read) u.occurrence u.value)) unit text edits h.make_text
       ∙ ap hidden e
 
   pub answer_ok : InliningKeepsTypingAndRuns → (unit : counting.Unit) (text : List ℕ) (edits : List Edit) → Made r u unit text edits → value_text_keeps_meaning (named_tree_of r.module_read) u.occurrence u.value ≡ true
-      → (refusal_of_inlining_here r.module_read u ≡ None) × InlinesHere unit text r.module_read u edits
+      → (refusal_of_inlining_use r.module_read u ≡ None) × InlinesUse unit text r.module_read u edits
   answer_ok keeps unit text edits h shown =
       (made_first unit text edits h true shown, inlines r well u use_so keeps scalar_so unit text edits h.edits_are (h.make_text.leaves (is_alone r well u use_so law scalar_so)) shown)
 
   pub answer_shadowed : (unit : counting.Unit) (text : List ℕ) (edits : List Edit) → Made r u unit text edits → value_text_keeps_meaning (named_tree_of r.module_read) u.occurrence u.value ≡ false
-      → refusal_of_inlining_here r.module_read u ≡ Some Shadowed
+      → refusal_of_inlining_use r.module_read u ≡ Some Shadowed
   answer_shadowed unit text edits h shown = made_first unit text edits h false shown
 
-  pub answer_refused : (refusal : EditRefusal) → IsRefused r u refusal → (refusal_of_inlining_here r.module_read u ≡ Some refusal) ⊎ (refusal ≡ Memory)
+  pub answer_refused : (refusal : EditRefusal) → IsRefused r u refusal → (refusal_of_inlining_use r.module_read u ≡ Some refusal) ⊎ (refusal ≡ Memory)
   answer_refused =
-      refused_first (UsesAreFactors r.module_read u.constant) (is_alone r well u use_so law scalar_so) (new_text r u) (tree_inlined_here r.module_read u) (hidden (value_text_keeps_meaning (named_tree_of r.module_read) u.occurrence u.value))
+      refused_first (UsesAreFactors r.module_read u.constant) (is_alone r well u use_so law scalar_so) (new_text r u) (tree_with_inlined_use r.module_read u) (hidden (value_text_keeps_meaning (named_tree_of r.module_read) u.occurrence u.value))
 
 -- A search finds the first entry that is this token, with its index.
 pub found_there : (token j k : ℕ) (is : List ℕ) → position_from (λ i. i == token) j is ≡ Some k → (n : ℕ) × (k ≡ j + n) × (slice_get is n ≡ Some token)
@@ -191,8 +191,8 @@ named_token : (found : named.BoundName) (token ordinal : ℕ) → Some found ≡
 named_token found token ordinal e = ap (λ (o : Option named.BoundName). (elim o as (λ _. named.BoundName) [ Some n ↦ n | None ↦ found ]).token) e
 
 pub use_found : (r : Resolution) → IsWellTyped r → (offset : ℕ) (found : named.BoundName) (k : ℕ) (value : Scalar) → Some found ≡ name_at_offset r.module_read offset
-    → position_from (λ i. i == found.token) 0 r.uses ≡ Some k → option_map scalar_value (Some value) ≡ value_of_constant (named_tree_of r.module_read) found.ordinal
-    → IsConstantUseAt r.module_read offset (record { token = found.token; occurrence = k; constant = found.ordinal; value = value })
+    → position_from (λ i. i == found.token) 0 r.uses ≡ Some k → option_map scalar_value (Some value) ≡ constant_value_in_module (named_tree_of r.module_read) found.ordinal
+    → IsConstantUseAtOffset r.module_read offset (record { token = found.token; occurrence = k; constant = found.ordinal; value = value })
 use_found r well offset found k value e at has_value =
     let h = found_there found.token 0 k r.uses at in
     let same : k ≡ h.0 = omega (arith, h.1) in
@@ -202,12 +202,12 @@ use_found r well offset found k value e at has_value =
       has_value = sym has_value;
     }
 
-pub use_is_one : (r : Resolution) → IsWellTyped r → (offset : ℕ) (made u : ConstantUse) → IsConstantUseAt r.module_read offset made → Some made ≡ Some u → IsConstantUse r.module_read u
+pub use_is_one : (r : Resolution) → IsWellTyped r → (offset : ℕ) (made u : ConstantUse) → IsConstantUseAtOffset r.module_read offset made → Some made ≡ Some u → IsConstantUse r.module_read u
 use_is_one r well offset made u h e =
     subst (IsConstantUse r.module_read) (ap (λ (o : Option ConstantUse). elim o as (λ _. ConstantUse) [ Some n ↦ n | None ↦ made ]) e) (use_is r well.resolved offset made h)
 
 pub no_use : (r : Resolution) → IsWellTyped r → (offset : ℕ) (found : named.BoundName) → Some found ≡ name_at_offset r.module_read offset
-    → position_from (λ i. i == found.token) 0 r.uses ≡ None → (u : ConstantUse) → IsConstantUseAt r.module_read offset u → ⊥
+    → position_from (λ i. i == found.token) 0 r.uses ≡ None → (u : ConstantUse) → IsConstantUseAtOffset r.module_read offset u → ⊥
 no_use r well offset found e none u h =
     not_there found.token 0 u.occurrence r.uses none
     (ap (λ us. slice_get us u.occurrence) well.resolved.occurring ∙ (h.occurs ∙ ap Some (sym (named_token found u.token u.constant (e ∙ h.named)))))

@@ -6,18 +6,18 @@ use Rattle.std.proofs.lemmas.Bool.{leb-true, leb-false, le-ltb, lt-ltb}
 use Rattle.std.proofs.lemmas.List.{take-append-drop}
 use Rattle.std.proofs.lemmas.Simd.{map-map}
 use Rattle.std.proofs.lemmas.Str.{encodes-chars}
-use Rattle.ob0_edits_tokens.specs.WordReplacements.{words_of}
+use Rattle.ob0_edits_tokens.specs.WordReplacements.{words_of_text}
 use Rattle.ob0_edits_tokens.specs.WordTerminals.{terminal_of_word}
-use Rattle.ob0_tree.specs.Lexeme.{Terminal, EndOfText}
+use Rattle.ob0_tree.specs.Terminals.{Terminal, EndOfText}
 use Rattle.ob0_scan.specs.TextWithTokens.{TextWithTokens, word_of_token}
 use Rattle.ob0_tree.specs.Module.{terminals_of_text}
-use Rattle.ob0_tree.specs.ParsedModule.{ParsedModule, IsParsed, named_tree_of}
+use Rattle.ob0_tree.specs.ParsedModule.{ParsedModule, TreeMatchesText, named_tree_of}
 use Rattle.ob0_tree.specs.Tree.{Tree, module_text, nesting, spell}
 use Rattle.ob0_parse.specs.IsRightParseRefusal.{NoModuleBeginsWithTokens}
 use Rattle.ob0_parse_descent.proofs.Unique.{same}
 
 -- A module with the tokens of a tree has that tree, so the tree is nested at most 100 deep.
-pub shallow_where_parsed : (s : TextWithTokens) (t : Tree (List ℕ) module_text) → terminals_of_text s ≡ spell t → (m : ParsedModule) → m.source ≡ s → IsParsed m → nesting t ≤ 100
+pub shallow_where_parsed : (s : TextWithTokens) (t : Tree (List ℕ) module_text) → terminals_of_text s ≡ spell t → (m : ParsedModule) → m.source ≡ s → TreeMatchesText m → nesting t ≤ 100
 shallow_where_parsed s t spelled m source parsed =
     let there : terminals_of_text s ≡ spell (named_tree_of m) = ap terminals_of_text (sym source) ∙ parsed.module_of.spelled in
     let one : named_tree_of m ≡ t = (same (named_tree_of m) t [] [] tt tt (append-nil (spell (named_tree_of m)) ∙ (sym there ∙ (spelled ∙ sym (append-nil (spell t)))))).0 in
@@ -49,5 +49,5 @@ held (Some xs) = xs
 pub same_bytes : (a b : List ℕ) (made : Option (List ℕ)) → IsUtf8 a → IsUtf8 b → made ≡ Some (chars a) → made ≡ Some (chars b) → a ≡ b
 same_bytes a b made u v e f = sym (encodes-chars a u) ∙ (ap encode_utf8_all (ap held (sym e ∙ f)) ∙ encodes-chars b v)
 
-pub lexemes_of_words : (s : TextWithTokens) → terminals_of_text s ≡ map terminal_of_word (words_of s)
+pub lexemes_of_words : (s : TextWithTokens) → terminals_of_text s ≡ map terminal_of_word (words_of_text s)
 lexemes_of_words s = sym (map-map terminal_of_word (word_of_token s.text) s.tokens)

@@ -3,8 +3,8 @@
 use Rattle.std.proofs.Common.{ℕ, suc, ◌<◌, ◌≤◌, true, false, Option, Some, None, List, [], ◌∷◌, ◌++◌, map, sym, subst, arith}
 use Rattle.ob0_tree.specs.Tree.{Sort, Tree, block, constant, constants, declares, declares_constant, declares_const_section, declares_procedure, declares_type, declares_type_section, declares_variable, declares_var_section, end, formals, section_after_semicolon, forms_block, item, items, maybe, more, none, occurrences, one, procedure, section, some_formals, semicolon_then_section, type_definition, type_definitions, value_section, variable, variable_section, variables}
 use Rattle.ob0_language_names.specs.Names.{Name, naming_by_spelling, same_name}
-use Rattle.ob0_language_names.specs.BlockParts.{constant_names, formal_names, formal_sections, declared_type_names, names_in_list, procedure_name, section_constants, parameter_section_names, section_types, section_variables, variable_names}
-use Rattle.ob0_language_names.specs.Scopes.{Labelling, Scope, ordinal_after_block, ordinal_after_names, ordinal_after_procedure, ordinal_after_procedure_list, body_scope, declare_names, declare_procedure_names, first_procedure_ordinal, first_type_ordinal, first_variable_ordinal, label_of, ordinal_in_scope, scope_before_procedures, relabel_block, relabel_constant_section, relabel_constants, relabel_formals, relabel_procedure, relabel_procedure_list, relabel_parameter_section, relabel_parameter_section_list, relabel_type_section, relabel_types, relabel_uses, relabel_variable_section, relabel_variables, scope_before_types, scope_before_variables}
+use Rattle.ob0_language_names.specs.BlockParts.{constant_names, formal_parameter_names, formal_parameter_sections, declared_type_names, names_in_list, procedure_name, section_constants, parameter_section_names, section_types, section_variables, variable_names}
+use Rattle.ob0_language_names.specs.Scopes.{Labelling, Scope, ordinal_after_block, ordinal_after_names, ordinal_after_procedure, ordinal_after_procedure_list, body_scope, declare_names, declare_procedure_names, first_procedure_ordinal, first_type_ordinal, first_variable_ordinal, label_in_scope, ordinal_in_scope, scope_before_procedures, relabel_block, relabel_constant_section, relabel_constants, relabel_formals, relabel_procedure, relabel_procedure_list, relabel_parameter_section, relabel_parameter_section_list, relabel_type_section, relabel_types, relabel_uses, relabel_variable_section, relabel_variables, scope_before_types, scope_before_variables}
 use Rattle.ob0_language_names.proofs.OccurrencesMapped.{occurrences-mapped}
 use Rattle.ob0_language_names.proofs.Ordinals.{ordinal_after_names-append, le-ordinal_after_block, le-ordinal_after_names, le-ordinal_after_procedure, le-ordinal_after_procedure_list}
 
@@ -45,12 +45,12 @@ ordinal_low n [] x h = tt
 ordinal_low n (b ∷ scope) x h =
     elim (same_name x b.0) as (λ v. IsLow n (elim v [ true ↦ Some b.1 | false ↦ ordinal_in_scope naming_by_spelling scope x ])) [ true ↦ h.0 | false ↦ ordinal_low n scope x h.1 ]
 
-names_low : (n : ℕ) (scope : Scope Name) (xs : List Name) → ScopeLow n scope → AllLow n (map (label_of naming_by_spelling forget scope) xs)
+names_low : (n : ℕ) (scope : Scope Name) (xs : List Name) → ScopeLow n scope → AllLow n (map (label_in_scope naming_by_spelling forget scope) xs)
 names_low n scope [] h = tt
 names_low n scope (x ∷ xs) h = (ordinal_low n scope x h, names_low n scope xs h)
 
 pub uses_low : {s : Sort} (n : ℕ) (scope : Scope Name) (t : Tree Name s) → ScopeLow n scope → AllLow n (occurrences (relabel_uses naming_by_spelling forget scope t))
-uses_low n scope t h = subst (AllLow n) (sym (occurrences-mapped (label_of naming_by_spelling forget scope) (forget None) (λ n. n) t)) (names_low n scope (occurrences t) h)
+uses_low n scope t h = subst (AllLow n) (sym (occurrences-mapped (label_in_scope naming_by_spelling forget scope) (forget None) (λ n. n) t)) (names_low n scope (occurrences t) h)
 
 pub declared_low : (k : ℕ) (xs : List Name) (scope : Scope Name) → ScopeLow k scope → ScopeLow (ordinal_after_names k xs) (declare_names k xs scope)
 declared_low k [] scope h = h
@@ -89,20 +89,20 @@ section_low : (scope : Scope Name) (k j : ℕ) (s : Tree Name section) → Scope
 section_low scope k j (value_section ns t) h = uses_low k scope t h
 section_low scope k j (variable_section ns t) h = uses_low k scope t h
 
-pub sections_low : (scope : Scope Name) (k : ℕ) (fs : Tree Name (items section_after_semicolon)) → ScopeLow k scope → AllLow (ordinal_after_names k (formal_names fs)) (occurrences (relabel_parameter_section_list naming_by_spelling forget scope k fs))
+pub sections_low : (scope : Scope Name) (k : ℕ) (fs : Tree Name (items section_after_semicolon)) → ScopeLow k scope → AllLow (ordinal_after_names k (formal_parameter_names fs)) (occurrences (relabel_parameter_section_list naming_by_spelling forget scope k fs))
 sections_low scope k end h = tt
 sections_low scope k (more (semicolon_then_section s) fs) h =
     let xs = parameter_section_names s in
     let n = ordinal_after_names k xs in
-    let last = ordinal_after_names n (formal_names fs) in
+    let last = ordinal_after_names n (formal_parameter_names fs) in
     let up1 = le-ordinal_after_names k xs in
-    let up2 = le-ordinal_after_names n (formal_names fs) in
-    subst (λ m. AllLow m (occurrences (relabel_parameter_section_list naming_by_spelling forget scope k (more (semicolon_then_section s) fs)))) (sym (ordinal_after_names-append k xs (formal_names fs)))
+    let up2 = le-ordinal_after_names n (formal_parameter_names fs) in
+    subst (λ m. AllLow m (occurrences (relabel_parameter_section_list naming_by_spelling forget scope k (more (semicolon_then_section s) fs)))) (sym (ordinal_after_names-append k xs (formal_parameter_names fs)))
     (low_append last (occurrences (relabel_parameter_section naming_by_spelling forget scope k s)) (occurrences (relabel_parameter_section_list naming_by_spelling forget (declare_names k xs scope) n fs))
     (raised k last (occurrences (relabel_parameter_section naming_by_spelling forget scope k s)) (omega (arith, up1, up2)) (section_low scope k k s h))
     (sections_low (declare_names k xs scope) n fs (declared_low k xs scope h)))
 
-pub formals_low : (scope : Scope Name) (k : ℕ) (fs : Tree Name (maybe formals)) → ScopeLow k scope → AllLow (ordinal_after_names k (formal_names (formal_sections fs))) (occurrences (relabel_formals naming_by_spelling forget scope k fs))
+pub formals_low : (scope : Scope Name) (k : ℕ) (fs : Tree Name (maybe formals)) → ScopeLow k scope → AllLow (ordinal_after_names k (formal_parameter_names (formal_parameter_sections fs))) (occurrences (relabel_formals naming_by_spelling forget scope k fs))
 formals_low scope k (one (some_formals s fs)) h = sections_low scope k (more (semicolon_then_section s) fs) h
 formals_low scope k _ h = tt
 
@@ -164,7 +164,7 @@ mutual
 
   pub procedure_low : (scope : Scope Name) (k : ℕ) (p : Tree Name (item procedure)) → ScopeLow k scope → AllLow (ordinal_after_procedure (suc k) p) (occurrences (relabel_procedure naming_by_spelling forget scope k p))
   procedure_low scope k (declares_procedure x fs b closing) h =
-      let xs = formal_names (formal_sections fs) in
+      let xs = formal_parameter_names (formal_parameter_sections fs) in
       let n = ordinal_after_names (suc k) xs in
       let last = ordinal_after_block n b in
       let h1 = scope_raised k (suc k) scope (omega arith) h in

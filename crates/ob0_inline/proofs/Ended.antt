@@ -11,18 +11,18 @@ use Rattle.ob0_scan.specs.declared.lexeme.TokenKind.{TokenKind}
 use Rattle.ob0_scan.specs.declared.lexeme.TokenKind.TheVariants as kind
 use Rattle.ob0_scan.specs.TextWithTokens.{TextWithTokens, word_of_token}
 use Rattle.ob0_tree.specs.declared.tree.Role.TheVariants as role
-use Rattle.ob0_tree.specs.Lexeme.{Terminal, WordOrSymbol}
-use Rattle.ob0_tree.specs.Lexeme as lexeme
+use Rattle.ob0_tree.specs.Terminals.{Terminal, WordOrSymbol}
+use Rattle.ob0_tree.specs.Terminals as lexeme
 use Rattle.ob0_tree.specs.ParsedModule.{ParsedModule, named_tree_of, tree_of}
-use Rattle.ob0_tree.specs.Places.{indexed_terminal}
-use Rattle.ob0_tree.specs.Places as leaf
+use Rattle.ob0_tree.specs.TokenIndexLeaves.{indexed_terminal}
+use Rattle.ob0_tree.specs.TokenIndexLeaves as leaf
 use Rattle.ob0_tree.specs.Tree.{identifiers, occurrences, spell}
-use Rattle.ob0_edits_tokens.specs.WordReplacements.{changes_at_indexes, changed_words, words_of}
+use Rattle.ob0_edits_tokens.specs.WordReplacements.{changes_at_indexes, changed_words, words_of_text}
 use Rattle.ob0_edits_tokens.specs.WordsOfTrees.{indexed_terminals_of_words}
 use Rattle.ob0_edits_tokens.specs.Removals.{MayBeConstantDeclaration, changes_with_removal}
 use Rattle.ob0_edits_tokens.specs.Replacements.{AreIdentifierIndexes}
 use Rattle.ob0_edits_tokens.specs.WordTerminals.{terminal_of_word}
-use Rattle.ob0_language_names.specs.Names.{Label, Name, naming_by_spelling, declared, same_label}
+use Rattle.ob0_language_names.specs.Names.{Label, Name, naming_by_spelling, declared, same_ordinal_label}
 use Rattle.ob0_language_names.specs.Occurrences.{bindings}
 use Rattle.ob0_language_names.specs.BlockParts.{module_block}
 use Rattle.ob0_language_types.proofs.Literals.{some_inverse}
@@ -31,12 +31,12 @@ use Rattle.ob0_language_names.specs.Scopes.{label_from_ordinal, same_ordinal}
 use Rattle.ob0_scope_table.proofs.Bound.{bindings_by_table}
 use Rattle.ob0_language_names.proofs.OccurrenceNames.{length-map}
 use Rattle.ob0_language_names.proofs.Peeling.{heads}
-use Rattle.ob0_language_types.specs.ConstantValues.{value_of_constant}
+use Rattle.ob0_language_types.specs.ConstantValues.{constant_value_in_module}
 use Rattle.ob0_language_values.specs.Scalars.{scalar_value}
 use Rattle.ob0_language_values.specs.Values.{Value}
-use Rattle.ob0_inline.specs.declared.constants.DeclaredConstant.{DeclaredConstant}
+use Rattle.ob0_inline.specs.declared.declared_constants.DeclaredConstant.{DeclaredConstant}
 use Rattle.ob0_inline.specs.Declarations.{is_semicolon}
-use Rattle.ob0_inline.specs.Everywhere.{IsConstant, UsesAreFactors, tree_inlined_everywhere, tokens_of_uses}
+use Rattle.ob0_inline.specs.Everywhere.{IsDeclaredConstant, UsesAreFactors, tree_inlined_everywhere, tokens_of_uses}
 use Rattle.ob0_inline.specs.Values.{value_factor, value_words}
 use Rattle.ob0_inline.proofs.EverywhereAt.{bound_tokens, late_here, uses_are_names, words_everywhere}
 use Rattle.ob0_inline.proofs.ModuleTexts.{spelled_by_words, value_spelled}
@@ -46,15 +46,15 @@ use Rattle.ob0_inline.proofs.WordsLeft.{first_bound_token, is_declaration, last_
 
 -- Finds the uses by the table of ordinals.
 
-label_same : (o : Option ℕ) (x : Name) (d : ℕ) → same_label (label_from_ordinal naming_by_spelling o x) (declared d) ≡ same_ordinal o d
+label_same : (o : Option ℕ) (x : Name) (d : ℕ) → same_ordinal_label (label_from_ordinal naming_by_spelling o x) (declared d) ≡ same_ordinal o d
 label_same None x d = refl
 label_same (Some k) x d = refl
 
 uses_kept : (source : TextWithTokens) (ordinals : List (Option ℕ)) (d : ℕ) (is : List ℕ)
-    → map (λ (u : ℕ × Label). u.0) (filter (λ u. same_label u.1 (declared d)) (zip is (map (label_from_table source ordinals) is))) ≡ bound_tokens ordinals d is
+    → map (λ (u : ℕ × Label). u.0) (filter (λ u. same_ordinal_label u.1 (declared d)) (zip is (map (label_from_table source ordinals) is))) ≡ bound_tokens ordinals d is
 uses_kept source ordinals d [] = refl
 uses_kept source ordinals d (i ∷ is) =
-    let kept = filter (λ (u : ℕ × Label). same_label u.1 (declared d)) (zip is (map (label_from_table source ordinals) is)) in
+    let kept = filter (λ (u : ℕ × Label). same_ordinal_label u.1 (declared d)) (zip is (map (label_from_table source ordinals) is)) in
     ap (λ b. map (λ (u : ℕ × Label). u.0) (cond b ((i, label_from_table source ordinals i) ∷ kept) kept)) (label_same (ordinal_in ordinals i) (leaf.token_text_at source i) d)
     ∙ one kept (bound_tokens ordinals d is) (uses_kept source ordinals d is) (same_ordinal (ordinal_in ordinals i) d)
   where
@@ -68,7 +68,7 @@ uses_by_table r is d =
     let m = r.module_read in
     ap (bound_tokens r.ordinals d) is.occurring
     ∙ (sym (uses_kept m.source r.ordinals d (occurrences (tree_of m)))
-    ∙ ap (λ ls. map (λ (u : ℕ × Label). u.0) (filter (λ u. same_label u.1 (declared d)) (zip (occurrences (tree_of m)) ls))) (sym (bindings_by_table m r.ordinals is.numbering)))
+    ∙ ap (λ ls. map (λ (u : ℕ × Label). u.0) (filter (λ u. same_ordinal_label u.1 (declared d)) (zip (occurrences (tree_of m)) ls))) (sym (bindings_by_table m r.ordinals is.numbering)))
 
 -- There are as many bindings as occurrences.
 pub as_many_bindings : (r : Resolution) → IsResolution r → length r.uses ≡ length (bindings (named_tree_of r.module_read))
@@ -114,8 +114,8 @@ token_of : (labels : List ℕ) (d place : ℕ) → d ≡ 7 + place → declarati
 token_of labels d place e =
     ap (λ b. if b then None else slice_get labels (d - 7)) (le-ltb d 7 (omega (arith, e))) ∙ ap (slice_get labels) (let z : d - 7 ≡ place = omega (arith, e) in z)
 
-module _ (m : ParsedModule) (d : ℕ) (left : List (Terminal ℕ)) (t : Taken d 7 (names_in (module_block (tree_of m))) (indexed_terminals_of_words 0 (words_of m.source)) left) where
-  pub begins_there : declaration_token (declaring_names (identifiers role.Declaring (tree_of m))) d ≡ Some (first_bound_token t)
+module _ (m : ParsedModule) (d : ℕ) (left : List (Terminal ℕ)) (t : Taken d 7 (names_in (module_block (tree_of m))) (indexed_terminals_of_words 0 (words_of_text m.source)) left) where
+  pub begins_there : declaration_token (declaring_names (identifiers role.DeclaringName (tree_of m))) d ≡ Some (first_bound_token t)
   begins_there =
       let labels = names_in (module_block (tree_of m)) in
       ap (λ (xs : List ℕ). declaration_token xs d) (module_declared (tree_of m))
@@ -134,11 +134,11 @@ module _ (m : ParsedModule) (d : ℕ) (left : List (Terminal ℕ)) (t : Taken d 
 
 -- the facts about a constant whose declaration is removed
 
-module _ (r : Resolution) (is : IsResolution r) (d : ℕ) (w : Value) (has_value : value_of_constant (named_tree_of r.module_read) d ≡ Some w) where
-  abbrev spelled : spell (tree_of r.module_read) ≡ indexed_terminals_of_words 0 (words_of r.module_read.source)
+module _ (r : Resolution) (is : IsResolution r) (d : ℕ) (w : Value) (has_value : constant_value_in_module (named_tree_of r.module_read) d ≡ Some w) where
+  abbrev spelled : spell (tree_of r.module_read) ≡ indexed_terminals_of_words 0 (words_of_text r.module_read.source)
   spelled = spelled_by_words r.module_read is.parsed
 
-  abbrev taken : Taken d 7 (names_in (module_block (tree_of r.module_read))) (indexed_terminals_of_words 0 (words_of r.module_read.source)) (spell (gone_module d (tree_of r.module_read)))
+  abbrev taken : Taken d 7 (names_in (module_block (tree_of r.module_read))) (indexed_terminals_of_words 0 (words_of_text r.module_read.source)) (spell (gone_module d (tree_of r.module_read)))
   taken = (late_here r is d w has_value spelled).taken
 
   abbrev pub name_token : ℕ
@@ -147,7 +147,7 @@ module _ (r : Resolution) (is : IsResolution r) (d : ℕ) (w : Value) (has_value
   abbrev pub end_token : ℕ
   end_token = last_token taken
 
-  pub begins_at : declaration_token (declaring_names (identifiers role.Declaring (tree_of r.module_read))) d ≡ Some name_token
+  pub begins_at : declaration_token (declaring_names (identifiers role.DeclaringName (tree_of r.module_read))) d ≡ Some name_token
   begins_at = begins_there r.module_read d (spell (gone_module d (tree_of r.module_read))) taken
 
   pub ends_at : position_from (λ x. is_semicolon x.kind) name_token (drop name_token r.module_read.source.tokens) ≡ Some end_token
@@ -168,7 +168,7 @@ module _ (r : Resolution) (is : IsResolution r) (d : ℕ) (w : Value) (has_value
       subst (AreIdentifierIndexes r.module_read.source.tokens (suc end_token)) (uses_by_table r is d)
       (uses_are_names r is d w has_value spelled declaration_at.inside)
 
-module _ (r : Resolution) (is : IsResolution r) (c : DeclaredConstant) (constant : IsConstant r.module_read c) where
+module _ (r : Resolution) (is : IsResolution r) (c : DeclaredConstant) (constant : IsDeclaredConstant r.module_read c) where
   first_is : name_token r is c.ordinal (scalar_value c.value) constant.has_value ≡ c.first
   first_is = some_inverse (sym (begins_at r is c.ordinal (scalar_value c.value) constant.has_value) ∙ constant.begins)
 
@@ -188,7 +188,7 @@ module _ (r : Resolution) (is : IsResolution r) (c : DeclaredConstant) (constant
 
   -- The remaining words spell the inlined module.
   pub left_spelled : UsesAreFactors r.module_read c.ordinal
-      → map terminal_of_word (changed_words (changes_with_removal c.first c.last (changes_at_indexes (tokens_of_uses r.module_read c.ordinal) (value_words c.value))) 0 (words_of r.module_read.source)) ≡ spell (tree_inlined_everywhere r.module_read c)
+      → map terminal_of_word (changed_words (changes_with_removal c.first c.last (changes_at_indexes (tokens_of_uses r.module_read c.ordinal) (value_words c.value))) 0 (words_of_text r.module_read.source)) ≡ spell (tree_inlined_everywhere r.module_read c)
   left_spelled alone =
       let m = r.module_read in
       let d = c.ordinal in
@@ -198,4 +198,4 @@ module _ (r : Resolution) (is : IsResolution r) (c : DeclaredConstant) (constant
       let last = end_token r is d w constant.has_value in
       let inside_it = (declaration_at r is d w constant.has_value).inside in
       let there = words_everywhere r is d w constant.has_value spelled (value_factor c.value) (value_words c.value) (value_spelled c.value) alone (uses_are_names r is d w constant.has_value spelled inside_it) in
-      (λ i. map terminal_of_word (changed_words (changes_with_removal (sym first_is i) (sym last_is i) (changes_at_indexes (sym (uses_by_table r is d) i) (value_words c.value))) 0 (words_of m.source))) ∙ there
+      (λ i. map terminal_of_word (changed_words (changes_with_removal (sym first_is i) (sym last_is i) (changes_at_indexes (sym (uses_by_table r is d) i) (value_words c.value))) 0 (words_of_text m.source))) ∙ there

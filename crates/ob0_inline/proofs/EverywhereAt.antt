@@ -8,19 +8,19 @@ use Rattle.ob0_tree.specs.IdentifierIndexes.{AreIdentifierTokens, AreAscendingWi
 use Rattle.ob0_tree.specs.ParsedModule.{named_tree_of, tree_of}
 use Rattle.ob0_tree.specs.Tree.{Tree, factor, occurrences, spell}
 use Rattle.ob0_tree.proofs.Leaves.{ascending_lower}
-use Rattle.ob0_edits_tokens.specs.WordReplacements.{changes_at_indexes, changed_words, is_in_list, words_of}
+use Rattle.ob0_edits_tokens.specs.WordReplacements.{changes_at_indexes, changed_words, is_in_list, words_of_text}
 use Rattle.ob0_edits_tokens.specs.WordsOfTrees.{indexed_terminals_of_words}
 use Rattle.ob0_edits_tokens.specs.Removals.{changes_with_removal}
 use Rattle.ob0_edits_tokens.specs.Replacements.{AreIdentifierIndexes}
 use Rattle.ob0_edits_tokens.specs.WordTerminals.{terminal_of_word}
-use Rattle.ob0_language_names.specs.Inlining.{occurrences_bound_to, inlined_everywhere}
+use Rattle.ob0_language_names.specs.Inlining.{occurrences_bound_to_ordinal, inlined_everywhere_and_removed}
 use Rattle.ob0_language_names.specs.Names.{Name}
 use Rattle.ob0_language_names.specs.BlockParts.{module_block}
 use Rattle.ob0_language_types.proofs.Leaves.{same_ordinal-true}
 use Rattle.ob0_scope_table.specs.Resolution.{IsResolution, Resolution, ordinal_in}
 use Rattle.ob0_language_names.specs.Scopes.{same_ordinal}
 use Rattle.ob0_scope_table.proofs.Bound.{bound_at}
-use Rattle.ob0_language_types.specs.ConstantValues.{value_of_constant}
+use Rattle.ob0_language_types.specs.ConstantValues.{constant_value_in_module}
 use Rattle.ob0_language_values.specs.Values.{Value}
 use Rattle.ob0_inline.specs.Everywhere.{UsesAreFactors}
 use Rattle.ob0_inline.proofs.UsesFollow.{late_of, uses_following}
@@ -92,7 +92,7 @@ in_list (x ∷ is) (suc j) i e = ap (λ b. (i == x) || b) (in_list is j i e) ∙
     either true = refl
     either false = refl
 
-agree : (r : Resolution) → IsResolution r → (d j i : ℕ) → slice_get r.uses j ≡ Some i → is_in_list i (bound_tokens r.ordinals d r.uses) ≡ occurrences_bound_to (named_tree_of r.module_read) d j
+agree : (r : Resolution) → IsResolution r → (d j i : ℕ) → slice_get r.uses j ≡ Some i → is_in_list i (bound_tokens r.ordinals d r.uses) ≡ occurrences_bound_to_ordinal (named_tree_of r.module_read) d j
 agree r is d j i e =
     among_bound r.ordinals d i r.uses
     ∙ (ap (λ b. same_ordinal (ordinal_in r.ordinals i) d && b) (in_list r.uses j i e)
@@ -102,9 +102,9 @@ agree r is d j i e =
     and_true true = refl
     and_true false = refl
 
-module _ (r : Resolution) (is : IsResolution r) (d : ℕ) (w : Value) (has_value : value_of_constant (named_tree_of r.module_read) d ≡ Some w) (spelled : spell (tree_of r.module_read) ≡ indexed_terminals_of_words 0 (words_of r.module_read.source)) where
+module _ (r : Resolution) (is : IsResolution r) (d : ℕ) (w : Value) (has_value : constant_value_in_module (named_tree_of r.module_read) d ≡ Some w) (spelled : spell (tree_of r.module_read) ≡ indexed_terminals_of_words 0 (words_of_text r.module_read.source)) where
   -- the places of the constant's declaration and uses among the module's tokens
-  abbrev pub late_here : Late d 7 (names_in (module_block (tree_of r.module_read))) (indexed_terminals_of_words 0 (words_of r.module_read.source)) (spell (gone_module d (tree_of r.module_read))) (occurrences (tree_of r.module_read))
+  abbrev pub late_here : Late d 7 (names_in (module_block (tree_of r.module_read))) (indexed_terminals_of_words 0 (words_of_text r.module_read.source)) (spell (gone_module d (tree_of r.module_read))) (occurrences (tree_of r.module_read))
       (map (ordinal_in r.ordinals) (occurrences (tree_of r.module_read)))
   late_here = late_of r is d w has_value spelled
 
@@ -121,10 +121,10 @@ module _ (r : Resolution) (is : IsResolution r) (d : ℕ) (w : Value) (has_value
   -- declaration.
   pub words_everywhere : (v : Tree Name factor) (vs : List Word) → map terminal_of_word vs ≡ spell v → UsesAreFactors r.module_read d
       → AreIdentifierIndexes r.module_read.source.tokens (suc (last_token late_here.taken)) (bound_tokens r.ordinals d r.uses)
-      → map terminal_of_word (changed_words (changes_with_removal (first_bound_token late_here.taken) (last_token late_here.taken) (changes_at_indexes (bound_tokens r.ordinals d r.uses) vs)) 0 (words_of r.module_read.source))
-      ≡ spell (inlined_everywhere (named_tree_of r.module_read) d v)
+      → map terminal_of_word (changed_words (changes_with_removal (first_bound_token late_here.taken) (last_token late_here.taken) (changes_at_indexes (bound_tokens r.ordinals d r.uses) vs)) 0 (words_of_text r.module_read.source))
+      ≡ spell (inlined_everywhere_and_removed (named_tree_of r.module_read) d v)
   words_everywhere v vs same alone are_names =
       let m = r.module_read in
       let places = bound_tokens r.ordinals d r.uses in
       words_left m.source (suc (last_token late_here.taken)) places are_names vs d 7 (names_in (module_block (tree_of m))) (spell (gone_module d (tree_of m))) late_here.taken
-      ∙ others_spelled r is d v places (are_bound r d r.uses (λ j i e. (j, e))) (occurrences_bound_to (named_tree_of m) d) (agree r is d) alone vs same
+      ∙ others_spelled r is d v places (are_bound r d r.uses (λ j i e. (j, e))) (occurrences_bound_to_ordinal (named_tree_of m) d) (agree r is d) alone vs same

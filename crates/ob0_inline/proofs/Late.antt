@@ -9,23 +9,23 @@ use Rattle.ob0_scan.specs.declared.lexeme.TokenKind.{TokenKind}
 use Rattle.ob0_scan.specs.declared.lexeme.TokenKind.TheVariants as kind
 use Rattle.ob0_tree.specs.declared.tree.Role.{Role}
 use Rattle.ob0_tree.specs.declared.tree.Role.TheVariants as role
-use Rattle.ob0_tree.specs.Lexeme.{Terminal, WordOrSymbol}
-use Rattle.ob0_tree.specs.Lexeme as lexeme
+use Rattle.ob0_tree.specs.Terminals.{Terminal, WordOrSymbol}
+use Rattle.ob0_tree.specs.Terminals as lexeme
 use Rattle.ob0_tree.specs.IdentifierIndexes.{names_without_roles}
 use Rattle.ob0_tree.specs.Tree.{Sort, Tree, block, body, constant, constants, declares, declares_constant, declares_const_section, declares_procedure, end, formals, forms_block, identifiers, forms_module, item, items, mapped_tree, maybe, module_text, more, none, occurrences, one, procedure, spell, type_definitions, variables}
 use Rattle.ob0_tree.proofs.Leaves.{leaves_spelled, lexeme_names, lexeme_names-append}
 use Rattle.ob0_tree.proofs.Occurring.{looked_up_only, looked_up-occurrences}
 use Rattle.ob0_edits_tokens.specs.WordReplacements.{is_in_list}
 use Rattle.ob0_language_names.specs.Names.{Name, naming_by_spelling}
-use Rattle.ob0_language_names.specs.BlockParts.{constant_names, formal_names, formal_sections, module_block, declared_type_names, procedure_name, section_constants, section_types, section_variables, variable_names}
+use Rattle.ob0_language_names.specs.BlockParts.{constant_names, formal_parameter_names, formal_parameter_sections, module_block, declared_type_names, procedure_name, section_constants, section_types, section_variables, variable_names}
 use Rattle.ob0_language_names.specs.Scopes.{Scope, ordinal_after_names, ordinal_after_procedure, body_scope, declare_names, first_procedure_ordinal, first_type_ordinal, first_variable_ordinal, predeclared_scope, scope_before_procedures, relabel_block, relabel_constant_section, relabel_constants, relabel_formals, relabel_procedure, relabel_procedure_list, relabel_type_section, relabel_uses, relabel_variable_section, relabel_module, scope_before_types, scope_before_variables}
 use Rattle.ob0_language_names.proofs.OccurrenceNames.{as_many-constant_section, as_many-formals, as_many-procedure, as_many-type_section, as_many-uses, as_many-variable_section}
 use Rattle.ob0_language_names.proofs.Ordinals.{le-ordinal_after_names, le-ordinal_after_procedure}
-use Rattle.ob0_language_types.specs.ConstantValues.{ConstantEnvironment, non_constant_placeholder, predeclared_constants, constant_value_in_section, constant_value_in_block, constant_value_in_procedure, constant_value_in_procedures, value_of_constant}
+use Rattle.ob0_language_types.specs.ConstantValues.{ConstantEnvironment, non_constant_placeholder, predeclared_constants, constant_value_in_section, constant_value_in_block, constant_value_in_procedure, constant_value_in_procedure_list, constant_value_in_module}
 use Rattle.ob0_language_types.specs.Declarations.{declare_constants}
 use Rattle.ob0_language_types.specs.Environments.{meanings}
 use Rattle.ob0_language_types.specs.Expressions.{a_constant}
-use Rattle.ob0_language_types.specs.Typing.{constant_value}
+use Rattle.ob0_language_types.specs.Typing.{constant_expression_value}
 use Rattle.ob0_language_types.specs.WellTyped.{bind_names}
 use Rattle.ob0_language_values.specs.Values.{Value}
 use Rattle.ob0_inline.proofs.Earlier.{AllLow, ScopeLow, constant_section_low, declared_low, forget, formals_low, low_append, procedure_low, raised, scope_raised, type_section_low, uses_low, variable_section_low}
@@ -67,13 +67,13 @@ all_joined (i ∷ is) js xs h g = (h.0, all_joined is js xs h.1 g)
 
 looked_up_in : (xs : List (Role × ℕ)) → AllIn (looked_up_only xs) (names_without_roles xs)
 looked_up_in [] = tt
-looked_up_in ((role.LookedUp, i) ∷ xs) = (ap (λ b. b || is_in_list i (names_without_roles xs)) (eq-eqb i i refl), all_second (looked_up_only xs) (i ∷ []) (names_without_roles xs) (looked_up_in xs))
+looked_up_in ((role.LookedUpName, i) ∷ xs) = (ap (λ b. b || is_in_list i (names_without_roles xs)) (eq-eqb i i refl), all_second (looked_up_only xs) (i ∷ []) (names_without_roles xs) (looked_up_in xs))
 looked_up_in ((_, i) ∷ xs) = all_second (looked_up_only xs) (i ∷ []) (names_without_roles xs) (looked_up_in xs)
 
 occurrences_in : {s : Sort} (t : Tree ℕ s) → AllIn (occurrences t) (lexeme_names (spell t))
 occurrences_in t =
-    subst (λ l. AllIn l (lexeme_names (spell t))) (looked_up-occurrences role.Declaring (λ n xs. refl) t)
-    (subst (AllIn (looked_up_only (identifiers role.Declaring t))) (leaves_spelled role.Declaring t) (looked_up_in (identifiers role.Declaring t)))
+    subst (λ l. AllIn l (lexeme_names (spell t))) (looked_up-occurrences role.DeclaringName (λ n xs. refl) t)
+    (subst (AllIn (looked_up_only (identifiers role.DeclaringName t))) (leaves_spelled role.DeclaringName t) (looked_up_in (identifiers role.DeclaringName t)))
 
 -- States that a declaration was removed. The occurrences up to its end are bound to earlier
 -- declarations, and the other occurrences follow it.
@@ -166,7 +166,7 @@ module _ (f : ℕ → Name) (g : ℕ → ℕ) (d : ℕ) (w : Value) where
   unfolding constant_value_in_section
   late_constants known scope k end front border opens below e = absurd (cc)
   late_constants known scope k (more (declares_constant x a) cs) front border opens below e =
-      by_value (constant_value (meanings naming_by_spelling known) (mapped_tree f g a)) e
+      by_value (constant_expression_value (meanings naming_by_spelling known) (mapped_tree f g a)) e
       (λ v h. late_constants ((f x, a_constant v) ∷ known) ((f x, k) ∷ scope) (suc k) cs (front ++ (WordOrSymbol border ∷ lexeme.Name x ∷ WordOrSymbol (kind.Symbol symbol.Equal) ∷ spell a)) (kind.Symbol symbol.Semicolon) (inr refl)
       (omega arith, scope_raised k (suc k) scope (omega arith) below) h)
     where
@@ -328,10 +328,10 @@ module _ (f : ℕ → Name) (g : ℕ → ℕ) (d : ℕ) (w : Value) where
       (late_before d k labels (spell q) (spell rest) left (occurrences q) (occurrences rest) lq lr n hq there)
 
   late_in_procedure : (x closing : ℕ) (fs : Tree ℕ (maybe formals)) (b : Tree ℕ block) (k : ℕ) (lf lb : List (Option ℕ)) → length lf ≡ length (occurrences fs) → AllLow d lf
-      → Late d (ordinal_after_names (suc k) (formal_names (formal_sections fs))) (names_in b) (spell b) (spell (gone_block d (ordinal_after_names (suc k) (formal_names (formal_sections fs))) b)) (occurrences b) lb
+      → Late d (ordinal_after_names (suc k) (formal_parameter_names (formal_parameter_sections fs))) (names_in b) (spell b) (spell (gone_block d (ordinal_after_names (suc k) (formal_parameter_names (formal_parameter_sections fs))) b)) (occurrences b) lb
       → Late d k (names_in_procedure (declares_procedure x fs b closing)) (spell (declares_procedure x fs b closing)) (spell (gone_procedure d (suc k) (declares_procedure x fs b closing))) (occurrences (declares_procedure x fs b closing)) (lf ++ lb)
   late_in_procedure x closing fs b k lf lb n hf t =
-      let xs = formal_names (formal_sections fs) in
+      let xs = formal_parameter_names (formal_parameter_sections fs) in
       let labels = x ∷ (xs ++ names_in b) in
       let left = spell (gone_block d (ordinal_after_names (suc k) xs) b) in
       let tail : List (Terminal ℕ) = WordOrSymbol (kind.ReservedWord reserved.End) ∷ lexeme.Name closing ∷ (WordOrSymbol (kind.Symbol symbol.Semicolon) ∷ []) in
@@ -368,7 +368,7 @@ module _ (f : ℕ → Name) (g : ℕ → ℕ) (d : ℕ) (w : Value) where
         elim (nat_lt d (first_type_ordinal n b')) as (λ x. nat_lt d (first_type_ordinal n b') ≡ x
         → (if x then constant_value_in_section known d n (section_constants (mapped_tree f g cs))
         else if nat_lt d (first_procedure_ordinal n b') then None
-        else option_and_then (λ inner. constant_value_in_procedures (bind_names (declared_type_names (section_types (mapped_tree f g ts)) ++ variable_names (section_variables (mapped_tree f g vs))) non_constant_placeholder inner) d (first_procedure_ordinal n b') (mapped_tree f g ps))
+        else option_and_then (λ inner. constant_value_in_procedure_list (bind_names (declared_type_names (section_types (mapped_tree f g ts)) ++ variable_names (section_variables (mapped_tree f g vs))) non_constant_placeholder inner) d (first_procedure_ordinal n b') (mapped_tree f g ps))
         (declare_constants naming_by_spelling known (section_constants (mapped_tree f g cs)))) ≡ Some w
         → Late d k (names_in b) (spell b) (spell (gone_block d k b)) (occurrences b) ((lc ++ (lt ++ (lv ++ lp))) ++ ls)) [
           | true ↦ λ q h.
@@ -377,13 +377,13 @@ module _ (f : ℕ → Name) (g : ℕ → ℕ) (d : ℕ) (w : Value) where
           | false ↦ λ q h.
               let high = ltb-false d (first_type_ordinal n b') q in
               elim (nat_lt d (first_procedure_ordinal n b')) as (λ y. nat_lt d (first_procedure_ordinal n b') ≡ y → (if y then None
-              else option_and_then (λ inner. constant_value_in_procedures (bind_names (declared_type_names (section_types (mapped_tree f g ts)) ++ variable_names (section_variables (mapped_tree f g vs))) non_constant_placeholder inner) d (first_procedure_ordinal n b') (mapped_tree f g ps))
+              else option_and_then (λ inner. constant_value_in_procedure_list (bind_names (declared_type_names (section_types (mapped_tree f g ts)) ++ variable_names (section_variables (mapped_tree f g vs))) non_constant_placeholder inner) d (first_procedure_ordinal n b') (mapped_tree f g ps))
               (declare_constants naming_by_spelling known (section_constants (mapped_tree f g cs)))) ≡ Some w
               → Late d k (names_in b) (spell b) (spell (gone_block d k b)) (occurrences b) ((lc ++ (lt ++ (lv ++ lp))) ++ ls)) [
                 | true ↦ λ r g0. absurd (cc)
                 | false ↦ λ r.
                     let all = ltb-false d (first_procedure_ordinal n b') r in
-                    elim (declare_constants naming_by_spelling known (section_constants (mapped_tree f g cs))) as (λ o. option_and_then (λ inner. constant_value_in_procedures (bind_names (declared_type_names (section_types (mapped_tree f g ts)) ++ variable_names (section_variables (mapped_tree f g vs))) non_constant_placeholder inner) d (first_procedure_ordinal n b') (mapped_tree f g ps)) o ≡ Some w
+                    elim (declare_constants naming_by_spelling known (section_constants (mapped_tree f g cs))) as (λ o. option_and_then (λ inner. constant_value_in_procedure_list (bind_names (declared_type_names (section_types (mapped_tree f g ts)) ++ variable_names (section_variables (mapped_tree f g vs))) non_constant_placeholder inner) d (first_procedure_ordinal n b') (mapped_tree f g ps)) o ≡ Some w
                     → Late d k (names_in b) (spell b) (spell (gone_block d k b)) (occurrences b) ((lc ++ (lt ++ (lv ++ lp))) ++ ls)) [
                       | None ↦ λ g0. absurd (cc)
                       | Some inner ↦ λ g0.
@@ -400,7 +400,7 @@ module _ (f : ℕ → Name) (g : ℕ → ℕ) (d : ℕ) (w : Value) where
               ] refl h
         ] refl e
 
-    late_procedures : (known : ConstantEnvironment) (scope : Scope Name) (k n : ℕ) → n ≡ k → ScopeLow n scope → (ps : Tree ℕ (items procedure)) → constant_value_in_procedures known d n (mapped_tree f g ps) ≡ Some w
+    late_procedures : (known : ConstantEnvironment) (scope : Scope Name) (k n : ℕ) → n ≡ k → ScopeLow n scope → (ps : Tree ℕ (items procedure)) → constant_value_in_procedure_list known d n (mapped_tree f g ps) ≡ Some w
         → Late d k (names_in_procedures ps) (spell ps) (spell (gone_procedures d k ps)) (occurrences ps) (occurrences (relabel_procedure_list naming_by_spelling forget scope n (mapped_tree f g ps)))
     late_procedures known scope k n same below end e = absurd (cc)
     late_procedures known scope k n same below (more q rest) e =
@@ -411,7 +411,7 @@ module _ (f : ℕ → Name) (g : ℕ → ℕ) (d : ℕ) (w : Value) where
         let counted = procedure_count f g (suc n) q ∙ ap (λ m. ordinal_after_procedure (suc m) q) same in
         elim (nat_lt d (ordinal_after_procedure (suc n) q')) as (λ x. nat_lt d (ordinal_after_procedure (suc n) q') ≡ x
         → (if x then constant_value_in_procedure ((procedure_name q', non_constant_placeholder) ∷ known) d (suc n) q'
-        else constant_value_in_procedures ((procedure_name q', non_constant_placeholder) ∷ known) d (ordinal_after_procedure (suc n) q') (mapped_tree f g rest)) ≡ Some w
+        else constant_value_in_procedure_list ((procedure_name q', non_constant_placeholder) ∷ known) d (ordinal_after_procedure (suc n) q') (mapped_tree f g rest)) ≡ Some w
         → Late d k (names_in_procedures (more q rest)) (spell (more q rest)) (spell (gone_procedures d k (more q rest))) (occurrences (more q rest)) (lq ++ lr)) [
           | true ↦ λ t h.
               late_by_procedure q rest k lq lr (subst (λ m. d < m) counted (ltb-true d (ordinal_after_procedure (suc n) q') t))
@@ -427,7 +427,7 @@ module _ (f : ℕ → Name) (g : ℕ → ℕ) (d : ℕ) (w : Value) where
     late_procedure : (known : ConstantEnvironment) (scope : Scope Name) (k n : ℕ) → n ≡ k → ScopeLow n scope → (q : Tree ℕ (item procedure)) → constant_value_in_procedure known d (suc n) (mapped_tree f g q) ≡ Some w
         → Late d k (names_in_procedure q) (spell q) (spell (gone_procedure d (suc k) q)) (occurrences q) (occurrences (relabel_procedure naming_by_spelling forget scope n (mapped_tree f g q)))
     late_procedure known scope k n same below (declares_procedure x fs b closing) e =
-        let xs = formal_names (formal_sections (mapped_tree f g fs)) in
+        let xs = formal_parameter_names (formal_parameter_sections (mapped_tree f g fs)) in
         let first = ordinal_after_names (suc n) xs in
         let lf = occurrences (relabel_formals naming_by_spelling forget scope (suc n) (mapped_tree f g fs)) in
         let h1 = scope_raised n (suc n) scope (omega arith) below in
@@ -442,13 +442,13 @@ module _ (f : ℕ → Name) (g : ℕ → ℕ) (d : ℕ) (w : Value) where
               late_in_procedure x closing fs b k lf (occurrences (relabel_block naming_by_spelling forget (declare_names (suc n) xs ((f x, n) ∷ scope)) first (mapped_tree f g b)))
               (as_many-formals naming_by_spelling forget scope (suc n) (mapped_tree f g fs) ∙ as_many f g fs)
               (raised first d lf high (formals_low scope (suc n) (mapped_tree f g fs) h1))
-              (late_block (bind_names xs non_constant_placeholder known) (declare_names (suc n) xs ((f x, n) ∷ scope)) (ordinal_after_names (suc k) (formal_names (formal_sections fs))) first
-              (formals_count f g (suc n) fs ∙ ap (λ m. ordinal_after_names (suc m) (formal_names (formal_sections fs))) same) h2 b h)
+              (late_block (bind_names xs non_constant_placeholder known) (declare_names (suc n) xs ((f x, n) ∷ scope)) (ordinal_after_names (suc k) (formal_parameter_names (formal_parameter_sections fs))) first
+              (formals_count f g (suc n) fs ∙ ap (λ m. ordinal_after_names (suc m) (formal_parameter_names (formal_parameter_sections fs))) same) h2 b h)
         ] refl e
 
-  pub late_module : (m : Tree ℕ module_text) → value_of_constant (mapped_tree f g m) d ≡ Some w
+  pub late_module : (m : Tree ℕ module_text) → constant_value_in_module (mapped_tree f g m) d ≡ Some w
       → Late d 7 (names_in (module_block m)) (spell m) (spell (gone_module d m)) (occurrences m) (occurrences (relabel_module naming_by_spelling forget (mapped_tree f g m)))
-  unfolding value_of_constant
+  unfolding constant_value_in_module
   late_module (forms_module x b closing) e =
       let labels = names_in b in
       let left = spell (gone_block d 7 b) in

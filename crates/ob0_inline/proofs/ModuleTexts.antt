@@ -7,17 +7,17 @@ use Rattle.ob0_scan.specs.declared.lexeme.Token.{Token}
 use Rattle.ob0_scan.specs.TextWithTokens.{Word, word_of_token}
 use Rattle.ob0_text.specs.declared.edits.Edit.{Edit}
 use Rattle.ob0_text.specs.declared.position_types.Unit as counting
-use Rattle.ob0_tree.specs.Lexeme.{EndOfText}
-use Rattle.ob0_tree.specs.ParsedModule.{ParsedModule, IsParsed, tree_of}
-use Rattle.ob0_tree.specs.Places.{indexed_terminal, indexed_terminals_from}
+use Rattle.ob0_tree.specs.Terminals.{EndOfText}
+use Rattle.ob0_tree.specs.ParsedModule.{ParsedModule, TreeMatchesText, tree_of}
+use Rattle.ob0_tree.specs.TokenIndexLeaves.{indexed_terminal, indexed_terminals_from}
 use Rattle.ob0_tree.specs.Tree.{Tree, factor, module_text, nesting, spell}
-use Rattle.ob0_edits_tokens.specs.WordReplacements.{words_of}
+use Rattle.ob0_edits_tokens.specs.WordReplacements.{words_of_text}
 use Rattle.ob0_edits_tokens.specs.WordsOfTrees.{indexed_terminals_of_words}
-use Rattle.ob0_edits_tokens.specs.Replacements.{EditsGiveWords}
+use Rattle.ob0_edits_tokens.specs.Replacements.{EditedTextHasWords}
 use Rattle.ob0_edits_tokens.specs.WordTerminals.{terminal_of_word}
 use Rattle.ob0_language_values.specs.declared.scalar.Scalar.{Scalar}
 use Rattle.ob0_language_values.specs.declared.scalar.Scalar.TheVariants as scalar
-use Rattle.ob0_inline.specs.EditedModuleTexts.{EditsGiveModule}
+use Rattle.ob0_inline.specs.EditedModuleTexts.{EditedTextHasTree}
 use Rattle.ob0_inline.specs.Values.{value_factor, value_words}
 use Rattle.ob0_inline.proofs.Depths.{lexemes_of_words}
 
@@ -29,8 +29,8 @@ lexemes_placed text i (t ∷ ts) =
     λ j. indexed_terminal i t.kind ∷ rest j
 
 -- The words with their indexes spell the tree over the tokens' indexes.
-pub spelled_by_words : (m : ParsedModule) → IsParsed m → spell (tree_of m) ≡ indexed_terminals_of_words 0 (words_of m.source)
-spelled_by_words m parsed = append_cancel_right (spell (tree_of m)) (indexed_terminals_of_words 0 (words_of m.source)) (EndOfText ∷ []) (parsed.places ∙ lexemes_placed m.source.text 0 m.source.tokens)
+pub spelled_by_words : (m : ParsedModule) → TreeMatchesText m → spell (tree_of m) ≡ indexed_terminals_of_words 0 (words_of_text m.source)
+spelled_by_words m parsed = append_cancel_right (spell (tree_of m)) (indexed_terminals_of_words 0 (words_of_text m.source)) (EndOfText ∷ []) (parsed.places ∙ lexemes_placed m.source.text 0 m.source.tokens)
 
 -- A conditional spells its tree if both of its cases spell theirs.
 either_spelled : (b : Bool) (vs ws : List Word) (v w : Tree (List ℕ) factor) → map terminal_of_word vs ≡ spell v → map terminal_of_word ws ≡ spell w → map terminal_of_word (if b then vs else ws) ≡ spell (if b then v else w)
@@ -43,7 +43,7 @@ value_spelled _ = refl
 
 -- If the tree isn't too deep, edits that leave words that spell it leave its text.
 pub leaves_module : (unit : counting.Unit) (text : List ℕ) (edits : List Edit) (ws : List Word) (t : Tree (List ℕ) module_text)
-    → EditsGiveWords unit text edits ws → map terminal_of_word ws ≡ spell t → nesting t ≤ 100 → EditsGiveModule unit text edits t
+    → EditedTextHasWords unit text edits ws → map terminal_of_word ws ≡ spell t → nesting t ≤ 100 → EditedTextHasTree unit text edits t
 leaves_module unit text edits ws t leaves spelled low = record {
   after = leaves.after;
   scan = leaves.scan;

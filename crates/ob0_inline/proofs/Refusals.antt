@@ -7,12 +7,12 @@ use Rattle.ob0_text.specs.declared.position_types.Unit as counting
 use Rattle.ob0_text.specs.declared.refusals.EditRefusal.{EditRefusal}
 use Rattle.ob0_text.specs.declared.refusals.EditRefusal.TheVariants.{Memory, TooDeep, TooLong}
 use Rattle.ob0_tree.specs.Tree.{Tree, module_text, nesting}
-use Rattle.ob0_inline.specs.EditedModuleTexts.{EditsGiveModule, size_refusal_or_other}
+use Rattle.ob0_inline.specs.EditedModuleTexts.{EditedTextHasTree, size_refusal_or_other}
 
 -- States that the edits leave this text. If the constant's names are factors by themselves, it is a
 -- text of the module.
 pub record MakeText (alone : Type 0) (new : List ℕ) (t : Tree (List ℕ) module_text) (unit : counting.Unit) (text : List ℕ) (edits : List Edit) : Type 0 where
-  pub leaves : alone → EditsGiveModule unit text edits t
+  pub leaves : alone → EditedTextHasTree unit text edits t
   pub short : length new ≤ max_text_length
 
 pub record Refused (alone : Type 0) (new : List ℕ) (t : Tree (List ℕ) module_text) (refusal : EditRefusal) : Type 0 where

@@ -4,16 +4,16 @@
 use Rattle.std.proofs.Common.{◌≡◌, ℕ, suc, ◌+◌, ◌≤◌, ◌==◌, Bool, true, false, length, if◌then◌else◌, nat_lt, arith}
 use Rattle.std.specs.Prelude.{negsuc}
 use Rattle.ob0_tree.specs.ParsedModule.{ParsedModule, named_tree_of, tree_of}
-use Rattle.ob0_tree.specs.Places as leaf
+use Rattle.ob0_tree.specs.TokenIndexLeaves as leaf
 use Rattle.ob0_tree.specs.Tree.{Sort, Tree, block, constant, constants, factor, item, items, maybe, module_text, nesting, occurrences, procedure, adds, array_type, assigns, begins, branches, calls, compares, declares, declares_constant, declares_const_section, declares_procedure, declares_type, declares_type_section, declares_variable, declares_var_section, designator, else_branch, elsif_branch, end, forms_block, index, forms_module, more, multiplies, negation, none, one, parenthesised, product, record_type, relates, repeat_loop, runs, some_arguments, some_fields, some_formals, sum, comma_then_argument, semicolon_then_fields, semicolon_then_section, semicolon_then_statement, value_section, variable_section, while_loop}
 use Rattle.ob0_tree.proofs.Mapped.{nesting_mapped}
-use Rattle.ob0_language_names.specs.Inlining.{OccurrenceSet, occurrences_bound_to, block_without_constant, inline_in_tree, inlined, module_without_constant, procedure_without_constant, procedure_list_without_constant, section_without_constant, constants_without_ordinal}
+use Rattle.ob0_language_names.specs.Inlining.{OccurrenceSet, occurrences_bound_to_ordinal, block_without_constant, inline_in_tree, inlined, module_without_constant, procedure_without_constant, procedure_list_without_constant, section_without_constant, constant_list_without_constant}
 use Rattle.ob0_language_names.specs.Names.{Name}
-use Rattle.ob0_language_names.specs.BlockParts.{formal_names, formal_sections}
+use Rattle.ob0_language_names.specs.BlockParts.{formal_parameter_names, formal_parameter_sections}
 use Rattle.ob0_language_names.specs.Scopes.{ordinal_after_names, ordinal_after_procedure, first_procedure_ordinal}
 use Rattle.ob0_language_values.specs.declared.scalar.Scalar.{Scalar}
 use Rattle.ob0_language_values.specs.declared.scalar.Scalar.TheVariants as scalar
-use Rattle.ob0_inline.specs.declared.constants.DeclaredConstant.{DeclaredConstant}
+use Rattle.ob0_inline.specs.declared.declared_constants.DeclaredConstant.{DeclaredConstant}
 use Rattle.ob0_inline.specs.Everywhere.{tree_inlined_everywhere}
 use Rattle.ob0_inline.specs.Values.{value_factor}
 
@@ -85,11 +85,11 @@ inlined_shallow m uses value =
     omega (arith, deeper, same, low)
 
 -- Removing a declaration makes no tree deeper.
-constants_low : (d k : ℕ) (cs : Tree Name (items constant)) → nesting (constants_without_ordinal d k cs) ≤ nesting cs
+constants_low : (d k : ℕ) (cs : Tree Name (items constant)) → nesting (constant_list_without_constant d k cs) ≤ nesting cs
 constants_low d k end = omega arith
 constants_low d k (more c cs) =
     let rest = constants_low d (suc k) cs in
-    elim (k == d) as (λ b. nesting (if b then cs else more c (constants_without_ordinal d (suc k) cs)) ≤ nesting (more c cs)) [ true ↦ omega arith | false ↦ omega (arith, rest) ]
+    elim (k == d) as (λ b. nesting (if b then cs else more c (constant_list_without_constant d (suc k) cs)) ≤ nesting (more c cs)) [ true ↦ omega arith | false ↦ omega (arith, rest) ]
 
 section_low : (d k : ℕ) (cs : Tree Name (maybe constants)) → nesting (section_without_constant d k cs) ≤ nesting cs
 section_low d k none = omega arith
@@ -111,7 +111,7 @@ mutual
 
   procedure_low : (d k : ℕ) (p : Tree Name (item procedure)) → nesting (procedure_without_constant d k p) ≤ nesting p
   procedure_low d k (declares_procedure x fs b closing) =
-      let inner = block_low d (ordinal_after_names k (formal_names (formal_sections fs))) b in
+      let inner = block_low d (ordinal_after_names k (formal_parameter_names (formal_parameter_sections fs))) b in
       omega (arith, inner)
 
 module_low : (d : ℕ) (m : Tree Name module_text) → nesting (module_without_constant d m) ≤ nesting m
@@ -119,7 +119,7 @@ module_low d (forms_module x b closing) = block_low d 7 b
 
 pub everywhere_shallow : (m : ParsedModule) (c : DeclaredConstant) → nesting (tree_inlined_everywhere m c) ≤ nesting (tree_of m) + 1
 everywhere_shallow m c =
-    let uses = occurrences_bound_to (named_tree_of m) c.ordinal in
+    let uses = occurrences_bound_to_ordinal (named_tree_of m) c.ordinal in
     let less = module_low c.ordinal (inlined (named_tree_of m) uses (value_factor c.value)) in
     let shallow = inlined_shallow m uses c.value in
     omega (arith, less, shallow)

@@ -8,14 +8,14 @@ use Rattle.std.proofs.lemmas.List.Concat.{flat_map-append}
 use Rattle.std.specs.List.{flat_map}
 use Rattle.ob0_tree.specs.declared.tree.Role.{Role}
 use Rattle.ob0_tree.specs.declared.tree.Role.TheVariants as role
-use Rattle.ob0_tree.specs.Lexeme.{Terminal, Name}
+use Rattle.ob0_tree.specs.Terminals.{Terminal, Name}
 use Rattle.ob0_tree.specs.Tree.{Sort, Tree, block, constant, constants, factor, name_after_comma, identifiers, item, items, mapped_tree, maybe, module_text, names, occurrences, procedure, spell, adds, array_type, assigns, begins, branches, calls, compares, declares, declares_constant, declares_const_section, declares_procedure, declares_type, declares_type_section, declares_variable, declares_var_section, designator, else_branch, elsif_branch, end, field, forms_block, index, forms_module, listed, more, multiplies, named_type, negation, none, one, parenthesised, product, record_type, relates, repeat_loop, runs, some_arguments, some_fields, some_formals, sum, comma_then_argument, semicolon_then_fields, comma_then_name, semicolon_then_section, semicolon_then_statement, value_section, variable_section, while_loop}
 use Rattle.ob0_edits_tokens.proofs.WordsOfTrees.{replaced}
 use Rattle.ob0_language_names.specs.NonFactorNames.{non_factor_occurrences}
 use Rattle.ob0_language_names.specs.Inlining.{OccurrenceSet, inline_in_tree, module_without_constant}
 use Rattle.ob0_language_names.specs.Names as naming
 use Rattle.ob0_language_names.specs.Names.{Label, declared}
-use Rattle.ob0_language_names.specs.BlockParts.{formal_names, formal_sections}
+use Rattle.ob0_language_names.specs.BlockParts.{formal_parameter_names, formal_parameter_sections}
 use Rattle.ob0_language_names.specs.Scopes.{ordinal_after_names, ordinal_after_procedure, first_procedure_ordinal}
 use Rattle.ob0_language_names.proofs.EditedTrees.{edited_block, edited_constants, edited_procedure, edited_procedures, edited_section}
 use Rattle.ob0_language_names.proofs.EverywhereTrees.{everywhere, gone-module}
@@ -146,14 +146,14 @@ module _ (gives : ℕ → Bool) (uses : OccurrenceSet) (v : Tree naming.Name fac
   spelled k r plain (some_fields ns t) h = let s = cut_roles table (identifiers role.FieldName ns) (identifiers r t) h.1 in simp (flat_map-append, names_spelled role.FieldName others ns s.0, spelled k r plain t (h.0, s.1, h.2))
   spelled k r plain (semicolon_then_fields t) h = simp (spelled k r plain t h)
   spelled k r plain (some_formals t u) h = let s = both k r t u h in simp (flat_map-append, spelled k r plain t s.0, spelled (past k t) r plain u s.1)
-  spelled k r plain (value_section ns t) h = let s = cut_roles table (identifiers role.Declaring ns) (identifiers r t) h.1 in simp (flat_map-append, names_spelled role.Declaring others ns s.0, spelled k r plain t (h.0, s.1, h.2))
-  spelled k r plain (variable_section ns t) h = let s = cut_roles table (identifiers role.Declaring ns) (identifiers r t) h.1 in simp (flat_map-append, names_spelled role.Declaring others ns s.0, spelled k r plain t (h.0, s.1, h.2))
+  spelled k r plain (value_section ns t) h = let s = cut_roles table (identifiers role.DeclaringName ns) (identifiers r t) h.1 in simp (flat_map-append, names_spelled role.DeclaringName others ns s.0, spelled k r plain t (h.0, s.1, h.2))
+  spelled k r plain (variable_section ns t) h = let s = cut_roles table (identifiers role.DeclaringName ns) (identifiers r t) h.1 in simp (flat_map-append, names_spelled role.DeclaringName others ns s.0, spelled k r plain t (h.0, s.1, h.2))
   spelled k r plain (semicolon_then_section t) h = simp (spelled k r plain t h)
   spelled k r plain (declares_constant x t) h = simp (flat_map-append, others x h.1.0, spelled k r plain t (h.0, h.1.1, h.2))
   spelled k r plain (declares_const_section t) h = simp (spelled k r plain t h)
   spelled k r plain (declares_type x t) h = simp (flat_map-append, others x h.1.0, spelled k r plain t (h.0, h.1.1, h.2))
   spelled k r plain (declares_type_section t) h = simp (spelled k r plain t h)
-  spelled k r plain (declares_variable ns t) h = let s = cut_roles table (identifiers role.Declaring ns) (identifiers r t) h.1 in simp (flat_map-append, names_spelled role.Declaring others ns s.0, spelled k r plain t (h.0, s.1, h.2))
+  spelled k r plain (declares_variable ns t) h = let s = cut_roles table (identifiers role.DeclaringName ns) (identifiers r t) h.1 in simp (flat_map-append, names_spelled role.DeclaringName others ns s.0, spelled k r plain t (h.0, s.1, h.2))
   spelled k r plain (declares_var_section t) h = simp (spelled k r plain t h)
   spelled k r plain (declares_procedure x t u y) h =
       let a = cut k r t (occurrences u) (identifiers r u ++ ((role.ClosingName, y) ∷ [])) (non_factor_occurrences (mapped_tree label g u)) (h.0, h.1.1, h.2) in
@@ -176,10 +176,10 @@ module _ (gives : ℕ → Bool) (uses : OccurrenceSet) (v : Tree naming.Name fac
 
   -- The same tokens spell constants without the declaration of c. n is the ordinal of the part's
   -- first declaration.
-  constants_spelled : (c n k : ℕ) (cs : Tree ℕ (items constant)) → Fits k role.Declaring cs → spell (edited_constants (everywhere uses v c) k n (mapped_tree f g cs)) ≡ flat_map put (spell (gone_constants c n cs))
+  constants_spelled : (c n k : ℕ) (cs : Tree ℕ (items constant)) → Fits k role.DeclaringName cs → spell (edited_constants (everywhere uses v c) k n (mapped_tree f g cs)) ≡ flat_map put (spell (gone_constants c n cs))
   constants_spelled c n k end h = refl
   constants_spelled c n k (more (declares_constant x t) cs) h =
-      let r = role.Declaring in
+      let r = role.DeclaringName in
       let s = both k r (declares_constant x t) cs h in
       let later = constants_spelled c (suc n) (past k t) cs s.1 in
       let rest = edited_constants (everywhere uses v c) (past k t) (suc n) (mapped_tree f g cs) in
@@ -190,14 +190,14 @@ module _ (gives : ℕ → Bool) (uses : OccurrenceSet) (v : Tree naming.Name fac
         | false ↦ (λ e. joined (spell (declares_constant x t)) (spell (gone_constants c (suc n) cs)) (spelled k r others (declares_constant x t) s.0) later)
       ]) refl
 
-  section_spelled : (c n k : ℕ) (cs : Tree ℕ (maybe constants)) → Fits k role.Declaring cs → spell (edited_section (everywhere uses v c) k n (mapped_tree f g cs)) ≡ flat_map put (spell (gone_section c n cs))
+  section_spelled : (c n k : ℕ) (cs : Tree ℕ (maybe constants)) → Fits k role.DeclaringName cs → spell (edited_section (everywhere uses v c) k n (mapped_tree f g cs)) ≡ flat_map put (spell (gone_section c n cs))
   section_spelled c n k none h = refl
   section_spelled c n k (one (declares_const_section cs)) h = simp (constants_spelled c n k cs h)
 
   mutual
-    block_spelled : (c n k : ℕ) (b : Tree ℕ block) → Fits k role.Declaring b → spell (edited_block (everywhere uses v c) k n (mapped_tree f g b)) ≡ flat_map put (spell (gone_block c n b))
+    block_spelled : (c n k : ℕ) (b : Tree ℕ block) → Fits k role.DeclaringName b → spell (edited_block (everywhere uses v c) k n (mapped_tree f g b)) ≡ flat_map put (spell (gone_block c n b))
     block_spelled c n k (forms_block (declares t u w z) st) h =
-        let r = role.Declaring in
+        let r = role.DeclaringName in
         let b : Tree ℕ block = forms_block (declares t u w z) st in
         let s = both k r (declares t u w z) st h in
         let a = cut k r t (occurrences u ++ (occurrences w ++ occurrences z)) (identifiers r u ++ (identifiers r w ++ identifiers r z)) (non_factor_occurrences (mapped_tree label g u) ++ (non_factor_occurrences (mapped_tree label g w) ++ non_factor_occurrences (mapped_tree label g z))) s.0 in
@@ -212,25 +212,25 @@ module _ (gives : ℕ → Bool) (uses : OccurrenceSet) (v : Tree naming.Name fac
         (joined (spell w) left (spelled (past (past k t) u) r others w p.0) procedures)))
         (spelled (past k (declares t u w z)) r others st s.1)
 
-    procedures_spelled : (c n k : ℕ) (ps : Tree ℕ (items procedure)) → Fits k role.Declaring ps → spell (edited_procedures (everywhere uses v c) k n (mapped_tree f g ps)) ≡ flat_map put (spell (gone_procedures c n ps))
+    procedures_spelled : (c n k : ℕ) (ps : Tree ℕ (items procedure)) → Fits k role.DeclaringName ps → spell (edited_procedures (everywhere uses v c) k n (mapped_tree f g ps)) ≡ flat_map put (spell (gone_procedures c n ps))
     procedures_spelled c n k end h = refl
     procedures_spelled c n k (more p rest) h =
-        let s = both k role.Declaring p rest h in
+        let s = both k role.DeclaringName p rest h in
         joined (spell (gone_procedure c (suc n) p)) (spell (gone_procedures c (ordinal_after_procedure (suc n) p) rest)) (procedure_spelled c (suc n) k p s.0)
         (ap (λ i. spell (edited_procedures (everywhere uses v c) (past k p) i (mapped_tree f g rest))) (procedure_count f g (suc n) p) ∙ procedures_spelled c (ordinal_after_procedure (suc n) p) (past k p) rest s.1)
 
-    procedure_spelled : (c n k : ℕ) (p : Tree ℕ (item procedure)) → Fits k role.Declaring p → spell (edited_procedure (everywhere uses v c) k n (mapped_tree f g p)) ≡ flat_map put (spell (gone_procedure c n p))
+    procedure_spelled : (c n k : ℕ) (p : Tree ℕ (item procedure)) → Fits k role.DeclaringName p → spell (edited_procedure (everywhere uses v c) k n (mapped_tree f g p)) ≡ flat_map put (spell (gone_procedure c n p))
     procedure_spelled c n k (declares_procedure x u b y) h =
-        let r = role.Declaring in
+        let r = role.DeclaringName in
         let a = cut k r u (occurrences b) (identifiers r b ++ ((role.ClosingName, y) ∷ [])) (non_factor_occurrences (mapped_tree label g b)) (h.0, h.1.1, h.2) in
         let q = cut_roles table (identifiers r b) ((role.ClosingName, y) ∷ []) a.1.1 in
-        let first = ordinal_after_names n (formal_names (formal_sections u)) in
+        let first = ordinal_after_names n (formal_parameter_names (formal_parameter_sections u)) in
         let inner = ap (λ i. spell (edited_block (everywhere uses v c) (past k u) i (mapped_tree f g b))) (formals_count f g n u) ∙ block_spelled c first (past k u) b (a.1.0, q.0, a.1.2) in
         simp (flat_map-append, others x h.1.0, others y q.1.0, spelled k r others u a.0, inner)
 
-  pub module_spelled : (c : ℕ) (m : Tree ℕ module_text) → Fits 0 role.Declaring m → spell (module_without_constant c (inline_in_tree uses v 0 (mapped_tree f g m))) ≡ flat_map put (spell (gone_module c m))
+  pub module_spelled : (c : ℕ) (m : Tree ℕ module_text) → Fits 0 role.DeclaringName m → spell (module_without_constant c (inline_in_tree uses v 0 (mapped_tree f g m))) ≡ flat_map put (spell (gone_module c m))
   module_spelled c (forms_module x b y) h =
-      let q = cut_roles table (identifiers role.Declaring b) ((role.ModuleName, y) ∷ []) h.1.1 in
+      let q = cut_roles table (identifiers role.DeclaringName b) ((role.ModuleName, y) ∷ []) h.1.1 in
       let inner = block_spelled c 7 0 b (h.0, q.0, h.2) in
       let edited_is : spell (forms_module (f x) (edited_block (everywhere uses v c) 0 7 (mapped_tree f g b)) (f y)) ≡ flat_map put (spell (gone_module c (forms_module x b y))) = simp (flat_map-append, others x h.1.0, others y q.1.0, inner) in
       ap spell (sym (gone-module uses v c (mapped_tree f g (forms_module x b y)))) ∙ edited_is

@@ -16,11 +16,11 @@ use Rattle.ob0_tree.specs.declared.tree.Relation.{Relation}
 use Rattle.ob0_tree.specs.declared.tree.Relation.TheVariants as relation
 use Rattle.ob0_tree.specs.declared.tree.Sign.{Sign}
 use Rattle.ob0_tree.specs.declared.tree.Sign.TheVariants as sign
-use Rattle.ob0_tree.specs.Lexeme.{Terminal, WordOrSymbol, add_operator_token_kind, multiply_operator_token_kind, relation_token_kind, sign_tokens}
-use Rattle.ob0_tree.specs.Lexeme as lexeme
+use Rattle.ob0_tree.specs.Terminals.{Terminal, WordOrSymbol, add_operator_token_kind, multiply_operator_token_kind, relation_token_kind, sign_tokens}
+use Rattle.ob0_tree.specs.Terminals as lexeme
 use Rattle.ob0_tree.specs.Tree.{Tree, addend, adds, compares, designator, expression, factor, field, index, integer, multiplier, multiplies, negation, parenthesised, product, relates, selector, simple, sum, term, block, constant, constants, declares, declares_constant, declares_const_section, declares_procedure, end, formals, forms_block, forms_module, item, items, mapped_tree, maybe, module_text, more, none, one, procedure, spell}
 use Rattle.ob0_language_names.specs.Names.{Name}
-use Rattle.ob0_language_names.specs.BlockParts.{constant_names, formal_names, formal_sections, declared_type_names, section_constants, section_types, section_variables, variable_names}
+use Rattle.ob0_language_names.specs.BlockParts.{constant_names, formal_parameter_names, formal_parameter_sections, declared_type_names, section_constants, section_types, section_variables, variable_names}
 use Rattle.ob0_language_names.specs.Scopes.{ordinal_after_block, ordinal_after_names, ordinal_after_procedure, ordinal_after_procedure_list, first_procedure_ordinal, first_type_ordinal}
 use Rattle.ob0_types_check.proofs.DeclaredNames.{ordinal_after_block-mapped_tree, ordinal_after_names-map, ordinal_after_procedure-mapped_tree, formals-names}
 use Rattle.ob0_language_names.proofs.Ordinals.{le-ordinal_after_names, le-ordinal_after_procedure, le-ordinal_after_procedure_list}
@@ -44,7 +44,7 @@ abbrev mutual
   gone_procedures d k (more p rest) = more (gone_procedure d (suc k) p) (gone_procedures d (ordinal_after_procedure (suc k) p) rest)
 
   pub gone_procedure : {N : Type 0} → ℕ → ℕ → Tree N (item procedure) → Tree N (item procedure)
-  gone_procedure d k (declares_procedure x fs b closing) = declares_procedure x fs (gone_block d (ordinal_after_names k (formal_names (formal_sections fs))) b) closing
+  gone_procedure d k (declares_procedure x fs b closing) = declares_procedure x fs (gone_block d (ordinal_after_names k (formal_parameter_names (formal_parameter_sections fs))) b) closing
 
 abbrev pub gone_module : {N : Type 0} → ℕ → Tree N module_text → Tree N module_text
 gone_module d (forms_module x b closing) = forms_module x (gone_block d 7 b) closing
@@ -52,8 +52,8 @@ gone_module d (forms_module x b closing) = forms_module x (gone_block d 7 b) clo
 -- A tree declares as much with other names. Its sections are counted like the sections of a block
 -- without other parts.
 module _ (f : ℕ → Name) (g : ℕ → ℕ) where
-  pub formals_count : (k : ℕ) (fs : Tree ℕ (maybe formals)) → ordinal_after_names k (formal_names (formal_sections (mapped_tree f g fs))) ≡ ordinal_after_names k (formal_names (formal_sections fs))
-  formals_count k fs = ap (ordinal_after_names k) (formals-names f g fs) ∙ ordinal_after_names-map f k (formal_names (formal_sections fs))
+  pub formals_count : (k : ℕ) (fs : Tree ℕ (maybe formals)) → ordinal_after_names k (formal_parameter_names (formal_parameter_sections (mapped_tree f g fs))) ≡ ordinal_after_names k (formal_parameter_names (formal_parameter_sections fs))
+  formals_count k fs = ap (ordinal_after_names k) (formals-names f g fs) ∙ ordinal_after_names-map f k (formal_parameter_names (formal_parameter_sections fs))
 
   pub first_type_count : (k : ℕ) (b : Tree ℕ block) → first_type_ordinal k (mapped_tree f g b) ≡ first_type_ordinal k b
   first_type_count k (forms_block (declares cs ts vs ps) statements) = ordinal_after_block-mapped_tree f g k k refl (forms_block (declares cs none none end) statements)
@@ -193,8 +193,8 @@ mutual
 
   pub kept_procedure : {N : Type 0} (d k : ℕ) (p : Tree N (item procedure)) → Outside d k (ordinal_after_procedure k p) → gone_procedure d k p ≡ p
   kept_procedure d k (declares_procedure x fs b closing) h =
-      let up = le-ordinal_after_names k (formal_names (formal_sections fs)) in
-      λ i. declares_procedure x fs (kept_block d (ordinal_after_names k (formal_names (formal_sections fs))) b (λ j l u. h j (omega (arith, l, up)) u) i) closing
+      let up = le-ordinal_after_names k (formal_parameter_names (formal_parameter_sections fs)) in
+      λ i. declares_procedure x fs (kept_block d (ordinal_after_names k (formal_parameter_names (formal_parameter_sections fs))) b (λ j l u. h j (omega (arith, l, up)) u) i) closing
 
 -- Two lists without `;` have none together.
 no_end_append : {N : Type 0} (xs ys : List (Terminal N)) → NoEnd xs → NoEnd ys → NoEnd (xs ++ ys)

@@ -9,8 +9,8 @@ use Rattle.ob0_tree.specs.declared.tree.Role.{Role}
 use Rattle.ob0_tree.specs.declared.tree.Role.TheVariants as role
 use Rattle.ob0_tree.specs.IdentifierIndexes.{AreIdentifierTokens, AreAscendingWithin, IsIdentifierToken, names_without_roles}
 use Rattle.ob0_tree.specs.ParsedModule.{named_tree_of, tree_of}
-use Rattle.ob0_tree.specs.Places as leaf
-use Rattle.ob0_tree.specs.Lexeme.{Terminal}
+use Rattle.ob0_tree.specs.TokenIndexLeaves as leaf
+use Rattle.ob0_tree.specs.Terminals.{Terminal}
 use Rattle.ob0_tree.specs.Tree.{Tree, factor, identifiers, mapped_tree, occurrences, spell}
 use Rattle.ob0_tree.proofs.Leaves.{leaves_are_identifiers, leaves_ascend, ascending_lower}
 use Rattle.ob0_tree.proofs.Occurring.{looked_up_only, looked_up-occurrences}
@@ -40,27 +40,27 @@ names_from ts low high (i ∷ is) a h =
 -- The identifiers of a module that are looked up ascend.
 looked_up_ascend : (low high : ℕ) (xs : List (Role × ℕ)) → AreAscendingWithin low (names_without_roles xs) high → AreAscendingWithin low (looked_up_only xs) high
 looked_up_ascend low high [] a = a
-looked_up_ascend low high ((role.LookedUp, i) ∷ xs) a = (a.0, looked_up_ascend (i + 1) high xs a.1)
+looked_up_ascend low high ((role.LookedUpName, i) ∷ xs) a = (a.0, looked_up_ascend (i + 1) high xs a.1)
 looked_up_ascend low high ((_, i) ∷ xs) a = ascending_lower low (i + 1) _ high (omega (arith, a.0)) (looked_up_ascend (i + 1) high xs a.1)
 
 looked_up_are_identifiers : (ts : List Token) (xs : List (Role × ℕ)) → AreIdentifierTokens ts (names_without_roles xs) → AreIdentifierTokens ts (looked_up_only xs)
 looked_up_are_identifiers ts [] h = tt
-looked_up_are_identifiers ts ((role.LookedUp, i) ∷ xs) h = (h.0, looked_up_are_identifiers ts xs h.1)
+looked_up_are_identifiers ts ((role.LookedUpName, i) ∷ xs) h = (h.0, looked_up_are_identifiers ts xs h.1)
 looked_up_are_identifiers ts ((_, i) ∷ xs) h = looked_up_are_identifiers ts xs h.1
 
-found_looked_up : (r : Resolution) → IsResolution r → looked_up_only (identifiers role.Declaring (tree_of r.module_read)) ≡ r.uses
-found_looked_up r is = looked_up-occurrences role.Declaring (λ n xs. refl) (tree_of r.module_read) ∙ sym is.occurring
+found_looked_up : (r : Resolution) → IsResolution r → looked_up_only (identifiers role.DeclaringName (tree_of r.module_read)) ≡ r.uses
+found_looked_up r is = looked_up-occurrences role.DeclaringName (λ n xs. refl) (tree_of r.module_read) ∙ sym is.occurring
 
 pub uses_ascend : (r : Resolution) → IsResolution r → AreAscendingWithin 0 r.uses (length r.module_read.source.tokens)
 uses_ascend r is =
     let m = r.module_read in
     subst (λ xs. AreAscendingWithin 0 xs (length m.source.tokens)) (found_looked_up r is)
-    (looked_up_ascend 0 (length m.source.tokens) (identifiers role.Declaring (tree_of m)) (leaves_ascend m is.parsed))
+    (looked_up_ascend 0 (length m.source.tokens) (identifiers role.DeclaringName (tree_of m)) (leaves_ascend m is.parsed))
 
 pub uses_are_identifiers : (r : Resolution) → IsResolution r → AreIdentifierTokens r.module_read.source.tokens r.uses
 uses_are_identifiers r is =
     let m = r.module_read in
-    subst (AreIdentifierTokens m.source.tokens) (found_looked_up r is) (looked_up_are_identifiers m.source.tokens (identifiers role.Declaring (tree_of m)) (leaves_are_identifiers m is.parsed))
+    subst (AreIdentifierTokens m.source.tokens) (found_looked_up r is) (looked_up_are_identifiers m.source.tokens (identifiers role.DeclaringName (tree_of m)) (leaves_are_identifiers m is.parsed))
 
 pub one_identifier : (ts : List Token) (is : List ℕ) (k i : ℕ) → AreIdentifierTokens ts is → slice_get is k ≡ Some i → IsIdentifierToken ts i
 one_identifier ts [] k i h e = absurd (cc)
@@ -74,8 +74,8 @@ AreBound r d (p ∷ ps) = (((k : ℕ) × (slice_get r.uses k ≡ Some p)) × (or
 
 in_table : (table : List (Option ℕ)) (xs : List (Role × ℕ)) (k i : ℕ) → AllMarked table xs → slice_get (looked_up_only xs) k ≡ Some i → ordinal_in table i ≡ Some 0
 in_table table [] k i a e = absurd (cc)
-in_table table ((role.LookedUp, x) ∷ xs) zero i a e = ap (ordinal_in table) (sym (some_inverse e)) ∙ a.0
-in_table table ((role.LookedUp, x) ∷ xs) (suc k) i a e = in_table table xs k i a.1 e
+in_table table ((role.LookedUpName, x) ∷ xs) zero i a e = ap (ordinal_in table) (sym (some_inverse e)) ∙ a.0
+in_table table ((role.LookedUpName, x) ∷ xs) (suc k) i a e = in_table table xs k i a.1 e
 in_table table ((_, x) ∷ xs) k i a e = in_table table xs k i a.1 e
 
 -- states that a token is an occurrence's token, and is bound to d
@@ -91,9 +91,9 @@ among_bound r is d i (p ∷ ps) h e = by_test (i == p) refl e (among_bound r is 
     by_test true q e later =
         let k = h.0.0 in
         let here : i ≡ p = eqb-true i p q in
-        let there : slice_get (looked_up_only (identifiers role.Declaring (tree_of r.module_read))) k.0 ≡ Some p = ap (λ us. slice_get us k.0) (found_looked_up r is) ∙ k.1 in
+        let there : slice_get (looked_up_only (identifiers role.DeclaringName (tree_of r.module_read))) k.0 ≡ Some p = ap (λ us. slice_get us k.0) (found_looked_up r is) ∙ k.1 in
         record {
-          occurs = ap (ordinal_in (occurrence_table r)) here ∙ in_table (occurrence_table r) (identifiers role.Declaring (tree_of r.module_read)) k.0 p (uses_reported r is) there;
+          occurs = ap (ordinal_in (occurrence_table r)) here ∙ in_table (occurrence_table r) (identifiers role.DeclaringName (tree_of r.module_read)) k.0 p (uses_reported r is) there;
           bound = ap (ordinal_in r.ordinals) here ∙ h.0.1;
         }
     by_test false q e later = later e
@@ -144,7 +144,7 @@ module _ (r : Resolution) (is : IsResolution r) (d : ℕ) (v : Tree Name factor)
   uses_spelled =
       let m = r.module_read in
       puts (spell (tree_of m))
-      ∙ sym (spelled gives uses v (leaf.token_text_at m.source) (leaf.token_value_at m.source) (occurrence_table r) (label_from_table m.source r.ordinals) d others apart 0 role.Declaring others (tree_of m) (uses_agree, uses_reported r is, none_elsewhere))
+      ∙ sym (spelled gives uses v (leaf.token_text_at m.source) (leaf.token_value_at m.source) (occurrence_table r) (label_from_table m.source r.ordinals) d others apart 0 role.DeclaringName others (tree_of m) (uses_agree, uses_reported r is, none_elsewhere))
 
   -- Without the declaration, the tokens also spell a tree.
   pub others_spelled : flat_map (put r.module_read.source places vs) (spell (gone_module d (tree_of r.module_read))) ≡ spell (module_without_constant d (inline_in_tree uses v 0 (named_tree_of r.module_read)))

@@ -4,24 +4,24 @@ use Rattle.ob0_scan.specs.declared.lexeme.Symbol.TheVariants as symbol
 use Rattle.ob0_scan.specs.declared.lexeme.TokenKind.{TokenKind}
 use Rattle.ob0_scan.specs.declared.lexeme.TokenKind.TheVariants as kind
 use Rattle.ob0_scan.specs.TextWithTokens.{Word}
-use Rattle.ob0_tree.specs.Lexeme.{Terminal, WordOrSymbol}
-use Rattle.ob0_tree.specs.Lexeme as lexeme
+use Rattle.ob0_tree.specs.Terminals.{Terminal, WordOrSymbol}
+use Rattle.ob0_tree.specs.Terminals as lexeme
 use Rattle.ob0_tree.specs.ParsedModule.{named_tree_of, tree_of}
-use Rattle.ob0_tree.specs.Places as leaf
-use Rattle.ob0_tree.specs.Places.{indexed_terminal}
+use Rattle.ob0_tree.specs.TokenIndexLeaves as leaf
+use Rattle.ob0_tree.specs.TokenIndexLeaves.{indexed_terminal}
 use Rattle.ob0_tree.specs.Tree.{mapped_tree, occurrences, spell}
 use Rattle.ob0_tree.proofs.Leaves.{lexeme_names}
-use Rattle.ob0_edits_tokens.specs.WordReplacements.{is_in_list, words_of}
+use Rattle.ob0_edits_tokens.specs.WordReplacements.{is_in_list, words_of_text}
 use Rattle.ob0_edits_tokens.specs.WordsOfTrees.{indexed_terminals_of_words}
 use Rattle.ob0_language_names.specs.Names.{Name, naming_by_spelling}
 use Rattle.ob0_language_names.specs.BlockParts.{module_block}
-use Rattle.ob0_scope_table.specs.Resolution.{IsResolution, Resolution, ordinal_and_spelling_at, ordinal_in, ordinal_and_spelling}
+use Rattle.ob0_scope_table.specs.Resolution.{IsResolution, Resolution, ordinal_and_spelling_at_token, ordinal_in, ordinal_and_spelling}
 use Rattle.ob0_language_names.specs.Scopes.{relabel_module}
 use Rattle.ob0_scope.proofs.Fused.{relabel_module-mapped_tree}
 use Rattle.ob0_tree.proofs.Mapped.{mapped_twice}
 use Rattle.ob0_language_names.proofs.OccurrenceNames.{length-map}
 use Rattle.ob0_language_names.proofs.OccurrencesMapped.{occurrences-mapped}
-use Rattle.ob0_language_types.specs.ConstantValues.{value_of_constant}
+use Rattle.ob0_language_types.specs.ConstantValues.{constant_value_in_module}
 use Rattle.ob0_language_values.specs.Values.{Value}
 use Rattle.ob0_inline.proofs.Earlier.{AllLow, IsLow, forget}
 use Rattle.ob0_inline.proofs.Late.{AllIn, Late, late_module, late_move}
@@ -34,12 +34,12 @@ bound_by_table : (r : Resolution) → IsResolution r → occurrences (relabel_mo
 bound_by_table r is =
     let m = r.module_read in
     let first : Option ℕ × Name → Option ℕ = λ p. p.0 in
-    ap occurrences (relabel_module-mapped_tree naming_by_spelling first ordinal_and_spelling (named_tree_of m) ∙ (ap (mapped_tree first (λ n. n)) is.binding ∙ mapped_twice first first (λ n. n) (ordinal_and_spelling_at m.source r.ordinals) (ordinal_and_spelling_at m.source r.ordinals) (leaf.token_value_at m.source) (tree_of m)))
+    ap occurrences (relabel_module-mapped_tree naming_by_spelling first ordinal_and_spelling (named_tree_of m) ∙ (ap (mapped_tree first (λ n. n)) is.binding ∙ mapped_twice first first (λ n. n) (ordinal_and_spelling_at_token m.source r.ordinals) (ordinal_and_spelling_at_token m.source r.ordinals) (leaf.token_value_at m.source) (tree_of m)))
     ∙ occurrences-mapped (ordinal_in r.ordinals) (ordinal_in r.ordinals) (leaf.token_value_at m.source) (tree_of m)
 
 -- If the constant has a value, the module's tokens are split by its declaration.
-pub late_of : (r : Resolution) → IsResolution r → (d : ℕ) (w : Value) → value_of_constant (named_tree_of r.module_read) d ≡ Some w → spell (tree_of r.module_read) ≡ indexed_terminals_of_words 0 (words_of r.module_read.source)
-    → Late d 7 (names_in (module_block (tree_of r.module_read))) (indexed_terminals_of_words 0 (words_of r.module_read.source)) (spell (gone_module d (tree_of r.module_read))) (occurrences (tree_of r.module_read))
+pub late_of : (r : Resolution) → IsResolution r → (d : ℕ) (w : Value) → constant_value_in_module (named_tree_of r.module_read) d ≡ Some w → spell (tree_of r.module_read) ≡ indexed_terminals_of_words 0 (words_of_text r.module_read.source)
+    → Late d 7 (names_in (module_block (tree_of r.module_read))) (indexed_terminals_of_words 0 (words_of_text r.module_read.source)) (spell (gone_module d (tree_of r.module_read))) (occurrences (tree_of r.module_read))
     (map (ordinal_in r.ordinals) (occurrences (tree_of r.module_read)))
 late_of r is d w has_value spelled =
     let m = r.module_read in
@@ -49,7 +49,7 @@ late_of r is d w has_value spelled =
     let labels = names_in (module_block t) in
     let h = late_module f g d w t has_value in
     let named = subst (λ (l : List (Option ℕ)). Late d 7 labels (spell t) (spell (gone_module d t)) (occurrences t) l) (bound_by_table r is) h in
-    late_move d 7 labels (spell t) (indexed_terminals_of_words 0 (words_of m.source)) (spell (gone_module d t)) (spell (gone_module d t)) (occurrences t) (map (ordinal_in r.ordinals) (occurrences t)) (sym spelled) refl named
+    late_move d 7 labels (spell t) (indexed_terminals_of_words 0 (words_of_text m.source)) (spell (gone_module d t)) (spell (gone_module d t)) (occurrences t) (map (ordinal_in r.ordinals) (occurrences t)) (sym spelled) refl named
 
 -- The names of words whose first index is k have no smaller indexes.
 names_above : (i k : ℕ) (ws : List Word) → is_in_list i (lexeme_names (indexed_terminals_of_words k ws)) ≡ true → k ≤ i
@@ -104,12 +104,12 @@ names_after d k labels left ws t i e =
 
 -- Each occurrence that is bound to the constant follows its declaration.
 pub uses_following : (r : Resolution) → (d : ℕ) (labels : List ℕ) (left : List (Terminal ℕ))
-    → (h : Late d 7 labels (indexed_terminals_of_words 0 (words_of r.module_read.source)) left (occurrences (tree_of r.module_read)) (map (ordinal_in r.ordinals) (occurrences (tree_of r.module_read))))
+    → (h : Late d 7 labels (indexed_terminals_of_words 0 (words_of_text r.module_read.source)) left (occurrences (tree_of r.module_read)) (map (ordinal_in r.ordinals) (occurrences (tree_of r.module_read))))
     → (j i : ℕ) → slice_get (occurrences (tree_of r.module_read)) j ≡ Some i → ordinal_in r.ordinals i ≡ Some d → last_token h.taken < i
 uses_following r d labels left h j i e o =
     let joined : map (ordinal_in r.ordinals) h.front ++ map (ordinal_in r.ordinals) h.following ≡ h.front_bound ++ h.following_bound =
     sym (map_joined r.ordinals h.front h.following) ∙ (ap (map (ordinal_in r.ordinals)) (sym h.occ_is) ∙ h.bound_is) in
     let firsts : map (ordinal_in r.ordinals) h.front ≡ h.front_bound =
     first_same (map (ordinal_in r.ordinals) h.front) (map (ordinal_in r.ordinals) h.following) h.front_bound h.following_bound joined (length-map (ordinal_in r.ordinals) h.front ∙ sym h.count) in
-    names_after d 7 labels left (words_of r.module_read.source) h.taken i
+    names_after d 7 labels left (words_of_text r.module_read.source) h.taken i
     (not_in_front r.ordinals d j i h.front h.following (lexeme_names h.taken.after) (subst (AllLow d) (sym firsts) h.low) h.among (ap (λ l. slice_get l j) (sym h.occ_is) ∙ e) o)

@@ -15,7 +15,7 @@ use Rattle.ob0_tree.specs.Tree.{Tree, module_text, nesting}
 
 -- States that applying the edits to the text gives a text that can be scanned and is the module
 -- with the tree `t`.
-pub record EditsGiveModule (unit : counting.Unit) (text : List ℕ) (edits : List Edit)
+pub record EditedTextHasTree (unit : counting.Unit) (text : List ℕ) (edits : List Edit)
     (t : Tree (List ℕ) module_text) : Type 0 where
   pub after : TextWithTokens
   pub scan : IsScan after

@@ -13,55 +13,55 @@ use Rattle.ob0_tree.specs.declared.tree.Role.TheVariants as role
 use Rattle.ob0_tree.specs.ParsedModule.{ParsedModule, named_tree_of, tree_of}
 use Rattle.ob0_tree.specs.Tree.{Tree, identifiers, module_text, occurrences}
 use Rattle.ob0_edits_tokens.specs.Ranges.{range_of}
-use Rattle.ob0_edits_tokens.specs.Removals.{span_of_tokens, text_after_removal}
+use Rattle.ob0_edits_tokens.specs.Removals.{span_of_tokens, text_after_removal_and_replacement}
 use Rattle.ob0_edits_tokens.specs.Replacements.{replacement_at_token, range_and_text}
 use Rattle.ob0_language_names.specs.NonFactorNames.{non_factor_occurrences}
-use Rattle.ob0_language_names.specs.Inlining.{inlined_everywhere}
-use Rattle.ob0_language_names.specs.Names.{Name, declared, same_label}
-use Rattle.ob0_language_names.specs.Occurrences.{bindings, ordinal_bound_at}
+use Rattle.ob0_language_names.specs.Inlining.{inlined_everywhere_and_removed}
+use Rattle.ob0_language_names.specs.Names.{Name, declared, same_ordinal_label}
+use Rattle.ob0_language_names.specs.Occurrences.{bindings, ordinal_bound_at_occurrence}
 use Rattle.ob0_scope_table.specs.Resolution.{declaring_names, declaration_token}
 use Rattle.ob0_language_names.specs.Scopes.{numbered, same_ordinal}
 use Rattle.ob0_language_values.specs.Scalars.{scalar_value}
 use Rattle.ob0_scope.specs.declared.bound_names.BoundName as named
 use Rattle.ob0_scope.specs.NamesAtPlaces.{name_at_offset}
-use Rattle.ob0_language_types.specs.ConstantValues.{value_of_constant}
+use Rattle.ob0_language_types.specs.ConstantValues.{constant_value_in_module}
 use Rattle.ob0_language_types.specs.WellTyped.{WellTyped}
 use Rattle.ob0_language_runs.specs.EditLaws.{HaveSameRuns}
-use Rattle.ob0_inline.specs.declared.constants.DeclaredConstant.{DeclaredConstant}
+use Rattle.ob0_inline.specs.declared.declared_constants.DeclaredConstant.{DeclaredConstant}
 use Rattle.ob0_inline.specs.Declarations.{contains_span, is_semicolon}
-use Rattle.ob0_inline.specs.EditedModuleTexts.{EditsGiveModule, size_refusal_or_other}
+use Rattle.ob0_inline.specs.EditedModuleTexts.{EditedTextHasTree, size_refusal_or_other}
 use Rattle.ob0_inline.specs.Uses.{value_text_keeps_meaning}
 use Rattle.ob0_inline.specs.Values.{value_factor, value_text}
 
 -- States that `c` is a constant of a CONST section, with its ordinal and value. The token with the
 -- index `c.first` declares the constant, and `c.last` is the index of the first `;` at or after
 -- that token.
-pub record IsConstant (m : ParsedModule) (c : DeclaredConstant) : Type 0 where
-  pub has_value : value_of_constant (named_tree_of m) c.ordinal ≡ Some (scalar_value c.value)
-  pub begins : declaration_token (declaring_names (identifiers role.Declaring (tree_of m))) c.ordinal
+pub record IsDeclaredConstant (m : ParsedModule) (c : DeclaredConstant) : Type 0 where
+  pub has_value : constant_value_in_module (named_tree_of m) c.ordinal ≡ Some (scalar_value c.value)
+  pub begins : declaration_token (declaring_names (identifiers role.DeclaringName (tree_of m))) c.ordinal
       ≡ Some c.first
   pub ends : position_from (λ t. is_semicolon t.kind) c.first (drop c.first m.source.tokens)
       ≡ Some c.last
 
 -- States that the byte offset is on a name of the constant `c`: in its declaration or at a use.
-pub record IsConstantAt (m : ParsedModule) (offset : ℕ) (c : DeclaredConstant) : Type 0 where
+pub record IsConstantAtOffset (m : ParsedModule) (offset : ℕ) (c : DeclaredConstant) : Type 0 where
   pub token : ℕ
   pub named : name_at_offset m offset ≡ Some (record { token = token; ordinal = c.ordinal })
-  pub is_constant : IsConstant m c
+  pub is_constant : IsDeclaredConstant m c
 
 -- States that the byte offset isn't on a name of a constant: if a name is at the offset, its
 -- declaration isn't a constant with a value.
-abbrev pub HasNoConstantAt : ParsedModule → ℕ → Type 0
-HasNoConstantAt m offset =
+abbrev pub HasNoConstantAtOffset : ParsedModule → ℕ → Type 0
+HasNoConstantAtOffset m offset =
     (n : named.BoundName)
     → name_at_offset m offset ≡ Some n
-    → value_of_constant (named_tree_of m) n.ordinal ≡ None
+    → constant_value_in_module (named_tree_of m) n.ordinal ≡ None
 
 -- Returns the token indexes of the occurrences that are bound to the declaration with the ordinal
 -- `d`, in text order.
 abbrev pub tokens_of_uses : ParsedModule → ℕ → List ℕ
 tokens_of_uses m d =
-    map (λ u. u.0) (filter (λ u. same_label u.1 (declared d))
+    map (λ u. u.0) (filter (λ u. same_ordinal_label u.1 (declared d))
     (zip (occurrences (tree_of m)) (bindings (named_tree_of m))))
 
 -- States that each use of the declaration with the ordinal `d` is a whole factor of an expression:
@@ -72,16 +72,16 @@ UsesAreFactors m d = All (λ l. l ≢ declared d) (non_factor_occurrences (numbe
 -- Returns the tree of the module after the constant `c` is inlined everywhere: the value of `c`
 -- replaces all its uses, and the declaration of `c` is removed.
 abbrev pub tree_inlined_everywhere : ParsedModule → DeclaredConstant → Tree Name module_text
-tree_inlined_everywhere m c = inlined_everywhere (named_tree_of m) c.ordinal (value_factor c.value)
+tree_inlined_everywhere m c = inlined_everywhere_and_removed (named_tree_of m) c.ordinal (value_factor c.value)
 
 -- Returns the module's text, in bytes, after the constant `c` is inlined everywhere.
 abbrev pub text_inlined_everywhere : ParsedModule → DeclaredConstant → List ℕ
-text_inlined_everywhere m c = text_after_removal m.source c.first c.last (tokens_of_uses m c.ordinal) (value_text c.value)
+text_inlined_everywhere m c = text_after_removal_and_replacement m.source c.first c.last (tokens_of_uses m c.ordinal) (value_text c.value)
 
 -- Returns whether the occurrence with the number `k` is a use of the constant `c` at which TRUE or
 -- FALSE, written for the constant's value, wouldn't mean the predeclared name.
 abbrev pub is_shadowed_use : Tree Name module_text → DeclaredConstant → ℕ → Bool
-is_shadowed_use m c k = same_ordinal (ordinal_bound_at m k) c.ordinal && not (value_text_keeps_meaning m k c.value)
+is_shadowed_use m c k = same_ordinal (ordinal_bound_at_occurrence m k) c.ordinal && not (value_text_keeps_meaning m k c.value)
 
 -- Returns whether the constant `c` has a use at which TRUE or FALSE, written for the constant's
 -- value, wouldn't mean the predeclared name.
@@ -110,7 +110,7 @@ pub record InlinesEverywhere (unit : counting.Unit) (text : List ℕ) (m : Parse
   pub everywhere : map range_and_text edits
       ≡ (range_of (width_of unit) text (span_of_tokens m.source.tokens c.first c.last), [])
       ∷ map (replacement_at_token unit text m.source.tokens (value_text c.value)) (tokens_of_uses m c.ordinal)
-  pub leaves : EditsGiveModule unit text edits (tree_inlined_everywhere m c)
+  pub leaves : EditedTextHasTree unit text edits (tree_inlined_everywhere m c)
   pub well_typed : WellTyped (tree_inlined_everywhere m c)
   pub same_runs : HaveSameRuns (tree_inlined_everywhere m c) (named_tree_of m)
 
@@ -138,5 +138,5 @@ abbrev pub AnswersInliningEverywhere : counting.Unit
     → Result (Vec Edit Global) EditRefusal
     → Type 0
 AnswersInliningEverywhere unit text m offset answer =
-    ((c : DeclaredConstant) × IsConstantAt m offset c × AnswersInliningOfConstant unit text m c answer)
-    ⊎ ((answer ≡ Err NoName) × HasNoConstantAt m offset)
+    ((c : DeclaredConstant) × IsConstantAtOffset m offset c × AnswersInliningOfConstant unit text m c answer)
+    ⊎ ((answer ≡ Err NoName) × HasNoConstantAtOffset m offset)

@@ -7,7 +7,7 @@ use Rattle.ob0_tree.specs.Tree.{Tree, designator, end, factor}
 use Rattle.ob0_language_values.specs.declared.scalar.Scalar.{Scalar}
 use Rattle.ob0_language_values.specs.declared.scalar.Scalar.TheVariants as scalar
 use Rattle.ob0_edits_tokens.specs.Written.{number_text, number_words, truth_text, truth_words}
-use Rattle.ob0_language_types.specs.Written.{number_literal}
+use Rattle.ob0_language_types.specs.ValueLiterals.{number_literal}
 
 -- Returns the text, in bytes, that an inlining writes for the value.
 abbrev pub value_text : Scalar → List ℕ

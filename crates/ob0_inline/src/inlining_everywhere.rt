@@ -14,15 +14,15 @@ ghost use Rattle.ob0_edits_tokens.specs.Ranges.{range_of};
 ghost use Rattle.ob0_edits_tokens.specs.Removals.{span_of_tokens};
 ghost use Rattle.ob0_edits_tokens.specs.Replacements.{replacement_at_token, range_and_text};
 ghost use Rattle.ob0_inline.specs.Declarations.{contains_span};
-ghost use Rattle.ob0_inline.specs.Everywhere.{AnswersInliningOfConstant, AnswersInliningEverywhere, IsConstant, UsesAreFactors, tree_inlined_everywhere, text_inlined_everywhere, tokens_of_uses};
-ghost use Rattle.ob0_inline.specs.EditedModuleTexts.{EditsGiveModule};
+ghost use Rattle.ob0_inline.specs.Everywhere.{AnswersInliningOfConstant, AnswersInliningEverywhere, IsDeclaredConstant, UsesAreFactors, tree_inlined_everywhere, text_inlined_everywhere, tokens_of_uses};
+ghost use Rattle.ob0_inline.specs.EditedModuleTexts.{EditedTextHasTree};
 ghost use Rattle.ob0_inline.specs.Values.{value_text};
 
-use crate::constants::{DeclaredConstant, constant_at};
-use crate::nesting_limit::is_edited_text_too_deep;
-use crate::truth_names::has_shadowed_use;
-use crate::written::{scalar_is_32_bit, value_text};
-use ob0_edits_tokens::removal_edits;
+use crate::declared_constants::{DeclaredConstant, constant_at};
+use crate::nesting_limit::is_edited_text_nested_too_deeply;
+use crate::shadowed_truth_names::has_shadowed_use;
+use crate::value_texts::{scalar_fits_in_32_bits, value_text};
+use ob0_edits_tokens::removal_and_replacement_edits;
 use ob0_language_runs::laws::inlining_everywhere_keeps_typing_and_runs;
 use ob0_language_types::laws::constant_uses_are_factors;
 use ob0_scan::{Span, Tokens};
@@ -60,15 +60,15 @@ fn inline_constant<T: TextStore>(
     constant: DeclaredConstant,
 ) -> Result<Vec<Edit>, EditRefusal>
     requires content { T.content store.now ≡ chars «module».now.module_read.source.text }
-    requires is_constant { IsConstant «module».now.module_read constant }
+    requires is_constant { IsDeclaredConstant «module».now.module_read constant }
     ensures { AnswersInliningOfConstant (T.unit_of store.now) (T.content store.now) «module».now.module_read
         constant result }
 {
     constant_uses_are_factors();
     inlining_everywhere_keeps_typing_and_runs();
-    scalar_is_32_bit(constant.value);
+    scalar_fits_in_32_bits(constant.value);
     let names = module.resolved();
-    match edits_inlining_everywhere(alloc, store, names, constant) {
+    match edits_to_inline_everywhere(alloc, store, names, constant) {
         Ok(edits) => {
             if has_shadowed_use(alloc, names, constant)? {
                 return Err(EditRefusal::Shadowed);
@@ -86,14 +86,14 @@ fn inline_constant<T: TextStore>(
 /// declaration. Each further edit writes the value in place of one use, in text order. If the
 /// edited text is too long, the refusal is `TooLong`. If it is nested too deep, the refusal is
 /// `TooDeep`.
-fn edits_inlining_everywhere<T: TextStore>(
+fn edits_to_inline_everywhere<T: TextStore>(
     alloc: Global,
     store: &T,
     names: &Resolved,
     constant: DeclaredConstant,
 ) -> Result<Vec<Edit>, EditRefusal>
     requires content { T.content store.now ≡ chars names.now.module_read.source.text }
-    requires is_constant { IsConstant names.now.module_read constant }
+    requires is_constant { IsDeclaredConstant names.now.module_read constant }
     ensures edits { IfOk result (λ edits. map range_and_text edits.items
         ≡ (
           range_of (width_of (T.unit_of store.now)) (T.content store.now)
@@ -104,7 +104,7 @@ fn edits_inlining_everywhere<T: TextStore>(
         (T.content store.now) names.now.module_read.source.tokens (value_text constant.value))
         (tokens_of_uses names.now.module_read constant.ordinal)) }
     ensures inlined { UsesAreFactors names.now.module_read constant.ordinal
-        → IfOk result (λ edits. EditsGiveModule (T.unit_of store.now) (T.content store.now) edits.items
+        → IfOk result (λ edits. EditedTextHasTree (T.unit_of store.now) (T.content store.now) edits.items
         (tree_inlined_everywhere names.now.module_read constant)) }
     ensures too_long { IsErrOf result TooLong
         → max_text_length < length (text_inlined_everywhere names.now.module_read constant) }
@@ -122,8 +122,16 @@ fn edits_inlining_everywhere<T: TextStore>(
     let text = value_text(alloc, constant.value)?;
     let uses = tokens_of_uses(alloc, names, constant.ordinal)?;
     let (first, last) = (constant.first, constant.last);
-    let edits = removal_edits(alloc, store, names.tokens(), first, last, &uses, &text)?;
-    if is_edited_text_too_deep(alloc, store, read, &edits)? {
+    let edits = removal_and_replacement_edits(
+        alloc,
+        store,
+        names.tokens(),
+        first,
+        last,
+        &uses,
+        &text,
+    )?;
+    if is_edited_text_nested_too_deeply(alloc, store, read, &edits)? {
         return Err(EditRefusal::TooDeep);
     }
     Ok(edits)

@@ -6,10 +6,10 @@ ghost use Rattle.ob0_text.specs.Texts.{offset_of};
 ghost use Rattle.ob0_text.specs.Units.{width_of};
 ghost use Rattle.ob0_inline.specs.Uses.{AnswersInliningHere, AnswersInliningOfUse, IsConstantUse};
 
-use crate::edit_at_use::edits_inlining_here;
-use crate::truth_names::value_text_keeps_meaning;
-use crate::uses::{ConstantUse, constant_use_at};
-use crate::written::scalar_is_32_bit;
+use crate::constant_uses::{ConstantUse, constant_use_at};
+use crate::edit_at_use::edits_to_inline_use;
+use crate::shadowed_truth_names::value_text_keeps_meaning;
+use crate::value_texts::scalar_fits_in_32_bits;
 use ob0_language_runs::laws::inlining_keeps_typing_and_runs;
 use ob0_language_types::laws::constant_uses_are_factors;
 use ob0_text::{Edit, EditRefusal, Position, TextStore};
@@ -49,9 +49,9 @@ fn inline_use<T: TextStore>(
 {
     constant_uses_are_factors();
     inlining_keeps_typing_and_runs();
-    scalar_is_32_bit(found.value);
+    scalar_fits_in_32_bits(found.value);
     let names = module.resolved();
-    match edits_inlining_here(alloc, store, names, found) {
+    match edits_to_inline_use(alloc, store, names, found) {
         Ok(edits) => {
             if value_text_keeps_meaning(alloc, names, found.occurrence, found.value)? {
                 Ok(edits)

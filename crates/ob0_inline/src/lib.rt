@@ -3,16 +3,16 @@
 //! Refusals of edits).
 #![tactic(auto)]
 
-mod constants;
+mod constant_uses;
+mod declared_constants;
 mod edit_at_use;
 mod inlining_everywhere;
 mod inlining_one_use;
 mod nesting_limit;
-mod truth_names;
-mod uses;
-mod written;
+mod shadowed_truth_names;
+mod value_texts;
 
-pub use constants::DeclaredConstant;
+pub use constant_uses::ConstantUse;
+pub use declared_constants::DeclaredConstant;
 pub use inlining_everywhere::inline_all;
 pub use inlining_one_use::inline_here;
-pub use uses::ConstantUse;

@@ -1,7 +1,7 @@
 //! Checks whether an edited text is nested deeper than a module may be.
 
 ghost use Rattle.std.specs.Prelude.{◌≡◌, ◌≤◌, ◌+◌, List, IfOk, IfErr, map, nat_le, nat_lt, ℕ};
-ghost use Rattle.ob0_edits_tokens.specs.Replacements.{EditsGiveWords};
+ghost use Rattle.ob0_edits_tokens.specs.Replacements.{EditedTextHasWords};
 ghost use Rattle.ob0_edits_tokens.specs.WordTerminals.{terminal_of_word};
 ghost use Rattle.ob0_scan.specs.TextWithTokens.{IsScan, TextWithTokens, Word};
 ghost use Rattle.ob0_text.specs.declared.refusals.EditRefusal.TheVariants.{Memory};
@@ -20,14 +20,14 @@ use std::alloc::Global;
 /// `read` is the module before the edits. The contract assumes that the edits add at most one level
 /// of nesting. So if `read` has fewer than `MAX_NESTING` levels, the result is false. Otherwise the
 /// function parses the edited text.
-pub(crate) fn is_edited_text_too_deep<T: TextStore>(
+pub(crate) fn is_edited_text_nested_too_deeply<T: TextStore>(
     alloc: Global,
     store: &T,
     read: &Module,
     edits: &[Edit],
 ) -> Result<bool, EditRefusal>
     ensures deep { (ws : List Word) (t : Tree (List ℕ) module_text)
-        → EditsGiveWords (T.unit_of store.now) (T.content store.now) edits.now ws
+        → EditedTextHasWords (T.unit_of store.now) (T.content store.now) edits.now ws
         → map terminal_of_word ws ≡ spell t → nesting t ≤ nesting (tree_of read.now) + 1
         → IfOk result (λ deep. deep ≡ nat_lt max_nesting (nesting t)) }
     ensures memory { IfErr result (λ refusal. refusal ≡ Memory) }
@@ -35,26 +35,26 @@ pub(crate) fn is_edited_text_too_deep<T: TextStore>(
     if read.nesting() < MAX_NESTING {
         return Ok(false);
     }
-    is_edited_text_too_deep_by_parsing(alloc, store, edits)
+    is_reparsed_text_nested_too_deeply(alloc, store, edits)
 }
 
 /// Returns whether the text that results from the edits is nested deeper than a module may be. The
 /// function parses the edited text. The result is also true if the edits overlap or the edited text
 /// isn't a module. The contract covers neither of these two cases.
-fn is_edited_text_too_deep_by_parsing<T: TextStore>(
+fn is_reparsed_text_nested_too_deeply<T: TextStore>(
     alloc: Global,
     store: &T,
     edits: &[Edit],
 ) -> Result<bool, EditRefusal>
     ensures deep { (ws : List Word) (t : Tree (List ℕ) module_text)
-        → EditsGiveWords (T.unit_of store.now) (T.content store.now) edits.now ws
+        → EditedTextHasWords (T.unit_of store.now) (T.content store.now) edits.now ws
         → map terminal_of_word ws ≡ spell t
         → IfOk result (λ deep. deep ≡ nat_lt max_nesting (nesting t)) }
     ensures memory { IfErr result (λ refusal. refusal ≡ Memory) }
 {
     match patch(alloc, store, edits) {
         Ok(text) => {
-            let module = can_be_parsed(alloc, text.as_str())?;
+            let module = text_can_be_parsed(alloc, text.as_str())?;
             Ok(!module)
         }
         Err(fault) => match fault {
@@ -67,7 +67,7 @@ fn is_edited_text_too_deep_by_parsing<T: TextStore>(
 /// Returns whether the text can be scanned and parsed as a module. If the text's tokens spell the
 /// tree of a module, the result is true exactly if the tree isn't nested deeper than a module may
 /// be.
-fn can_be_parsed(alloc: Global, text: &str) -> Result<bool, EditRefusal>
+fn text_can_be_parsed(alloc: Global, text: &str) -> Result<bool, EditRefusal>
     ensures shallow { (s : TextWithTokens) (t : Tree (List ℕ) module_text) → IsScan s → s.text ≡ text.now
         → terminals_of_text s ≡ spell t
         → IfOk result (λ shallow. shallow ≡ nat_le (nesting t) max_nesting) }

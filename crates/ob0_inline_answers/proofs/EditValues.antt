@@ -10,7 +10,7 @@ use Rattle.ob0_text.specs.Units.{width_of}
 use Rattle.ob0_tree_values.proofs.TreeValues.{vec_of}
 use Rattle.ob0_edits_tokens.specs.Ranges.{range_of}
 use Rattle.ob0_edits_tokens.specs.Removals.{span_of_tokens}
-use Rattle.ob0_edits_tokens.specs.Replacements.{AreIdentifierIndexes, replacement_at_token, range_and_text, span_at}
+use Rattle.ob0_edits_tokens.specs.Replacements.{AreIdentifierIndexes, replacement_at_token, range_and_text, token_span_or_empty}
 
 abbrev string_of : (bytes : List ℕ) → IsUtf8 bytes → length bytes ≤ 1048576 → String Global
 string_of bytes u short = record { bytes = vec_of bytes (omega (arith, short)); ok = ∣ u ∣₁ }
@@ -31,7 +31,7 @@ module _ (unit : Unit) (text : List ℕ) (tokens : List Token) where
   module _ (new : List ℕ) (good : IsUtf8 new) (short : length new ≤ 1048576) where
     -- returns the edit that writes the text `new` in place of a token
     abbrev pub edit_value : ℕ → Edit
-    edit_value p = record { range = range_of (width_of unit) text (span_at tokens p); text = string_of new good short }
+    edit_value p = record { range = range_of (width_of unit) text (token_span_or_empty tokens p); text = string_of new good short }
 
     pub values_are : (places : List ℕ) → map range_and_text (map edit_value places) ≡ map (replacement_at_token unit text tokens new) places
     values_are [] = refl

@@ -13,28 +13,28 @@ use Rattle.ob0_text.specs.Units.{width_of}
 use Rattle.ob0_tree.specs.ParsedModule.{named_tree_of, tree_of}
 use Rattle.ob0_tree.specs.Tree.{nesting}
 use Rattle.ob0_tree_values.proofs.TreeValues.{vec_of}
-use Rattle.ob0_edits_tokens.specs.WordReplacements.{changes_at_indexes, changed_words, words_of}
+use Rattle.ob0_edits_tokens.specs.WordReplacements.{changes_at_indexes, changed_words, words_of_text}
 use Rattle.ob0_edits_tokens.specs.Ranges.{range_of}
 use Rattle.ob0_edits_tokens.specs.Removals.{MayBeConstantDeclaration, span_of_tokens, changes_with_removal}
-use Rattle.ob0_edits_tokens.specs.Replacements.{AreIdentifierIndexes, EditsGiveWords, replacement_at_token, range_and_text}
+use Rattle.ob0_edits_tokens.specs.Replacements.{AreIdentifierIndexes, EditedTextHasWords, replacement_at_token, range_and_text}
 use Rattle.ob0_edits_tokens.proofs.Made.{leaves_words_without}
 use Rattle.ob0_scope_table.specs.Resolution.{Resolution}
 use Rattle.ob0_scope.specs.declared.bound_names.BoundName as named
 use Rattle.ob0_scope.specs.NamesAtPlaces.{name_at_offset}
-use Rattle.ob0_language_types.specs.ConstantValues.{value_of_constant}
+use Rattle.ob0_language_types.specs.ConstantValues.{constant_value_in_module}
 use Rattle.ob0_language_types.specs.EditLaws.{ConstantUsesAreFactors, Is32BitScalar}
 use Rattle.ob0_language_runs.specs.EditLaws.{InliningEverywhereKeepsTypingAndRuns}
 use Rattle.ob0_language_values.specs.Scalars.{scalar_value}
 use Rattle.ob0_language_values.specs.Values.{Value}
 use Rattle.ob0_analysis.specs.AnalysisAnswers.{IsResolvedWellTypedModule}
-use Rattle.ob0_analysis.specs.Texts.{utf8}
-use Rattle.ob0_inline.specs.declared.constants.DeclaredConstant.{DeclaredConstant}
-use Rattle.ob0_inline.specs.Everywhere.{AnswersInliningEverywhere, IsConstant, IsConstantAt, HasNoConstantAt, has_shadowed_use, declaration_has_comment, tree_inlined_everywhere, refusal_of_inlining_everywhere, text_inlined_everywhere, tokens_of_uses}
+use Rattle.ob0_analysis.specs.TextBytes.{utf8}
+use Rattle.ob0_inline.specs.declared.declared_constants.DeclaredConstant.{DeclaredConstant}
+use Rattle.ob0_inline.specs.Everywhere.{AnswersInliningEverywhere, IsDeclaredConstant, IsConstantAtOffset, HasNoConstantAtOffset, has_shadowed_use, declaration_has_comment, tree_inlined_everywhere, refusal_of_inlining_everywhere, text_inlined_everywhere, tokens_of_uses}
 use Rattle.ob0_inline.specs.Values.{value_text, value_words}
 use Rattle.ob0_inline.proofs.AtConstants.{Made, answer_made}
 use Rattle.ob0_inline.proofs.Ended.{are_uses, begins_at, end_token, ends_at, is_taken, left_spelled, name_token}
 use Rattle.ob0_inline.proofs.ModuleTexts.{leaves_module}
-use Rattle.ob0_edits.specs.declared.inlinings.Inlining.TheVariants.{Everywhere}
+use Rattle.ob0_edits.specs.declared.inline_question.InliningKind.TheVariants.{Everywhere}
 use Rattle.ob0_edits.specs.InliningEdits.{InlinesInText, IsInliningRefusedInText}
 use Rattle.ob0_world_rules.specs.Answers.{position_offset}
 use Rattle.ob0_world_rules.specs.TextEdits.{replacements}
@@ -48,7 +48,7 @@ use Rattle.ob0_inline_answers.proofs.HereAnswers.{held, inlines_in, none_some, n
 
 -- ---- the edits at the declaration and at the uses
 
-module _ (unit : Unit) (text : List ℕ) (r : Resolution) (module_in : IsResolvedWellTypedModule (utf8 text) r) (c : DeclaredConstant) (constant : IsConstant r.module_read c) (w : IsWritable c.value) where
+module _ (unit : Unit) (text : List ℕ) (r : Resolution) (module_in : IsResolvedWellTypedModule (utf8 text) r) (c : DeclaredConstant) (constant : IsDeclaredConstant r.module_read c) (w : IsWritable c.value) where
   abbrev s : TextWithTokens
   s = r.module_read.source
 
@@ -65,7 +65,7 @@ module _ (unit : Unit) (text : List ℕ) (r : Resolution) (module_in : IsResolve
   all_edits = removal_value unit text s.tokens c.first c.last ∷ map (edit_value unit text s.tokens (value_text c.value) w.utf8 w.short) places
 
   abbrev all_words : List Word
-  all_words = changed_words (changes_with_removal c.first c.last (changes_at_indexes places (value_words c.value))) 0 (words_of s)
+  all_words = changed_words (changes_with_removal c.first c.last (changes_at_indexes places (value_words c.value))) 0 (words_of_text s)
 
   all_are : map range_and_text all_edits ≡ (range_of (width_of unit) text (span_of_tokens s.tokens c.first c.last), []) ∷ map (replacement_at_token unit text s.tokens (value_text c.value)) places
   all_are = ap (λ es. (range_of (width_of unit) text (span_of_tokens s.tokens c.first c.last), []) ∷ es) (values_are unit text s.tokens (value_text c.value) w.utf8 w.short places)
@@ -78,10 +78,10 @@ module _ (unit : Unit) (text : List ℕ) (r : Resolution) (module_in : IsResolve
       let many = as_many_values unit text s.tokens (value_text c.value) w.utf8 w.short places in
       omega (arith, few, tokens, many)
 
-  all_leave : length (text_inlined_everywhere r.module_read c) ≤ max_text_length → EditsGiveWords unit text all_edits all_words
+  all_leave : length (text_inlined_everywhere r.module_read c) ≤ max_text_length → EditedTextHasWords unit text all_edits all_words
   all_leave short =
       let held_so = held unit text r module_in in
-      subst (λ t. EditsGiveWords unit t all_edits all_words) (sym held_so)
+      subst (λ t. EditedTextHasWords unit t all_edits all_words) (sym held_so)
       (leaves_words_without s module_in.scan.scan (value_text c.value) w.utf8 unit (value_words c.value) w.replaces c.first c.last places declaration are_names all_edits
       (subst (λ t. map range_and_text all_edits ≡ (range_of (width_of unit) t (span_of_tokens s.tokens c.first c.last), []) ∷ map (replacement_at_token unit t s.tokens (value_text c.value)) places) held_so all_are) short)
 
@@ -101,10 +101,10 @@ module _ (alone : ConstantUsesAreFactors) (keeps : InliningEverywhereKeepsTyping
   refuse : (refusal : EditRefusal) → (refusal ≡ Memory → ⊥) → AnswersInliningEverywhere unit text r.module_read offset (Err refusal) → ⊥
   refuse refusal other h = refused (not_inlined unit text r module_in Everywhere offset (refusal, other, h))
 
-  no_name : HasNoConstantAt r.module_read offset → ⊥
+  no_name : HasNoConstantAtOffset r.module_read offset → ⊥
   no_name nowhere = refuse NoName (λ e. cc) (inr (refl, nowhere))
 
-  module _ (c : DeclaredConstant) (at : IsConstantAt r.module_read offset c) (scalar_so : Is32BitScalar (scalar_value c.value)) where
+  module _ (c : DeclaredConstant) (at : IsConstantAtOffset r.module_read offset c) (scalar_so : Is32BitScalar (scalar_value c.value)) where
     abbrev long : ℕ
     long = length (text_inlined_everywhere r.module_read c)
 
@@ -133,21 +133,21 @@ module _ (alone : ConstantUsesAreFactors) (keeps : InliningEverywhereKeepsTyping
         let answer = answer_made r well c at.is_constant alone scalar_so keeps unit text (all_edits unit text r module_in c at.is_constant w) made g q in
         given edits (inlines_in unit text r module_in Everywhere offset edits (tree_inlined_everywhere r.module_read c) answer.1.leaves answer.1.well_typed answer.1.same_runs (inl (c, at, answer)))
 
-  at_value : (found : named.BoundName) → name_at_offset r.module_read offset ≡ Some found → (o : Option Value) → value_of_constant (named_tree_of r.module_read) found.ordinal ≡ o → ⊥
+  at_value : (found : named.BoundName) → name_at_offset r.module_read offset ≡ Some found → (o : Option Value) → constant_value_in_module (named_tree_of r.module_read) found.ordinal ≡ o → ⊥
   at_value found e None q =
-      no_name (λ n h. ap (value_of_constant (named_tree_of r.module_read)) (sym (same_ordinal_named found n.token n.ordinal (sym e ∙ h))) ∙ q)
+      no_name (λ n h. ap (constant_value_in_module (named_tree_of r.module_read)) (sym (same_ordinal_named found n.token n.ordinal (sym e ∙ h))) ∙ q)
   at_value found e (Some w) q =
       let is = module_in.well_typed.resolved in
       let scalar_w = constant_scalar r.module_read.source module_in.scan.scan (tree_of r.module_read) found.ordinal w q in
       let v = scalar_of w scalar_w in
-      let has : value_of_constant (named_tree_of r.module_read) found.ordinal ≡ Some (scalar_value v.0) = q ∙ ap Some (sym v.1) in
+      let has : constant_value_in_module (named_tree_of r.module_read) found.ordinal ≡ Some (scalar_value v.0) = q ∙ ap Some (sym v.1) in
       let c : DeclaredConstant = record { ordinal = found.ordinal; value = v.0; first = name_token r is found.ordinal (scalar_value v.0) has; last = end_token r is found.ordinal (scalar_value v.0) has } in
-      let constant : IsConstant r.module_read c = record { has_value = has; begins = begins_at r is found.ordinal (scalar_value v.0) has; ends = ends_at r is found.ordinal (scalar_value v.0) has } in
+      let constant : IsDeclaredConstant r.module_read c = record { has_value = has; begins = begins_at r is found.ordinal (scalar_value v.0) has; ends = ends_at r is found.ordinal (scalar_value v.0) has } in
       cases c (record { token = found.token; named = e; is_constant = constant }) (subst Is32BitScalar (sym v.1) scalar_w) _ _ _ _ refl refl refl refl
 
   at_name : (o : Option named.BoundName) → name_at_offset r.module_read offset ≡ o → ⊥
   at_name None e = no_name (λ n h. absurd (none_some n (sym e ∙ h)))
-  at_name (Some found) e = at_value found e (value_of_constant (named_tree_of r.module_read) found.ordinal) refl
+  at_name (Some found) e = at_value found e (constant_value_in_module (named_tree_of r.module_read) found.ordinal) refl
 
 pub inlining_everywhere_always_has_answer : ConstantUsesAreFactors → InliningEverywhereKeepsTypingAndRuns → InliningEverywhereAlwaysHasAnswer
 inlining_everywhere_always_has_answer alone keeps each position unit text none = none [] (inr (inr unfit, refl))

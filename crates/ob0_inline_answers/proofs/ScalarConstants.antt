@@ -13,21 +13,21 @@ use Rattle.ob0_tree.specs.declared.tree.AddOperator.{AddOperator}
 use Rattle.ob0_tree.specs.declared.tree.AddOperator.TheVariants as add_operator
 use Rattle.ob0_tree.specs.declared.tree.MultiplyOperator.{MultiplyOperator}
 use Rattle.ob0_tree.specs.declared.tree.MultiplyOperator.TheVariants as multiply_operator
-use Rattle.ob0_tree.specs.Places.{token_text_at, token_value_at}
+use Rattle.ob0_tree.specs.TokenIndexLeaves.{token_text_at, token_value_at}
 use Rattle.ob0_tree.specs.Tree.{Tree, addend, adds, block, compares, constant, constants, declares, declares_constant, declares_const_section, declares_procedure, designator, end, expression, factor, forms_block, integer, forms_module, item, items, mapped_tree, maybe, module_text, more, multiplier, multiplies, negation, none, one, parenthesised, procedure, product, relates, simple, sum, term}
 use Rattle.ob0_language_names.specs.Names.{Name, naming_by_spelling, same_name}
-use Rattle.ob0_language_names.specs.BlockParts.{formal_names, formal_sections, declared_type_names, procedure_name, section_constants, section_types, section_variables, variable_names}
+use Rattle.ob0_language_names.specs.BlockParts.{formal_parameter_names, formal_parameter_sections, declared_type_names, procedure_name, section_constants, section_types, section_variables, variable_names}
 use Rattle.ob0_language_names.specs.Scopes.{ordinal_after_names, ordinal_after_procedure, first_procedure_ordinal, first_type_ordinal}
 use Rattle.ob0_language_values.specs.declared.scalar.Scalar.{Scalar}
 use Rattle.ob0_language_values.specs.declared.scalar.Scalar.TheVariants as scalar
 use Rattle.ob0_language_values.specs.Scalars.{scalar_value}
-use Rattle.ob0_language_values.specs.Values.{Outcome, Overflow, Place, Step, Value, add, add_operator_short_circuits, apply_sign, at_field, at_index, value_at_path, checked_division, division_outcome, elements, ends_run_with, fits_in_32_bits, succeeds_with, checked_number, members, multiply, multiply_operator_short_circuits, negate, number, or_stuck, quotient, apply_relation, remainder, truth, ◌>>=◌}
-use Rattle.ob0_language_types.specs.ConstantValues.{ConstantEnvironment, non_constant_placeholder, predeclared_constants, constant_value_in_section, constant_value_in_block, constant_value_in_procedure, constant_value_in_procedures, value_of_constant}
+use Rattle.ob0_language_values.specs.Values.{Outcome, Overflow, Place, PathStep, Value, add, add_operator_short_circuits, apply_sign, at_field, at_index, value_at_path, checked_division, division_outcome, elements, ends_run_with, fits_in_32_bits, succeeds_with, checked_number, members, multiply, multiply_operator_short_circuits, negate, number, result_or_stuck, quotient, apply_relation, remainder, truth, ◌>>=◌}
+use Rattle.ob0_language_types.specs.ConstantValues.{ConstantEnvironment, non_constant_placeholder, predeclared_constants, constant_value_in_section, constant_value_in_block, constant_value_in_procedure, constant_value_in_procedure_list, constant_value_in_module}
 use Rattle.ob0_language_types.specs.Declarations.{declare_constants}
 use Rattle.ob0_language_types.specs.EditLaws.{Is32BitScalar}
-use Rattle.ob0_language_types.specs.Environments.{environment_from_binding, meanings, newest_object}
-use Rattle.ob0_language_types.specs.Expressions.{Meanings, Object, a_constant, a_procedure, a_standard_procedure, a_type, a_variable, evaluate, evaluate_addends, evaluate_factor, evaluate_multipliers, evaluate_simple, evaluate_term, evaluate_selectors, object_value}
-use Rattle.ob0_language_types.specs.Typing.{constant_of, constant_value, constant_meanings, outcome_value, type_of}
+use Rattle.ob0_language_types.specs.Environments.{suffix_from_newest_binding, meanings, newest_object}
+use Rattle.ob0_language_types.specs.Expressions.{Meanings, Object, a_constant, a_procedure, a_standard_procedure, a_type, a_variable, evaluate, evaluate_addends, evaluate_factor, evaluate_multipliers, evaluate_simple_expression, evaluate_term, evaluate_selectors, object_value}
+use Rattle.ob0_language_types.specs.Typing.{value_of_constant_object, constant_expression_value, meanings_in_constant_expressions, outcome_value, type_of_expression}
 use Rattle.ob0_language_types.specs.WellTyped.{bind_names}
 use Rattle.ob0_language_types.proofs.Literals.{some_inverse}
 use Rattle.ob0_language_types.proofs.TypedElsewhere.{then_some}
@@ -89,7 +89,7 @@ settled-scalar true x o h k = h
 settled-scalar false x o h k = k
 
 -- A scalar has no parts.
-path-scalar : (steps : List Step) (v : Value) → Is32BitScalar v → GivesScalar (or_stuck (value_at_path steps v))
+path-scalar : (steps : List PathStep) (v : Value) → Is32BitScalar v → GivesScalar (result_or_stuck (value_at_path steps v))
 path-scalar [] v h = h
 path-scalar (at_index i ∷ steps) (number n) h = tt
 path-scalar (at_field x ∷ steps) (number n) h = tt
@@ -128,10 +128,10 @@ module _ (f : ℕ → Name) (g : ℕ → ℕ) (small : (i : ℕ) → g i ≤ 214
       expression-scalar : (e : Tree ℕ expression) → GivesScalar (evaluate meaning [] (mapped_tree f g e))
       expression-scalar (compares a none) = simple-scalar a
       expression-scalar (compares a (one (relates r b))) =
-          scalar-then (evaluate_simple meaning [] (mapped_tree f g a)) (λ x. evaluate_simple meaning [] (mapped_tree f g b) >>= apply_relation r x) (simple-scalar a)
-          (λ x h. scalar-then (evaluate_simple meaning [] (mapped_tree f g b)) (apply_relation r x) (simple-scalar b) (λ y k. apply_relation-scalar r x y))
+          scalar-then (evaluate_simple_expression meaning [] (mapped_tree f g a)) (λ x. evaluate_simple_expression meaning [] (mapped_tree f g b) >>= apply_relation r x) (simple-scalar a)
+          (λ x h. scalar-then (evaluate_simple_expression meaning [] (mapped_tree f g b)) (apply_relation r x) (simple-scalar b) (λ y k. apply_relation-scalar r x y))
 
-      simple-scalar : (a : Tree ℕ simple) → GivesScalar (evaluate_simple meaning [] (mapped_tree f g a))
+      simple-scalar : (a : Tree ℕ simple) → GivesScalar (evaluate_simple_expression meaning [] (mapped_tree f g a))
       simple-scalar (sum s t rest) =
           scalar-then (evaluate_term meaning [] (mapped_tree f g t)) (λ x. apply_sign s x >>= (λ y. evaluate_addends meaning [] y (mapped_tree f g rest))) (term-scalar t)
           (λ x h. scalar-then (apply_sign s x) (λ y. evaluate_addends meaning [] y (mapped_tree f g rest)) (sign-scalar s x h) (λ y k. addends-scalar y k rest))
@@ -156,8 +156,8 @@ module _ (f : ℕ → Name) (g : ℕ → ℕ) (small : (i : ℕ) → g i ≤ 214
 
       factor-scalar : (a : Tree ℕ factor) → GivesScalar (evaluate_factor meaning [] (mapped_tree f g a))
       factor-scalar (designator x path) =
-          scalar-then (object_value [] (meaning.object_for (f x))) (λ v. evaluate_selectors meaning [] v (mapped_tree f g path) >>= (λ steps. or_stuck (value_at_path steps v))) (object-scalar (meaning.object_for (f x)) (known (f x)))
-          (λ v h. any-then (evaluate_selectors meaning [] v (mapped_tree f g path)) (λ steps. or_stuck (value_at_path steps v)) (λ steps. path-scalar steps v h))
+          scalar-then (object_value [] (meaning.object_for (f x))) (λ v. evaluate_selectors meaning [] v (mapped_tree f g path) >>= (λ steps. result_or_stuck (value_at_path steps v))) (object-scalar (meaning.object_for (f x)) (known (f x)))
+          (λ v h. any-then (evaluate_selectors meaning [] v (mapped_tree f g path)) (λ steps. result_or_stuck (value_at_path steps v)) (λ steps. path-scalar steps v h))
       factor-scalar (integer n) = small-scalar (g n) (small n)
       factor-scalar (parenthesised e) = expression-scalar e
       factor-scalar (negation a) = scalar-then (evaluate_factor meaning [] (mapped_tree f g a)) negate (factor-scalar a) (λ v h. negate-scalar v)
@@ -177,28 +177,28 @@ module _ (f : ℕ → Name) (g : ℕ → ℕ) (small : (i : ℕ) → g i ≤ 214
   AllScalar [] = Unit {0}
   AllScalar (b ∷ known) = ScalarObject b.1 × AllScalar known
 
-  only-scalar : (o : Object (Unit {0}) (Unit {0})) → ScalarObject o → HasScalar (option_map a_constant (constant_of (Some o)))
+  only-scalar : (o : Object (Unit {0}) (Unit {0})) → ScalarObject o → HasScalar (option_map a_constant (value_of_constant_object (Some o)))
   only-scalar (a_constant v) h = h
   only-scalar (a_type s) h = tt
   only-scalar (a_variable p) h = tt
   only-scalar (a_procedure p) h = tt
   only-scalar (a_standard_procedure p) h = tt
 
-  looked-up : (known : ConstantEnvironment) → AllScalar known → (x : Name) → HasScalar ((constant_meanings {W = Place} {Q = Unit {0}} (meanings naming_by_spelling known)).object_for x)
+  looked-up : (known : ConstantEnvironment) → AllScalar known → (x : Name) → HasScalar ((meanings_in_constant_expressions {W = Place} {Q = Unit {0}} (meanings naming_by_spelling known)).object_for x)
   looked-up [] h x = tt
   looked-up (b ∷ known) h x =
-      elim (same_name x b.0) as (λ t. HasScalar (option_map a_constant (constant_of (newest_object (elim t [ true ↦ b ∷ known | false ↦ environment_from_binding naming_by_spelling known x ])))))
+      elim (same_name x b.0) as (λ t. HasScalar (option_map a_constant (value_of_constant_object (newest_object (elim t [ true ↦ b ∷ known | false ↦ suffix_from_newest_binding naming_by_spelling known x ])))))
       [ true ↦ only-scalar b.1 h.0 | false ↦ looked-up known h.1 x ]
 
   given-scalar : (o : Outcome Value) (v : Value) → GivesScalar o → outcome_value o ≡ Some v → Is32BitScalar v
   given-scalar (succeeds_with w) v h e = subst Is32BitScalar (some_inverse e) h
   given-scalar (ends_run_with x) v h e = absurd (cc)
 
-  constant-scalar : (known : ConstantEnvironment) → AllScalar known → (e : Tree ℕ expression) (v : Value) → constant_value (meanings naming_by_spelling known) (mapped_tree f g e) ≡ Some v → Is32BitScalar v
-  unfolding constant_value
+  constant-scalar : (known : ConstantEnvironment) → AllScalar known → (e : Tree ℕ expression) (v : Value) → constant_expression_value (meanings naming_by_spelling known) (mapped_tree f g e) ≡ Some v → Is32BitScalar v
+  unfolding constant_expression_value
   constant-scalar known h e v q =
-      let meaning : Meanings Name Place (Unit {0}) = constant_meanings (meanings naming_by_spelling known) in
-      let found = then_some (type_of {P = Unit {0}} (constant_meanings (meanings naming_by_spelling known)) (mapped_tree f g e)) (λ s. outcome_value (evaluate {P = Unit {0}} (constant_meanings (meanings naming_by_spelling known)) [] (mapped_tree f g e))) v q in
+      let meaning : Meanings Name Place (Unit {0}) = meanings_in_constant_expressions (meanings naming_by_spelling known) in
+      let found = then_some (type_of_expression {P = Unit {0}} (meanings_in_constant_expressions (meanings naming_by_spelling known)) (mapped_tree f g e)) (λ s. outcome_value (evaluate {P = Unit {0}} (meanings_in_constant_expressions (meanings naming_by_spelling known)) [] (mapped_tree f g e))) v q in
       given-scalar (evaluate meaning [] (mapped_tree f g e)) v (expression-scalar meaning (looked-up known h) e) found.2
 
   bound-scalar : (xs : List Name) (known : ConstantEnvironment) → AllScalar known → AllScalar (bind_names xs non_constant_placeholder known)
@@ -209,14 +209,14 @@ module _ (f : ℕ → Name) (g : ℕ → ℕ) (small : (i : ℕ) → g i ≤ 214
   unfolding declare_constants
   declared-scalar end known inner h q = subst AllScalar (some_inverse q) h
   declared-scalar (more (declares_constant x e) cs) known inner h q =
-      let found = then_some (constant_value (meanings naming_by_spelling known) (mapped_tree f g e)) (λ v. declare_constants naming_by_spelling ((f x, a_constant v) ∷ known) (mapped_tree f g cs)) inner q in
+      let found = then_some (constant_expression_value (meanings naming_by_spelling known) (mapped_tree f g e)) (λ v. declare_constants naming_by_spelling ((f x, a_constant v) ∷ known) (mapped_tree f g cs)) inner q in
       declared-scalar cs ((f x, a_constant found.0) ∷ known) inner (constant-scalar known h e found.0 found.1, h) found.2
 
   among-scalar : (cs : Tree ℕ (items constant)) (known : ConstantEnvironment) (d k : ℕ) (w : Value) → AllScalar known → constant_value_in_section known d k (mapped_tree f g cs) ≡ Some w → Is32BitScalar w
   unfolding constant_value_in_section
   among-scalar end known d k w h q = absurd (cc)
   among-scalar (more (declares_constant x e) cs) known d k w h q =
-      let found = then_some (constant_value (meanings naming_by_spelling known) (mapped_tree f g e)) (λ v. if k == d then Some v else constant_value_in_section ((f x, a_constant v) ∷ known) d (suc k) (mapped_tree f g cs)) w q in
+      let found = then_some (constant_expression_value (meanings naming_by_spelling known) (mapped_tree f g e)) (λ v. if k == d then Some v else constant_value_in_section ((f x, a_constant v) ∷ known) d (suc k) (mapped_tree f g cs)) w q in
       let scalar_so = constant-scalar known h e found.0 found.1 in
       (elim (k == d) as (λ b. (if b then Some found.0 else constant_value_in_section ((f x, a_constant found.0) ∷ known) d (suc k) (mapped_tree f g cs)) ≡ Some w → Is32BitScalar w)
       [ true ↦ λ e. subst Is32BitScalar (some_inverse e) scalar_so | false ↦ λ e. among-scalar cs ((f x, a_constant found.0) ∷ known) d (suc k) w (scalar_so, h) e ]) found.2
@@ -243,32 +243,32 @@ module _ (f : ℕ → Name) (g : ℕ → ℕ) (small : (i : ℕ) → g i ≤ 214
     block-scalar (forms_block (declares cs ts vs ps) statements) known d k w h q =
         let whole = mapped_tree f g (forms_block (declares cs ts vs ps) statements) in
         let more_names = declared_type_names (section_types (mapped_tree f g ts)) ++ variable_names (section_variables (mapped_tree f g vs)) in
-        let others = option_and_then (λ inner. constant_value_in_procedures (bind_names more_names non_constant_placeholder inner) d (first_procedure_ordinal k whole) (mapped_tree f g ps)) (declare_constants naming_by_spelling known (section_constants (mapped_tree f g cs))) in
+        let others = option_and_then (λ inner. constant_value_in_procedure_list (bind_names more_names non_constant_placeholder inner) d (first_procedure_ordinal k whole) (mapped_tree f g ps)) (declare_constants naming_by_spelling known (section_constants (mapped_tree f g cs))) in
         chosen (nat_lt d (first_type_ordinal k whole)) (constant_value_in_section known d k (section_constants (mapped_tree f g cs))) (if nat_lt d (first_procedure_ordinal k whole) then None else others) Is32BitScalar w
         (λ v e. section-scalar cs known d k v h e)
         (λ v e. chosen (nat_lt d (first_procedure_ordinal k whole)) None others Is32BitScalar v nothing
         (λ u p.
-        let found = then_some (declare_constants naming_by_spelling known (section_constants (mapped_tree f g cs))) (λ inner. constant_value_in_procedures (bind_names more_names non_constant_placeholder inner) d (first_procedure_ordinal k whole) (mapped_tree f g ps)) u p in
+        let found = then_some (declare_constants naming_by_spelling known (section_constants (mapped_tree f g cs))) (λ inner. constant_value_in_procedure_list (bind_names more_names non_constant_placeholder inner) d (first_procedure_ordinal k whole) (mapped_tree f g ps)) u p in
         procedures-scalar ps (bind_names more_names non_constant_placeholder found.0) d (first_procedure_ordinal k whole) u (bound-scalar more_names found.0 (section-declared cs known found.0 h found.1)) found.2)
         e) q
 
-    procedures-scalar : (ps : Tree ℕ (items procedure)) (known : ConstantEnvironment) (d k : ℕ) (w : Value) → AllScalar known → constant_value_in_procedures known d k (mapped_tree f g ps) ≡ Some w → Is32BitScalar w
+    procedures-scalar : (ps : Tree ℕ (items procedure)) (known : ConstantEnvironment) (d k : ℕ) (w : Value) → AllScalar known → constant_value_in_procedure_list known d k (mapped_tree f g ps) ≡ Some w → Is32BitScalar w
     procedures-scalar end known d k w h q = absurd (cc)
     procedures-scalar (more p rest) known d k w h q =
         let inner : ConstantEnvironment = (procedure_name (mapped_tree f g p), non_constant_placeholder) ∷ known in
-        chosen (nat_lt d (ordinal_after_procedure (suc k) (mapped_tree f g p))) (constant_value_in_procedure inner d (suc k) (mapped_tree f g p)) (constant_value_in_procedures inner d (ordinal_after_procedure (suc k) (mapped_tree f g p)) (mapped_tree f g rest)) Is32BitScalar w
+        chosen (nat_lt d (ordinal_after_procedure (suc k) (mapped_tree f g p))) (constant_value_in_procedure inner d (suc k) (mapped_tree f g p)) (constant_value_in_procedure_list inner d (ordinal_after_procedure (suc k) (mapped_tree f g p)) (mapped_tree f g rest)) Is32BitScalar w
         (λ v e. procedure-scalar p inner d (suc k) v (tt, h) e)
         (λ v e. procedures-scalar rest inner d (ordinal_after_procedure (suc k) (mapped_tree f g p)) v (tt, h) e) q
 
     procedure-scalar : (p : Tree ℕ (item procedure)) (known : ConstantEnvironment) (d k : ℕ) (w : Value) → AllScalar known → constant_value_in_procedure known d k (mapped_tree f g p) ≡ Some w → Is32BitScalar w
     procedure-scalar (declares_procedure x fs b closing) known d k w h q =
-        let ns = formal_names (formal_sections (mapped_tree f g fs)) in
+        let ns = formal_parameter_names (formal_parameter_sections (mapped_tree f g fs)) in
         chosen (nat_lt d (ordinal_after_names k ns)) None (constant_value_in_block (bind_names ns non_constant_placeholder known) d (ordinal_after_names k ns) (mapped_tree f g b)) Is32BitScalar w
         nothing
         (λ v e. block-scalar b (bind_names ns non_constant_placeholder known) d (ordinal_after_names k ns) v (bound-scalar ns known h) e) q
 
-  module-scalar : (m : Tree ℕ module_text) (d : ℕ) (w : Value) → value_of_constant (mapped_tree f g m) d ≡ Some w → Is32BitScalar w
-  unfolding value_of_constant
+  module-scalar : (m : Tree ℕ module_text) (d : ℕ) (w : Value) → constant_value_in_module (mapped_tree f g m) d ≡ Some w → Is32BitScalar w
+  unfolding constant_value_in_module
   module-scalar (forms_module x b closing) d w q =
       chosen (nat_lt d 7) None (constant_value_in_block predeclared_constants d 7 (mapped_tree f g b)) Is32BitScalar w nothing
       (λ v e. block-scalar b predeclared_constants d 7 v (tt, (tt, (tt, (tt, (tt, (tt, (tt, tt))))))) e) q
@@ -285,7 +285,7 @@ value-small s scan i = go (nat_lt i (length s.tokens)) refl
     go false e = subst (λ n. n ≤ 2147483647) (sym (token_value_at-past s i (ltb-false i (length s.tokens) e))) (omega arith)
 
 -- Each constant of a text has a scalar value.
-pub constant_scalar : (s : TextWithTokens) → IsScan s → (m : Tree ℕ module_text) (d : ℕ) (w : Value) → value_of_constant (mapped_tree (token_text_at s) (token_value_at s) m) d ≡ Some w → Is32BitScalar w
+pub constant_scalar : (s : TextWithTokens) → IsScan s → (m : Tree ℕ module_text) (d : ℕ) (w : Value) → constant_value_in_module (mapped_tree (token_text_at s) (token_value_at s) m) d ≡ Some w → Is32BitScalar w
 constant_scalar s scan m d w e = module-scalar (token_text_at s) (token_value_at s) (value-small s scan) m d w e
 
 -- The code has a scalar for each scalar value.

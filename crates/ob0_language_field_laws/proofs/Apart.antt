@@ -10,10 +10,10 @@ use Rattle.ob0_tree.specs.declared.tree.MultiplyOperator.{MultiplyOperator}
 use Rattle.ob0_tree.specs.declared.tree.MultiplyOperator.TheVariants as multiply_operator
 use Rattle.ob0_language_names.specs.Names.{Name, same_name}
 use Rattle.ob0_language_types.specs.Expressions.{Object, a_constant, a_procedure, a_standard_procedure, a_type, a_variable, read_procedure}
-use Rattle.ob0_language_types.specs.Typing.{addition_type, negation_type, constant_of, depth, field_depth, field_scalars, field_type, multiplication_type, type_of_variable_or_constant, relation_type, scalars, shape_of_field, sign_type, type_of_type_object, value_type, prepend_fields, type_within_limits}
+use Rattle.ob0_language_types.specs.Typing.{addition_type, negation_type, value_of_constant_object, depth, deepest_field_depth, scalar_count_of_fields, field_type, multiplication_type, type_of_variable_or_constant, relation_type, scalars, named_field_shape, signed_operand_type, type_of_type_object, value_type, prepend_fields, type_within_limits}
 use Rattle.ob0_language_types.specs.WellTyped.{FormalParameter, Signature, TypeMeanings, same_known_shape, same_fields, same_shape, signature_of}
 use Rattle.ob0_language_values.specs.Values.{FieldShapes, Shape, Value, array_shape, boolean_shape, integer_shape, next_field_shape, no_field_shape, number, record_shape}
-use Rattle.ob0_language_fields.specs.Fields.{FieldRenaming, record_ordinal}
+use Rattle.ob0_language_fields.specs.RenamedFields.{FieldRenaming, record_ordinal}
 use Rattle.ob0_language_fields.proofs.MeaningsByName.{named}
 use Rattle.ob0_language_field_laws.specs.FieldLaws.{KeepsFieldsDistinct}
 use Rattle.std.proofs.lemmas.Bool.{eqb-true}
@@ -68,11 +68,11 @@ multiplication_type-by l multiply_operator.Modulo integer_shape integer_shape = 
 multiplication_type-by l multiply_operator.And boolean_shape boolean_shape = refl
 multiplication_type-by l _ _ _ = refl
 
-pub sign_type-by : (l : FieldRenaming) (o : Option Sign) (x : Shape) → sign_type o (shape_by l x) ≡ option_map (shape_by l) (sign_type o x)
-sign_type-by l None x = refl
-sign_type-by l (Some sign.Plus) integer_shape = refl
-sign_type-by l (Some sign.Minus) integer_shape = refl
-sign_type-by l _ _ = refl
+pub signed_operand_type-by : (l : FieldRenaming) (o : Option Sign) (x : Shape) → signed_operand_type o (shape_by l x) ≡ option_map (shape_by l) (signed_operand_type o x)
+signed_operand_type-by l None x = refl
+signed_operand_type-by l (Some sign.Plus) integer_shape = refl
+signed_operand_type-by l (Some sign.Minus) integer_shape = refl
+signed_operand_type-by l _ _ = refl
 
 pub negation_type-by : (l : FieldRenaming) (x : Shape) → negation_type (shape_by l x) ≡ option_map (shape_by l) (negation_type x)
 negation_type-by l boolean_shape = refl
@@ -80,13 +80,13 @@ negation_type-by l _ = refl
 
 -- Looking up a field under its new name gives the field's type under the new names.
 
-pub shape_of_field-by : (l : FieldRenaming) → KeepsFieldsDistinct l → (k : ℕ) (fs : FieldShapes) (x : Name) → shape_of_field (fields_by l k fs) (l (Some k) x) ≡ option_map (shape_by l) (shape_of_field fs x)
-shape_of_field-by l apart k no_field_shape x = refl
-shape_of_field-by l apart k (next_field_shape y s rest) x =
-    (λ i. if apart k x y i then Some (shape_by l s) else shape_of_field-by l apart k rest x i) ∙ choose_by_truth-map (shape_by l) (same_name x y) s (shape_of_field rest x)
+pub named_field_shape-by : (l : FieldRenaming) → KeepsFieldsDistinct l → (k : ℕ) (fs : FieldShapes) (x : Name) → named_field_shape (fields_by l k fs) (l (Some k) x) ≡ option_map (shape_by l) (named_field_shape fs x)
+named_field_shape-by l apart k no_field_shape x = refl
+named_field_shape-by l apart k (next_field_shape y s rest) x =
+    (λ i. if apart k x y i then Some (shape_by l s) else named_field_shape-by l apart k rest x i) ∙ choose_by_truth-map (shape_by l) (same_name x y) s (named_field_shape rest x)
 
 pub field_type-by : (l : FieldRenaming) → KeepsFieldsDistinct l → (s : Shape) (x : Name) → field_type (shape_by l s) (l (record_ordinal (Some s)) x) ≡ option_map (shape_by l) (field_type s x)
-field_type-by l apart (record_shape k fs) x = shape_of_field-by l apart k fs x
+field_type-by l apart (record_shape k fs) x = named_field_shape-by l apart k fs x
 field_type-by l apart _ x = refl
 
 pub prepend_fields-by : (l : FieldRenaming) (k : ℕ) (xs : List Name) (s : Shape) (rest : FieldShapes) → prepend_fields (map (l (Some k)) xs) (shape_by l s) (fields_by l k rest) ≡ fields_by l k (prepend_fields xs s rest)
@@ -98,22 +98,22 @@ prepend_fields-by l k (x ∷ xs) s rest = λ i. next_field_shape (l (Some k) x) 
 mutual
   pub scalars-by : (l : FieldRenaming) (s : Shape) → scalars (shape_by l s) ≡ scalars s
   scalars-by l (array_shape k n s) = λ i. n * scalars-by l s i
-  scalars-by l (record_shape k fs) = λ i. max 1 (field_scalars-by l k fs i)
+  scalars-by l (record_shape k fs) = λ i. max 1 (scalar_count_of_fields-by l k fs i)
   scalars-by l _ = refl
 
-  pub field_scalars-by : (l : FieldRenaming) (k : ℕ) (fs : FieldShapes) → field_scalars (fields_by l k fs) ≡ field_scalars fs
-  field_scalars-by l k no_field_shape = refl
-  field_scalars-by l k (next_field_shape x s rest) = λ i. scalars-by l s i + field_scalars-by l k rest i
+  pub scalar_count_of_fields-by : (l : FieldRenaming) (k : ℕ) (fs : FieldShapes) → scalar_count_of_fields (fields_by l k fs) ≡ scalar_count_of_fields fs
+  scalar_count_of_fields-by l k no_field_shape = refl
+  scalar_count_of_fields-by l k (next_field_shape x s rest) = λ i. scalars-by l s i + scalar_count_of_fields-by l k rest i
 
 mutual
   pub depth-by : (l : FieldRenaming) (s : Shape) → depth (shape_by l s) ≡ depth s
   depth-by l (array_shape k n s) = λ i. suc (depth-by l s i)
-  depth-by l (record_shape k fs) = λ i. suc (field_depth-by l k fs i)
+  depth-by l (record_shape k fs) = λ i. suc (deepest_field_depth-by l k fs i)
   depth-by l _ = refl
 
-  pub field_depth-by : (l : FieldRenaming) (k : ℕ) (fs : FieldShapes) → field_depth (fields_by l k fs) ≡ field_depth fs
-  field_depth-by l k no_field_shape = refl
-  field_depth-by l k (next_field_shape x s rest) = λ i. max (depth-by l s i) (field_depth-by l k rest i)
+  pub deepest_field_depth-by : (l : FieldRenaming) (k : ℕ) (fs : FieldShapes) → deepest_field_depth (fields_by l k fs) ≡ deepest_field_depth fs
+  deepest_field_depth-by l k no_field_shape = refl
+  deepest_field_depth-by l k (next_field_shape x s rest) = λ i. max (depth-by l s i) (deepest_field_depth-by l k rest i)
 
 pub type_within_limits-by : (l : FieldRenaming) (s : Shape) → type_within_limits (shape_by l s) ≡ option_map (shape_by l) (type_within_limits s)
 type_within_limits-by l s =
@@ -169,9 +169,9 @@ pub type_of_variable_or_constant-by : (l : FieldRenaming) (o : Option (Object Sh
 type_of_variable_or_constant-by l (Some (a_constant v)) = value_type-by l v
 type_of_variable_or_constant-by l _ = refl
 
-pub constant_of-by : (l : FieldRenaming) (o : Option (Object Shape Signature)) → constant_of (option_map (object_by l) o) ≡ constant_of o
-constant_of-by l (Some (a_type s)) = refl
-constant_of-by l _ = refl
+pub value_of_constant_object-by : (l : FieldRenaming) (o : Option (Object Shape Signature)) → value_of_constant_object (option_map (object_by l) o) ≡ value_of_constant_object o
+value_of_constant_object-by l (Some (a_type s)) = refl
+value_of_constant_object-by l _ = refl
 
 pub type_of_type_object-by : (l : FieldRenaming) (o : Option (Object Shape Signature)) → type_of_type_object (option_map (object_by l) o) ≡ option_map (shape_by l) (type_of_type_object o)
 type_of_type_object-by l (Some (a_type s)) = refl

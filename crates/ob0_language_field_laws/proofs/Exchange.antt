@@ -12,9 +12,9 @@ use Rattle.ob0_language_names.specs.Scopes.{same_ordinal}
 use Rattle.ob0_language_names.proofs.NameEquality.{same_name-refl}
 use Rattle.ob0_language_types.specs.WellTyped.{WellTyped}
 use Rattle.ob0_language_runs.specs.EditLaws.{HaveSameRuns}
-use Rattle.ob0_language_fields.specs.Fields.{FieldRenaming, rename_fields_in_module}
-use Rattle.ob0_language_field_laws.specs.FieldLaws.{FreeFieldRenamingKeepsTypingAndRuns, KeepsFieldsDistinct}
-use Rattle.ob0_language_fields.specs.Renaming.{IsFreeFieldName, RecordFields, module_with_renamed_field, has_another_field_named, single_field_renaming, records}
+use Rattle.ob0_language_fields.specs.RenamedFields.{FieldRenaming, rename_fields_in_module}
+use Rattle.ob0_language_field_laws.specs.FieldLaws.{RenamingFieldToFreeNameKeepsTypingAndRuns, KeepsFieldsDistinct}
+use Rattle.ob0_language_fields.specs.SingleFieldRenaming.{IsFreeFieldName, RecordFields, module_with_renamed_field, has_another_field_named, single_field_renaming, records_in_module}
 use Rattle.ob0_language_fields.proofs.AgreeingFields.{NamesAgree, RecordsAgree}
 use Rattle.ob0_language_fields.proofs.AgreeingModules.{module-alike}
 use Rattle.ob0_language_field_laws.proofs.Proved.{field_renaming_keeps_typing_and_runs-holds}
@@ -91,8 +91,8 @@ records-agree r f new (t ∷ ts) h =
 
 pub renamed-exchanged : (m : Tree Name module_text) (r : ℕ) (f new : Name) → IsFreeFieldName m r f new → WellTyped m → module_with_renamed_field m r f new ≡ rename_fields_in_module (exchanged r f new) m
 unfolding WellTyped
-renamed-exchanged m r f new free well = module-alike (single_field_renaming r f new) (exchanged r f new) m (records-agree r f new (records m) free) well.1
+renamed-exchanged m r f new free well = module-alike (single_field_renaming r f new) (exchanged r f new) m (records-agree r f new (records_in_module m) free) well.1
 
-pub free_field_renaming_keeps_typing_and_runs-holds : FreeFieldRenamingKeepsTypingAndRuns
-free_field_renaming_keeps_typing_and_runs-holds m r f new free well =
+pub renaming_field_to_free_name_keeps_typing_and_runs-holds : RenamingFieldToFreeNameKeepsTypingAndRuns
+renaming_field_to_free_name_keeps_typing_and_runs-holds m r f new free well =
     subst (λ a. WellTyped a × HaveSameRuns a m) (sym (renamed-exchanged m r f new free well)) (field_renaming_keeps_typing_and_runs-holds (exchanged r f new) m (exchanged-apart r f new) well)

@@ -10,8 +10,8 @@ use Rattle.ob0_tree.specs.declared.tree.AddOperator.TheVariants as add_operator
 use Rattle.ob0_tree.specs.declared.tree.MultiplyOperator.{MultiplyOperator}
 use Rattle.ob0_tree.specs.declared.tree.MultiplyOperator.TheVariants as multiply_operator
 use Rattle.ob0_language_types.specs.Expressions.{element_step}
-use Rattle.ob0_language_values.specs.Values.{Index, Outcome, Overflow, Step, Stuck, Value, add, add_operator_short_circuits, at_index, compare_numbers, count_values, checked_division, division_outcome, elements, ends_run_with, fits_in_32_bits, succeeds_with, checked_number, multiply, multiply_operator_short_circuits, negate, number, or_stuck, quotient, apply_relation, remainder, same_truth, apply_sign, truth, ◌>>=◌}
-use Rattle.ob0_language_fields.specs.Fields.{FieldRenaming}
+use Rattle.ob0_language_values.specs.Values.{Index, Outcome, Overflow, PathStep, Stuck, Value, add, add_operator_short_circuits, at_index, compare_numbers, count_values, checked_division, division_outcome, elements, ends_run_with, fits_in_32_bits, succeeds_with, checked_number, multiply, multiply_operator_short_circuits, negate, number, result_or_stuck, quotient, apply_relation, remainder, same_truth, apply_sign, truth, ◌>>=◌}
+use Rattle.ob0_language_fields.specs.RenamedFields.{FieldRenaming}
 use Rattle.ob0_language_field_laws.proofs.Values.{Finds, count_values-by, step_by, tagged, to_index, value_by}
 
 abbrev pub Follows : {A X Y : Type 0} → (A → X) → (A → Y) → Outcome X → Outcome Y → Type 0
@@ -29,10 +29,10 @@ follows-then {Y = Y} f g f' g' (ends_run_with e) o₂ n₁ n₂ h each = go h
     go (inl p) = inl p
     go (inr q) = inr (ap (λ o. o >>= n₂) q)
 
-pub or_stuck-follows : {A X Y : Type 0} (f : A → X) (g : A → Y) (o₁ : Option X) (o₂ : Option Y) → Finds f g o₁ o₂ → Follows f g (or_stuck o₁) (or_stuck o₂)
-or_stuck-follows f g None o₂ h = inl refl
-or_stuck-follows f g (Some x) None h = absurd h
-or_stuck-follows f g (Some x) (Some y) h = h
+pub result_or_stuck-follows : {A X Y : Type 0} (f : A → X) (g : A → Y) (o₁ : Option X) (o₂ : Option Y) → Finds f g o₁ o₂ → Follows f g (result_or_stuck o₁) (result_or_stuck o₂)
+result_or_stuck-follows f g None o₂ h = inl refl
+result_or_stuck-follows f g (Some x) None h = absurd h
+result_or_stuck-follows f g (Some x) (Some y) h = h
 
 -- holds if two outcomes give values that stand for the same value
 abbrev pub ValuesFollow : FieldRenaming → Outcome Value → Outcome Value → Type 0
@@ -92,7 +92,7 @@ settled-follows l b b₁ b₂ v o₁ o₂ e₁ e₂ h =
 
 -- holds if two outcomes give steps of a path that stand for the same step
 
-abbrev pub MovesFollow : FieldRenaming → Outcome Step → Outcome Step → Type 0
+abbrev pub MovesFollow : FieldRenaming → Outcome PathStep → Outcome PathStep → Type 0
 MovesFollow l = Follows (step_by tagged) (step_by l)
 
 index-follows : (l : FieldRenaming) (i n : ℕ) → MovesFollow l (if nat_lt i n then succeeds_with (at_index i) else ends_run_with Index) (if nat_lt i n then succeeds_with (at_index i) else ends_run_with Index)

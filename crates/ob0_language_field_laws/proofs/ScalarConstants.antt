@@ -10,9 +10,9 @@ use Rattle.ob0_tree.specs.declared.tree.MultiplyOperator.{MultiplyOperator}
 use Rattle.ob0_tree.specs.declared.tree.MultiplyOperator.TheVariants as multiply_operator
 use Rattle.ob0_tree.specs.Tree.{Tree, addend, adds, compares, designator, end, expression, factor, integer, items, more, multiplier, multiplies, negation, none, one, parenthesised, product, relates, simple, sum, term}
 use Rattle.ob0_language_names.specs.Names.{Name}
-use Rattle.ob0_language_types.specs.Expressions.{Meanings, Object, a_constant, evaluate, evaluate_addends, evaluate_factor, evaluate_multipliers, evaluate_simple, evaluate_term, evaluate_selectors, object_value}
-use Rattle.ob0_language_types.specs.Typing.{constant_of, constant_value, constant_meanings, outcome_value, type_of}
-use Rattle.ob0_language_values.specs.Values.{Outcome, Overflow, Place, Shape, Step, Value, add, add_operator_short_circuits, value_at_path, checked_division, division_outcome, elements, ends_run_with, fits_in_32_bits, succeeds_with, checked_number, members, multiply, multiply_operator_short_circuits, negate, number, or_stuck, quotient, apply_relation, remainder, apply_sign, truth, ◌>>=◌}
+use Rattle.ob0_language_types.specs.Expressions.{Meanings, Object, a_constant, evaluate, evaluate_addends, evaluate_factor, evaluate_multipliers, evaluate_simple_expression, evaluate_term, evaluate_selectors, object_value}
+use Rattle.ob0_language_types.specs.Typing.{value_of_constant_object, constant_expression_value, meanings_in_constant_expressions, outcome_value, type_of_expression}
+use Rattle.ob0_language_values.specs.Values.{Outcome, Overflow, Place, Shape, PathStep, Value, add, add_operator_short_circuits, value_at_path, checked_division, division_outcome, elements, ends_run_with, fits_in_32_bits, succeeds_with, checked_number, members, multiply, multiply_operator_short_circuits, negate, number, result_or_stuck, quotient, apply_relation, remainder, apply_sign, truth, ◌>>=◌}
 use Rattle.ob0_language_field_laws.proofs.FieldRenamedExpressions.{Scalar, logical, scalar_value, whole}
 use Rattle.ob0_language_fields.proofs.MeaningsByName.{named}
 
@@ -76,7 +76,7 @@ settled-scalar true v o h k = h
 settled-scalar false v o h k = k
 
 -- A scalar has no parts, so following a path from it gives a scalar or no value.
-value_at_path-scalar : (steps : List Step) (v : Value) → IsScalarValue v → Holds IsScalarValue (or_stuck (value_at_path steps v))
+value_at_path-scalar : (steps : List PathStep) (v : Value) → IsScalarValue v → Holds IsScalarValue (result_or_stuck (value_at_path steps v))
 value_at_path-scalar [] v h = h
 value_at_path-scalar (s ∷ steps) (elements vs) h = absurd h
 value_at_path-scalar (s ∷ steps) (members k ms) h = absurd h
@@ -96,13 +96,13 @@ mutual
   unfolding evaluate
 
   evaluate-scalar : (cs : Constants) (e : Tree Name expression) → Holds IsScalarValue (evaluate {P = Unit {0}} (constant_meaning cs) [] e)
-  evaluate-scalar cs (compares a none) = evaluate_simple-scalar cs a
+  evaluate-scalar cs (compares a none) = evaluate_simple_expression-scalar cs a
   evaluate-scalar cs (compares a (one (relates r b))) =
-      holds-then IsScalarValue (evaluate_simple {P = Unit {0}} (constant_meaning cs) [] a) (λ x. evaluate_simple {P = Unit {0}} (constant_meaning cs) [] b >>= apply_relation r x)
-      (λ x. holds-then IsScalarValue (evaluate_simple {P = Unit {0}} (constant_meaning cs) [] b) (apply_relation r x) (apply_relation-scalar r x))
+      holds-then IsScalarValue (evaluate_simple_expression {P = Unit {0}} (constant_meaning cs) [] a) (λ x. evaluate_simple_expression {P = Unit {0}} (constant_meaning cs) [] b >>= apply_relation r x)
+      (λ x. holds-then IsScalarValue (evaluate_simple_expression {P = Unit {0}} (constant_meaning cs) [] b) (apply_relation r x) (apply_relation-scalar r x))
 
-  evaluate_simple-scalar : (cs : Constants) (a : Tree Name simple) → Holds IsScalarValue (evaluate_simple {P = Unit {0}} (constant_meaning cs) [] a)
-  evaluate_simple-scalar cs (sum s t rest) =
+  evaluate_simple_expression-scalar : (cs : Constants) (a : Tree Name simple) → Holds IsScalarValue (evaluate_simple_expression {P = Unit {0}} (constant_meaning cs) [] a)
+  evaluate_simple_expression-scalar cs (sum s t rest) =
       holds-with IsScalarValue IsScalarValue (evaluate_term {P = Unit {0}} (constant_meaning cs) [] t) (λ x. apply_sign s x >>= (λ y. evaluate_addends {P = Unit {0}} (constant_meaning cs) [] y rest)) (evaluate_term-scalar cs t)
       (λ x hx. holds-with IsScalarValue IsScalarValue (apply_sign s x) (λ y. evaluate_addends {P = Unit {0}} (constant_meaning cs) [] y rest) (apply_sign-scalar s x hx) (λ y hy. evaluate_addends-scalar cs y rest hy))
 
@@ -126,8 +126,8 @@ mutual
 
   evaluate_factor-scalar : (cs : Constants) (a : Tree Name factor) → Holds IsScalarValue (evaluate_factor {P = Unit {0}} (constant_meaning cs) [] a)
   evaluate_factor-scalar cs (designator x path) =
-      holds-with IsScalarValue IsScalarValue (object_value {P = Unit {0}} [] (option_map (λ c. a_constant (scalar_value c)) (cs x))) (λ v. evaluate_selectors {P = Unit {0}} (constant_meaning cs) [] v path >>= (λ steps. or_stuck (value_at_path steps v))) (object_value-scalar (cs x))
-      (λ v hv. holds-then IsScalarValue (evaluate_selectors {P = Unit {0}} (constant_meaning cs) [] v path) (λ steps. or_stuck (value_at_path steps v)) (λ steps. value_at_path-scalar steps v hv))
+      holds-with IsScalarValue IsScalarValue (object_value {P = Unit {0}} [] (option_map (λ c. a_constant (scalar_value c)) (cs x))) (λ v. evaluate_selectors {P = Unit {0}} (constant_meaning cs) [] v path >>= (λ steps. result_or_stuck (value_at_path steps v))) (object_value-scalar (cs x))
+      (λ v hv. holds-then IsScalarValue (evaluate_selectors {P = Unit {0}} (constant_meaning cs) [] v path) (λ steps. result_or_stuck (value_at_path steps v)) (λ steps. value_at_path-scalar steps v hv))
   evaluate_factor-scalar cs (integer n) = tt
   evaluate_factor-scalar cs (parenthesised e) = evaluate-scalar cs e
   evaluate_factor-scalar cs (negation a) = holds-then IsScalarValue (evaluate_factor {P = Unit {0}} (constant_meaning cs) [] a) negate negate-scalar
@@ -145,18 +145,18 @@ abbrev as_constant : Value → Object Place (Unit {0})
 as_constant v = a_constant v
 
 -- A constant expression whose names mean only scalars has a scalar value, or none.
-pub constant_value-scalar : {V P : Type 0} (objects : Name → Option (Object V P)) (cs : Constants) → ((x : Name) → constant_of (objects x) ≡ option_map scalar_value (cs x)) → (e : Tree Name expression)
-    → (c : Option Scalar) × (constant_value (named objects) e ≡ option_map scalar_value c)
-unfolding constant_value
-constant_value-scalar objects cs same e = of_type (type_of {P = Unit {0}} (constant_meanings (named objects)) e)
+pub constant_expression_value-scalar : {V P : Type 0} (objects : Name → Option (Object V P)) (cs : Constants) → ((x : Name) → value_of_constant_object (objects x) ≡ option_map scalar_value (cs x)) → (e : Tree Name expression)
+    → (c : Option Scalar) × (constant_expression_value (named objects) e ≡ option_map scalar_value c)
+unfolding constant_expression_value
+constant_expression_value-scalar objects cs same e = of_type (type_of_expression {P = Unit {0}} (meanings_in_constant_expressions (named objects)) e)
   where
-    only-constants : constant_meanings {W = Place} {Q = Unit {0}} (named objects) ≡ constant_meaning cs
+    only-constants : meanings_in_constant_expressions {W = Place} {Q = Unit {0}} (named objects) ≡ constant_meaning cs
     only-constants = λ i. named (λ x. (ap (option_map as_constant) (same x) ∙ twice (cs x)) i)
       where
         twice : (o : Option Scalar) → option_map as_constant (option_map scalar_value o) ≡ option_map (λ c. a_constant (scalar_value c)) o
         twice None = refl
         twice (Some c) = refl
 
-    of_type : (o : Option Shape) → (c : Option Scalar) × (option_and_then (λ s. outcome_value (evaluate {P = Unit {0}} (constant_meanings (named objects)) [] e)) o ≡ option_map scalar_value c)
+    of_type : (o : Option Shape) → (c : Option Scalar) × (option_and_then (λ s. outcome_value (evaluate {P = Unit {0}} (meanings_in_constant_expressions (named objects)) [] e)) o ≡ option_map scalar_value c)
     of_type None = (None, refl)
-    of_type (Some s) = given-scalar (evaluate {P = Unit {0}} (constant_meanings (named objects)) [] e) (subst (λ m. Holds IsScalarValue (evaluate {P = Unit {0}} m [] e)) (sym only-constants) (evaluate-scalar cs e))
+    of_type (Some s) = given-scalar (evaluate {P = Unit {0}} (meanings_in_constant_expressions (named objects)) [] e) (subst (λ m. Holds IsScalarValue (evaluate {P = Unit {0}} m [] e)) (sym only-constants) (evaluate-scalar cs e))

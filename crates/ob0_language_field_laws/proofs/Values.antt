@@ -10,8 +10,8 @@ use Rattle.std.proofs.Math.Dec.{eqb-suc-suc, eqb-zero-suc}
 use Rattle.std.proofs.lemmas.Bool.{eqb-true}
 use Rattle.std.proofs.lemmas.Option.{slice_get-map}
 use Rattle.ob0_language_names.specs.Names.{Name, same_name}
-use Rattle.ob0_language_values.specs.Values.{Members, Place, Step, Store, Value, Values, at_field, at_index, value_at_path, count_values, elements, members, named_member, next_member, next_value, no_member, no_value, nth_value, number, value_at_step, read_place, truth, with_value_at_path, with_named_member, with_nth_value, with_value_at_step, write_place}
-use Rattle.ob0_language_fields.specs.Fields.{FieldRenaming}
+use Rattle.ob0_language_values.specs.Values.{Members, Place, PathStep, Store, Value, Values, at_field, at_index, value_at_path, count_values, elements, members, named_member, next_member, next_value, no_member, no_value, nth_value, number, value_at_step, read_place, truth, with_value_at_path, with_named_member, with_nth_value, with_value_at_step, write_place}
+use Rattle.ob0_language_fields.specs.RenamedFields.{FieldRenaming}
 use Rattle.ob0_language_fields.proofs.Bare.{bare}
 use Rattle.ob0_language_field_laws.specs.FieldLaws.{KeepsFieldsDistinct}
 use Rattle.ob0_language_field_laws.proofs.Apart.{choose_by_truth-map}
@@ -45,7 +45,7 @@ pub data Move : Type 0 where
   to_index : ℕ → Move
   to_field : Option ℕ → Name → Move
 
-abbrev pub step_by : FieldRenaming → Move → Step
+abbrev pub step_by : FieldRenaming → Move → PathStep
 step_by l (to_index i) = at_index i
 step_by l (to_field o x) = at_field (l o x)
 

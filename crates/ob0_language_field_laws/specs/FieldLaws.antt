@@ -6,8 +6,8 @@ use Rattle.ob0_tree.specs.Tree.{Tree, module_text}
 use Rattle.ob0_language_names.specs.Names.{Name, naming_by_spelling, same_name}
 use Rattle.ob0_language_types.specs.WellTyped.{WellTyped, passes_type_check}
 use Rattle.ob0_language_runs.specs.EditLaws.{HaveSameRuns}
-use Rattle.ob0_language_fields.specs.Fields.{FieldRenaming, rename_fields_in_module}
-use Rattle.ob0_language_fields.specs.Renaming.{IsFreeFieldName, module_with_renamed_field}
+use Rattle.ob0_language_fields.specs.RenamedFields.{FieldRenaming, rename_fields_in_module}
+use Rattle.ob0_language_fields.specs.SingleFieldRenaming.{IsFreeFieldName, module_with_renamed_field}
 
 -- states that a renaming of fields gives two fields of the same record the same name exactly if their old names are
 -- equal
@@ -33,8 +33,8 @@ FieldRenamingKeepsTypingAndRuns =
 
 -- States that a well-typed module remains well-typed and has the same runs if a field is renamed to a free name. A free
 -- name is a name that no other field of the record has.
-abbrev pub FreeFieldRenamingKeepsTypingAndRuns : Type 0
-FreeFieldRenamingKeepsTypingAndRuns =
+abbrev pub RenamingFieldToFreeNameKeepsTypingAndRuns : Type 0
+RenamingFieldToFreeNameKeepsTypingAndRuns =
     (m : Tree Name module_text) (r : ℕ) (f new : Name)
     → IsFreeFieldName m r f new
     → WellTyped m

@@ -1,6 +1,6 @@
 //! Laws about renaming the fields of records. Each function does nothing; its contract is the law.
 
-ghost use Rattle.ob0_language_field_laws.specs.FieldLaws.{FreeFieldRenamingKeepsTypingAndRuns, FieldRenamingKeepsTypeCheck, FieldRenamingKeepsTypingAndRuns};
+ghost use Rattle.ob0_language_field_laws.specs.FieldLaws.{RenamingFieldToFreeNameKeepsTypingAndRuns, FieldRenamingKeepsTypeCheck, FieldRenamingKeepsTypingAndRuns};
 
 /// Proves that renaming fields doesn't change whether a module passes the type check, which ignores
 /// duplicate names and wrong closing names. Different fields of the same record must get different
@@ -17,6 +17,6 @@ pub fn field_renaming_keeps_typing_and_runs()
 
 /// Proves that a well-typed module remains well-typed and has the same runs if a field is renamed
 /// to a free name. A free name is a name that no other field of the record has.
-pub fn free_field_renaming_keeps_typing_and_runs()
-    ensures { FreeFieldRenamingKeepsTypingAndRuns }
+pub fn renaming_field_to_free_name_keeps_typing_and_runs()
+    ensures { RenamingFieldToFreeNameKeepsTypingAndRuns }
 {}

@@ -8,14 +8,14 @@ use Rattle.ob0_language_names.specs.Names.{Name, same_name}
 use Rattle.ob0_language_names.specs.BlockParts.{names_after_first, names_in_list}
 use Rattle.ob0_language_types.specs.Arguments.{call_arguments, further_arguments}
 use Rattle.ob0_language_types.specs.Expressions.{Object, a_constant, a_procedure, a_standard_procedure, a_type, a_variable}
-use Rattle.ob0_language_types.specs.Typing.{addition_type, array_length, negation_type, constant_value, denoted_type, denoted_group_fields, denoted_further_fields, depth, lone_designator, element_type, field_type, group_constructor_count, multiplication_type, type_of_variable_or_constant, relation_type, scalars, shape_of_field, sign_type, type_after_selectors, type_of, type_of_addends, type_of_factor, type_of_multipliers, type_of_type_object, type_of_simple, type_of_term, value_type, prepend_fields, type_within_limits}
-use Rattle.ob0_language_types.specs.WellTyped.{FormalParameter, ParameterMode, Signature, TypeMeanings, same_known_shape, argument_matches, arguments_match, by_place, by_value, condition_is_boolean, else_is_well_typed, elsifs_are_well_typed, sequence_is_well_typed, signature_of, statement_is_well_typed, further_statements_are_well_typed, variable_type}
+use Rattle.ob0_language_types.specs.Typing.{addition_type, array_length_from_value, negation_type, constant_expression_value, denoted_type, denoted_group_fields, denoted_further_fields, depth, lone_designator, element_type, field_type, group_constructor_count, multiplication_type, type_of_variable_or_constant, relation_type, scalars, named_field_shape, signed_operand_type, type_after_selectors, type_of_expression, type_after_addends, type_of_factor, type_after_multipliers, type_of_type_object, type_of_simple_expression, type_of_term, value_type, prepend_fields, type_within_limits}
+use Rattle.ob0_language_types.specs.WellTyped.{FormalParameter, ParameterMode, Signature, TypeMeanings, same_known_shape, argument_matches_parameter, arguments_match_signature, by_place, by_value, condition_is_boolean, else_is_well_typed, elsifs_are_well_typed, sequence_is_well_typed, signature_of, statement_is_well_typed, further_statements_are_well_typed, assignable_type}
 use Rattle.ob0_language_types.proofs.Conditions.{same_known_shape-true, both_true, call-typed, of_some, same_name-true, variable-typed}
 use Rattle.ob0_language_types.proofs.Literals.{some_inverse}
 use Rattle.ob0_language_types.proofs.TypedElsewhere.{then_some}
 use Rattle.ob0_language_values.specs.Values.{FieldShapes, Shape, Value, array_shape, boolean_shape, elements, integer_shape, members, next_field_shape, no_field_shape, number, record_shape, truth}
-use Rattle.ob0_language_fields.specs.Fields.{FieldRenaming, record_ordinal, rename_fields, rename_fields_in_group, rename_fields_in_further_groups, rename_fields_in_type}
-use Rattle.ob0_language_fields.specs.Renaming.{RecordFields, records_in_group, records_in_further_groups, records_in_type}
+use Rattle.ob0_language_fields.specs.RenamedFields.{FieldRenaming, record_ordinal, rename_selected_fields, rename_fields_in_group, rename_fields_in_further_groups, rename_fields_in_type}
+use Rattle.ob0_language_fields.specs.SingleFieldRenaming.{RecordFields, records_in_group, records_in_further_groups, records_in_type}
 use Rattle.ob0_language_fields.proofs.MeaningsByName.{named}
 
 -- Holds if two functions for the names of fields agree: on the fields of a list, of the records of a text, and of the
@@ -50,10 +50,10 @@ records-split p q (x ∷ xs) ys h = let g = records-split p q xs ys h.1 in ((h.0
 -- If two functions for the names of fields agree on a type, they agree on each field of that type and on the field's
 -- type.
 
-field-agrees : (p q : FieldRenaming) (k : ℕ) (fs : FieldShapes) (x : Name) (s : Shape) → FieldsAgree p q k fs → shape_of_field fs x ≡ Some s → (p (Some k) x ≡ q (Some k) x) × ShapeAgrees p q s
+field-agrees : (p q : FieldRenaming) (k : ℕ) (fs : FieldShapes) (x : Name) (s : Shape) → FieldsAgree p q k fs → named_field_shape fs x ≡ Some s → (p (Some k) x ≡ q (Some k) x) × ShapeAgrees p q s
 field-agrees p q k no_field_shape x s agrees h = absurd (cc)
 field-agrees p q k (next_field_shape y t rest) x s agrees h =
-    (elim (same_name x y) as (λ b. same_name x y ≡ b → (if b then Some t else shape_of_field rest x) ≡ Some s → (p (Some k) x ≡ q (Some k) x) × ShapeAgrees p q s) [
+    (elim (same_name x y) as (λ b. same_name x y ≡ b → (if b then Some t else named_field_shape rest x) ≡ Some s → (p (Some k) x ≡ q (Some k) x) × ShapeAgrees p q s) [
       | true ↦ λ e h. (subst (λ z. p (Some k) z ≡ q (Some k) z) (sym (same_name-true x y e)) agrees.0, of_some (ShapeAgrees p q) h agrees.1)
       | false ↦ λ e h. field-agrees p q k rest x s agrees.2 h
     ]) refl h
@@ -109,116 +109,116 @@ type_of_type_object-agrees p q (Some (a_standard_procedure t)) s agrees h = absu
 -- An expression that has a type is the same under two functions that agree on the meanings of its names.
 
 mutual
-  unfolding type_of
+  unfolding type_of_expression
 
-  pub expression-alike : (p q : FieldRenaming) (objects : Name → Option (Object Shape Signature)) → ObjectsAgree p q objects → (e : Tree Name expression) (s : Shape) → type_of (named objects) e ≡ Some s → rename_fields p (named objects) None e ≡ rename_fields q (named objects) None e
+  pub expression-alike : (p q : FieldRenaming) (objects : Name → Option (Object Shape Signature)) → ObjectsAgree p q objects → (e : Tree Name expression) (s : Shape) → type_of_expression (named objects) e ≡ Some s → rename_selected_fields p (named objects) None e ≡ rename_selected_fields q (named objects) None e
   expression-alike p q objects known (compares a none) s h = λ i. compares (simple-alike p q objects known a s h i) none
   expression-alike p q objects known (compares a (one (relates r b))) s h =
-      let (x, ex, h₁) = then_some (type_of_simple (named objects) a) (λ x. option_and_then (relation_type r x) (type_of_simple (named objects) b)) s h in
-      let (y, ey, h₂) = then_some (type_of_simple (named objects) b) (relation_type r x) s h₁ in
+      let (x, ex, h₁) = then_some (type_of_simple_expression (named objects) a) (λ x. option_and_then (relation_type r x) (type_of_simple_expression (named objects) b)) s h in
+      let (y, ey, h₂) = then_some (type_of_simple_expression (named objects) b) (relation_type r x) s h₁ in
       λ i. compares (simple-alike p q objects known a x ex i) (one (relates r (simple-alike p q objects known b y ey i)))
 
-  pub simple-alike : (p q : FieldRenaming) (objects : Name → Option (Object Shape Signature)) → ObjectsAgree p q objects → (a : Tree Name simple) (s : Shape) → type_of_simple (named objects) a ≡ Some s → rename_fields p (named objects) None a ≡ rename_fields q (named objects) None a
+  pub simple-alike : (p q : FieldRenaming) (objects : Name → Option (Object Shape Signature)) → ObjectsAgree p q objects → (a : Tree Name simple) (s : Shape) → type_of_simple_expression (named objects) a ≡ Some s → rename_selected_fields p (named objects) None a ≡ rename_selected_fields q (named objects) None a
   simple-alike p q objects known (sum sign t rest) s h =
-      let (x, ex, h₁) = then_some (type_of_term (named objects) t) (λ x. option_and_then (λ y. type_of_addends (named objects) y rest) (sign_type sign x)) s h in
-      let (y, ey, h₂) = then_some (sign_type sign x) (λ y. type_of_addends (named objects) y rest) s h₁ in
+      let (x, ex, h₁) = then_some (type_of_term (named objects) t) (λ x. option_and_then (λ y. type_after_addends (named objects) y rest) (signed_operand_type sign x)) s h in
+      let (y, ey, h₂) = then_some (signed_operand_type sign x) (λ y. type_after_addends (named objects) y rest) s h₁ in
       λ i. sum sign (term-alike p q objects known t x ex i) (addends-alike p q objects known y rest s h₂ i)
 
-  pub addends-alike : (p q : FieldRenaming) (objects : Name → Option (Object Shape Signature)) → ObjectsAgree p q objects → (x : Shape) (a : Tree Name (items addend)) (s : Shape) → type_of_addends (named objects) x a ≡ Some s → rename_fields p (named objects) None a ≡ rename_fields q (named objects) None a
+  pub addends-alike : (p q : FieldRenaming) (objects : Name → Option (Object Shape Signature)) → ObjectsAgree p q objects → (x : Shape) (a : Tree Name (items addend)) (s : Shape) → type_after_addends (named objects) x a ≡ Some s → rename_selected_fields p (named objects) None a ≡ rename_selected_fields q (named objects) None a
   addends-alike p q objects known x end s h = refl
   addends-alike p q objects known x (more (adds o t) rest) s h =
-      let (y, ey, h₁) = then_some (type_of_term (named objects) t) (λ y. option_and_then (λ z. type_of_addends (named objects) z rest) (addition_type o x y)) s h in
-      let (z, ez, h₂) = then_some (addition_type o x y) (λ z. type_of_addends (named objects) z rest) s h₁ in
+      let (y, ey, h₁) = then_some (type_of_term (named objects) t) (λ y. option_and_then (λ z. type_after_addends (named objects) z rest) (addition_type o x y)) s h in
+      let (z, ez, h₂) = then_some (addition_type o x y) (λ z. type_after_addends (named objects) z rest) s h₁ in
       λ i. more (adds o (term-alike p q objects known t y ey i)) (addends-alike p q objects known z rest s h₂ i)
 
-  pub term-alike : (p q : FieldRenaming) (objects : Name → Option (Object Shape Signature)) → ObjectsAgree p q objects → (a : Tree Name term) (s : Shape) → type_of_term (named objects) a ≡ Some s → rename_fields p (named objects) None a ≡ rename_fields q (named objects) None a
+  pub term-alike : (p q : FieldRenaming) (objects : Name → Option (Object Shape Signature)) → ObjectsAgree p q objects → (a : Tree Name term) (s : Shape) → type_of_term (named objects) a ≡ Some s → rename_selected_fields p (named objects) None a ≡ rename_selected_fields q (named objects) None a
   term-alike p q objects known (product a rest) s h =
-      let (x, ex, h₁) = then_some (type_of_factor (named objects) a) (λ x. type_of_multipliers (named objects) x rest) s h in
+      let (x, ex, h₁) = then_some (type_of_factor (named objects) a) (λ x. type_after_multipliers (named objects) x rest) s h in
       λ i. product (factor-alike p q objects known a x ex i) (multipliers-alike p q objects known x rest s h₁ i)
 
-  pub multipliers-alike : (p q : FieldRenaming) (objects : Name → Option (Object Shape Signature)) → ObjectsAgree p q objects → (x : Shape) (a : Tree Name (items multiplier)) (s : Shape) → type_of_multipliers (named objects) x a ≡ Some s → rename_fields p (named objects) None a ≡ rename_fields q (named objects) None a
+  pub multipliers-alike : (p q : FieldRenaming) (objects : Name → Option (Object Shape Signature)) → ObjectsAgree p q objects → (x : Shape) (a : Tree Name (items multiplier)) (s : Shape) → type_after_multipliers (named objects) x a ≡ Some s → rename_selected_fields p (named objects) None a ≡ rename_selected_fields q (named objects) None a
   multipliers-alike p q objects known x end s h = refl
   multipliers-alike p q objects known x (more (multiplies o a) rest) s h =
-      let (y, ey, h₁) = then_some (type_of_factor (named objects) a) (λ y. option_and_then (λ z. type_of_multipliers (named objects) z rest) (multiplication_type o x y)) s h in
-      let (z, ez, h₂) = then_some (multiplication_type o x y) (λ z. type_of_multipliers (named objects) z rest) s h₁ in
+      let (y, ey, h₁) = then_some (type_of_factor (named objects) a) (λ y. option_and_then (λ z. type_after_multipliers (named objects) z rest) (multiplication_type o x y)) s h in
+      let (z, ez, h₂) = then_some (multiplication_type o x y) (λ z. type_after_multipliers (named objects) z rest) s h₁ in
       λ i. more (multiplies o (factor-alike p q objects known a y ey i)) (multipliers-alike p q objects known z rest s h₂ i)
 
-  pub factor-alike : (p q : FieldRenaming) (objects : Name → Option (Object Shape Signature)) → ObjectsAgree p q objects → (a : Tree Name factor) (s : Shape) → type_of_factor (named objects) a ≡ Some s → rename_fields p (named objects) None a ≡ rename_fields q (named objects) None a
+  pub factor-alike : (p q : FieldRenaming) (objects : Name → Option (Object Shape Signature)) → ObjectsAgree p q objects → (a : Tree Name factor) (s : Shape) → type_of_factor (named objects) a ≡ Some s → rename_selected_fields p (named objects) None a ≡ rename_selected_fields q (named objects) None a
   factor-alike p q objects known (designator x path) s h =
       let (t, et, h₁) = then_some (type_of_variable_or_constant (objects x)) (λ t. type_after_selectors (named objects) t path) s h in
-      λ i. designator x (subst (λ o. rename_fields p (named objects) o path ≡ rename_fields q (named objects) o path) (sym et) (path-alike p q objects known t path s (type_of_variable_or_constant-agrees p q (objects x) t (known x) et) h₁) i)
+      λ i. designator x (subst (λ o. rename_selected_fields p (named objects) o path ≡ rename_selected_fields q (named objects) o path) (sym et) (path-alike p q objects known t path s (type_of_variable_or_constant-agrees p q (objects x) t (known x) et) h₁) i)
   factor-alike p q objects known (integer n) s h = refl
   factor-alike p q objects known (parenthesised e) s h = λ i. parenthesised (expression-alike p q objects known e s h i)
   factor-alike p q objects known (negation a) s h =
       let (x, ex, h₁) = then_some (type_of_factor (named objects) a) negation_type s h in λ i. negation (factor-alike p q objects known a x ex i)
 
   pub path-alike : (p q : FieldRenaming) (objects : Name → Option (Object Shape Signature)) → ObjectsAgree p q objects → (t : Shape) (path : Tree Name (items selector)) (s : Shape) → ShapeAgrees p q t → type_after_selectors (named objects) t path ≡ Some s
-      → rename_fields p (named objects) (Some t) path ≡ rename_fields q (named objects) (Some t) path
+      → rename_selected_fields p (named objects) (Some t) path ≡ rename_selected_fields q (named objects) (Some t) path
   path-alike p q objects known t end s agrees h = refl
   path-alike p q objects known t (more (field x) rest) s agrees h =
       let (u, eu, h₁) = then_some (field_type t x) (λ u. type_after_selectors (named objects) u rest) s h in
       let f = field_type-agrees p q t x u agrees eu in
-      λ i. more (field (f.0 i)) (subst (λ o. rename_fields p (named objects) o rest ≡ rename_fields q (named objects) o rest) (sym eu) (path-alike p q objects known u rest s f.1 h₁) i)
+      λ i. more (field (f.0 i)) (subst (λ o. rename_selected_fields p (named objects) o rest ≡ rename_selected_fields q (named objects) o rest) (sym eu) (path-alike p q objects known u rest s f.1 h₁) i)
   path-alike p q objects known t (more (index e) rest) s agrees h =
-      let (j, ej, h₁) = then_some (type_of (named objects) e) (λ j. option_and_then (λ u. type_after_selectors (named objects) u rest) (element_type t j)) s h in
+      let (j, ej, h₁) = then_some (type_of_expression (named objects) e) (λ j. option_and_then (λ u. type_after_selectors (named objects) u rest) (element_type t j)) s h in
       let (u, eu, h₂) = then_some (element_type t j) (λ u. type_after_selectors (named objects) u rest) s h₁ in
       let f = element_type-agrees p q t j u agrees eu in
-      λ i. more (index (expression-alike p q objects known e j ej i)) (subst (λ o. rename_fields p (named objects) o rest ≡ rename_fields q (named objects) o rest) (sym f.0) (path-alike p q objects known u rest s f.1 h₂) i)
+      λ i. more (index (expression-alike p q objects known e j ej i)) (subst (λ o. rename_selected_fields p (named objects) o rest ≡ rename_selected_fields q (named objects) o rest) (sym f.0) (path-alike p q objects known u rest s f.1 h₂) i)
 
 -- If the argument of a VAR parameter is a variable of some type, the argument has this type.
 
-pub lone_designator-typed : (objects : Name → Option (Object Shape Signature)) (e : Tree Name expression) (s : Shape) → variable_type (named objects) (lone_designator e) ≡ Some s → type_of (named objects) e ≡ Some s
-unfolding type_of variable_type
+pub lone_designator-typed : (objects : Name → Option (Object Shape Signature)) (e : Tree Name expression) (s : Shape) → assignable_type (named objects) (lone_designator e) ≡ Some s → type_of_expression (named objects) e ≡ Some s
+unfolding type_of_expression assignable_type
 lone_designator-typed objects (compares (sum None (product (designator x path) end) end) none) s h =
     let (t, et, h₁) = variable-typed (named objects) x path s h in
     let typed : type_of_factor (named objects) (designator x path) ≡ Some s = ap (λ o. option_and_then (λ u. type_after_selectors (named objects) u path) (type_of_variable_or_constant o)) et ∙ h₁ in
-    ap (λ o. option_and_then (λ x. option_and_then (λ y. Some y) (sign_type None x)) (option_and_then (λ x. Some x) o)) typed
+    ap (λ o. option_and_then (λ x. option_and_then (λ y. Some y) (signed_operand_type None x)) (option_and_then (λ x. Some x) o)) typed
 lone_designator-typed objects _ s h = absurd (cc)
 
-argument-alike : (p q : FieldRenaming) (objects : Name → Option (Object Shape Signature)) → ObjectsAgree p q objects → (f : FormalParameter) (e : Tree Name expression) → argument_matches (named objects) f e ≡ true → rename_fields p (named objects) None e ≡ rename_fields q (named objects) None e
-unfolding argument_matches
+argument-alike : (p q : FieldRenaming) (objects : Name → Option (Object Shape Signature)) → ObjectsAgree p q objects → (f : FormalParameter) (e : Tree Name expression) → argument_matches_parameter (named objects) f e ≡ true → rename_selected_fields p (named objects) None e ≡ rename_selected_fields q (named objects) None e
+unfolding argument_matches_parameter
 argument-alike p q objects known f e h = go f.mode h
   where
-    go : (m : ParameterMode) → same_known_shape (Some f.shape) (elim m [ by_value ↦ type_of (named objects) e | by_place ↦ variable_type (named objects) (lone_designator e) ]) ≡ true → rename_fields p (named objects) None e ≡ rename_fields q (named objects) None e
-    go by_value h = let (t, et, ht) = same_known_shape-true (Some f.shape) (type_of (named objects) e) h in expression-alike p q objects known e t ht
-    go by_place h = let (t, et, ht) = same_known_shape-true (Some f.shape) (variable_type (named objects) (lone_designator e)) h in expression-alike p q objects known e t (lone_designator-typed objects e t ht)
+    go : (m : ParameterMode) → same_known_shape (Some f.shape) (elim m [ by_value ↦ type_of_expression (named objects) e | by_place ↦ assignable_type (named objects) (lone_designator e) ]) ≡ true → rename_selected_fields p (named objects) None e ≡ rename_selected_fields q (named objects) None e
+    go by_value h = let (t, et, ht) = same_known_shape-true (Some f.shape) (type_of_expression (named objects) e) h in expression-alike p q objects known e t ht
+    go by_place h = let (t, et, ht) = same_known_shape-true (Some f.shape) (assignable_type (named objects) (lone_designator e)) h in expression-alike p q objects known e t (lone_designator-typed objects e t ht)
 
 abbrev EachAlike : FieldRenaming → FieldRenaming → TypeMeanings Name → List (Tree Name expression) → Type 0
 EachAlike p q meaning [] = Unit {0}
-EachAlike p q meaning (e ∷ es) = (rename_fields p meaning None e ≡ rename_fields q meaning None e) × EachAlike p q meaning es
+EachAlike p q meaning (e ∷ es) = (rename_selected_fields p meaning None e ≡ rename_selected_fields q meaning None e) × EachAlike p q meaning es
 
-each-alike : (p q : FieldRenaming) (objects : Name → Option (Object Shape Signature)) → ObjectsAgree p q objects → (fs : Signature) (es : List (Tree Name expression)) → arguments_match (named objects) fs es ≡ true → EachAlike p q (named objects) es
-unfolding arguments_match
+each-alike : (p q : FieldRenaming) (objects : Name → Option (Object Shape Signature)) → ObjectsAgree p q objects → (fs : Signature) (es : List (Tree Name expression)) → arguments_match_signature (named objects) fs es ≡ true → EachAlike p q (named objects) es
+unfolding arguments_match_signature
 each-alike p q objects known [] [] h = tt
 each-alike p q objects known [] (e ∷ es) h = absurd (cc)
 each-alike p q objects known (f ∷ fs) [] h = tt
 each-alike p q objects known (f ∷ fs) (e ∷ es) h =
-    let g = both_true (argument_matches (named objects) f e) (arguments_match (named objects) fs es) h in (argument-alike p q objects known f e g.0, each-alike p q objects known fs es g.1)
+    let g = both_true (argument_matches_parameter (named objects) f e) (arguments_match_signature (named objects) fs es) h in (argument-alike p q objects known f e g.0, each-alike p q objects known fs es g.1)
 
-further-alike : (p q : FieldRenaming) (meaning : TypeMeanings Name) (es : Tree Name (items argument_after_comma)) → EachAlike p q meaning (further_arguments es) → rename_fields p meaning None es ≡ rename_fields q meaning None es
+further-alike : (p q : FieldRenaming) (meaning : TypeMeanings Name) (es : Tree Name (items argument_after_comma)) → EachAlike p q meaning (further_arguments es) → rename_selected_fields p meaning None es ≡ rename_selected_fields q meaning None es
 further-alike p q meaning end h = refl
 further-alike p q meaning (more (comma_then_argument e) es) h = λ i. more (comma_then_argument (h.0 i)) (further-alike p q meaning es h.1 i)
 
-arguments-alike : (p q : FieldRenaming) (meaning : TypeMeanings Name) (es : Tree Name (maybe arguments)) → EachAlike p q meaning (call_arguments es) → rename_fields p meaning None es ≡ rename_fields q meaning None es
+arguments-alike : (p q : FieldRenaming) (meaning : TypeMeanings Name) (es : Tree Name (maybe arguments)) → EachAlike p q meaning (call_arguments es) → rename_selected_fields p meaning None es ≡ rename_selected_fields q meaning None es
 arguments-alike p q meaning none h = refl
 arguments-alike p q meaning (one no_arguments) h = refl
 arguments-alike p q meaning (one (some_arguments e es)) h = λ i. one (some_arguments (h.0 i) (further-alike p q meaning es h.1 i))
 
 -- Well-typed statements are the same under two functions that agree on the meanings of their names.
 
-condition-alike : (p q : FieldRenaming) (objects : Name → Option (Object Shape Signature)) → ObjectsAgree p q objects → (e : Tree Name expression) → condition_is_boolean (named objects) e ≡ true → rename_fields p (named objects) None e ≡ rename_fields q (named objects) None e
+condition-alike : (p q : FieldRenaming) (objects : Name → Option (Object Shape Signature)) → ObjectsAgree p q objects → (e : Tree Name expression) → condition_is_boolean (named objects) e ≡ true → rename_selected_fields p (named objects) None e ≡ rename_selected_fields q (named objects) None e
 unfolding condition_is_boolean
-condition-alike p q objects known e h = let (t, et, ht) = same_known_shape-true (Some boolean_shape) (type_of (named objects) e) h in expression-alike p q objects known e t ht
+condition-alike p q objects known e h = let (t, et, ht) = same_known_shape-true (Some boolean_shape) (type_of_expression (named objects) e) h in expression-alike p q objects known e t ht
 
 mutual
   unfolding statement_is_well_typed
 
-  pub statement-alike : (p q : FieldRenaming) (objects : Name → Option (Object Shape Signature)) → ObjectsAgree p q objects → (a : Tree Name statement) → statement_is_well_typed (named objects) a ≡ true → rename_fields p (named objects) None a ≡ rename_fields q (named objects) None a
+  pub statement-alike : (p q : FieldRenaming) (objects : Name → Option (Object Shape Signature)) → ObjectsAgree p q objects → (a : Tree Name statement) → statement_is_well_typed (named objects) a ≡ true → rename_selected_fields p (named objects) None a ≡ rename_selected_fields q (named objects) None a
   statement-alike p q objects known empty h = refl
   statement-alike p q objects known (assigns x path e) h =
-      let (s, es, et) = same_known_shape-true (variable_type (named objects) (Some (x, path))) (type_of (named objects) e) h in
+      let (s, es, et) = same_known_shape-true (assignable_type (named objects) (Some (x, path))) (type_of_expression (named objects) e) h in
       let (t, ev, h₁) = variable-typed (named objects) x path s es in
-      λ i. assigns x (subst (λ o. rename_fields p (named objects) (type_of_variable_or_constant o) path ≡ rename_fields q (named objects) (type_of_variable_or_constant o) path) (sym ev) (path-alike p q objects known t path s (subst (λ o. OptionAgrees p q o) ev (known x)) h₁) i)
+      λ i. assigns x (subst (λ o. rename_selected_fields p (named objects) (type_of_variable_or_constant o) path ≡ rename_selected_fields q (named objects) (type_of_variable_or_constant o) path) (sym ev) (path-alike p q objects known t path s (subst (λ o. OptionAgrees p q o) ev (known x)) h₁) i)
       (expression-alike p q objects known e s et i)
   statement-alike p q objects known (calls x es) h =
       let (signature, sig, fit) = call-typed (named objects) (signature_of (objects x)) (call_arguments es) h in
@@ -235,23 +235,23 @@ mutual
       let h₁ = both_true (sequence_is_well_typed (named objects) statements) (condition_is_boolean (named objects) e) h in
       λ i. repeat_loop (sequence-alike p q objects known statements h₁.0 i) (condition-alike p q objects known e h₁.1 i)
 
-  pub sequence-alike : (p q : FieldRenaming) (objects : Name → Option (Object Shape Signature)) → ObjectsAgree p q objects → (a : Tree Name sequence) → sequence_is_well_typed (named objects) a ≡ true → rename_fields p (named objects) None a ≡ rename_fields q (named objects) None a
+  pub sequence-alike : (p q : FieldRenaming) (objects : Name → Option (Object Shape Signature)) → ObjectsAgree p q objects → (a : Tree Name sequence) → sequence_is_well_typed (named objects) a ≡ true → rename_selected_fields p (named objects) None a ≡ rename_selected_fields q (named objects) None a
   sequence-alike p q objects known (runs a rest) h =
       let h₁ = both_true (statement_is_well_typed (named objects) a) (further_statements_are_well_typed (named objects) rest) h in λ i. runs (statement-alike p q objects known a h₁.0 i) (statements-alike p q objects known rest h₁.1 i)
 
-  pub statements-alike : (p q : FieldRenaming) (objects : Name → Option (Object Shape Signature)) → ObjectsAgree p q objects → (a : Tree Name (items statement_after_semicolon)) → further_statements_are_well_typed (named objects) a ≡ true → rename_fields p (named objects) None a ≡ rename_fields q (named objects) None a
+  pub statements-alike : (p q : FieldRenaming) (objects : Name → Option (Object Shape Signature)) → ObjectsAgree p q objects → (a : Tree Name (items statement_after_semicolon)) → further_statements_are_well_typed (named objects) a ≡ true → rename_selected_fields p (named objects) None a ≡ rename_selected_fields q (named objects) None a
   statements-alike p q objects known end h = refl
   statements-alike p q objects known (more (semicolon_then_statement a) rest) h =
       let h₁ = both_true (statement_is_well_typed (named objects) a) (further_statements_are_well_typed (named objects) rest) h in λ i. more (semicolon_then_statement (statement-alike p q objects known a h₁.0 i)) (statements-alike p q objects known rest h₁.1 i)
 
-  pub elsifs-alike : (p q : FieldRenaming) (objects : Name → Option (Object Shape Signature)) → ObjectsAgree p q objects → (a : Tree Name (items elsif_part)) → elsifs_are_well_typed (named objects) a ≡ true → rename_fields p (named objects) None a ≡ rename_fields q (named objects) None a
+  pub elsifs-alike : (p q : FieldRenaming) (objects : Name → Option (Object Shape Signature)) → ObjectsAgree p q objects → (a : Tree Name (items elsif_part)) → elsifs_are_well_typed (named objects) a ≡ true → rename_selected_fields p (named objects) None a ≡ rename_selected_fields q (named objects) None a
   elsifs-alike p q objects known end h = refl
   elsifs-alike p q objects known (more (elsif_branch e statements) rest) h =
       let h₁ = both_true (condition_is_boolean (named objects) e) (sequence_is_well_typed (named objects) statements && elsifs_are_well_typed (named objects) rest) h in
       let h₂ = both_true (sequence_is_well_typed (named objects) statements) (elsifs_are_well_typed (named objects) rest) h₁.1 in
       λ i. more (elsif_branch (condition-alike p q objects known e h₁.0 i) (sequence-alike p q objects known statements h₂.0 i)) (elsifs-alike p q objects known rest h₂.1 i)
 
-  pub else-alike : (p q : FieldRenaming) (objects : Name → Option (Object Shape Signature)) → ObjectsAgree p q objects → (a : Tree Name (maybe else_part)) → else_is_well_typed (named objects) a ≡ true → rename_fields p (named objects) None a ≡ rename_fields q (named objects) None a
+  pub else-alike : (p q : FieldRenaming) (objects : Name → Option (Object Shape Signature)) → ObjectsAgree p q objects → (a : Tree Name (maybe else_part)) → else_is_well_typed (named objects) a ≡ true → rename_selected_fields p (named objects) None a ≡ rename_selected_fields q (named objects) None a
   else-alike p q objects known none h = refl
   else-alike p q objects known (one (else_branch statements)) h = λ i. one (else_branch (sequence-alike p q objects known statements h i))
 
@@ -297,8 +297,8 @@ mutual
   pub denoted_type-agrees : (p q : FieldRenaming) (objects : Name → Option (Object Shape Signature)) → ObjectsAgree p q objects → (k : ℕ) (t : Tree Name written_type) (s : Shape) → RecordsAgree p q (records_in_type k t) → denoted_type (named objects) k t ≡ Some s → ShapeAgrees p q s
   denoted_type-agrees p q objects known k (named_type x) s h e = type_of_type_object-agrees p q (objects x) s (known x) e
   denoted_type-agrees p q objects known k (array_type c t) s h e =
-      let (v, ev, e₁) = then_some (constant_value (named objects) c) (λ v. option_and_then (λ n. option_and_then (λ u. type_within_limits (array_shape k n u)) (denoted_type (named objects) (suc k) t)) (array_length v)) s e in
-      let (n, en, e₂) = then_some (array_length v) (λ n. option_and_then (λ u. type_within_limits (array_shape k n u)) (denoted_type (named objects) (suc k) t)) s e₁ in
+      let (v, ev, e₁) = then_some (constant_expression_value (named objects) c) (λ v. option_and_then (λ n. option_and_then (λ u. type_within_limits (array_shape k n u)) (denoted_type (named objects) (suc k) t)) (array_length_from_value v)) s e in
+      let (n, en, e₂) = then_some (array_length_from_value v) (λ n. option_and_then (λ u. type_within_limits (array_shape k n u)) (denoted_type (named objects) (suc k) t)) s e₁ in
       let (u, eu, e₃) = then_some (denoted_type (named objects) (suc k) t) (λ u. type_within_limits (array_shape k n u)) s e₂ in
       subst (ShapeAgrees p q) (within-is (array_shape k n u) s e₃) (denoted_type-agrees p q objects known (suc k) t u h eu)
   denoted_type-agrees p q objects known k (record_type g rest) s h e =

@@ -3,18 +3,18 @@
 use Rattle.std.proofs.Common.{◌≡◌, ℕ, ◌+◌, true, false, ◌&&◌, List, [], ◌∷◌, ◌++◌, map, Some, None, option_and_then, unwrap_or, sym, refl, ap, subst}
 use Rattle.ob0_tree.specs.Tree.{Tree, begins, block, body, constant, declares, declares_constant, declares_procedure, declares_type, declares_type_section, declares_variable, declares_var_section, end, formals, section_after_semicolon, forms_block, forms_module, item, items, maybe, module_text, more, no_formals, none, one, procedure, section, some_formals, semicolon_then_section, type_definition, type_definitions, value_section, variable, variable_section, variables}
 use Rattle.ob0_language_names.specs.Names.{Name, naming_by_spelling, same_name}
-use Rattle.ob0_language_names.specs.BlockParts.{formal_sections, names_in_list, procedure_formals, procedure_name, section_constants, parameter_section_names, parameter_section_type, section_types, section_variables}
-use Rattle.ob0_language_types.specs.Declarations.{constructors_before_procedure_block, constructors_before_variables, constructors_before_procedures, declare_constants, declare_constants_and_types, declare_types, formals_constructor_count, procedure_constructor_count}
-use Rattle.ob0_language_types.specs.Environments.{environment_from_binding, meanings, newest_object, outermost_environment}
+use Rattle.ob0_language_names.specs.BlockParts.{formal_parameter_sections, names_in_list, procedure_formals, procedure_name, section_constants, parameter_section_names, parameter_section_type, section_types, section_variables}
+use Rattle.ob0_language_types.specs.Declarations.{constructor_count_before_procedure_block, constructor_count_before_variables, constructor_count_before_procedures, declare_constants, declare_constants_and_types, declare_types, formals_constructor_count, procedure_constructor_count}
+use Rattle.ob0_language_types.specs.Environments.{suffix_from_newest_binding, meanings, newest_object, outermost_environment}
 use Rattle.ob0_language_types.specs.Expressions.{Object, a_constant, a_type, a_variable}
-use Rattle.ob0_language_types.specs.Typing.{constant_value, constructor_count, denoted_type}
-use Rattle.ob0_language_types.specs.WellTyped.{ParameterMode, TypeEnvironment, TypedParameter, Signature, bind_names, bind_typed_parameters, block_is_well_typed, body_is_well_typed, declare_typed_variables, passes_type_check, bind_procedure, procedure_is_well_typed, procedures_are_well_typed, parameter_section_mode, typed_parameters}
+use Rattle.ob0_language_types.specs.Typing.{constant_expression_value, constructor_count, denoted_type}
+use Rattle.ob0_language_types.specs.WellTyped.{ParameterMode, TypeEnvironment, TypedParameter, Signature, bind_names, bind_typed_parameters, block_is_well_typed, body_is_well_typed, declare_typed_variables, passes_type_check, bind_procedure, procedure_is_well_typed, procedures_and_body_are_well_typed, parameter_section_mode, typed_parameters}
 use Rattle.ob0_language_types.proofs.Conditions.{both_true, hold-true}
 use Rattle.ob0_language_types.proofs.Literals.{some_inverse}
 use Rattle.ob0_language_types.proofs.TypedElsewhere.{then_some}
 use Rattle.ob0_language_values.specs.Values.{Shape}
-use Rattle.ob0_language_fields.specs.Fields.{FieldRenaming, environment_after_procedures, rename_fields, rename_fields_in_block, rename_fields_in_formals, rename_fields_in_procedure, rename_fields_in_procedure_list, rename_fields_in_parameter_section, rename_fields_in_further_parameter_sections, rename_fields_in_type_section, rename_fields_in_type_definitions, rename_fields_in_variable_section, rename_fields_in_variables, rename_fields_in_module}
-use Rattle.ob0_language_fields.specs.Renaming.{records, records_in_block, records_in_procedure, records_in_procedure_list, records_in_parameter_sections, records_in_type, records_in_type_definitions, records_in_variables}
+use Rattle.ob0_language_fields.specs.RenamedFields.{FieldRenaming, environment_after_procedures, rename_selected_fields, rename_fields_in_block, rename_fields_in_formals, rename_fields_in_procedure, rename_fields_in_procedure_list, rename_fields_in_parameter_section, rename_fields_in_further_parameter_sections, rename_fields_in_type_section, rename_fields_in_type_definitions, rename_fields_in_variable_section, rename_fields_in_variables, rename_fields_in_module}
+use Rattle.ob0_language_fields.specs.SingleFieldRenaming.{records_in_module, records_in_block, records_in_procedure, records_in_procedure_list, records_in_parameter_sections, records_in_type, records_in_type_definitions, records_in_variables}
 use Rattle.ob0_language_fields.proofs.AgreeingFields.{ObjectsAgree, ObjectAgrees, OptionAgrees, RecordsAgree, ShapeAgrees, denoted_type-agrees, records-split, sequence-alike, type-alike}
 use Rattle.ob0_language_fields.proofs.MeaningsByName.{parameter_of, object_in}
 
@@ -27,7 +27,7 @@ EnvironmentAgrees p q (b ∷ env) = ObjectAgrees p q b.1 × EnvironmentAgrees p 
 pub objects-agree : (p q : FieldRenaming) (env : TypeEnvironment Name) → EnvironmentAgrees p q env → ObjectsAgree p q (object_in env)
 objects-agree p q [] h x = tt
 objects-agree p q (b ∷ env) h x =
-    elim (same_name x b.0) as (λ v. OptionAgrees p q (newest_object (elim v [ true ↦ b ∷ env | false ↦ environment_from_binding naming_by_spelling env x ]))) [ true ↦ h.0 | false ↦ objects-agree p q env h.1 x ]
+    elim (same_name x b.0) as (λ v. OptionAgrees p q (newest_object (elim v [ true ↦ b ∷ env | false ↦ suffix_from_newest_binding naming_by_spelling env x ]))) [ true ↦ h.0 | false ↦ objects-agree p q env h.1 x ]
 
 pub bind_names-agree : (p q : FieldRenaming) (xs : List Name) (o : Object Shape Signature) (env : TypeEnvironment Name) → ObjectAgrees p q o → EnvironmentAgrees p q env → EnvironmentAgrees p q (bind_names xs o env)
 bind_names-agree p q [] o env h k = k
@@ -47,7 +47,7 @@ constants-agree : (p q : FieldRenaming) (env : TypeEnvironment Name) (cs : Tree 
 unfolding declare_constants
 constants-agree p q env end after h e = subst (EnvironmentAgrees p q) (some_inverse {a = env} {b = after} e) h
 constants-agree p q env (more (declares_constant x c) cs) after h e =
-    let (v, ev, e₁) = then_some (constant_value (meanings naming_by_spelling env) c) (λ v. declare_constants naming_by_spelling ((x, a_constant v) ∷ env) cs) after e in
+    let (v, ev, e₁) = then_some (constant_expression_value (meanings naming_by_spelling env) c) (λ v. declare_constants naming_by_spelling ((x, a_constant v) ∷ env) cs) after e in
     constants-agree p q ((x, a_constant v) ∷ env) cs after (tt, h) e₁
 
 types-agree : (p q : FieldRenaming) (env : TypeEnvironment Name) (k : ℕ) (ds : Tree Name (items type_definition)) (after : TypeEnvironment Name) → EnvironmentAgrees p q env → RecordsAgree p q (records_in_type_definitions k ds) → declare_types naming_by_spelling env k ds ≡ Some after → EnvironmentAgrees p q after
@@ -113,7 +113,7 @@ sections-alike p q k (more (semicolon_then_section f) fs) r =
     let r₁ = records-split p q (records_in_type k (parameter_section_type f)) (records_in_parameter_sections (k + constructor_count (parameter_section_type f)) fs) r in
     λ i. more (semicolon_then_section (section-alike p q k f r₁.0 i)) (sections-alike p q (k + constructor_count (parameter_section_type f)) fs r₁.1 i)
 
-formals-alike : (p q : FieldRenaming) (k : ℕ) (fs : Tree Name (maybe formals)) → RecordsAgree p q (records_in_parameter_sections k (formal_sections fs)) → rename_fields_in_formals p k fs ≡ rename_fields_in_formals q k fs
+formals-alike : (p q : FieldRenaming) (k : ℕ) (fs : Tree Name (maybe formals)) → RecordsAgree p q (records_in_parameter_sections k (formal_parameter_sections fs)) → rename_fields_in_formals p k fs ≡ rename_fields_in_formals q k fs
 formals-alike p q k none r = refl
 formals-alike p q k (one no_formals) r = refl
 formals-alike p q k (one (some_formals f fs)) r =
@@ -121,12 +121,12 @@ formals-alike p q k (one (some_formals f fs)) r =
     λ i. one (some_formals (section-alike p q k f r₁.0 i) (sections-alike p q (k + constructor_count (parameter_section_type f)) fs r₁.1 i))
 
 procedure-records : (p q : FieldRenaming) (k : ℕ) (a : Tree Name (item procedure)) → RecordsAgree p q (records_in_procedure k a) → RecordsAgree p q (records_in_parameter_sections k (procedure_formals a))
-procedure-records p q k (declares_procedure x fs b closing) r = (records-split p q (records_in_parameter_sections k (formal_sections fs)) (records_in_block (constructors_before_procedure_block k (declares_procedure x fs b closing)) b) r).0
+procedure-records p q k (declares_procedure x fs b closing) r = (records-split p q (records_in_parameter_sections k (formal_parameter_sections fs)) (records_in_block (constructor_count_before_procedure_block k (declares_procedure x fs b closing)) b) r).0
 
 -- A well-typed block is the same under two functions that agree on its environment and its records.
 
 body-alike : (p q : FieldRenaming) (env : TypeEnvironment Name) (statements : Tree Name (maybe body)) → EnvironmentAgrees p q env → body_is_well_typed naming_by_spelling env statements ≡ true
-    → rename_fields p (meanings naming_by_spelling env) None statements ≡ rename_fields q (meanings naming_by_spelling env) None statements
+    → rename_selected_fields p (meanings naming_by_spelling env) None statements ≡ rename_selected_fields q (meanings naming_by_spelling env) None statements
 unfolding body_is_well_typed
 body-alike p q env none h e = refl
 body-alike p q env (one (begins a)) h e = λ i. one (begins (sequence-alike p q (object_in env) (objects-agree p q env h) a e i))
@@ -134,7 +134,7 @@ body-alike p q env (one (begins a)) h e = λ i. one (begins (sequence-alike p q 
 abbrev ProceduresAlike : FieldRenaming → FieldRenaming → TypeEnvironment Name → ℕ → Tree Name (maybe body) → Tree Name (items procedure) → Type 0
 ProceduresAlike p q env k statements ps =
     (rename_fields_in_procedure_list p env k ps ≡ rename_fields_in_procedure_list q env k ps)
-    × (rename_fields p (meanings naming_by_spelling (environment_after_procedures env k ps)) None statements ≡ rename_fields q (meanings naming_by_spelling (environment_after_procedures env k ps)) None statements)
+    × (rename_selected_fields p (meanings naming_by_spelling (environment_after_procedures env k ps)) None statements ≡ rename_selected_fields q (meanings naming_by_spelling (environment_after_procedures env k ps)) None statements)
 
 mutual
   unfolding block_is_well_typed
@@ -142,23 +142,23 @@ mutual
   pub block-alike : (p q : FieldRenaming) (env : TypeEnvironment Name) (k : ℕ) (b : Tree Name block) → EnvironmentAgrees p q env → RecordsAgree p q (records_in_block k b) → block_is_well_typed naming_by_spelling env k b ≡ true → rename_fields_in_block p env k b ≡ rename_fields_in_block q env k b
   block-alike p q env k (forms_block (declares cs ts vs ps) statements) h r e =
       let b : Tree Name block = forms_block (declares cs ts vs ps) statements in
-      let r₁ = records-split p q (records_in_type_definitions k (section_types ts)) (records_in_variables (constructors_before_variables k b) (section_variables vs) ++ records_in_procedure_list (constructors_before_procedures k b) ps) r in
-      let r₂ = records-split p q (records_in_variables (constructors_before_variables k b) (section_variables vs)) (records_in_procedure_list (constructors_before_procedures k b) ps) r₁.1 in
-      let (inner, e₁, e₂) = hold-true (option_and_then (declare_typed_variables naming_by_spelling (constructors_before_variables k b) (section_variables vs)) (declare_constants_and_types naming_by_spelling env k b)) (λ inner. procedures_are_well_typed naming_by_spelling inner (constructors_before_procedures k b) statements ps) e in
-      let (first, ef, e₃) = then_some (declare_constants_and_types naming_by_spelling env k b) (declare_typed_variables naming_by_spelling (constructors_before_variables k b) (section_variables vs)) inner e₁ in
+      let r₁ = records-split p q (records_in_type_definitions k (section_types ts)) (records_in_variables (constructor_count_before_variables k b) (section_variables vs) ++ records_in_procedure_list (constructor_count_before_procedures k b) ps) r in
+      let r₂ = records-split p q (records_in_variables (constructor_count_before_variables k b) (section_variables vs)) (records_in_procedure_list (constructor_count_before_procedures k b) ps) r₁.1 in
+      let (inner, e₁, e₂) = hold-true (option_and_then (declare_typed_variables naming_by_spelling (constructor_count_before_variables k b) (section_variables vs)) (declare_constants_and_types naming_by_spelling env k b)) (λ inner. procedures_and_body_are_well_typed naming_by_spelling inner (constructor_count_before_procedures k b) statements ps) e in
+      let (first, ef, e₃) = then_some (declare_constants_and_types naming_by_spelling env k b) (declare_typed_variables naming_by_spelling (constructor_count_before_variables k b) (section_variables vs)) inner e₁ in
       let (consts, ec, e₄) = then_some (declare_constants naming_by_spelling env (section_constants cs)) (λ env. declare_types naming_by_spelling env k (section_types ts)) first ef in
       let agrees : EnvironmentAgrees p q inner =
-      variables-agree p q first (constructors_before_variables k b) (section_variables vs) inner (types-agree p q consts k (section_types ts) first (constants-agree p q env (section_constants cs) consts h ec) r₁.0 e₄) r₂.0 e₃ in
-      let alike = subst (λ inner. ProceduresAlike p q inner (constructors_before_procedures k b) statements ps) (sym (ap (λ o. unwrap_or o env) e₁)) (procedures-alike p q inner (constructors_before_procedures k b) statements ps agrees r₂.1 e₂) in
-      λ i. forms_block (declares cs (type_section-alike p q k ts r₁.0 i) (variable_section-alike p q (constructors_before_variables k b) vs r₂.0 i) (alike.0 i)) (alike.1 i)
+      variables-agree p q first (constructor_count_before_variables k b) (section_variables vs) inner (types-agree p q consts k (section_types ts) first (constants-agree p q env (section_constants cs) consts h ec) r₁.0 e₄) r₂.0 e₃ in
+      let alike = subst (λ inner. ProceduresAlike p q inner (constructor_count_before_procedures k b) statements ps) (sym (ap (λ o. unwrap_or o env) e₁)) (procedures-alike p q inner (constructor_count_before_procedures k b) statements ps agrees r₂.1 e₂) in
+      λ i. forms_block (declares cs (type_section-alike p q k ts r₁.0 i) (variable_section-alike p q (constructor_count_before_variables k b) vs r₂.0 i) (alike.0 i)) (alike.1 i)
 
   pub procedures-alike : (p q : FieldRenaming) (env : TypeEnvironment Name) (k : ℕ) (statements : Tree Name (maybe body)) (ps : Tree Name (items procedure)) → EnvironmentAgrees p q env → RecordsAgree p q (records_in_procedure_list k ps)
-      → procedures_are_well_typed naming_by_spelling env k statements ps ≡ true → ProceduresAlike p q env k statements ps
+      → procedures_and_body_are_well_typed naming_by_spelling env k statements ps ≡ true → ProceduresAlike p q env k statements ps
   procedures-alike p q env k statements end h r e = (refl, body-alike p q env statements h e)
   procedures-alike p q env k statements (more a rest) h r e =
       let r₁ = records-split p q (records_in_procedure k a) (records_in_procedure_list (k + procedure_constructor_count a) rest) r in
-      let (qs, eqs, e₁) = hold-true (typed_parameters naming_by_spelling env k (procedure_formals a)) (λ qs. procedure_is_well_typed naming_by_spelling (bind_typed_parameters qs (bind_procedure (procedure_name a) qs env)) k a && procedures_are_well_typed naming_by_spelling (bind_procedure (procedure_name a) qs env) (k + procedure_constructor_count a) statements rest) e in
-      let both = both_true (procedure_is_well_typed naming_by_spelling (bind_typed_parameters qs (bind_procedure (procedure_name a) qs env)) k a) (procedures_are_well_typed naming_by_spelling (bind_procedure (procedure_name a) qs env) (k + procedure_constructor_count a) statements rest) e₁ in
+      let (qs, eqs, e₁) = hold-true (typed_parameters naming_by_spelling env k (procedure_formals a)) (λ qs. procedure_is_well_typed naming_by_spelling (bind_typed_parameters qs (bind_procedure (procedure_name a) qs env)) k a && procedures_and_body_are_well_typed naming_by_spelling (bind_procedure (procedure_name a) qs env) (k + procedure_constructor_count a) statements rest) e in
+      let both = both_true (procedure_is_well_typed naming_by_spelling (bind_typed_parameters qs (bind_procedure (procedure_name a) qs env)) k a) (procedures_and_body_are_well_typed naming_by_spelling (bind_procedure (procedure_name a) qs env) (k + procedure_constructor_count a) statements rest) e₁ in
       let agree = parameters-agree p q env k (procedure_formals a) qs h (procedure-records p q k a r₁.0) eqs in
       let own : rename_fields_in_procedure p (bind_typed_parameters qs (bind_procedure (procedure_name a) qs env)) k a ≡ rename_fields_in_procedure q (bind_typed_parameters qs (bind_procedure (procedure_name a) qs env)) k a =
       procedure-alike p q (bind_typed_parameters qs (bind_procedure (procedure_name a) qs env)) k a (bind_typed_parameters-agrees p q qs (bind_procedure (procedure_name a) qs env) agree (tt, h)) r₁.0 both.0 in
@@ -166,15 +166,15 @@ mutual
       procedures-alike p q (bind_procedure (procedure_name a) qs env) (k + procedure_constructor_count a) statements rest (tt, h) r₁.1 both.1 in
       subst (λ qs. (more (rename_fields_in_procedure p (bind_typed_parameters qs (bind_procedure (procedure_name a) qs env)) k a) (rename_fields_in_procedure_list p (bind_procedure (procedure_name a) qs env) (k + procedure_constructor_count a) rest)
       ≡ more (rename_fields_in_procedure q (bind_typed_parameters qs (bind_procedure (procedure_name a) qs env)) k a) (rename_fields_in_procedure_list q (bind_procedure (procedure_name a) qs env) (k + procedure_constructor_count a) rest))
-      × (rename_fields p (meanings naming_by_spelling (environment_after_procedures (bind_procedure (procedure_name a) qs env) (k + procedure_constructor_count a) rest)) None statements ≡ rename_fields q (meanings naming_by_spelling (environment_after_procedures (bind_procedure (procedure_name a) qs env) (k + procedure_constructor_count a) rest)) None statements))
+      × (rename_selected_fields p (meanings naming_by_spelling (environment_after_procedures (bind_procedure (procedure_name a) qs env) (k + procedure_constructor_count a) rest)) None statements ≡ rename_selected_fields q (meanings naming_by_spelling (environment_after_procedures (bind_procedure (procedure_name a) qs env) (k + procedure_constructor_count a) rest)) None statements))
       (sym (ap (λ o. unwrap_or o []) eqs)) (λ i. more (own i) (others.0 i), others.1)
 
   pub procedure-alike : (p q : FieldRenaming) (env : TypeEnvironment Name) (k : ℕ) (a : Tree Name (item procedure)) → EnvironmentAgrees p q env → RecordsAgree p q (records_in_procedure k a) → procedure_is_well_typed naming_by_spelling env k a ≡ true
       → rename_fields_in_procedure p env k a ≡ rename_fields_in_procedure q env k a
   procedure-alike p q env k (declares_procedure x fs b closing) h r e =
-      let r₁ = records-split p q (records_in_parameter_sections k (formal_sections fs)) (records_in_block (constructors_before_procedure_block k (declares_procedure x fs b closing)) b) r in
-      λ i. declares_procedure x (formals-alike p q k fs r₁.0 i) (block-alike p q env (k + formals_constructor_count (formal_sections fs)) b h r₁.1 e i) closing
+      let r₁ = records-split p q (records_in_parameter_sections k (formal_parameter_sections fs)) (records_in_block (constructor_count_before_procedure_block k (declares_procedure x fs b closing)) b) r in
+      λ i. declares_procedure x (formals-alike p q k fs r₁.0 i) (block-alike p q env (k + formals_constructor_count (formal_parameter_sections fs)) b h r₁.1 e i) closing
 
-pub module-alike : (p q : FieldRenaming) (m : Tree Name module_text) → RecordsAgree p q (records m) → passes_type_check naming_by_spelling m ≡ true → rename_fields_in_module p m ≡ rename_fields_in_module q m
+pub module-alike : (p q : FieldRenaming) (m : Tree Name module_text) → RecordsAgree p q (records_in_module m) → passes_type_check naming_by_spelling m ≡ true → rename_fields_in_module p m ≡ rename_fields_in_module q m
 unfolding passes_type_check
 module-alike p q (forms_module x b closing) r e = λ i. forms_module x (block-alike p q (outermost_environment naming_by_spelling) 0 b (tt, (tt, (tt, (tt, (tt, (tt, (tt, tt))))))) r e i) closing

@@ -7,7 +7,7 @@ use Rattle.ob0_language_names.proofs.WorkedTrees as worked
 use Rattle.ob0_language_names.proofs.WorkedTrees.{alone}
 use Rattle.ob0_language_types.specs.Declarations.{declare_constants_and_types}
 use Rattle.ob0_language_types.specs.WellTyped.{declare_typed_variables, typed_parameters}
-use Rattle.ob0_language_fields.specs.Renaming.{IsFreeFieldName, module_with_renamed_field, is_duplicate_field_name, records}
+use Rattle.ob0_language_fields.specs.SingleFieldRenaming.{IsFreeFieldName, module_with_renamed_field, is_duplicate_field_name, records_in_module}
 
 -- TYPE R = RECORD a, b: INTEGER END; VAR r: R; s: RECORD a: INTEGER END; a: INTEGER; BEGIN r.a :=
 -- 1; s.a := 2; a := r.a + s.a; Write(a) END M.
@@ -20,7 +20,7 @@ pub first_record-renamed : module_with_renamed_field worked.records 0 (codes "a"
 unfolding declare_constants_and_types declare_typed_variables typed_parameters
 first_record-renamed = refl
 
-pub records-of_two : records worked.records ≡ record { ordinal = 0; declared = codes "a" ∷ codes "b" ∷ [] } ∷ record { ordinal = 1; declared = codes "a" ∷ [] } ∷ []
+pub records-of_two : records_in_module worked.records ≡ record { ordinal = 0; declared = codes "a" ∷ codes "b" ∷ [] } ∷ record { ordinal = 1; declared = codes "a" ∷ [] } ∷ []
 records-of_two = refl
 
 -- The field a of the first record can be renamed to c, to r and to a itself, and the field a of the second record to b.

@@ -1,2 +1,2 @@
-pub mod Fields
-pub mod Renaming
+pub mod RenamedFields
+pub mod SingleFieldRenaming

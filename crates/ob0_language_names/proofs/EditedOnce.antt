@@ -3,7 +3,7 @@ use Rattle.std.proofs.Common.{Bool, List, [], ap, false, if◌then◌else◌, le
 use Rattle.ob0_tree.specs.Tree.{Tree, array_type, block, constant, constants, declares, declares_constant, declares_const_section, declares_procedure, declares_type, declares_type_section, declares_variable, declares_var_section, end, fields, formals, fields_after_semicolon, section_after_semicolon, forms_block, forms_module, item, items, maybe, module_text, more, named_type, no_fields, no_formals, none, occurrences, one, procedure, record_type, some_fields, some_formals, semicolon_then_fields, semicolon_then_section, type_definition, type_definitions, value_section, variable, variable_section, variables, written_type}
 use Rattle.ob0_language_names.specs.ConsistentNames.{are_distinct, names_declared_in_block, block_has_consistent_names, has_consistent_names, has_distinct_fields, formals_have_distinct_fields, group_field_names, group_has_distinct_fields, field_names_after_first_group, later_groups_have_distinct_fields, is_among, procedure_names, procedure_has_consistent_names, procedure_list_has_consistent_names, types_have_distinct_fields, variables_have_distinct_fields}
 use Rattle.ob0_language_names.specs.Names.{Name, same_name}
-use Rattle.ob0_language_names.specs.BlockParts.{constant_names, formal_names, formal_sections, declared_type_names, names_in_list, section_constants, section_types, section_variables, variable_names}
+use Rattle.ob0_language_names.specs.BlockParts.{constant_names, formal_parameter_names, formal_parameter_sections, declared_type_names, names_in_list, section_constants, section_types, section_variables, variable_names}
 use Rattle.ob0_language_names.specs.Scopes.{ordinal_after_names, ordinal_after_procedure, first_procedure_ordinal}
 use Rattle.ob0_language_names.proofs.EditedTrees.{Edit, edited, edited_block, edited_constants, edited_procedure, edited_procedures, edited_section, leaf}
 use Rattle.std.proofs.lemmas.Bool.{and_from, and_parts, or_parts}
@@ -74,15 +74,15 @@ procedure_names-edited edit j k end = refl
 procedure_names-edited edit j k (more (declares_procedure x fs b closing) rest) = λ i.
     x ∷ procedure_names-edited edit (j + length (occurrences (declares_procedure x fs b closing))) (ordinal_after_procedure (suc k) (declares_procedure x fs b closing)) rest i
 
-formal_names-listed : (edit : Edit) (j : ℕ) (fs : Tree Name (items section_after_semicolon)) → formal_names (leaf edit j fs) ≡ formal_names fs
-formal_names-listed edit j end = refl
-formal_names-listed edit j (more (semicolon_then_section (value_section ns t)) fs) = λ i. names_in_list ns ++ formal_names-listed edit (j + length (occurrences t)) fs i
-formal_names-listed edit j (more (semicolon_then_section (variable_section ns t)) fs) = λ i. names_in_list ns ++ formal_names-listed edit (j + length (occurrences t)) fs i
+formal_parameter_names-listed : (edit : Edit) (j : ℕ) (fs : Tree Name (items section_after_semicolon)) → formal_parameter_names (leaf edit j fs) ≡ formal_parameter_names fs
+formal_parameter_names-listed edit j end = refl
+formal_parameter_names-listed edit j (more (semicolon_then_section (value_section ns t)) fs) = λ i. names_in_list ns ++ formal_parameter_names-listed edit (j + length (occurrences t)) fs i
+formal_parameter_names-listed edit j (more (semicolon_then_section (variable_section ns t)) fs) = λ i. names_in_list ns ++ formal_parameter_names-listed edit (j + length (occurrences t)) fs i
 
-pub formal_names-leaf : (edit : Edit) (j : ℕ) (fs : Tree Name (maybe formals)) → formal_names (formal_sections (leaf edit j fs)) ≡ formal_names (formal_sections fs)
-formal_names-leaf edit j none = refl
-formal_names-leaf edit j (one no_formals) = refl
-formal_names-leaf edit j (one (some_formals s fs)) = formal_names-listed edit j (more (semicolon_then_section s) fs)
+pub formal_parameter_names-leaf : (edit : Edit) (j : ℕ) (fs : Tree Name (maybe formals)) → formal_parameter_names (formal_parameter_sections (leaf edit j fs)) ≡ formal_parameter_names (formal_parameter_sections fs)
+formal_parameter_names-leaf edit j none = refl
+formal_parameter_names-leaf edit j (one no_formals) = refl
+formal_parameter_names-leaf edit j (one (some_formals s fs)) = formal_parameter_names-listed edit j (more (semicolon_then_section s) fs)
 
 -- An edit leaves the names of fields unchanged.
 
@@ -130,7 +130,7 @@ formals_have_distinct_fields-listed edit j end = refl
 formals_have_distinct_fields-listed edit j (more (semicolon_then_section (value_section ns t)) fs) = λ i. has_distinct_fields-leaf edit j t i && formals_have_distinct_fields-listed edit (j + length (occurrences t)) fs i
 formals_have_distinct_fields-listed edit j (more (semicolon_then_section (variable_section ns t)) fs) = λ i. has_distinct_fields-leaf edit j t i && formals_have_distinct_fields-listed edit (j + length (occurrences t)) fs i
 
-formals_have_distinct_fields-leaf : (edit : Edit) (j : ℕ) (fs : Tree Name (maybe formals)) → formals_have_distinct_fields (formal_sections (leaf edit j fs)) ≡ formals_have_distinct_fields (formal_sections fs)
+formals_have_distinct_fields-leaf : (edit : Edit) (j : ℕ) (fs : Tree Name (maybe formals)) → formals_have_distinct_fields (formal_parameter_sections (leaf edit j fs)) ≡ formals_have_distinct_fields (formal_parameter_sections fs)
 formals_have_distinct_fields-leaf edit j none = refl
 formals_have_distinct_fields-leaf edit j (one no_formals) = refl
 formals_have_distinct_fields-leaf edit j (one (some_formals s fs)) = formals_have_distinct_fields-listed edit j (more (semicolon_then_section s) fs)
@@ -163,12 +163,12 @@ mutual
 
   procedure_has_consistent_names-edited : (edit : Edit) (j k : ℕ) (p : Tree Name (item procedure)) → procedure_has_consistent_names p ≡ true → procedure_has_consistent_names (edited_procedure edit j k p) ≡ true
   procedure_has_consistent_names-edited edit j k (declares_procedure x fs b closing) once =
-      let own : List Name = formal_names (formal_sections fs) in
-      let parts = and_parts (same_name x closing) (formals_have_distinct_fields (formal_sections fs) && block_has_consistent_names own b) once in
-      let parts₁ = and_parts (formals_have_distinct_fields (formal_sections fs)) (block_has_consistent_names own b) parts.1 in
+      let own : List Name = formal_parameter_names (formal_parameter_sections fs) in
+      let parts = and_parts (same_name x closing) (formals_have_distinct_fields (formal_parameter_sections fs) && block_has_consistent_names own b) once in
+      let parts₁ = and_parts (formals_have_distinct_fields (formal_parameter_sections fs)) (block_has_consistent_names own b) parts.1 in
       and_from _ _ parts.0
       (and_from _ _ (formals_have_distinct_fields-leaf edit j fs ∙ parts₁.0)
-      (ap (λ xs. block_has_consistent_names xs (edited_block edit (j + length (occurrences fs)) (ordinal_after_names k own) b)) (formal_names-leaf edit j fs) ∙ block_has_consistent_names-edited edit (j + length (occurrences fs)) (ordinal_after_names k own) own b parts₁.1))
+      (ap (λ xs. block_has_consistent_names xs (edited_block edit (j + length (occurrences fs)) (ordinal_after_names k own) b)) (formal_parameter_names-leaf edit j fs) ∙ block_has_consistent_names-edited edit (j + length (occurrences fs)) (ordinal_after_names k own) own b parts₁.1))
 
 pub has_consistent_names-edited : (edit : Edit) (m : Tree Name module_text) → has_consistent_names m ≡ true → has_consistent_names (edited edit m) ≡ true
 has_consistent_names-edited edit (forms_module x b closing) once =

@@ -3,10 +3,10 @@
 -- or neither.
 use Rattle.std.proofs.Common.{Bool, List, [], add-zero, ap, arith, eqb-true, false, if◌then◌else◌, length, ne_eqb, refl, subst, suc, sym, true, ℕ, ◌&&◌, ◌++◌, ◌+◌, ◌<◌, ◌==◌, ◌∙◌, ◌∷◌, ◌≡◌}
 use Rattle.ob0_tree.specs.Tree.{Sort, Tree, adds, array_type, assigns, begins, block, branches, calls, compares, constant, constants, declares, declares_constant, declares_const_section, declares_procedure, declares_type, declares_type_section, declares_variable, declares_var_section, designator, else_branch, elsif_branch, empty, end, factor, field, name_after_comma, forms_block, index, integer, forms_module, item, items, listed, maybe, module_text, more, multiplies, named_type, names, negation, no_arguments, no_fields, no_formals, none, occurrences, one, parenthesised, procedure, product, record_type, relates, repeat_loop, runs, some_arguments, some_fields, some_formals, sum, comma_then_argument, semicolon_then_fields, comma_then_name, semicolon_then_section, semicolon_then_statement, value_section, variable_section, while_loop}
-use Rattle.ob0_language_names.specs.Inlining.{OccurrenceSet, block_without_constant, inline_in_tree, inlined, module_without_constant, procedure_without_constant, procedure_list_without_constant, section_without_constant, constants_without_ordinal}
+use Rattle.ob0_language_names.specs.Inlining.{OccurrenceSet, block_without_constant, inline_in_tree, inlined, module_without_constant, procedure_without_constant, procedure_list_without_constant, section_without_constant, constant_list_without_constant}
 use Rattle.ob0_language_names.specs.MappedNames.{map_names}
 use Rattle.ob0_language_names.specs.Names.{Name}
-use Rattle.ob0_language_names.specs.BlockParts.{formal_names, formal_sections}
+use Rattle.ob0_language_names.specs.BlockParts.{formal_parameter_names, formal_parameter_sections}
 use Rattle.ob0_language_names.specs.Scopes.{ordinal_after_names, ordinal_after_procedure, first_procedure_ordinal}
 
 abbrev pub UsesNone : OccurrenceSet → ℕ → List Name → Type 0
@@ -185,7 +185,7 @@ abbrev mutual
 
   pub edited_procedure : Edit → ℕ → ℕ → Tree Name (item procedure) → Tree Name (item procedure)
   edited_procedure edit j k (declares_procedure x fs b closing) =
-      declares_procedure x (leaf edit j fs) (edited_block edit (j + length (occurrences fs)) (ordinal_after_names k (formal_names (formal_sections fs))) b) closing
+      declares_procedure x (leaf edit j fs) (edited_block edit (j + length (occurrences fs)) (ordinal_after_names k (formal_parameter_names (formal_parameter_sections fs))) b) closing
 
 -- If no declaration is removed, an edited block is the block with the literals written in.
 
@@ -215,7 +215,7 @@ mutual
 
   written-procedure : (uses : OccurrenceSet) (v : Tree Name factor) (d j k : ℕ) (p : Tree Name (item procedure)) → edited_procedure (writing uses v d) j k p ≡ inline_in_tree uses v j p
   written-procedure uses v d j k (declares_procedure x fs b closing) = λ i.
-      declares_procedure x (inline_in_tree uses v j fs) (written-block uses v d (j + length (occurrences fs)) (ordinal_after_names k (formal_names (formal_sections fs))) b i) closing
+      declares_procedure x (inline_in_tree uses v j fs) (written-block uses v d (j + length (occurrences fs)) (ordinal_after_names k (formal_parameter_names (formal_parameter_sections fs))) b i) closing
 
 -- If there are no uses, an edited block is the block without the declaration.
 
@@ -239,11 +239,11 @@ left-later v d j k (more (declares_constant x e) cs) h =
     (ne_eqb k d (λ e. omega (arith, e, h)))
     ∙ (λ i. more (declares_constant x (leaf-kept v j e i)) (left-later v d (j + length (occurrences e)) (suc k) cs (omega (arith, h)) i))
 
-left-constants : (v : Tree Name factor) (d j k : ℕ) (cs : Tree Name (items constant)) → edited_constants (leaving_out v d) j k cs ≡ constants_without_ordinal d k cs
+left-constants : (v : Tree Name factor) (d j k : ℕ) (cs : Tree Name (items constant)) → edited_constants (leaving_out v d) j k cs ≡ constant_list_without_constant d k cs
 left-constants v d j k end = refl
 left-constants v d j k (more (declares_constant x e) cs) =
     (elim (k == d) as (λ b. k == d ≡ b → (if b then edited_constants (leaving_out v d) (j + length (occurrences e)) (suc k) cs else more (declares_constant x (leaf (leaving_out v d) j e)) (edited_constants (leaving_out v d) (j + length (occurrences e)) (suc k) cs))
-    ≡ (if b then cs else more (declares_constant x e) (constants_without_ordinal d (suc k) cs))) [
+    ≡ (if b then cs else more (declares_constant x e) (constant_list_without_constant d (suc k) cs))) [
       | true ↦ λ h. left-later v d (j + length (occurrences e)) (suc k) cs (omega (arith, eqb-true k d h))
       | false ↦ λ h i. more (declares_constant x (leaf-kept v j e i)) (left-constants v d (j + length (occurrences e)) (suc k) cs i)
     ]) refl
@@ -267,7 +267,7 @@ mutual
 
   left-procedure : (v : Tree Name factor) (d j k : ℕ) (p : Tree Name (item procedure)) → edited_procedure (leaving_out v d) j k p ≡ procedure_without_constant d k p
   left-procedure v d j k (declares_procedure x fs b closing) = λ i.
-      declares_procedure x (leaf-kept v j fs i) (left-block v d (j + length (occurrences fs)) (ordinal_after_names k (formal_names (formal_sections fs))) b i) closing
+      declares_procedure x (leaf-kept v j fs i) (left-block v d (j + length (occurrences fs)) (ordinal_after_names k (formal_parameter_names (formal_parameter_sections fs))) b i) closing
 
 abbrev pub edited : Edit → Tree Name module_text → Tree Name module_text
 edited edit (forms_module x b closing) = forms_module x (edited_block edit 0 7 b) closing

@@ -1,11 +1,11 @@
 -- Writing the literals and removing the declaration in one edit gives the same module as doing one after the other.
 use Rattle.std.proofs.Common.{ap, arith, eqb-true, false, if◌then◌else◌, length, ne_eqb, refl, suc, sym, true, ℕ, ◌+◌, ◌<◌, ◌==◌, ◌∙◌, ◌∷◌, ◌≡◌}
 use Rattle.ob0_tree.specs.Tree.{Tree, block, constant, constants, declares, declares_constant, declares_const_section, declares_procedure, end, factor, forms_block, forms_module, item, items, maybe, module_text, more, none, occurrences, one, procedure}
-use Rattle.ob0_language_names.specs.Inlining.{OccurrenceSet, block_without_constant, inline_in_tree, inlined, module_without_constant, procedure_without_constant, procedure_list_without_constant, section_without_constant, constants_without_ordinal}
+use Rattle.ob0_language_names.specs.Inlining.{OccurrenceSet, block_without_constant, inline_in_tree, inlined, module_without_constant, procedure_without_constant, procedure_list_without_constant, section_without_constant, constant_list_without_constant}
 use Rattle.ob0_language_names.specs.Names.{Name}
-use Rattle.ob0_language_names.specs.BlockParts.{constant_names, formal_names, formal_sections, section_constants}
+use Rattle.ob0_language_names.specs.BlockParts.{constant_names, formal_parameter_names, formal_parameter_sections, section_constants}
 use Rattle.ob0_language_names.specs.Scopes.{ordinal_after_block, ordinal_after_names, ordinal_after_procedure, ordinal_after_procedure_list, first_procedure_ordinal}
-use Rattle.ob0_language_names.proofs.EditedOnce.{formal_names-leaf, type_definitions-leaf, variable_names-leaf}
+use Rattle.ob0_language_names.proofs.EditedOnce.{formal_parameter_names-leaf, type_definitions-leaf, variable_names-leaf}
 use Rattle.ob0_language_names.proofs.EditedTrees.{Edit, edited, edited_block, edited_constants, edited_procedure, edited_procedures, edited_section, writing}
 
 abbrev pub everywhere : OccurrenceSet → Tree Name factor → ℕ → Edit
@@ -38,7 +38,7 @@ mutual
 
   ordinal_after_procedure-inlined : (uses : OccurrenceSet) (v : Tree Name factor) (d j k : ℕ) (p : Tree Name (item procedure)) → ordinal_after_procedure k (inline_in_tree uses v j p) ≡ ordinal_after_procedure k p
   ordinal_after_procedure-inlined uses v d j k (declares_procedure x fs b closing) =
-      ap (λ xs. ordinal_after_block (ordinal_after_names k xs) (inline_in_tree uses v (j + length (occurrences fs)) b)) (formal_names-leaf (writing uses v d) j fs) ∙ ordinal_after_block-inlined uses v d (j + length (occurrences fs)) (ordinal_after_names k (formal_names (formal_sections fs))) b
+      ap (λ xs. ordinal_after_block (ordinal_after_names k xs) (inline_in_tree uses v (j + length (occurrences fs)) b)) (formal_parameter_names-leaf (writing uses v d) j fs) ∙ ordinal_after_block-inlined uses v d (j + length (occurrences fs)) (ordinal_after_names k (formal_parameter_names (formal_parameter_sections fs))) b
 
 gone-later : (uses : OccurrenceSet) (v : Tree Name factor) (d j k : ℕ) (cs : Tree Name (items constant)) → d < k → edited_constants (everywhere uses v d) j k cs ≡ inline_in_tree uses v j cs
 gone-later uses v d j k end h = refl
@@ -47,11 +47,11 @@ gone-later uses v d j k (more (declares_constant x e) cs) h =
     (ne_eqb k d (λ e. omega (arith, e, h)))
     ∙ (λ i. more (declares_constant x (inline_in_tree uses v j e)) (gone-later uses v d (j + length (occurrences e)) (suc k) cs (omega (arith, h)) i))
 
-gone-constants : (uses : OccurrenceSet) (v : Tree Name factor) (d j k : ℕ) (cs : Tree Name (items constant)) → edited_constants (everywhere uses v d) j k cs ≡ constants_without_ordinal d k (inline_in_tree uses v j cs)
+gone-constants : (uses : OccurrenceSet) (v : Tree Name factor) (d j k : ℕ) (cs : Tree Name (items constant)) → edited_constants (everywhere uses v d) j k cs ≡ constant_list_without_constant d k (inline_in_tree uses v j cs)
 gone-constants uses v d j k end = refl
 gone-constants uses v d j k (more (declares_constant x e) cs) =
     (elim (k == d) as (λ b. k == d ≡ b → (if b then edited_constants (everywhere uses v d) (j + length (occurrences e)) (suc k) cs else more (declares_constant x (inline_in_tree uses v j e)) (edited_constants (everywhere uses v d) (j + length (occurrences e)) (suc k) cs))
-    ≡ (if b then inline_in_tree uses v (j + length (occurrences e)) cs else more (declares_constant x (inline_in_tree uses v j e)) (constants_without_ordinal d (suc k) (inline_in_tree uses v (j + length (occurrences e)) cs)))) [
+    ≡ (if b then inline_in_tree uses v (j + length (occurrences e)) cs else more (declares_constant x (inline_in_tree uses v j e)) (constant_list_without_constant d (suc k) (inline_in_tree uses v (j + length (occurrences e)) cs)))) [
       | true ↦ λ h. gone-later uses v d (j + length (occurrences e)) (suc k) cs (omega (arith, eqb-true k d h))
       | false ↦ λ h i. more (declares_constant x (inline_in_tree uses v j e)) (gone-constants uses v d (j + length (occurrences e)) (suc k) cs i)
     ]) refl
@@ -79,8 +79,8 @@ mutual
   gone-procedure : (uses : OccurrenceSet) (v : Tree Name factor) (d j k : ℕ) (p : Tree Name (item procedure)) → edited_procedure (everywhere uses v d) j k p ≡ procedure_without_constant d k (inline_in_tree uses v j p)
   gone-procedure uses v d j k (declares_procedure x fs b closing) = λ i.
       declares_procedure x (inline_in_tree uses v j fs)
-      ((gone-block uses v d (j + length (occurrences fs)) (ordinal_after_names k (formal_names (formal_sections fs))) b
-      ∙ ap (λ xs. block_without_constant d (ordinal_after_names k xs) (inline_in_tree uses v (j + length (occurrences fs)) b)) (sym (formal_names-leaf (writing uses v d) j fs))) i) closing
+      ((gone-block uses v d (j + length (occurrences fs)) (ordinal_after_names k (formal_parameter_names (formal_parameter_sections fs))) b
+      ∙ ap (λ xs. block_without_constant d (ordinal_after_names k xs) (inline_in_tree uses v (j + length (occurrences fs)) b)) (sym (formal_parameter_names-leaf (writing uses v d) j fs))) i) closing
 
 pub gone-module : (uses : OccurrenceSet) (v : Tree Name factor) (d : ℕ) (m : Tree Name module_text) → edited (everywhere uses v d) m ≡ module_without_constant d (inlined m uses v)
 gone-module uses v d (forms_module x b closing) = λ i. forms_module x (gone-block uses v d 0 7 b i) closing

@@ -2,8 +2,8 @@
 use Rattle.std.proofs.Common.{List, None, [], ap, length, length-append, map, refl, suc, sym, ℕ, ◌++◌, ◌+◌, ◌∙◌, ◌∷◌, ◌≡◌}
 use Rattle.ob0_tree.specs.Tree.{Sort, Tree, block, constant, constants, declares, declares_constant, declares_const_section, declares_procedure, declares_type, declares_type_section, declares_variable, declares_var_section, end, formals, section_after_semicolon, forms_block, forms_module, item, items, maybe, module_text, more, no_formals, none, occurrences, one, procedure, section, some_formals, semicolon_then_section, type_definition, type_definitions, value_section, variable, variable_section, variables}
 use Rattle.ob0_language_names.specs.Names.{Naming}
-use Rattle.ob0_language_names.specs.BlockParts.{formal_names, formal_sections, names_in_list, procedure_name, parameter_section_names}
-use Rattle.ob0_language_names.specs.Scopes.{relabel_module, Labelling, Scope, ordinal_after_names, ordinal_after_procedure, body_scope, declare_names, first_procedure_ordinal, first_type_ordinal, first_variable_ordinal, label_of, predeclared_scope, scope_before_procedures, relabel_block, relabel_constant_section, relabel_constants, relabel_formals, relabel_procedure, relabel_procedure_list, relabel_parameter_section, relabel_parameter_section_list, relabel_type_section, relabel_types, relabel_uses, relabel_variable_section, relabel_variables, scope_before_types, scope_before_variables}
+use Rattle.ob0_language_names.specs.BlockParts.{formal_parameter_names, formal_parameter_sections, names_in_list, procedure_name, parameter_section_names}
+use Rattle.ob0_language_names.specs.Scopes.{relabel_module, Labelling, Scope, ordinal_after_names, ordinal_after_procedure, body_scope, declare_names, first_procedure_ordinal, first_type_ordinal, first_variable_ordinal, label_in_scope, predeclared_scope, scope_before_procedures, relabel_block, relabel_constant_section, relabel_constants, relabel_formals, relabel_procedure, relabel_procedure_list, relabel_parameter_section, relabel_parameter_section_list, relabel_type_section, relabel_types, relabel_uses, relabel_variable_section, relabel_variables, scope_before_types, scope_before_variables}
 use Rattle.ob0_language_names.proofs.OccurrencesMapped.{occurrences-mapped}
 use Rattle.std.proofs.lemmas.List.{map-append}
 
@@ -23,7 +23,7 @@ longer xs' ys' xs ys p q = length-append xs' ys' ∙ ((λ i. p i + q i) ∙ sym 
 
 pub as_many-uses : {N M : Type 0} {s : Sort} (naming : Naming N) (label : Labelling N M) (scope : Scope N) (t : Tree N s) → AsMany (relabel_uses naming label scope t) t
 as_many-uses naming label scope t =
-    ap length (occurrences-mapped (label_of naming label scope) (label None) (λ n. n) t) ∙ length-map (label_of naming label scope) (occurrences t)
+    ap length (occurrences-mapped (label_in_scope naming label scope) (label None) (λ n. n) t) ∙ length-map (label_in_scope naming label scope) (occurrences t)
 
 pub as_many-constants : {N M : Type 0} (naming : Naming N) (label : Labelling N M) (scope : Scope N) (k : ℕ) (cs : Tree N (items constant)) → AsMany (relabel_constants naming label scope k cs) cs
 as_many-constants naming label scope k end = refl
@@ -86,7 +86,7 @@ mutual
   pub as_many-procedure : {N M : Type 0} (naming : Naming N) (label : Labelling N M) (scope : Scope N) (k : ℕ) (p : Tree N (item procedure)) → AsMany (relabel_procedure naming label scope k p) p
   as_many-procedure naming label scope k (declares_procedure x fs b closing) =
       longer _ _ (occurrences fs) (occurrences b) (as_many-formals naming label scope (suc k) fs)
-      (as_many-block naming label (declare_names (suc k) (formal_names (formal_sections fs)) ((x, k) ∷ scope)) (ordinal_after_names (suc k) (formal_names (formal_sections fs))) b)
+      (as_many-block naming label (declare_names (suc k) (formal_parameter_names (formal_parameter_sections fs)) ((x, k) ∷ scope)) (ordinal_after_names (suc k) (formal_parameter_names (formal_parameter_sections fs))) b)
 
 pub as_many-module : {N M : Type 0} (naming : Naming N) (label : Labelling N M) (m : Tree N module_text) → AsMany (relabel_module naming label m) m
 as_many-module naming label (forms_module x b closing) = as_many-block naming label (predeclared_scope naming) 7 b

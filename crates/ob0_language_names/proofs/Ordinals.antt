@@ -1,7 +1,7 @@
 -- Declaring two joined lists of names gives the same ordinal and scope as declaring one list and then the other.
 use Rattle.std.proofs.Common.{◌≡◌, ℕ, suc, ◌≤◌, List, [], ◌∷◌, ◌++◌, refl, le_trans, le_refl, le_of_lt}
 use Rattle.ob0_tree.specs.Tree.{Tree, block, declares, declares_procedure, end, forms_block, item, items, more, procedure}
-use Rattle.ob0_language_names.specs.BlockParts.{constant_names, formal_names, formal_sections, declared_type_names, section_constants, section_types, section_variables, variable_names}
+use Rattle.ob0_language_names.specs.BlockParts.{constant_names, formal_parameter_names, formal_parameter_sections, declared_type_names, section_constants, section_types, section_variables, variable_names}
 use Rattle.ob0_language_names.specs.Scopes.{Scope, ordinal_after_block, ordinal_after_names, ordinal_after_procedure, ordinal_after_procedure_list, declare_names}
 
 pub ordinal_after_names-append : {N : Type 0} (k : ℕ) (xs ys : List N) → ordinal_after_names k (xs ++ ys) ≡ ordinal_after_names (ordinal_after_names k xs) ys
@@ -31,4 +31,4 @@ mutual
 
   pub le-ordinal_after_procedure : {N : Type 0} (k : ℕ) (p : Tree N (item procedure)) → k ≤ ordinal_after_procedure k p
   le-ordinal_after_procedure k (declares_procedure x fs b closing) =
-      le_trans (le-ordinal_after_names k (formal_names (formal_sections fs))) (le-ordinal_after_block (ordinal_after_names k (formal_names (formal_sections fs))) b)
+      le_trans (le-ordinal_after_names k (formal_parameter_names (formal_parameter_sections fs))) (le-ordinal_after_block (ordinal_after_names k (formal_parameter_names (formal_parameter_sections fs))) b)

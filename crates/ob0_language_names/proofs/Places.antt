@@ -3,8 +3,8 @@
 use Rattle.std.proofs.Common.{List, None, [], arith, length, map, refl, subst, suc, ℕ, ◌++◌, ◌+◌, ◌∷◌, ◌≡◌}
 use Rattle.ob0_tree.specs.Tree.{Sort, Tree, block, body, constant, constants, declares, declares_constant, declares_const_section, declares_procedure, declares_type, declares_type_section, declares_variable, declares_var_section, end, expression, formals, section_after_semicolon, forms_block, item, items, maybe, more, no_formals, none, occurrences, one, procedure, section, some_formals, semicolon_then_section, type_definition, type_definitions, value_section, variable, variable_section, variables, written_type}
 use Rattle.ob0_language_names.specs.Names.{Label, Name, Naming}
-use Rattle.ob0_language_names.specs.BlockParts.{formal_names, formal_sections, names_in_list, procedure_name, section_constants, parameter_section_names, parameter_section_type, section_types, section_variables}
-use Rattle.ob0_language_names.specs.Scopes.{Scope, ordinal_after_names, ordinal_after_procedure, label_from_ordinal, body_scope, declare_names, first_procedure_ordinal, first_type_ordinal, first_variable_ordinal, label_of, scope_before_procedures, relabel_block, relabel_constant_section, relabel_constants, relabel_formals, relabel_procedure, relabel_procedure_list, relabel_parameter_section, relabel_parameter_section_list, relabel_type_section, relabel_types, relabel_uses, relabel_variable_section, relabel_variables, scope_before_types, scope_before_variables}
+use Rattle.ob0_language_names.specs.BlockParts.{formal_parameter_names, formal_parameter_sections, names_in_list, procedure_name, section_constants, parameter_section_names, parameter_section_type, section_types, section_variables}
+use Rattle.ob0_language_names.specs.Scopes.{Scope, ordinal_after_names, ordinal_after_procedure, label_from_ordinal, body_scope, declare_names, first_procedure_ordinal, first_type_ordinal, first_variable_ordinal, label_in_scope, scope_before_procedures, relabel_block, relabel_constant_section, relabel_constants, relabel_formals, relabel_procedure, relabel_procedure_list, relabel_parameter_section, relabel_parameter_section_list, relabel_type_section, relabel_types, relabel_uses, relabel_variable_section, relabel_variables, scope_before_types, scope_before_variables}
 use Rattle.ob0_language_names.proofs.OccurrenceNames.{as_many-constant_section, as_many-formals, as_many-procedure, as_many-procedures, as_many-section, as_many-type_section, as_many-uses, as_many-variable_section, longer}
 use Rattle.ob0_language_names.proofs.OccurrencesMapped.{occurrences-mapped}
 
@@ -51,8 +51,8 @@ abbrev mutual
 
   pub OneProcedure : Placed → ℕ → Scope Name → ℕ → Tree Name (item procedure) → Type 0
   OneProcedure L j scope k (declares_procedure x fs b closing) =
-      EachSection L j scope (suc k) (formal_sections fs)
-      × EachBlock L (j + length (occurrences fs)) (declare_names (suc k) (formal_names (formal_sections fs)) ((x, k) ∷ scope)) (ordinal_after_names (suc k) (formal_names (formal_sections fs))) b
+      EachSection L j scope (suc k) (formal_parameter_sections fs)
+      × EachBlock L (j + length (occurrences fs)) (declare_names (suc k) (formal_parameter_names (formal_parameter_sections fs)) ((x, k) ∷ scope)) (ordinal_after_names (suc k) (formal_parameter_names (formal_parameter_sections fs))) b
 
 -- holds if `R` holds for each label of a list, whose numbers count up from `j`
 abbrev pub AllAt : (ℕ → Label → Type 0) → ℕ → List Label → Type 0
@@ -67,18 +67,18 @@ cut R j n (x ∷ xs) ys e h =
 
 -- holds if `R` holds for the label under one naming, and `S` for the label under another
 abbrev pub Both : Naming Name → Naming Name → (ℕ → Label → Type 0) → (ℕ → Label → Type 0) → ℕ → Scope Name → Name → Type 0
-Both u v R S j scope x = R j (label_of u (label_from_ordinal u) scope x) × S j (label_of v (label_from_ordinal v) scope x)
+Both u v R S j scope x = R j (label_in_scope u (label_from_ordinal u) scope x) × S j (label_in_scope v (label_from_ordinal v) scope x)
 
 -- If these properties imply `L` for each tree that declares nothing, `L` holds throughout a block.
 module _ (u v : Naming Name) (R S : ℕ → Label → Type 0) (L : Placed) (make : (s : Sort) (j : ℕ) (scope : Scope Name) (t : Tree Name s) → Each (Both u v R S) j scope (occurrences t) → L s j scope t) where
-  each-names : (j : ℕ) (scope : Scope Name) (xs : List Name) → AllAt R j (map (label_of u (label_from_ordinal u) scope) xs) → AllAt S j (map (label_of v (label_from_ordinal v) scope) xs) → Each (Both u v R S) j scope xs
+  each-names : (j : ℕ) (scope : Scope Name) (xs : List Name) → AllAt R j (map (label_in_scope u (label_from_ordinal u) scope) xs) → AllAt S j (map (label_in_scope v (label_from_ordinal v) scope) xs) → Each (Both u v R S) j scope xs
   each-names j scope [] f g = tt
   each-names j scope (x ∷ xs) f g = ((f.0, g.0), each-names (suc j) scope xs f.1 g.1)
 
   pub each-uses : {s : Sort} (j : ℕ) (scope : Scope Name) (t : Tree Name s) → AllAt R j (occurrences (relabel_uses u (label_from_ordinal u) scope t)) → AllAt S j (occurrences (relabel_uses v (label_from_ordinal v) scope t)) → L s j scope t
   each-uses {s} j scope t f g =
-      make s j scope t (each-names j scope (occurrences t) (subst (AllAt R j) (occurrences-mapped (label_of u (label_from_ordinal u) scope) (label_from_ordinal u None) (λ n. n) t) f)
-      (subst (AllAt S j) (occurrences-mapped (label_of v (label_from_ordinal v) scope) (label_from_ordinal v None) (λ n. n) t) g))
+      make s j scope t (each-names j scope (occurrences t) (subst (AllAt R j) (occurrences-mapped (label_in_scope u (label_from_ordinal u) scope) (label_from_ordinal u None) (λ n. n) t) f)
+      (subst (AllAt S j) (occurrences-mapped (label_in_scope v (label_from_ordinal v) scope) (label_from_ordinal v None) (λ n. n) t) g))
 
   pub each-constants : (j : ℕ) (scope : Scope Name) (k : ℕ) (cs : Tree Name (items constant)) → AllAt R j (occurrences (relabel_constants u (label_from_ordinal u) scope k cs)) → AllAt S j (occurrences (relabel_constants v (label_from_ordinal v) scope k cs)) → EachConstant L j scope k cs
   each-constants j scope k end f g = tt
@@ -112,7 +112,7 @@ module _ (u v : Naming Name) (R S : ℕ → Label → Type 0) (L : Placed) (make
       let g' = cut S j (length (occurrences s)) (occurrences (relabel_parameter_section v (label_from_ordinal v) scope k s)) (occurrences (relabel_parameter_section_list v (label_from_ordinal v) (declare_names k (parameter_section_names s) scope) (ordinal_after_names k (parameter_section_names s)) fs)) (as_many-section v (label_from_ordinal v) scope k s) g in
       (each-section j scope k s f'.0 g'.0, each-sections (j + length (occurrences s)) (declare_names k (parameter_section_names s) scope) (ordinal_after_names k (parameter_section_names s)) fs f'.1 g'.1)
 
-  each-formals : (j : ℕ) (scope : Scope Name) (k : ℕ) (fs : Tree Name (maybe formals)) → AllAt R j (occurrences (relabel_formals u (label_from_ordinal u) scope k fs)) → AllAt S j (occurrences (relabel_formals v (label_from_ordinal v) scope k fs)) → EachSection L j scope k (formal_sections fs)
+  each-formals : (j : ℕ) (scope : Scope Name) (k : ℕ) (fs : Tree Name (maybe formals)) → AllAt R j (occurrences (relabel_formals u (label_from_ordinal u) scope k fs)) → AllAt S j (occurrences (relabel_formals v (label_from_ordinal v) scope k fs)) → EachSection L j scope k (formal_parameter_sections fs)
   each-formals j scope k none f g = tt
   each-formals j scope k (one no_formals) f g = tt
   each-formals j scope k (one (some_formals s fs)) f g = each-sections j scope k (more (semicolon_then_section s) fs) f g
@@ -171,8 +171,8 @@ module _ (u v : Naming Name) (R S : ℕ → Label → Type 0) (L : Placed) (make
 
     pub one-procedure : (j : ℕ) (scope : Scope Name) (k : ℕ) (p : Tree Name (item procedure)) → AllAt R j (occurrences (relabel_procedure u (label_from_ordinal u) scope k p)) → AllAt S j (occurrences (relabel_procedure v (label_from_ordinal v) scope k p)) → OneProcedure L j scope k p
     one-procedure j scope k (declares_procedure x fs b closing) f g =
-        let inner : Scope Name = declare_names (suc k) (formal_names (formal_sections fs)) ((x, k) ∷ scope) in
-        let n : ℕ = ordinal_after_names (suc k) (formal_names (formal_sections fs)) in
+        let inner : Scope Name = declare_names (suc k) (formal_parameter_names (formal_parameter_sections fs)) ((x, k) ∷ scope) in
+        let n : ℕ = ordinal_after_names (suc k) (formal_parameter_names (formal_parameter_sections fs)) in
         let f' = cut R j (length (occurrences fs)) (occurrences (relabel_formals u (label_from_ordinal u) scope (suc k) fs)) (occurrences (relabel_block u (label_from_ordinal u) inner n b)) (as_many-formals u (label_from_ordinal u) scope (suc k) fs) f in
         let g' = cut S j (length (occurrences fs)) (occurrences (relabel_formals v (label_from_ordinal v) scope (suc k) fs)) (occurrences (relabel_block v (label_from_ordinal v) inner n b)) (as_many-formals v (label_from_ordinal v) scope (suc k) fs) g in
         (each-formals j scope (suc k) fs f'.0 g'.0, each-block (j + length (occurrences fs)) inner n b f'.1 g'.1)
@@ -212,6 +212,6 @@ module _ (K L M : Placed) (make : (s : Sort) (j : ℕ) (scope : Scope Name) (t :
 
     both-one : (j : ℕ) (scope : Scope Name) (k : ℕ) (p : Tree Name (item procedure)) → OneProcedure K j scope k p → OneProcedure L j scope k p → OneProcedure M j scope k p
     both-one j scope k (declares_procedure x fs b closing) f g = (
-      both-sections j scope (suc k) (formal_sections fs) f.0 g.0,
-      both-block (j + length (occurrences fs)) (declare_names (suc k) (formal_names (formal_sections fs)) ((x, k) ∷ scope)) (ordinal_after_names (suc k) (formal_names (formal_sections fs))) b f.1 g.1,
+      both-sections j scope (suc k) (formal_parameter_sections fs) f.0 g.0,
+      both-block (j + length (occurrences fs)) (declare_names (suc k) (formal_parameter_names (formal_parameter_sections fs)) ((x, k) ∷ scope)) (ordinal_after_names (suc k) (formal_parameter_names (formal_parameter_sections fs))) b f.1 g.1,
     )

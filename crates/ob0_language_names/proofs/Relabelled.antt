@@ -2,7 +2,7 @@
 use Rattle.std.proofs.Common.{◌≡◌, ℕ, suc, ◌∷◌, Some, refl}
 use Rattle.ob0_tree.specs.Tree.{Tree, constants, declares_const_section, declares_type_section, declares_var_section, end, formals, name_after_comma, items, listed, maybe, more, names, no_formals, none, one, section, some_formals, comma_then_name, type_definitions, value_section, variable_section, variables}
 use Rattle.ob0_language_names.specs.Names.{Naming}
-use Rattle.ob0_language_names.specs.BlockParts.{formal_sections, names_after_first, names_in_list, section_constants, parameter_section_names, parameter_section_type, section_types, section_variables}
+use Rattle.ob0_language_names.specs.BlockParts.{formal_parameter_sections, names_after_first, names_in_list, section_constants, parameter_section_names, parameter_section_type, section_types, section_variables}
 use Rattle.ob0_language_names.specs.Scopes.{Labelling, Scope, labels_of_declared_names, relabel_constant_section, relabel_constants, relabel_formals, relabel_names_after_first, relabel_names, relabel_parameter_section, relabel_parameter_section_list, relabel_type_section, relabel_types, relabel_uses, relabel_variable_section, relabel_variables}
 
 pub further-relabel : {N M : Type 0} (label : Labelling N M) (k : ℕ) (xs : Tree N (items name_after_comma)) → names_after_first (relabel_names_after_first label k xs) ≡ labels_of_declared_names label k (names_after_first xs)
@@ -32,7 +32,7 @@ pub variables-section : {N M : Type 0} (naming : Naming N) (label : Labelling N 
 variables-section naming label scope k none = refl
 variables-section naming label scope k (one (declares_var_section vs)) = refl
 
-pub formals-section : {N M : Type 0} (naming : Naming N) (label : Labelling N M) (scope : Scope N) (k : ℕ) (fs : Tree N (maybe formals)) → formal_sections (relabel_formals naming label scope k fs) ≡ relabel_parameter_section_list naming label scope k (formal_sections fs)
+pub formals-section : {N M : Type 0} (naming : Naming N) (label : Labelling N M) (scope : Scope N) (k : ℕ) (fs : Tree N (maybe formals)) → formal_parameter_sections (relabel_formals naming label scope k fs) ≡ relabel_parameter_section_list naming label scope k (formal_parameter_sections fs)
 formals-section naming label scope k none = refl
 formals-section naming label scope k (one no_formals) = refl
 formals-section naming label scope k (one (some_formals s fs)) = refl

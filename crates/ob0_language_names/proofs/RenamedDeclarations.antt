@@ -5,12 +5,12 @@ use Rattle.ob0_language_names.specs.ConsistentNames.{are_distinct, names_declare
 use Rattle.ob0_language_names.specs.MappedNames.{map_names}
 use Rattle.ob0_language_names.specs.Names.{Name, Naming, naming_by_spelling, same_name}
 use Rattle.ob0_language_names.specs.Occurrences.{scopes_in_block, scopes_in_procedure, scopes_in_procedure_list, declares_ordinal, another_declaration_has_name}
-use Rattle.ob0_language_names.specs.BlockParts.{constant_names, formal_names, formal_sections, names_after_first, declared_type_names, names_in_list, procedure_name, section_constants, parameter_section_names, parameter_section_type, section_types, section_variables, variable_names}
-use Rattle.ob0_language_names.specs.RenamingLaws.{FreeRenamingKeepsConsistentNames}
+use Rattle.ob0_language_names.specs.BlockParts.{constant_names, formal_parameter_names, formal_parameter_sections, names_after_first, declared_type_names, names_in_list, procedure_name, section_constants, parameter_section_names, parameter_section_type, section_types, section_variables, variable_names}
+use Rattle.ob0_language_names.specs.RenamingLaws.{RenamingToFreeNameKeepsConsistentNames}
 use Rattle.ob0_language_names.proofs.DistinctNames.{Falls, distinct-onto, distinct-renamed, labels_in, new_name, onto, onto-append, own_name}
 use Rattle.ob0_language_names.proofs.Ordinals.{le-ordinal_after_procedure}
 use Rattle.ob0_language_names.proofs.Relabelled.{constants-section, formals-section, names-relabel, parameter_section_names-relabel, parameter_section_type-relabel, types-section, variables-section}
-use Rattle.ob0_language_names.specs.Scopes.{Labelling, Scope, ordinal_after_block, ordinal_after_names, ordinal_after_procedure, ordinal_after_procedure_list, body_scope, declare_names, declare_procedure_names, first_procedure_ordinal, first_type_ordinal, first_variable_ordinal, labels_of_declared_names, label_of, predeclared_scope, scope_before_procedures, relabel_block, relabel_constant_section, relabel_constants, relabel_procedure, relabel_procedure_list, relabel_parameter_section_list, relabel_type_section, relabel_types, relabel_variable_section, relabel_variables, scope_before_types, scope_before_variables}
+use Rattle.ob0_language_names.specs.Scopes.{Labelling, Scope, ordinal_after_block, ordinal_after_names, ordinal_after_procedure, ordinal_after_procedure_list, body_scope, declare_names, declare_procedure_names, first_procedure_ordinal, first_type_ordinal, first_variable_ordinal, labels_of_declared_names, label_in_scope, predeclared_scope, scope_before_procedures, relabel_block, relabel_constant_section, relabel_constants, relabel_procedure, relabel_procedure_list, relabel_parameter_section_list, relabel_type_section, relabel_types, relabel_variable_section, relabel_variables, scope_before_types, scope_before_variables}
 use Rattle.std.proofs.lemmas.Cmp.{nat_list_eq_equiv}
 use Rattle.std.proofs.lemmas.Bool.{and_from, and_parts, or_parts}
 use Rattle.std.proofs.lemmas.List.Folds.{list_any-append}
@@ -40,11 +40,11 @@ variables-labels naming label scope k (more (declares_variable ns t) gs) =
     (λ i. names-relabel label k ns i ++ variables-labels naming label (declare_names k (names_in_list ns) scope) (ordinal_after_names k (names_in_list ns)) gs i)
     ∙ sym (labels_of_declared_names-append label k (names_in_list ns) (variable_names gs))
 
-pub sections-labels : {N M : Type 0} (naming : Naming N) (label : Labelling N M) (scope : Scope N) (k : ℕ) (fs : Tree N (items section_after_semicolon)) → formal_names (relabel_parameter_section_list naming label scope k fs) ≡ labels_of_declared_names label k (formal_names fs)
+pub sections-labels : {N M : Type 0} (naming : Naming N) (label : Labelling N M) (scope : Scope N) (k : ℕ) (fs : Tree N (items section_after_semicolon)) → formal_parameter_names (relabel_parameter_section_list naming label scope k fs) ≡ labels_of_declared_names label k (formal_parameter_names fs)
 sections-labels naming label scope k end = refl
 sections-labels naming label scope k (more (semicolon_then_section s) fs) =
     (λ i. parameter_section_names-relabel naming label scope k s i ++ sections-labels naming label (declare_names k (parameter_section_names s) scope) (ordinal_after_names k (parameter_section_names s)) fs i)
-    ∙ sym (labels_of_declared_names-append label k (parameter_section_names s) (formal_names fs))
+    ∙ sym (labels_of_declared_names-append label k (parameter_section_names s) (formal_parameter_names fs))
 
 -- The labels in the scope after declarations are the declared names' labels in reverse, then the earlier labels.
 
@@ -149,17 +149,17 @@ mutual
 pub types_have_distinct_fields-renamed : (d : ℕ) (new : Name) (scope : Scope Name) (k : ℕ) (ds : Tree Name (items type_definition)) → types_have_distinct_fields (relabel_types naming_by_spelling (new_name d new) scope k ds) ≡ types_have_distinct_fields ds
 types_have_distinct_fields-renamed d new scope k end = refl
 types_have_distinct_fields-renamed d new scope k (more (declares_type x t) ds) = λ i.
-    has_distinct_fields-kept (label_of naming_by_spelling (new_name d new) scope) t i && types_have_distinct_fields-renamed d new ((x, k) ∷ scope) (suc k) ds i
+    has_distinct_fields-kept (label_in_scope naming_by_spelling (new_name d new) scope) t i && types_have_distinct_fields-renamed d new ((x, k) ∷ scope) (suc k) ds i
 
 pub variables_have_distinct_fields-renamed : (d : ℕ) (new : Name) (scope : Scope Name) (k : ℕ) (gs : Tree Name (items variable)) → variables_have_distinct_fields (relabel_variables naming_by_spelling (new_name d new) scope k gs) ≡ variables_have_distinct_fields gs
 variables_have_distinct_fields-renamed d new scope k end = refl
 variables_have_distinct_fields-renamed d new scope k (more (declares_variable ns t) gs) = λ i.
-    has_distinct_fields-kept (label_of naming_by_spelling (new_name d new) scope) t i && variables_have_distinct_fields-renamed d new (declare_names k (names_in_list ns) scope) (ordinal_after_names k (names_in_list ns)) gs i
+    has_distinct_fields-kept (label_in_scope naming_by_spelling (new_name d new) scope) t i && variables_have_distinct_fields-renamed d new (declare_names k (names_in_list ns) scope) (ordinal_after_names k (names_in_list ns)) gs i
 
 pub formals_have_distinct_fields-renamed : (d : ℕ) (new : Name) (scope : Scope Name) (k : ℕ) (fs : Tree Name (items section_after_semicolon)) → formals_have_distinct_fields (relabel_parameter_section_list naming_by_spelling (new_name d new) scope k fs) ≡ formals_have_distinct_fields fs
 formals_have_distinct_fields-renamed d new scope k end = refl
 formals_have_distinct_fields-renamed d new scope k (more (semicolon_then_section s) fs) = λ i.
-    (ap has_distinct_fields (parameter_section_type-relabel naming_by_spelling (new_name d new) scope k s) ∙ has_distinct_fields-kept (label_of naming_by_spelling (new_name d new) scope) (parameter_section_type s)) i
+    (ap has_distinct_fields (parameter_section_type-relabel naming_by_spelling (new_name d new) scope k s) ∙ has_distinct_fields-kept (label_in_scope naming_by_spelling (new_name d new) scope) (parameter_section_type s)) i
     && formals_have_distinct_fields-renamed d new (declare_names k (parameter_section_names s) scope) (ordinal_after_names k (parameter_section_names s)) fs i
 
 -- returns true if a block declares `d` and another declaration of the block has the new name
@@ -213,17 +213,17 @@ mutual
       → list_any (Clashes d new) (scopes_in_procedure (suc k) p) ≡ false → procedure_has_consistent_names p ≡ true → procedure_has_consistent_names (relabel_procedure naming_by_spelling (new_name d new) scope k p) ≡ true
   procedure_has_consistent_names-renamed d new k scope (declares_procedure x fs b closing) free once =
       let ren : Labelling Name Name = new_name d new in
-      let own : List Name = formal_names (formal_sections fs) in
+      let own : List Name = formal_parameter_names (formal_parameter_sections fs) in
       let inner : Scope Name = declare_names (suc k) own ((x, k) ∷ scope) in
-      let onces = and_parts (same_name x closing) (formals_have_distinct_fields (formal_sections fs) && block_has_consistent_names own b) once in
-      let onces₁ = and_parts (formals_have_distinct_fields (formal_sections fs)) (block_has_consistent_names own b) onces.1 in
+      let onces = and_parts (same_name x closing) (formals_have_distinct_fields (formal_parameter_sections fs) && block_has_consistent_names own b) once in
+      let onces₁ = and_parts (formals_have_distinct_fields (formal_parameter_sections fs)) (block_has_consistent_names own b) onces.1 in
       let labelled = formals-section naming_by_spelling ren scope (suc k) fs in
       and_from _ _ (same-renamed d new k x closing onces.0)
-      (and_from _ _ (ap formals_have_distinct_fields labelled ∙ (formals_have_distinct_fields-renamed d new scope (suc k) (formal_sections fs) ∙ onces₁.0))
-      (ap (λ xs. block_has_consistent_names xs (relabel_block naming_by_spelling ren inner (ordinal_after_names (suc k) own) b)) (ap formal_names labelled ∙ sections-labels naming_by_spelling ren scope (suc k) (formal_sections fs))
+      (and_from _ _ (ap formals_have_distinct_fields labelled ∙ (formals_have_distinct_fields-renamed d new scope (suc k) (formal_parameter_sections fs) ∙ onces₁.0))
+      (ap (λ xs. block_has_consistent_names xs (relabel_block naming_by_spelling ren inner (ordinal_after_names (suc k) own) b)) (ap formal_parameter_names labelled ∙ sections-labels naming_by_spelling ren scope (suc k) (formal_parameter_sections fs))
       ∙ block_has_consistent_names-renamed d new (suc k) own inner b free onces₁.1))
 
-pub free_renaming_keeps_consistent_names-holds : FreeRenamingKeepsConsistentNames
-free_renaming_keeps_consistent_names-holds (forms_module x b closing) d new free once =
+pub renaming_to_free_name_keeps_consistent_names-holds : RenamingToFreeNameKeepsConsistentNames
+renaming_to_free_name_keeps_consistent_names-holds (forms_module x b closing) d new free once =
     let onces = and_parts (same_name x closing) (block_has_consistent_names [] b) once in
     and_from _ _ onces.0 (block_has_consistent_names-renamed d new 7 [] (predeclared_scope naming_by_spelling) b free.0 onces.1)

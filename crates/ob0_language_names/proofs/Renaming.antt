@@ -1,11 +1,11 @@
 -- If every occurrence keeps its binding, the renamed module has the numbered tree of the original.
 use Rattle.std.proofs.Common.{◌≡◌, ℕ, suc, List, [], ◌∷◌, ◌++◌, if◌then◌else◌, Some, None, sym, refl, ap, ◌∙◌}
 use Rattle.ob0_tree.specs.Tree.{Sort, Tree, block, constant, constants, declares, declares_constant, declares_const_section, declares_procedure, declares_type, declares_type_section, declares_variable, declares_var_section, end, formals, name_after_comma, section_after_semicolon, forms_block, forms_module, item, items, listed, maybe, module_text, more, names, no_formals, none, occurrences, one, procedure, section, some_formals, comma_then_name, semicolon_then_section, type_definition, type_definitions, value_section, variable, variable_section, variables}
-use Rattle.ob0_language_names.specs.NumberingLaws.{FreeRenamingKeepsNumbering}
+use Rattle.ob0_language_names.specs.NumberingLaws.{RenamingToFreeNameKeepsNumbering}
 use Rattle.ob0_language_names.specs.Names.{Label, Name, Naming, naming_by_spelling, as_written, declared}
 use Rattle.ob0_language_names.specs.Occurrences.{bindings}
-use Rattle.ob0_language_names.specs.BlockParts.{constant_names, formal_names, formal_sections, declared_type_names, names_in_list, procedure_name, section_constants, parameter_section_names, section_types, section_variables, variable_names}
-use Rattle.ob0_language_names.specs.Scopes.{Labelling, Scope, ordinal_after_block, ordinal_after_names, ordinal_after_procedure, ordinal_after_procedure_list, label_from_ordinal, body_scope, declare_names, first_procedure_ordinal, first_type_ordinal, first_variable_ordinal, labels_of_declared_names, label_of, numbered, predeclared_scope, scope_before_procedures, relabel_block, relabel_constant_section, relabel_constants, relabel_formals, relabel_names_after_first, relabel_names, relabel_procedure, relabel_procedure_list, relabel_parameter_section, relabel_parameter_section_list, relabel_type_section, relabel_types, relabel_uses, relabel_variable_section, relabel_variables, renamed, same_ordinal, scope_before_types, scope_before_variables}
+use Rattle.ob0_language_names.specs.BlockParts.{constant_names, formal_parameter_names, formal_parameter_sections, declared_type_names, names_in_list, procedure_name, section_constants, parameter_section_names, section_types, section_variables, variable_names}
+use Rattle.ob0_language_names.specs.Scopes.{Labelling, Scope, ordinal_after_block, ordinal_after_names, ordinal_after_procedure, ordinal_after_procedure_list, label_from_ordinal, body_scope, declare_names, first_procedure_ordinal, first_type_ordinal, first_variable_ordinal, labels_of_declared_names, label_in_scope, numbered, predeclared_scope, scope_before_procedures, relabel_block, relabel_constant_section, relabel_constants, relabel_formals, relabel_names_after_first, relabel_names, relabel_procedure, relabel_procedure_list, relabel_parameter_section, relabel_parameter_section_list, relabel_type_section, relabel_types, relabel_uses, relabel_variable_section, relabel_variables, renamed, same_ordinal, scope_before_types, scope_before_variables}
 use Rattle.ob0_language_names.proofs.Ordinals.{ordinal_after_names-append}
 use Rattle.ob0_language_names.proofs.Peeling.{Peel, both, nothing, peel, to}
 use Rattle.ob0_language_names.proofs.Relabelled.{constants-section, formals-section, names-relabel, parameter_section_names-relabel, types-section, variables-section}
@@ -32,13 +32,13 @@ after_groups naming label scope j k (more (declares_variable ns u) gs) e =
     ∙ (after_groups naming label (declare_names k (names_in_list ns) scope) (ordinal_after_names j (labels_of_declared_names label k (names_in_list ns))) (ordinal_after_names k (names_in_list ns)) gs (ordinal_after_names-label label j k (names_in_list ns) e)
     ∙ sym (ordinal_after_names-append k (names_in_list ns) (variable_names gs))))
 
-pub after_sections : {N M : Type 0} (naming : Naming N) (label : Labelling N M) (scope : Scope N) (j k : ℕ) (fs : Tree N (items section_after_semicolon)) → j ≡ k → ordinal_after_names j (formal_names (relabel_parameter_section_list naming label scope k fs)) ≡ ordinal_after_names k (formal_names fs)
+pub after_sections : {N M : Type 0} (naming : Naming N) (label : Labelling N M) (scope : Scope N) (j k : ℕ) (fs : Tree N (items section_after_semicolon)) → j ≡ k → ordinal_after_names j (formal_parameter_names (relabel_parameter_section_list naming label scope k fs)) ≡ ordinal_after_names k (formal_parameter_names fs)
 after_sections naming label scope j k end e = e
 after_sections naming label scope j k (more (semicolon_then_section f) fs) e =
-    ap (λ xs. ordinal_after_names j (xs ++ formal_names (relabel_parameter_section_list naming label (declare_names k (parameter_section_names f) scope) (ordinal_after_names k (parameter_section_names f)) fs))) (parameter_section_names-relabel naming label scope k f)
-    ∙ (ordinal_after_names-append j (labels_of_declared_names label k (parameter_section_names f)) (formal_names (relabel_parameter_section_list naming label (declare_names k (parameter_section_names f) scope) (ordinal_after_names k (parameter_section_names f)) fs))
+    ap (λ xs. ordinal_after_names j (xs ++ formal_parameter_names (relabel_parameter_section_list naming label (declare_names k (parameter_section_names f) scope) (ordinal_after_names k (parameter_section_names f)) fs))) (parameter_section_names-relabel naming label scope k f)
+    ∙ (ordinal_after_names-append j (labels_of_declared_names label k (parameter_section_names f)) (formal_parameter_names (relabel_parameter_section_list naming label (declare_names k (parameter_section_names f) scope) (ordinal_after_names k (parameter_section_names f)) fs))
     ∙ (after_sections naming label (declare_names k (parameter_section_names f) scope) (ordinal_after_names j (labels_of_declared_names label k (parameter_section_names f))) (ordinal_after_names k (parameter_section_names f)) fs (ordinal_after_names-label label j k (parameter_section_names f) e)
-    ∙ sym (ordinal_after_names-append k (parameter_section_names f) (formal_names fs))))
+    ∙ sym (ordinal_after_names-append k (parameter_section_names f) (formal_parameter_names fs))))
 
 pub first_type_ordinal-relabel : {N M : Type 0} (naming : Naming N) (label : Labelling N M) (scope : Scope N) (j k : ℕ) (b : Tree N block) → j ≡ k → first_type_ordinal j (relabel_block naming label scope k b) ≡ first_type_ordinal k b
 first_type_ordinal-relabel naming label scope j k (forms_block (declares cs ts vs ps) statements) e =
@@ -68,8 +68,8 @@ mutual
 
   pub ordinal_after_procedure-relabel : {N M : Type 0} (naming : Naming N) (label : Labelling N M) (scope : Scope N) (j k : ℕ) (p : Tree N (item procedure)) → j ≡ k → ordinal_after_procedure (suc j) (relabel_procedure naming label scope k p) ≡ ordinal_after_procedure (suc k) p
   ordinal_after_procedure-relabel naming label scope j k (declares_procedure x fs b closing) e =
-      ordinal_after_block-relabel naming label (declare_names (suc k) (formal_names (formal_sections fs)) ((x, k) ∷ scope)) (ordinal_after_names (suc j) (formal_names (formal_sections (relabel_formals naming label scope (suc k) fs)))) (ordinal_after_names (suc k) (formal_names (formal_sections fs))) b
-      (ap (λ l. ordinal_after_names (suc j) (formal_names l)) (formals-section naming label scope (suc k) fs) ∙ after_sections naming label scope (suc j) (suc k) (formal_sections fs) (ap suc e))
+      ordinal_after_block-relabel naming label (declare_names (suc k) (formal_parameter_names (formal_parameter_sections fs)) ((x, k) ∷ scope)) (ordinal_after_names (suc j) (formal_parameter_names (formal_parameter_sections (relabel_formals naming label scope (suc k) fs)))) (ordinal_after_names (suc k) (formal_parameter_names (formal_parameter_sections fs))) b
+      (ap (λ l. ordinal_after_names (suc j) (formal_parameter_names l)) (formals-section naming label scope (suc k) fs) ∙ after_sections naming label scope (suc j) (suc k) (formal_parameter_sections fs) (ap suc e))
 
 -- Relabelling declarations twice is numbering them. `ren` relabels names and leaves unbound names unchanged. `here` is
 -- a scope of the original tree, and `there` the same scope of the relabelled tree.
@@ -88,7 +88,7 @@ pub peel_uses : {N : Type 0} {s : Sort} (naming : Naming N) (ren : Labelling N N
     → Peel Label (occurrences (relabel_uses naming (label_from_ordinal naming) there (relabel_uses naming ren here t))) (occurrences (relabel_uses naming (label_from_ordinal naming) here t))
     (relabel_uses naming (label_from_ordinal naming) there (relabel_uses naming ren here t) ≡ relabel_uses naming (label_from_ordinal naming) here t)
 peel_uses naming ren keeps there here t =
-    peel (label_of naming ren here) (ren None) (label_of naming (label_from_ordinal naming) there) (label_from_ordinal naming None) (label_of naming (label_from_ordinal naming) here) (label_from_ordinal naming None) (λ x i. as_written (naming.written (keeps x i))) t
+    peel (label_in_scope naming ren here) (ren None) (label_in_scope naming (label_from_ordinal naming) there) (label_from_ordinal naming None) (label_in_scope naming (label_from_ordinal naming) here) (label_from_ordinal naming None) (λ x i. as_written (naming.written (keeps x i))) t
 
 pub peel_constants : {N : Type 0} (naming : Naming N) (ren : Labelling N N) → LeavesUnbound ren → (there here : Scope N) (j k : ℕ) → j ≡ k → (cs : Tree N (items constant))
     → Peel Label (occurrences (relabel_constants naming (label_from_ordinal naming) there j (relabel_constants naming ren here k cs))) (occurrences (relabel_constants naming (label_from_ordinal naming) here k cs))
@@ -193,13 +193,13 @@ mutual
       → Peel Label (occurrences (relabel_procedure naming (label_from_ordinal naming) there j (relabel_procedure naming ren here k p))) (occurrences (relabel_procedure naming (label_from_ordinal naming) here k p))
       (relabel_procedure naming (label_from_ordinal naming) there j (relabel_procedure naming ren here k p) ≡ relabel_procedure naming (label_from_ordinal naming) here k p)
   peel_procedure {N} naming ren keeps there here j k jk (declares_procedure x fs b closing) =
-      let scope : Scope N = declare_names (suc k) (formal_names (formal_sections fs)) ((x, k) ∷ here) in
-      let n : ℕ = ordinal_after_names (suc k) (formal_names (formal_sections fs)) in
+      let scope : Scope N = declare_names (suc k) (formal_parameter_names (formal_parameter_sections fs)) ((x, k) ∷ here) in
+      let n : ℕ = ordinal_after_names (suc k) (formal_parameter_names (formal_parameter_sections fs)) in
       let fs' : Tree N (maybe formals) = relabel_formals naming ren here (suc k) fs in
-      let scope' : Scope N = declare_names (suc j) (formal_names (formal_sections fs')) ((ren (Some k) x, j) ∷ there) in
-      let n' : ℕ = ordinal_after_names (suc j) (formal_names (formal_sections fs')) in
+      let scope' : Scope N = declare_names (suc j) (formal_parameter_names (formal_parameter_sections fs')) ((ren (Some k) x, j) ∷ there) in
+      let n' : ℕ = ordinal_after_names (suc j) (formal_parameter_names (formal_parameter_sections fs')) in
       to (both (peel_formals naming ren keeps there here (suc j) (suc k) (ap suc jk) fs)
-      (peel_block naming ren keeps scope' scope n' n (ap (λ l. ordinal_after_names (suc j) (formal_names l)) (formals-section naming ren here (suc k) fs) ∙ after_sections naming ren here (suc j) (suc k) (formal_sections fs) (ap suc jk)) b))
+      (peel_block naming ren keeps scope' scope n' n (ap (λ l. ordinal_after_names (suc j) (formal_parameter_names l)) (formals-section naming ren here (suc k) fs) ∙ after_sections naming ren here (suc j) (suc k) (formal_parameter_sections fs) (ap suc jk)) b))
       (λ q i. declares_procedure (declared (jk i)) (q.first i) (q.second i) (declared (jk i)))
 
 -- A renaming that leaves each binding unchanged leaves the numbered tree unchanged.
@@ -209,5 +209,5 @@ renamed-numbered (forms_module x b closing) d new e =
     let p = (peel_block naming_by_spelling ren (λ x. refl) (predeclared_scope naming_by_spelling) (predeclared_scope naming_by_spelling) 7 7 refl b).peeled [] [] (ap (λ l. l ++ []) e) in
     λ i. forms_module (as_written x) (p.0 i) (as_written closing)
 
-pub free_renaming_keeps_numbering-holds : FreeRenamingKeepsNumbering
-free_renaming_keeps_numbering-holds m d new free = renamed-numbered m d new free.1
+pub renaming_to_free_name_keeps_numbering-holds : RenamingToFreeNameKeepsNumbering
+renaming_to_free_name_keeps_numbering-holds m d new free = renamed-numbered m d new free.1

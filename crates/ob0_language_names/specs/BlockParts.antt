@@ -29,10 +29,10 @@ section_variables none = end
 section_variables (one (declares_var_section vs)) = vs
 
 -- returns the sections of formal parameters as one list; an empty list if there are no parameters
-abbrev pub formal_sections : {N : Type 0} → Tree N (maybe formals) → Tree N (items section_after_semicolon)
-formal_sections none = end
-formal_sections (one no_formals) = end
-formal_sections (one (some_formals s rest)) = more (semicolon_then_section s) rest
+abbrev pub formal_parameter_sections : {N : Type 0} → Tree N (maybe formals) → Tree N (items section_after_semicolon)
+formal_parameter_sections none = end
+formal_parameter_sections (one no_formals) = end
+formal_parameter_sections (one (some_formals s rest)) = more (semicolon_then_section s) rest
 
 -- returns the constants that a block declares, in text order
 abbrev pub block_constants : {N : Type 0} → Tree N block → Tree N (items constant)
@@ -62,7 +62,7 @@ procedure_name (declares_procedure x fs b closing) = x
 abbrev pub procedure_formals : {N : Type 0}
     → Tree N (item procedure)
     → Tree N (items section_after_semicolon)
-procedure_formals (declares_procedure x fs b closing) = formal_sections fs
+procedure_formals (declares_procedure x fs b closing) = formal_parameter_sections fs
 
 -- returns the block of a procedure
 abbrev pub procedure_block : {N : Type 0} → Tree N (item procedure) → Tree N block
@@ -98,6 +98,6 @@ variable_names end = []
 variable_names (more (declares_variable ns t) gs) = names_in_list ns ++ variable_names gs
 
 -- returns the names of formal parameters, in text order
-abbrev pub formal_names : {N : Type 0} → Tree N (items section_after_semicolon) → List N
-formal_names end = []
-formal_names (more (semicolon_then_section s) fs) = parameter_section_names s ++ formal_names fs
+abbrev pub formal_parameter_names : {N : Type 0} → Tree N (items section_after_semicolon) → List N
+formal_parameter_names end = []
+formal_parameter_names (more (semicolon_then_section s) fs) = parameter_section_names s ++ formal_parameter_names fs

@@ -4,7 +4,7 @@
 use Rattle.std.specs.Prelude.{Bool, true, false, not, ◌&&◌, ◌||◌, List, [], ◌∷◌, ◌++◌}
 use Rattle.ob0_tree.specs.Tree.{Tree, array_type, block, declares, declares_procedure, declares_type, declares_variable, end, fields, fields_after_semicolon, section_after_semicolon, forms_block, forms_module, item, items, module_text, more, named_type, no_fields, procedure, record_type, some_fields, semicolon_then_fields, semicolon_then_section, type_definition, variable, written_type}
 use Rattle.ob0_language_names.specs.Names.{Name, same_name}
-use Rattle.ob0_language_names.specs.BlockParts.{block_constants, block_procedures, block_types, block_variables, constant_names, formal_names, formal_sections, declared_type_names, names_in_list, procedure_name, parameter_section_type, section_types, section_variables, variable_names}
+use Rattle.ob0_language_names.specs.BlockParts.{block_constants, block_procedures, block_types, block_variables, constant_names, formal_parameter_names, formal_parameter_sections, declared_type_names, names_in_list, procedure_name, parameter_section_type, section_types, section_variables, variable_names}
 
 -- returns whether a name is in a list
 abbrev pub is_among : Name → List Name → Bool
@@ -98,7 +98,7 @@ abbrev mutual
   pub procedure_has_consistent_names : Tree Name (item procedure) → Bool
   procedure_has_consistent_names (declares_procedure x fs b closing) =
       same_name x closing
-      && (formals_have_distinct_fields (formal_sections fs) && block_has_consistent_names (formal_names (formal_sections fs)) b)
+      && (formals_have_distinct_fields (formal_parameter_sections fs) && block_has_consistent_names (formal_parameter_names (formal_parameter_sections fs)) b)
 
 -- returns whether a module declares no name twice in a block or record, and each closing name
 -- equals the name of its module or procedure

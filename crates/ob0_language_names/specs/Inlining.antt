@@ -3,8 +3,8 @@
 use Rattle.std.specs.Prelude.{ℕ, suc, ◌+◌, Bool, length, if◌then◌else◌, ◌==◌}
 use Rattle.ob0_tree.specs.Tree.{Sort, Tree, adds, array_type, assigns, begins, block, branches, calls, compares, constant, constants, declares, declares_constant, declares_const_section, declares_procedure, declares_type, declares_type_section, declares_variable, declares_var_section, designator, else_branch, elsif_branch, empty, end, factor, field, forms_block, index, integer, forms_module, item, items, listed, maybe, module_text, more, multiplies, named_type, negation, no_arguments, no_fields, no_formals, none, occurrences, one, parenthesised, procedure, product, record_type, relates, repeat_loop, runs, some_arguments, some_fields, some_formals, sum, comma_then_argument, semicolon_then_fields, comma_then_name, semicolon_then_section, semicolon_then_statement, value_section, variable_section, while_loop}
 use Rattle.ob0_language_names.specs.Names.{Name}
-use Rattle.ob0_language_names.specs.Occurrences.{ordinal_bound_at}
-use Rattle.ob0_language_names.specs.BlockParts.{formal_names, formal_sections}
+use Rattle.ob0_language_names.specs.Occurrences.{ordinal_bound_at_occurrence}
+use Rattle.ob0_language_names.specs.BlockParts.{formal_parameter_names, formal_parameter_sections}
 use Rattle.ob0_language_names.specs.Scopes.{ordinal_after_names, ordinal_after_procedure, first_procedure_ordinal, predeclared_count, same_ordinal}
 
 -- a set of occurrences: a function that returns true for the number of each occurrence in the set; occurrences are
@@ -110,14 +110,14 @@ inlined m uses v = inline_in_tree uses v 0 m
 
 -- returns a list of constants without the constant with ordinal `d`; `k` is the ordinal of the first constant in the
 -- list
-abbrev pub constants_without_ordinal : ℕ → ℕ → Tree Name (items constant) → Tree Name (items constant)
-constants_without_ordinal d k end = end
-constants_without_ordinal d k (more c cs) = if k == d then cs else more c (constants_without_ordinal d (suc k) cs)
+abbrev pub constant_list_without_constant : ℕ → ℕ → Tree Name (items constant) → Tree Name (items constant)
+constant_list_without_constant d k end = end
+constant_list_without_constant d k (more c cs) = if k == d then cs else more c (constant_list_without_constant d (suc k) cs)
 
 -- returns a CONST section without the constant with ordinal `d`; `k` is the ordinal of the section's first constant
 abbrev pub section_without_constant : ℕ → ℕ → Tree Name (maybe constants) → Tree Name (maybe constants)
 section_without_constant d k none = none
-section_without_constant d k (one (declares_const_section cs)) = one (declares_const_section (constants_without_ordinal d k cs))
+section_without_constant d k (one (declares_const_section cs)) = one (declares_const_section (constant_list_without_constant d k cs))
 
 -- Returns a block without the constant with ordinal `d`. The word CONST remains even if no constant is left.
 abbrev mutual
@@ -138,7 +138,7 @@ abbrev mutual
   pub procedure_without_constant : ℕ → ℕ → Tree Name (item procedure) → Tree Name (item procedure)
   procedure_without_constant d k (declares_procedure x fs b closing) =
       declares_procedure x fs
-      (block_without_constant d (ordinal_after_names k (formal_names (formal_sections fs))) b) closing
+      (block_without_constant d (ordinal_after_names k (formal_parameter_names (formal_parameter_sections fs))) b) closing
 
 -- returns a module without the declaration of the constant with ordinal `d`
 abbrev pub module_without_constant : ℕ → Tree Name module_text → Tree Name module_text
@@ -149,10 +149,10 @@ abbrev pub single_occurrence : ℕ → OccurrenceSet
 single_occurrence occurrence k = k == occurrence
 
 -- returns the set of the occurrences that are bound to the declaration with ordinal `d`
-abbrev pub occurrences_bound_to : Tree Name module_text → ℕ → OccurrenceSet
-occurrences_bound_to m d k = same_ordinal (ordinal_bound_at m k) d
+abbrev pub occurrences_bound_to_ordinal : Tree Name module_text → ℕ → OccurrenceSet
+occurrences_bound_to_ordinal m d k = same_ordinal (ordinal_bound_at_occurrence m k) d
 
 -- Returns the module in which the factor `v` replaces each whole factor that is a use of the
 -- constant with ordinal `d`. The declaration of this constant is removed.
-abbrev pub inlined_everywhere : Tree Name module_text → ℕ → Tree Name factor → Tree Name module_text
-inlined_everywhere m d v = module_without_constant d (inlined m (occurrences_bound_to m d) v)
+abbrev pub inlined_everywhere_and_removed : Tree Name module_text → ℕ → Tree Name factor → Tree Name module_text
+inlined_everywhere_and_removed m d v = module_without_constant d (inlined m (occurrences_bound_to_ordinal m d) v)

@@ -8,8 +8,8 @@ use Rattle.ob0_language_names.specs.Scopes.{numbered, renamed}
 
 -- States that renaming a declaration to a free name doesn't change the module's numbered tree. In
 -- this tree, each bound name is replaced by the ordinal of its declaration.
-abbrev pub FreeRenamingKeepsNumbering : Type 0
-FreeRenamingKeepsNumbering =
+abbrev pub RenamingToFreeNameKeepsNumbering : Type 0
+RenamingToFreeNameKeepsNumbering =
     (m : Tree Name module_text) (d : ℕ) (new : Name)
     → IsFreeName m d new
     → numbered (renamed m d new) ≡ numbered m

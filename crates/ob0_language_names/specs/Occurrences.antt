@@ -2,8 +2,8 @@
 -- Rule: docs/LANGUAGE.md, Scopes 2 to 4; docs/PROTOCOL.md, Refusals of edits (Duplicate, Captures).
 use Rattle.std.specs.Prelude.{◌≡◌, ℕ, suc, Bool, false, not, ◌&&◌, List, [], ◌∷◌, ◌++◌, if◌then◌else◌, ◌==◌, slice_get, Some, None, Option, option_map, option_and_then}
 use Rattle.ob0_tree.specs.Tree.{Tree, block, declares, declares_procedure, end, forms_block, item, items, module_text, more, occurrences, procedure}
-use Rattle.ob0_language_names.specs.Names.{Label, Name, as_written, declared, same_label, same_name}
-use Rattle.ob0_language_names.specs.BlockParts.{formal_names, formal_sections, module_block}
+use Rattle.ob0_language_names.specs.Names.{Label, Name, as_written, declared, same_ordinal_label, same_name}
+use Rattle.ob0_language_names.specs.BlockParts.{formal_parameter_names, formal_parameter_sections, module_block}
 use Rattle.ob0_language_names.specs.Scopes.{Scope, ordinal_after_names, ordinal_after_procedure, body_scope, declare_names, first_procedure_ordinal, numbered, predeclared_count, renamed}
 use Rattle.std.specs.List.{list_any}
 
@@ -20,8 +20,8 @@ label_ordinal (as_written x) = None
 -- Returns the ordinal of the declaration that an occurrence is bound to. Occurrences are numbered from 0 in text order.
 -- A declaration's ordinal is its number in text order, after the predeclared names 0 to 6. Returns None if the
 -- occurrence is unbound or doesn't exist.
-abbrev pub ordinal_bound_at : Tree Name module_text → ℕ → Option ℕ
-ordinal_bound_at m occurrence = option_and_then label_ordinal (slice_get (bindings m) occurrence)
+abbrev pub ordinal_bound_at_occurrence : Tree Name module_text → ℕ → Option ℕ
+ordinal_bound_at_occurrence m occurrence = option_and_then label_ordinal (slice_get (bindings m) occurrence)
 
 -- Returns a list with the declarations of each block, as names with their ordinals. A procedure's parameters and its
 -- own declarations count as one block.
@@ -43,8 +43,8 @@ abbrev mutual
   -- declaration after it has ordinal `k`
   pub scopes_in_procedure : {N : Type 0} → ℕ → Tree N (item procedure) → List (Scope N)
   scopes_in_procedure k (declares_procedure x fs b closing) =
-      scopes_in_block (ordinal_after_names k (formal_names (formal_sections fs)))
-      (declare_names k (formal_names (formal_sections fs)) []) b
+      scopes_in_block (ordinal_after_names k (formal_parameter_names (formal_parameter_sections fs)))
+      (declare_names k (formal_parameter_names (formal_parameter_sections fs)) []) b
 
 -- returns whether one of the declarations `own` of a block has the ordinal `d`
 abbrev pub declares_ordinal : Scope Name → ℕ → Bool
@@ -69,7 +69,7 @@ IsFreeName m d new = (is_duplicate_name m d new ≡ false) × (bindings (renamed
 -- unbound name
 abbrev pub same_binding : Label → Label → Bool
 same_binding (as_written x) (as_written y) = same_name x y
-same_binding a b = same_label a b
+same_binding a b = same_ordinal_label a b
 
 -- returns the first index, counted from 0, at which two lists of labels differ; None if the lists agree up to the end
 -- of the shorter list

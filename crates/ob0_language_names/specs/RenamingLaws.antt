@@ -10,8 +10,8 @@ use Rattle.ob0_language_names.specs.ConsistentNames.{has_consistent_names}
 
 -- States that renaming a declaration to a free name keeps `has_consistent_names` true: no name is declared
 -- twice in a block or record, and the closing names are right.
-abbrev pub FreeRenamingKeepsConsistentNames : Type 0
-FreeRenamingKeepsConsistentNames =
+abbrev pub RenamingToFreeNameKeepsConsistentNames : Type 0
+RenamingToFreeNameKeepsConsistentNames =
     (m : Tree Name module_text) (d : ℕ) (new : Name)
     → IsFreeName m d new
     → IsTrue (has_consistent_names m)

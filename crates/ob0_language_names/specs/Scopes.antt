@@ -4,7 +4,7 @@ use Rattle.std.specs.Prelude.{ℕ, suc, Bool, true, false, List, [], ◌∷◌, 
 use Rattle.ob0_tree.specs.Tree.{Sort, Tree, block, constant, constants, declares, declares_constant, declares_const_section, declares_procedure, declares_type, declares_type_section, declares_variable, declares_var_section, end, formals, name_after_comma, section_after_semicolon, forms_block, forms_module, item, items, listed, maybe, module_text, more, names, no_formals, none, one, procedure, section, some_formals, comma_then_name, semicolon_then_section, type_definition, type_definitions, value_section, variable, variable_section, variables}
 use Rattle.ob0_language_names.specs.MappedNames.{map_names}
 use Rattle.ob0_language_names.specs.Names.{Label, Name, Naming, naming_by_spelling, as_written, declared}
-use Rattle.ob0_language_names.specs.BlockParts.{block_constants, block_procedures, block_types, block_variables, constant_names, formal_names, formal_sections, declared_type_names, names_in_list, procedure_name, section_constants, parameter_section_names, section_types, section_variables, variable_names}
+use Rattle.ob0_language_names.specs.BlockParts.{block_constants, block_procedures, block_types, block_variables, constant_names, formal_parameter_names, formal_parameter_sections, declared_type_names, names_in_list, procedure_name, section_constants, parameter_section_names, section_types, section_variables, variable_names}
 
 -- The bindings that are visible at a place in the text: names with the ordinals of their declarations. The newest
 -- binding comes first, and the predeclared names come last.
@@ -57,7 +57,7 @@ abbrev mutual
   -- name has ordinal `k - 1`, so the first declaration after it has ordinal `k`.
   pub ordinal_after_procedure : {N : Type 0} → ℕ → Tree N (item procedure) → ℕ
   ordinal_after_procedure k (declares_procedure x fs b closing) =
-      ordinal_after_block (ordinal_after_names k (formal_names (formal_sections fs))) b
+      ordinal_after_block (ordinal_after_names k (formal_parameter_names (formal_parameter_sections fs))) b
 
 -- A function that returns the label that replaces a name. Its arguments are the ordinal of the name's declaration, or
 -- None if the name is unbound, and the name itself.
@@ -65,8 +65,8 @@ abbrev pub Labelling : Type 0 → Type 0 → Type 0
 Labelling N M = Option ℕ → N → M
 
 -- returns the label of the looked-up name `x`; `scope` is the scope at the name's place in the text
-abbrev pub label_of : {N M : Type 0} → Naming N → Labelling N M → Scope N → N → M
-label_of naming label scope x = label (ordinal_in_scope naming scope x) x
+abbrev pub label_in_scope : {N M : Type 0} → Naming N → Labelling N M → Scope N → N → M
+label_in_scope naming label scope x = label (ordinal_in_scope naming scope x) x
 
 -- Returns an expression, a written type or statements, with labels instead of names. Such a tree
 -- contains no declarations. Its names are looked up in `scope`. The names of fields aren't looked
@@ -77,7 +77,7 @@ abbrev pub relabel_uses : {N M : Type 0} {s : Sort}
     → Scope N
     → Tree N s
     → Tree M s
-relabel_uses naming label scope = map_names (label_of naming label scope) (label None)
+relabel_uses naming label scope = map_names (label_in_scope naming label scope) (label None)
 
 -- returns the labels of declared names, whose ordinals count up from `k`
 abbrev pub labels_of_declared_names : {N M : Type 0} → Labelling N M → ℕ → List N → List M
@@ -322,8 +322,8 @@ abbrev mutual
   relabel_procedure naming label scope k (declares_procedure x fs b closing) =
       declares_procedure (label (Some k) x) (relabel_formals naming label scope (suc k) fs)
       (relabel_block naming label
-      (declare_names (suc k) (formal_names (formal_sections fs)) ((x, k) ∷ scope))
-      (ordinal_after_names (suc k) (formal_names (formal_sections fs))) b)
+      (declare_names (suc k) (formal_parameter_names (formal_parameter_sections fs)) ((x, k) ∷ scope))
+      (ordinal_after_names (suc k) (formal_parameter_names (formal_parameter_sections fs))) b)
       (label (Some k) closing)
 
 -- returns a module with labels instead of names; the name of the module gets the label of an unbound name, because it

@@ -3,20 +3,20 @@ use Rattle.std.proofs.Common.{◌≡◌, ℕ, zero, suc, ◌+◌, true, false, L
 use Rattle.ob0_tree.specs.Tree.{Tree, begins, block, body, constant, declares, declares_constant, declares_procedure, declares_type, declares_variable, end, formals, section_after_semicolon, forms_block, forms_module, item, items, maybe, module_text, more, none, one, procedure, section, semicolon_then_section, type_definition, value_section, variable, variable_section}
 use Rattle.ob0_language_names.specs.MappedNames.{map_names}
 use Rattle.ob0_language_names.specs.Names.{Label, Naming, naming_by_label, declared}
-use Rattle.ob0_language_names.specs.BlockParts.{block_statements, constant_names, formal_names, formal_sections, declared_type_names, names_in_list, procedure_formals, procedure_name, section_constants, parameter_section_names, section_types, section_variables, variable_names}
-use Rattle.ob0_language_names.specs.Scopes.{Labelling, Scope, ordinal_after_block, ordinal_after_names, ordinal_after_procedure, ordinal_after_procedure_list, label_from_ordinal, body_scope, declare_names, declare_procedure_names, first_procedure_ordinal, first_type_ordinal, first_variable_ordinal, labels_of_declared_names, label_of, predeclared_scope, scope_before_procedures, relabel_block, relabel_constants, relabel_formals, relabel_procedure, relabel_procedure_list, relabel_parameter_section, relabel_parameter_section_list, relabel_type_section, relabel_types, relabel_uses, relabel_variable_section, relabel_variables, relabel_module, scope_before_types, scope_before_variables}
+use Rattle.ob0_language_names.specs.BlockParts.{block_statements, constant_names, formal_parameter_names, formal_parameter_sections, declared_type_names, names_in_list, procedure_formals, procedure_name, section_constants, parameter_section_names, section_types, section_variables, variable_names}
+use Rattle.ob0_language_names.specs.Scopes.{Labelling, Scope, ordinal_after_block, ordinal_after_names, ordinal_after_procedure, ordinal_after_procedure_list, label_from_ordinal, body_scope, declare_names, declare_procedure_names, first_procedure_ordinal, first_type_ordinal, first_variable_ordinal, labels_of_declared_names, label_in_scope, predeclared_scope, scope_before_procedures, relabel_block, relabel_constants, relabel_formals, relabel_procedure, relabel_procedure_list, relabel_parameter_section, relabel_parameter_section_list, relabel_type_section, relabel_types, relabel_uses, relabel_variable_section, relabel_variables, relabel_module, scope_before_types, scope_before_variables}
 use Rattle.ob0_language_names.proofs.Ordinals.{ordinal_after_names-append, declare_names-append, le-ordinal_after_procedure}
 use Rattle.ob0_language_names.proofs.Relabelled.{constants-section, formals-section, names-relabel, types-section, variables-section}
-use Rattle.ob0_language_types.specs.Declarations.{constructors_before_variables, constructors_before_procedures, declare_constants, declare_constants_and_types, declare_types, formals_constructor_count, procedure_constructor_count, types_constructor_count, variables_constructor_count}
+use Rattle.ob0_language_types.specs.Declarations.{constructor_count_before_variables, constructor_count_before_procedures, declare_constants, declare_constants_and_types, declare_types, formals_constructor_count, procedure_constructor_count, types_constructor_count, variables_constructor_count}
 use Rattle.ob0_language_types.specs.Environments.{meanings, newest_object}
 use Rattle.ob0_language_types.specs.Expressions.{Object, a_constant, a_procedure, a_standard_procedure, a_type, a_variable, read_procedure, write_procedure, write_line_procedure}
-use Rattle.ob0_language_types.specs.Typing.{constant_of, constant_value, constructor_count, denoted_type, type_of_type_object}
+use Rattle.ob0_language_types.specs.Typing.{value_of_constant_object, constant_expression_value, constructor_count, denoted_type, type_of_type_object}
 use Rattle.ob0_language_values.specs.Values.{Place, Store, Value, boolean_shape, initial_value, integer_shape, truth}
 use Rattle.ob0_language_types.specs.WellTyped.{ParameterMode, by_place, by_value, parameter_section_mode}
 use Rattle.ob0_language_types.proofs.Agreeing.{Agree, HoldsOf, agree-map, agree-then, agree-value}
 use Rattle.ob0_language_types.proofs.Constructors.{formals_constructor_count-relabel, procedure_constructor_count-relabel, types_constructor_count-relabel, variables_constructor_count-relabel}
-use Rattle.ob0_language_types.proofs.TypeNaturality.{constant_value-map, constructor_count-map, denoted_type-map}
-use Rattle.ob0_language_runs.specs.Runs.{Activation, Argument, CallFunction, ProcedureText, Frame, Parameter, Progress, State, activate, add_variables_to_frame, bind_parameter, bind_parameters, call, declare_block, declare_procedures, declare_variables, execute_sequence, execute_body, run_result, formal_modes, continue_in_frame, parameters, object_for_statements, place_argument, run_with_naming, meanings_for_statements, value_argument, declare_procedures_in_frame}
+use Rattle.ob0_language_types.proofs.TypeNaturality.{constant_expression_value-map, constructor_count-map, denoted_type-map}
+use Rattle.ob0_language_runs.specs.Runs.{RunEnvironment, Argument, CallFunction, ProcedureText, Frame, Parameter, Progress, State, execute_newest_procedure, add_variables_to_frame, bind_parameter, bind_parameters, call, declare_block_in_frame, declare_procedures, declare_variables, execute_sequence, execute_body, run_result, formal_parameter_modes, continue_in_frame, parameters, object_for_statements, place_argument, run_with_naming, meanings_for_statements, value_argument, declare_procedures_in_frame}
 use Rattle.ob0_language_runs.proofs.Noted.{Below, Below-from, Noted, OwnName, by_name, by_name-from, by_ordinal, by_ordinal-from, noted_from, numbered_code, numbered_object, scope_of}
 use Rattle.ob0_language_runs.proofs.RunNaturality.{execute_sequence-map}
 
@@ -31,14 +31,14 @@ pub section-modes : {N M : Type 0} (naming : Naming N) (label : Labelling N M) (
 section-modes naming label scope k (value_section ns t) = ap (map (λ x. by_value)) (names-relabel label k ns) ∙ labels_of_declared_names-modes label by_value k (names_in_list ns)
 section-modes naming label scope k (variable_section ns t) = ap (map (λ x. by_place)) (names-relabel label k ns) ∙ labels_of_declared_names-modes label by_place k (names_in_list ns)
 
-pub relabel_formals-modes : {N M : Type 0} (naming : Naming N) (label : Labelling N M) (scope : Scope N) (k : ℕ) (fs : Tree N (items section_after_semicolon)) → formal_modes (relabel_parameter_section_list naming label scope k fs) ≡ formal_modes fs
+pub relabel_formals-modes : {N M : Type 0} (naming : Naming N) (label : Labelling N M) (scope : Scope N) (k : ℕ) (fs : Tree N (items section_after_semicolon)) → formal_parameter_modes (relabel_parameter_section_list naming label scope k fs) ≡ formal_parameter_modes fs
 relabel_formals-modes naming label scope k end = refl
 relabel_formals-modes naming label scope k (more (semicolon_then_section f) fs) = λ i.
     section-modes naming label scope k f i ++ relabel_formals-modes naming label (declare_names k (parameter_section_names f) scope) (ordinal_after_names k (parameter_section_names f)) fs i
 
-pub relabel_procedure-modes : {N M : Type 0} (naming : Naming N) (label : Labelling N M) (scope : Scope N) (k : ℕ) (p : Tree N (item procedure)) → formal_modes (procedure_formals (relabel_procedure naming label scope k p)) ≡ formal_modes (procedure_formals p)
+pub relabel_procedure-modes : {N M : Type 0} (naming : Naming N) (label : Labelling N M) (scope : Scope N) (k : ℕ) (p : Tree N (item procedure)) → formal_parameter_modes (procedure_formals (relabel_procedure naming label scope k p)) ≡ formal_parameter_modes (procedure_formals p)
 relabel_procedure-modes naming label scope k (declares_procedure x fs b closing) =
-    ap formal_modes (formals-section naming label scope (suc k) fs) ∙ relabel_formals-modes naming label scope (suc k) (formal_sections fs)
+    ap formal_parameter_modes (formals-section naming label scope (suc k) fs) ∙ relabel_formals-modes naming label scope (suc k) (formal_parameter_sections fs)
 
 pub object_for_statements-agrees : {N : Type 0} (naming : Naming N) (noted : Noted N) → object_for_statements (newest_object (by_ordinal naming noted)) ≡ object_for_statements (newest_object (by_name noted))
 object_for_statements-agrees naming [] = refl
@@ -51,11 +51,11 @@ object_for_statements-agrees naming (b ∷ noted) = of_object b.object
     of_object (a_procedure code) = λ i. Some (a_procedure (relabel_procedure-modes naming (label_from_ordinal naming) (scope_of noted) b.ordinal code.text i))
     of_object (a_standard_procedure p) = refl
 
-pub constant_of-agrees : {N : Type 0} (naming : Naming N) (noted : Noted N) → constant_of (newest_object (by_ordinal naming noted)) ≡ constant_of (newest_object (by_name noted))
-constant_of-agrees naming [] = refl
-constant_of-agrees naming (b ∷ noted) = of_object b.object
+pub value_of_constant_object-agrees : {N : Type 0} (naming : Naming N) (noted : Noted N) → value_of_constant_object (newest_object (by_ordinal naming noted)) ≡ value_of_constant_object (newest_object (by_name noted))
+value_of_constant_object-agrees naming [] = refl
+value_of_constant_object-agrees naming (b ∷ noted) = of_object b.object
   where
-    of_object : (o : Object Place (ProcedureText _)) → constant_of (Some (numbered_object naming (scope_of noted) b.ordinal o)) ≡ constant_of (Some o)
+    of_object : (o : Object Place (ProcedureText _)) → value_of_constant_object (Some (numbered_object naming (scope_of noted) b.ordinal o)) ≡ value_of_constant_object (Some o)
     of_object (a_type s) = refl
     of_object (a_constant v) = refl
     of_object (a_variable p) = refl
@@ -75,12 +75,12 @@ type_of_type_object-agrees naming (b ∷ noted) = of_object b.object
 
 -- returns the label of a looked-up name
 abbrev pub label_at_token : {N : Type 0} → Naming N → Noted N → N → Label
-label_at_token naming noted = label_of naming (label_from_ordinal naming) (scope_of noted)
+label_at_token naming noted = label_in_scope naming (label_from_ordinal naming) (scope_of noted)
 
-pub constants-agree : {N : Type 0} (naming : Naming N) (n : ℕ) (noted : Noted N) → Below n noted → (x : N) → constant_of ((meanings naming_by_label (by_ordinal naming noted)).object_for (label_at_token naming noted x)) ≡ constant_of ((meanings naming (by_name noted)).object_for x)
+pub constants-agree : {N : Type 0} (naming : Naming N) (n : ℕ) (noted : Noted N) → Below n noted → (x : N) → value_of_constant_object ((meanings naming_by_label (by_ordinal naming noted)).object_for (label_at_token naming noted x)) ≡ value_of_constant_object ((meanings naming (by_name noted)).object_for x)
 constants-agree naming n noted below x =
-    ap (λ env. constant_of (newest_object env)) (by_ordinal-from naming n noted x below) ∙ constant_of-agrees naming (noted_from naming noted x)
-    ∙ sym (ap (λ env. constant_of (newest_object env)) (by_name-from naming noted x))
+    ap (λ env. value_of_constant_object (newest_object env)) (by_ordinal-from naming n noted x below) ∙ value_of_constant_object-agrees naming (noted_from naming noted x)
+    ∙ sym (ap (λ env. value_of_constant_object (newest_object env)) (by_name-from naming noted x))
 
 pub types-agree : {N : Type 0} (naming : Naming N) (n : ℕ) (noted : Noted N) → Below n noted → (x : N) → type_of_type_object ((meanings naming_by_label (by_ordinal naming noted)).object_for (label_at_token naming noted x)) ≡ type_of_type_object ((meanings naming (by_name noted)).object_for x)
 types-agree naming n noted below x =
@@ -105,8 +105,8 @@ constants_declared naming k noted below (more (declares_constant x e) cs) =
     agree-value by_name (by_ordinal naming) (Within (ordinal_after_names (suc k) (constant_names cs)) (declare_names (suc k) (constant_names cs) ((x, k) ∷ scope_of noted)))
     (λ v. declare_constants naming ((x, a_constant v) ∷ by_name noted) cs)
     (λ v. declare_constants naming_by_label ((declared k, a_constant v) ∷ by_ordinal naming noted) (relabel_constants naming (label_from_ordinal naming) ((x, k) ∷ scope_of noted) (suc k) cs))
-    (constant_value (meanings naming (by_name noted)) e) (constant_value (meanings naming_by_label (by_ordinal naming noted)) (relabel_uses naming (label_from_ordinal naming) (scope_of noted) e))
-    (constant_value-map (label_at_token naming noted) (label_from_ordinal naming None) (meanings naming_by_label (by_ordinal naming noted)) (meanings naming (by_name noted)) e (constants-agree naming k noted below) (λ x. refl))
+    (constant_expression_value (meanings naming (by_name noted)) e) (constant_expression_value (meanings naming_by_label (by_ordinal naming noted)) (relabel_uses naming (label_from_ordinal naming) (scope_of noted) e))
+    (constant_expression_value-map (label_at_token naming noted) (label_from_ordinal naming None) (meanings naming_by_label (by_ordinal naming noted)) (meanings naming (by_name noted)) e (constants-agree naming k noted below) (λ x. refl))
     (λ v. constants_declared naming (suc k) (record { name = x; ordinal = k; object = a_constant v } ∷ noted) (le_refl (suc k), tt, below) cs)
 
 pub types_declared : {N : Type 0} (naming : Naming N) (j k : ℕ) (noted : Noted N) → Below k noted → (ds : Tree N (items type_definition))
@@ -115,7 +115,7 @@ pub types_declared : {N : Type 0} (naming : Naming N) (j k : ℕ) (noted : Noted
 unfolding declare_types
 types_declared naming j k noted below end = (Some noted, refl, refl, (refl, below))
 types_declared naming j k noted below (more (declares_type x u) ds) =
-    rw (constructor_count-map (label_of naming (label_from_ordinal naming) (scope_of noted)) ((label_from_ordinal naming) None) u)
+    rw (constructor_count-map (label_in_scope naming (label_from_ordinal naming) (scope_of noted)) ((label_from_ordinal naming) None) u)
     (agree-value by_name (by_ordinal naming) (Within (ordinal_after_names (suc k) (declared_type_names ds)) (declare_names (suc k) (declared_type_names ds) ((x, k) ∷ scope_of noted)))
     (λ s. declare_types naming ((x, a_type s) ∷ by_name noted) (j + constructor_count u) ds)
     (λ s. declare_types naming_by_label ((declared k, a_type s) ∷ by_ordinal naming noted) (j + constructor_count u) (relabel_types naming (label_from_ordinal naming) ((x, k) ∷ scope_of noted) (suc k) ds))
@@ -176,7 +176,7 @@ pub variables_declared : {N : Type 0} (naming : Naming N) (j k : ℕ) (f : Noted
 unfolding declare_variables
 variables_declared naming j k f below end = (Some f, refl, refl, (refl, below))
 variables_declared naming j k f below (more (declares_variable ns u) gs) =
-    rw (constructor_count-map (label_of naming (label_from_ordinal naming) (scope_of f.noted)) (label_from_ordinal naming None) u, names-relabel (label_from_ordinal naming) k ns)
+    rw (constructor_count-map (label_in_scope naming (label_from_ordinal naming) (scope_of f.noted)) (label_from_ordinal naming None) u, names-relabel (label_from_ordinal naming) k ns)
     (agree-value frame_by_name (frame_by_ordinal naming) (FrameWithin (ordinal_after_names k (names_in_list ns ++ variable_names gs)) (declare_names k (names_in_list ns ++ variable_names gs) (scope_of f.noted)))
     (λ s. declare_variables naming (j + constructor_count u) gs (add_variables_to_frame (names_in_list ns) (initial_value s) (frame_by_name f)))
     (λ s. declare_variables naming_by_label (j + constructor_count u) (relabel_variables naming (label_from_ordinal naming) (declare_names k (names_in_list ns) (scope_of f.noted)) (ordinal_after_names k (names_in_list ns)) gs) (add_variables_to_frame (labels_of_declared_names (label_from_ordinal naming) k (names_in_list ns)) (initial_value s) (frame_by_ordinal naming f)))
@@ -258,8 +258,8 @@ rest_declared {N} naming j₁ j₂ k f below gs ps =
 
 pub block_declared : {N : Type 0} (naming : Naming N) (j k : ℕ) (f : NotedFrame N) → Below k f.noted → (b : Tree N block)
     → Agree frame_by_name (frame_by_ordinal naming) (FrameWithin (ordinal_after_block k b) (body_scope k b (scope_of f.noted)))
-    (declare_block naming j b (frame_by_name f)) (declare_block naming_by_label j (relabel_block naming (label_from_ordinal naming) (scope_of f.noted) k b) (frame_by_ordinal naming f))
-unfolding declare_block
+    (declare_block_in_frame naming j b (frame_by_name f)) (declare_block_in_frame naming_by_label j (relabel_block naming (label_from_ordinal naming) (scope_of f.noted) k b) (frame_by_ordinal naming f))
+unfolding declare_block_in_frame
 block_declared {N} naming j k f below (forms_block (declares cs ts vs ps) statements) =
     let b : Tree N block = forms_block (declares cs ts vs ps) statements in
     let scope : Scope N = scope_of f.noted in
@@ -268,27 +268,27 @@ block_declared {N} naming j k f below (forms_block (declares cs ts vs ps) statem
     let vs-same : variables_constructor_count (section_variables (relabel_variable_section naming (label_from_ordinal naming) (scope_before_variables k b scope) (first_variable_ordinal k b) vs)) ≡ variables_constructor_count (section_variables vs) =
     ap variables_constructor_count (variables-section naming (label_from_ordinal naming) (scope_before_variables k b scope) (first_variable_ordinal k b) vs) ∙ variables_constructor_count-relabel naming (label_from_ordinal naming) (scope_before_variables k b scope) (first_variable_ordinal k b) (section_variables vs) in
     agree-then by_name (by_ordinal naming) (Within (first_variable_ordinal k b) (scope_before_variables k b scope)) frame_by_name (frame_by_ordinal naming) (FrameWithin (ordinal_after_block k b) (body_scope k b scope))
-    (λ env. option_map (declare_procedures_in_frame (constructors_before_procedures j b) ps) (declare_variables naming (constructors_before_variables j b) (section_variables vs) record { env = env; store = f.store }))
-    (λ env. option_map (declare_procedures_in_frame (constructors_before_procedures j (relabel_block naming (label_from_ordinal naming) scope k b)) (relabel_procedure_list naming (label_from_ordinal naming) (scope_before_procedures k b scope) (first_procedure_ordinal k b) ps))
-    (declare_variables naming_by_label (constructors_before_variables j (relabel_block naming (label_from_ordinal naming) scope k b)) (section_variables (relabel_variable_section naming (label_from_ordinal naming) (scope_before_variables k b scope) (first_variable_ordinal k b) vs)) record { env = env; store = f.store }))
+    (λ env. option_map (declare_procedures_in_frame (constructor_count_before_procedures j b) ps) (declare_variables naming (constructor_count_before_variables j b) (section_variables vs) record { env = env; store = f.store }))
+    (λ env. option_map (declare_procedures_in_frame (constructor_count_before_procedures j (relabel_block naming (label_from_ordinal naming) scope k b)) (relabel_procedure_list naming (label_from_ordinal naming) (scope_before_procedures k b scope) (first_procedure_ordinal k b) ps))
+    (declare_variables naming_by_label (constructor_count_before_variables j (relabel_block naming (label_from_ordinal naming) scope k b)) (section_variables (relabel_variable_section naming (label_from_ordinal naming) (scope_before_variables k b scope) (first_variable_ordinal k b) vs)) record { env = env; store = f.store }))
     (declare_constants_and_types naming (by_name f.noted) j b) (declare_constants_and_types naming_by_label (by_ordinal naming f.noted) j (relabel_block naming (label_from_ordinal naming) scope k b))
     (firsts_declared naming j k f.noted below b)
     (λ inner within. subst (λ s. Agree frame_by_name (frame_by_ordinal naming) (FrameWithin (ordinal_after_block k b) (declare_procedure_names (first_procedure_ordinal k b) ps (declare_names (first_variable_ordinal k b) (variable_names (section_variables vs)) s)))
-    (option_map (declare_procedures_in_frame (constructors_before_procedures j b) ps) (declare_variables naming (constructors_before_variables j b) (section_variables vs) record { env = by_name inner; store = f.store }))
-    (option_map (declare_procedures_in_frame (constructors_before_procedures j (relabel_block naming (label_from_ordinal naming) scope k b)) (relabel_procedure_list naming (label_from_ordinal naming) (declare_names (first_variable_ordinal k b) (variable_names (section_variables vs)) s) (first_procedure_ordinal k b) ps))
-    (declare_variables naming_by_label (constructors_before_variables j (relabel_block naming (label_from_ordinal naming) scope k b)) (section_variables (relabel_variable_section naming (label_from_ordinal naming) s (first_variable_ordinal k b) vs)) record { env = by_ordinal naming inner; store = f.store })))
+    (option_map (declare_procedures_in_frame (constructor_count_before_procedures j b) ps) (declare_variables naming (constructor_count_before_variables j b) (section_variables vs) record { env = by_name inner; store = f.store }))
+    (option_map (declare_procedures_in_frame (constructor_count_before_procedures j (relabel_block naming (label_from_ordinal naming) scope k b)) (relabel_procedure_list naming (label_from_ordinal naming) (declare_names (first_variable_ordinal k b) (variable_names (section_variables vs)) s) (first_procedure_ordinal k b) ps))
+    (declare_variables naming_by_label (constructor_count_before_variables j (relabel_block naming (label_from_ordinal naming) scope k b)) (section_variables (relabel_variable_section naming (label_from_ordinal naming) s (first_variable_ordinal k b) vs)) record { env = by_ordinal naming inner; store = f.store })))
     within.0
     (subst₂ (λ u v. Agree frame_by_name (frame_by_ordinal naming) (FrameWithin (ordinal_after_block k b) (declare_procedure_names (first_procedure_ordinal k b) ps (declare_names (first_variable_ordinal k b) (variable_names (section_variables vs)) (scope_of inner))))
-    (option_map (declare_procedures_in_frame (constructors_before_procedures j b) ps) (declare_variables naming (constructors_before_variables j b) (section_variables vs) record { env = by_name inner; store = f.store }))
+    (option_map (declare_procedures_in_frame (constructor_count_before_procedures j b) ps) (declare_variables naming (constructor_count_before_variables j b) (section_variables vs) record { env = by_name inner; store = f.store }))
     (option_map (declare_procedures_in_frame (j + u + v) (relabel_procedure_list naming (label_from_ordinal naming) (declare_names (first_variable_ordinal k b) (variable_names (section_variables vs)) (scope_of inner)) (first_procedure_ordinal k b) ps))
     (declare_variables naming_by_label (j + u) (section_variables (relabel_variable_section naming (label_from_ordinal naming) (scope_of inner) (first_variable_ordinal k b) vs)) record { env = by_ordinal naming inner; store = f.store })))
     (sym ts-same) (sym vs-same)
     (subst (λ gs. Agree frame_by_name (frame_by_ordinal naming) (FrameWithin (ordinal_after_block k b) (declare_procedure_names (first_procedure_ordinal k b) ps (declare_names (first_variable_ordinal k b) (variable_names (section_variables vs)) (scope_of inner))))
-    (option_map (declare_procedures_in_frame (constructors_before_procedures j b) ps) (declare_variables naming (constructors_before_variables j b) (section_variables vs) record { env = by_name inner; store = f.store }))
-    (option_map (declare_procedures_in_frame (constructors_before_procedures j b) (relabel_procedure_list naming (label_from_ordinal naming) (declare_names (first_variable_ordinal k b) (variable_names (section_variables vs)) (scope_of inner)) (first_procedure_ordinal k b) ps))
-    (declare_variables naming_by_label (constructors_before_variables j b) gs record { env = by_ordinal naming inner; store = f.store })))
+    (option_map (declare_procedures_in_frame (constructor_count_before_procedures j b) ps) (declare_variables naming (constructor_count_before_variables j b) (section_variables vs) record { env = by_name inner; store = f.store }))
+    (option_map (declare_procedures_in_frame (constructor_count_before_procedures j b) (relabel_procedure_list naming (label_from_ordinal naming) (declare_names (first_variable_ordinal k b) (variable_names (section_variables vs)) (scope_of inner)) (first_procedure_ordinal k b) ps))
+    (declare_variables naming_by_label (constructor_count_before_variables j b) gs record { env = by_ordinal naming inner; store = f.store })))
     (sym (variables-section naming (label_from_ordinal naming) (scope_of inner) (first_variable_ordinal k b) vs))
-    (rest_declared naming (constructors_before_variables j b) (constructors_before_procedures j b) (first_variable_ordinal k b) record { noted = inner; store = f.store } within.1 (section_variables vs) ps))))
+    (rest_declared naming (constructor_count_before_variables j b) (constructor_count_before_procedures j b) (first_variable_ordinal k b) record { noted = inner; store = f.store } within.1 (section_variables vs) ps))))
 
 -- `parameter_names` returns the names of parameters. `label_parameters` returns the parameters with labels instead of
 -- names.
@@ -308,9 +308,9 @@ pub parameter_names-append : {N : Type 0} (m : ParameterMode) (xs : List N) (ps 
 parameter_names-append m [] ps = refl
 parameter_names-append m (x ∷ xs) ps = λ i. x ∷ parameter_names-append m xs ps i
 
-pub formal_names-parameters : {N : Type 0} (fs : Tree N (items section_after_semicolon)) → parameter_names (parameters fs) ≡ formal_names fs
-formal_names-parameters end = refl
-formal_names-parameters (more (semicolon_then_section f) fs) = parameter_names-append (parameter_section_mode f) (parameter_section_names f) (parameters fs) ∙ ap (λ ys. parameter_section_names f ++ ys) (formal_names-parameters fs)
+pub formal_parameter_names-parameters : {N : Type 0} (fs : Tree N (items section_after_semicolon)) → parameter_names (parameters fs) ≡ formal_parameter_names fs
+formal_parameter_names-parameters end = refl
+formal_parameter_names-parameters (more (semicolon_then_section f) fs) = parameter_names-append (parameter_section_mode f) (parameter_section_names f) (parameters fs) ∙ ap (λ ys. parameter_section_names f ++ ys) (formal_parameter_names-parameters fs)
 
 pub label_parameters-append : {N M : Type 0} (label : Labelling N M) (m : ParameterMode) (k : ℕ) (xs : List N) (ps : List (Parameter N)) → map (with_mode m) (labels_of_declared_names label k xs) ++ label_parameters label (ordinal_after_names k xs) ps ≡ label_parameters label k (map (with_mode m) xs ++ ps)
 label_parameters-append label m k [] ps = refl
@@ -370,7 +370,7 @@ continue_in_frame-agrees naming P s r q here there (a, e, e', holds) next =
 -- ---- calls
 
 -- holds if calls do the same by name and by ordinal; this is the induction hypothesis for a smaller bound
-abbrev pub CallsAgree : {N : Type 0} → Naming N → (Activation Label → CallFunction Label) → (Activation N → CallFunction N) → Type 0
+abbrev pub CallsAgree : {N : Type 0} → Naming N → (RunEnvironment Label → CallFunction Label) → (RunEnvironment N → CallFunction N) → Type 0
 CallsAgree {N} naming there here =
     (n : ℕ) (noted : Noted N) → Below n noted → (x : N) → there (by_ordinal naming noted) (label_at_token naming noted x) ≡ here (by_name noted) x
 
@@ -378,7 +378,7 @@ pub statements-relabel : {N : Type 0} (naming : Naming N) (scope : Scope N) (k :
 statements-relabel naming scope k (forms_block (declares cs ts vs ps) statements) = refl
 
 -- The statements of a declared block do the same by name and by ordinal, in its frame.
-pub block-agrees : {N : Type 0} (naming : Naming N) (there : Activation Label → CallFunction Label) (here : Activation N → CallFunction N) (known : CallsAgree naming there here) (t k : ℕ) (scope : Scope N) (b : Tree N block) (f : NotedFrame N)
+pub block-agrees : {N : Type 0} (naming : Naming N) (there : RunEnvironment Label → CallFunction Label) (here : RunEnvironment N → CallFunction N) (known : CallsAgree naming there here) (t k : ℕ) (scope : Scope N) (b : Tree N block) (f : NotedFrame N)
     → FrameWithin (ordinal_after_block k b) (body_scope k b scope) f
     → execute_body naming_by_label (by_ordinal naming f.noted) (there (by_ordinal naming f.noted)) t (block_statements (relabel_block naming (label_from_ordinal naming) scope k b)) ≡ execute_body naming (by_name f.noted) (here (by_name f.noted)) t (block_statements b)
 block-agrees naming there here known t k scope b f within =
@@ -391,45 +391,45 @@ block-agrees naming there here known t k scope b f within =
 pub activation_declared : {N : Type 0} (naming : Naming N) (j k : ℕ) (f : NotedFrame N) → Below (suc k) f.noted → (x : N) (outer : Scope N) → scope_of f.noted ≡ (x, k) ∷ outer
     → (fs : Tree N (maybe formals)) (b : Tree N block) (args : List Argument)
     → Agree frame_by_name (frame_by_ordinal naming)
-    (FrameWithin (ordinal_after_block (ordinal_after_names (suc k) (formal_names (formal_sections fs))) b) (body_scope (ordinal_after_names (suc k) (formal_names (formal_sections fs))) b (declare_names (suc k) (formal_names (formal_sections fs)) ((x, k) ∷ outer))))
-    (option_and_then (declare_block naming (j + formals_constructor_count (formal_sections fs)) b) (bind_parameters (parameters (formal_sections fs)) args (frame_by_name f)))
-    (option_and_then (declare_block naming_by_label (j + formals_constructor_count (formal_sections (relabel_formals naming (label_from_ordinal naming) outer (suc k) fs))) (relabel_block naming (label_from_ordinal naming) (declare_names (suc k) (formal_names (formal_sections fs)) ((x, k) ∷ outer)) (ordinal_after_names (suc k) (formal_names (formal_sections fs))) b))
-    (bind_parameters (parameters (formal_sections (relabel_formals naming (label_from_ordinal naming) outer (suc k) fs))) args (frame_by_ordinal naming f)))
+    (FrameWithin (ordinal_after_block (ordinal_after_names (suc k) (formal_parameter_names (formal_parameter_sections fs))) b) (body_scope (ordinal_after_names (suc k) (formal_parameter_names (formal_parameter_sections fs))) b (declare_names (suc k) (formal_parameter_names (formal_parameter_sections fs)) ((x, k) ∷ outer))))
+    (option_and_then (declare_block_in_frame naming (j + formals_constructor_count (formal_parameter_sections fs)) b) (bind_parameters (parameters (formal_parameter_sections fs)) args (frame_by_name f)))
+    (option_and_then (declare_block_in_frame naming_by_label (j + formals_constructor_count (formal_parameter_sections (relabel_formals naming (label_from_ordinal naming) outer (suc k) fs))) (relabel_block naming (label_from_ordinal naming) (declare_names (suc k) (formal_parameter_names (formal_parameter_sections fs)) ((x, k) ∷ outer)) (ordinal_after_names (suc k) (formal_parameter_names (formal_parameter_sections fs))) b))
+    (bind_parameters (parameters (formal_parameter_sections (relabel_formals naming (label_from_ordinal naming) outer (suc k) fs))) args (frame_by_ordinal naming f)))
 activation_declared {N} naming j k f below x outer e fs b args =
-    let n : ℕ = ordinal_after_names (suc k) (formal_names (formal_sections fs)) in
-    let scope : Scope N = declare_names (suc k) (formal_names (formal_sections fs)) ((x, k) ∷ outer) in
+    let n : ℕ = ordinal_after_names (suc k) (formal_parameter_names (formal_parameter_sections fs)) in
+    let scope : Scope N = declare_names (suc k) (formal_parameter_names (formal_parameter_sections fs)) ((x, k) ∷ outer) in
     let Goal : ℕ → List (Parameter Label) → Type 0 = λ m ps. Agree frame_by_name (frame_by_ordinal naming) (FrameWithin (ordinal_after_block n b) (body_scope n b scope))
-    (option_and_then (declare_block naming (j + formals_constructor_count (formal_sections fs)) b) (bind_parameters (parameters (formal_sections fs)) args (frame_by_name f)))
-    (option_and_then (declare_block naming_by_label (j + m) (relabel_block naming (label_from_ordinal naming) scope n b)) (bind_parameters ps args (frame_by_ordinal naming f))) in
-    let labelled : formal_sections (relabel_formals naming (label_from_ordinal naming) outer (suc k) fs) ≡ relabel_parameter_section_list naming (label_from_ordinal naming) outer (suc k) (formal_sections fs) = formals-section naming (label_from_ordinal naming) outer (suc k) fs in
-    subst₂ Goal (sym (ap formals_constructor_count labelled ∙ formals_constructor_count-relabel naming (label_from_ordinal naming) outer (suc k) (formal_sections fs)))
-    (sym (ap parameters labelled ∙ relabel_formals-parameters naming (label_from_ordinal naming) outer (suc k) (formal_sections fs)))
+    (option_and_then (declare_block_in_frame naming (j + formals_constructor_count (formal_parameter_sections fs)) b) (bind_parameters (parameters (formal_parameter_sections fs)) args (frame_by_name f)))
+    (option_and_then (declare_block_in_frame naming_by_label (j + m) (relabel_block naming (label_from_ordinal naming) scope n b)) (bind_parameters ps args (frame_by_ordinal naming f))) in
+    let labelled : formal_parameter_sections (relabel_formals naming (label_from_ordinal naming) outer (suc k) fs) ≡ relabel_parameter_section_list naming (label_from_ordinal naming) outer (suc k) (formal_parameter_sections fs) = formals-section naming (label_from_ordinal naming) outer (suc k) fs in
+    subst₂ Goal (sym (ap formals_constructor_count labelled ∙ formals_constructor_count-relabel naming (label_from_ordinal naming) outer (suc k) (formal_parameter_sections fs)))
+    (sym (ap parameters labelled ∙ relabel_formals-parameters naming (label_from_ordinal naming) outer (suc k) (formal_parameter_sections fs)))
     (agree-then frame_by_name (frame_by_ordinal naming) (FrameWithin n scope) frame_by_name (frame_by_ordinal naming) (FrameWithin (ordinal_after_block n b) (body_scope n b scope))
-    (declare_block naming (j + formals_constructor_count (formal_sections fs)) b) (declare_block naming_by_label (j + formals_constructor_count (formal_sections fs)) (relabel_block naming (label_from_ordinal naming) scope n b))
-    (bind_parameters (parameters (formal_sections fs)) args (frame_by_name f)) (bind_parameters (label_parameters (label_from_ordinal naming) (suc k) (parameters (formal_sections fs))) args (frame_by_ordinal naming f))
-    (subst₂ (λ xs inner. Agree frame_by_name (frame_by_ordinal naming) (FrameWithin (ordinal_after_names (suc k) xs) (declare_names (suc k) xs inner)) (bind_parameters (parameters (formal_sections fs)) args (frame_by_name f)) (bind_parameters (label_parameters (label_from_ordinal naming) (suc k) (parameters (formal_sections fs))) args (frame_by_ordinal naming f)))
-    (formal_names-parameters (formal_sections fs)) e (parameters_bound naming (suc k) f below (parameters (formal_sections fs)) args))
-    (λ g within. subst (λ s. Agree frame_by_name (frame_by_ordinal naming) (FrameWithin (ordinal_after_block n b) (body_scope n b s)) (declare_block naming (j + formals_constructor_count (formal_sections fs)) b (frame_by_name g)) (declare_block naming_by_label (j + formals_constructor_count (formal_sections fs)) (relabel_block naming (label_from_ordinal naming) s n b) (frame_by_ordinal naming g)))
-    within.0 (block_declared naming (j + formals_constructor_count (formal_sections fs)) n g within.1 b)))
+    (declare_block_in_frame naming (j + formals_constructor_count (formal_parameter_sections fs)) b) (declare_block_in_frame naming_by_label (j + formals_constructor_count (formal_parameter_sections fs)) (relabel_block naming (label_from_ordinal naming) scope n b))
+    (bind_parameters (parameters (formal_parameter_sections fs)) args (frame_by_name f)) (bind_parameters (label_parameters (label_from_ordinal naming) (suc k) (parameters (formal_parameter_sections fs))) args (frame_by_ordinal naming f))
+    (subst₂ (λ xs inner. Agree frame_by_name (frame_by_ordinal naming) (FrameWithin (ordinal_after_names (suc k) xs) (declare_names (suc k) xs inner)) (bind_parameters (parameters (formal_parameter_sections fs)) args (frame_by_name f)) (bind_parameters (label_parameters (label_from_ordinal naming) (suc k) (parameters (formal_parameter_sections fs))) args (frame_by_ordinal naming f)))
+    (formal_parameter_names-parameters (formal_parameter_sections fs)) e (parameters_bound naming (suc k) f below (parameters (formal_parameter_sections fs)) args))
+    (λ g within. subst (λ s. Agree frame_by_name (frame_by_ordinal naming) (FrameWithin (ordinal_after_block n b) (body_scope n b s)) (declare_block_in_frame naming (j + formals_constructor_count (formal_parameter_sections fs)) b (frame_by_name g)) (declare_block_in_frame naming_by_label (j + formals_constructor_count (formal_parameter_sections fs)) (relabel_block naming (label_from_ordinal naming) s n b) (frame_by_ordinal naming g)))
+    within.0 (block_declared naming (j + formals_constructor_count (formal_parameter_sections fs)) n g within.1 b)))
 
-pub activate-agrees : {N : Type 0} (naming : Naming N) (there : Activation Label → CallFunction Label) (here : Activation N → CallFunction N) → CallsAgree naming there here → (t n : ℕ) (noted : Noted N) → Below n noted
-    → (args : List Argument) (s : State) → activate naming_by_label there t (by_ordinal naming noted) args s ≡ activate naming here t (by_name noted) args s
-unfolding activate
-activate-agrees naming there here known t n [] below args s = refl
-activate-agrees {N} naming there here known t n (b ∷ noted) below args s = of_object b.object below.1
+pub execute_newest_procedure-agrees : {N : Type 0} (naming : Naming N) (there : RunEnvironment Label → CallFunction Label) (here : RunEnvironment N → CallFunction N) → CallsAgree naming there here → (t n : ℕ) (noted : Noted N) → Below n noted
+    → (args : List Argument) (s : State) → execute_newest_procedure naming_by_label there t (by_ordinal naming noted) args s ≡ execute_newest_procedure naming here t (by_name noted) args s
+unfolding execute_newest_procedure
+execute_newest_procedure-agrees naming there here known t n [] below args s = refl
+execute_newest_procedure-agrees {N} naming there here known t n (b ∷ noted) below args s = of_object b.object below.1
   where
     of_text : (j : ℕ) (p : Tree N (item procedure)) → procedure_name p ≡ b.name
-        → activate naming_by_label there t ((declared b.ordinal, a_procedure (numbered_code naming (scope_of noted) b.ordinal record { constructors_before = j; text = p })) ∷ by_ordinal naming noted) args s
-        ≡ activate naming here t ((b.name, a_procedure record { constructors_before = j; text = p }) ∷ by_name noted) args s
+        → execute_newest_procedure naming_by_label there t ((declared b.ordinal, a_procedure (numbered_code naming (scope_of noted) b.ordinal record { constructors_before = j; text = p })) ∷ by_ordinal naming noted) args s
+        ≡ execute_newest_procedure naming here t ((b.name, a_procedure record { constructors_before = j; text = p }) ∷ by_name noted) args s
     of_text j (declares_procedure x fs inner closing) e =
-        let k : ℕ = ordinal_after_names (suc b.ordinal) (formal_names (formal_sections fs)) in
-        let scope : Scope N = declare_names (suc b.ordinal) (formal_names (formal_sections fs)) ((x, b.ordinal) ∷ scope_of noted) in
+        let k : ℕ = ordinal_after_names (suc b.ordinal) (formal_parameter_names (formal_parameter_sections fs)) in
+        let scope : Scope N = declare_names (suc b.ordinal) (formal_parameter_names (formal_parameter_sections fs)) ((x, b.ordinal) ∷ scope_of noted) in
         let f : NotedFrame N = record { noted = record { name = b.name; ordinal = b.ordinal; object = a_procedure record { constructors_before = j; text = declares_procedure x fs inner closing } } ∷ noted; store = s.store } in
         continue_in_frame-agrees naming (FrameWithin (ordinal_after_block k inner) (body_scope k inner scope)) s _ _ _ _
         (activation_declared naming j b.ordinal f (le_refl (suc b.ordinal), e, below.2) x (scope_of noted) (λ i. (sym e i, b.ordinal) ∷ scope_of noted) fs inner args)
         (λ g within. block-agrees naming there here known t k scope inner g within)
 
-    of_object : (o : Object Place (ProcedureText N)) → OwnName b.name o → activate naming_by_label there t ((declared b.ordinal, numbered_object naming (scope_of noted) b.ordinal o) ∷ by_ordinal naming noted) args s ≡ activate naming here t ((b.name, o) ∷ by_name noted) args s
+    of_object : (o : Object Place (ProcedureText N)) → OwnName b.name o → execute_newest_procedure naming_by_label there t ((declared b.ordinal, numbered_object naming (scope_of noted) b.ordinal o) ∷ by_ordinal naming noted) args s ≡ execute_newest_procedure naming here t ((b.name, o) ∷ by_name noted) args s
     of_object (a_type shape) own = refl
     of_object (a_constant v) own = refl
     of_object (a_variable p) own = refl
@@ -441,9 +441,9 @@ pub calls-agree : {N : Type 0} (naming : Naming N) (c t : ℕ) → CallsAgree na
 unfolding call
 calls-agree naming zero t n noted below x = refl
 calls-agree naming (suc c) t n noted below x = λ i args s.
-    (ap (λ env. activate naming_by_label (call naming_by_label c t) t env args s) (by_ordinal-from naming n noted x below)
-    ∙ (activate-agrees naming (call naming_by_label c t) (call naming c t) (calls-agree naming c t) t n (noted_from naming noted x) (Below-from naming n noted x below) args s
-    ∙ sym (ap (λ env. activate naming (call naming c t) t env args s) (by_name-from naming noted x)))) i
+    (ap (λ env. execute_newest_procedure naming_by_label (call naming_by_label c t) t env args s) (by_ordinal-from naming n noted x below)
+    ∙ (execute_newest_procedure-agrees naming (call naming_by_label c t) (call naming c t) (calls-agree naming c t) t n (noted_from naming noted x) (Below-from naming n noted x below) args s
+    ∙ sym (ap (λ env. execute_newest_procedure naming (call naming c t) t env args s) (by_name-from naming noted x)))) i
 
 -- the noted environment of the outermost block, which has the predeclared names
 abbrev pub noted_outermost : {N : Type 0} → Naming N → Noted N

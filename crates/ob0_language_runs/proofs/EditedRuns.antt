@@ -2,13 +2,13 @@
 use Rattle.std.proofs.Common.{List, None, Option, Some, [], ap, arith, false, if◌then◌else◌, le_refl, length, map, option_and_then, option_map, refl, subst, subst₂, suc, sym, true, zero, ℕ, ℤ, ⊎_elim, ◌++◌, ◌+◌, ◌<◌, ◌∙◌, ◌∷◌, ◌≡◌, ◌≤◌}
 use Rattle.ob0_tree.specs.Tree.{Tree, begins, block, body, declares, declares_procedure, declares_variable, end, formals, section_after_semicolon, forms_block, forms_module, item, items, maybe, module_text, more, none, occurrences, one, procedure, sequence, semicolon_then_section, value_section, variable, variable_section}
 use Rattle.ob0_language_names.specs.Names.{Name, naming_by_spelling, same_name}
-use Rattle.ob0_language_names.specs.BlockParts.{block_statements, constant_names, formal_names, formal_sections, declared_type_names, names_in_list, procedure_formals, procedure_name, section_constants, section_types, section_variables, variable_names}
+use Rattle.ob0_language_names.specs.BlockParts.{block_statements, constant_names, formal_parameter_names, formal_parameter_sections, declared_type_names, names_in_list, procedure_formals, procedure_name, section_constants, section_types, section_variables, variable_names}
 use Rattle.ob0_language_names.proofs.EditedTrees.{Edit, SameAt, edited, edited_block, edited_procedure, edited_procedures, inline-nothing, leaf, leaving_out, left-module, map_names-same, writing, written-module}
 use Rattle.ob0_language_names.proofs.Ordinals.{ordinal_after_names-append, le-ordinal_after_names, le-ordinal_after_procedure}
 use Rattle.ob0_language_names.proofs.Places.{EachBlock, EachProcedure, EachVariable, OneProcedure}
 use Rattle.ob0_language_values.specs.Values.{Place, Store, Stuck, Value, initial_value, truth}
-use Rattle.ob0_language_types.specs.ConstantValues.{ConstantEnvironment, non_constant_placeholder, constant_value_in_block, constant_value_in_procedure, constant_value_in_procedures}
-use Rattle.ob0_language_types.specs.Declarations.{constructors_before_variables, constructors_before_procedures, declare_constants, declare_constants_and_types, formals_constructor_count, procedure_constructor_count, types_constructor_count, variables_constructor_count}
+use Rattle.ob0_language_types.specs.ConstantValues.{ConstantEnvironment, non_constant_placeholder, constant_value_in_block, constant_value_in_procedure, constant_value_in_procedure_list}
+use Rattle.ob0_language_types.specs.Declarations.{constructor_count_before_variables, constructor_count_before_procedures, declare_constants, declare_constants_and_types, formals_constructor_count, procedure_constructor_count, types_constructor_count, variables_constructor_count}
 use Rattle.ob0_language_types.specs.Environments.{meanings}
 use Rattle.ob0_language_types.specs.Expressions.{Meanings, Object, a_constant, a_procedure, a_standard_procedure, a_type, a_variable}
 use Rattle.ob0_language_types.specs.Typing.{constructor_count, denoted_type}
@@ -24,8 +24,8 @@ use Rattle.ob0_language_types.proofs.Leaves.{AllStay, Here, Literal, denoted_typ
 use Rattle.ob0_language_types.proofs.Literals.{IsSeen, literal-has_value, some_inverse}
 use Rattle.ob0_language_types.proofs.Marks.{IsRight, Mark, Marks, OfProcedure, Sound, Sound-from, Stays, found, is_left, knowns, marks_from, not-left, object_as, object_of, read, read-from, read_edited, read_edited-from, scope_marked}
 use Rattle.ob0_language_runs.specs.EditLaws.{InliningKeepsTypingAndRuns, RemovingUnusedConstantKeepsTypingAndRuns}
-use Rattle.ob0_language_runs.specs.Runs.{Activation, Argument, CallFunction, ProcedureText, Frame, Parameter, Progress, State, activate, add_variables_to_frame, bind_parameter, bind_parameters, call, declare_block, declare_procedures, declare_variables, execute_sequence, execute_body, run_result, formal_modes, continue_in_frame, parameters, object_for_statements, place_argument, run, run_with_naming, meanings_for_statements, stopped, value_argument, declare_procedures_in_frame}
-use Rattle.ob0_language_runs.proofs.ByOrdinal.{formal_names-parameters, parameter_names}
+use Rattle.ob0_language_runs.specs.Runs.{RunEnvironment, Argument, CallFunction, ProcedureText, Frame, Parameter, Progress, State, execute_newest_procedure, add_variables_to_frame, bind_parameter, bind_parameters, call, declare_block_in_frame, declare_procedures, declare_variables, execute_sequence, execute_body, run_result, formal_parameter_modes, continue_in_frame, parameters, object_for_statements, place_argument, run, run_with_naming, meanings_for_statements, stopped, value_argument, declare_procedures_in_frame}
+use Rattle.ob0_language_runs.proofs.ByOrdinal.{formal_parameter_names-parameters, parameter_names}
 use Rattle.ob0_language_runs.proofs.InlinedStatements.{execute_sequence-written}
 use Rattle.ob0_language_runs.proofs.RunNaturality.{execute_sequence-map}
 use Rattle.ob0_language_names.specs.Scopes.{Scope, ordinal_after_block, ordinal_after_names, ordinal_after_procedure, ordinal_after_procedure_list, body_scope, declare_names, declare_procedure_names, first_procedure_ordinal, first_type_ordinal, first_variable_ordinal, ordinal_in_scope, predeclared_scope, scope_before_procedures, scope_before_variables}
@@ -58,13 +58,13 @@ LeftRun edit w = Left edit w (IsText edit w)
 
 -- An edit leaves the modes of a procedure's parameters unchanged.
 
-pub sections-modes : (edit : Edit) (j : ℕ) (fs : Tree Name (items section_after_semicolon)) → formal_modes (leaf edit j fs) ≡ formal_modes fs
+pub sections-modes : (edit : Edit) (j : ℕ) (fs : Tree Name (items section_after_semicolon)) → formal_parameter_modes (leaf edit j fs) ≡ formal_parameter_modes fs
 sections-modes edit j end = refl
 sections-modes edit j (more (semicolon_then_section (value_section ns t)) fs) = λ i. map (λ x. by_value) (names_in_list ns) ++ sections-modes edit (j + length (occurrences t)) fs i
 sections-modes edit j (more (semicolon_then_section (variable_section ns t)) fs) = λ i. map (λ x. by_place) (names_in_list ns) ++ sections-modes edit (j + length (occurrences t)) fs i
 
-pub procedure-modes : (edit : Edit) (j k : ℕ) (p : Tree Name (item procedure)) → formal_modes (procedure_formals (edited_procedure edit j k p)) ≡ formal_modes (procedure_formals p)
-procedure-modes edit j k (declares_procedure x fs b closing) = ap formal_modes (formals-of edit j fs) ∙ sections-modes edit j (formal_sections fs)
+pub procedure-modes : (edit : Edit) (j k : ℕ) (p : Tree Name (item procedure)) → formal_parameter_modes (procedure_formals (edited_procedure edit j k p)) ≡ formal_parameter_modes (procedure_formals p)
+procedure-modes edit j k (declares_procedure x fs b closing) = ap formal_parameter_modes (formals-of edit j fs) ∙ sections-modes edit j (formal_parameter_sections fs)
 
 object_for_statements-kept : (edit : Edit) (o : Option (Mark Place Text)) → object_for_statements (option_map (object_of (after edit)) o) ≡ object_for_statements (option_map (object_of before) o)
 object_for_statements-kept edit None = refl
@@ -83,7 +83,7 @@ meanings_after edit marks = meanings_for_statements naming_by_spelling (read_edi
 abbrev pub meanings_before : Marks Place Text → Meanings Name Place (List ParameterMode)
 meanings_before marks = meanings_for_statements naming_by_spelling (read before marks)
 
-pub seen-object_for_statements : (env : Activation Name) (w : Value) → IsSeen (meanings naming_by_spelling env) w → IsSeen (meanings_for_statements naming_by_spelling env) w
+pub seen-object_for_statements : (env : RunEnvironment Name) (w : Value) → IsSeen (meanings naming_by_spelling env) w → IsSeen (meanings_for_statements naming_by_spelling env) w
 seen-object_for_statements env (truth true) e = ap object_for_statements e
 seen-object_for_statements env (truth false) e = ap object_for_statements e
 seen-object_for_statements env _ e = tt
@@ -115,7 +115,7 @@ run-same edit w marks there here kept (x ∷ xs) known = (
   run-same edit w marks there here kept xs known.1,
 )
 
-pub execute_sequence-alike : (there here : Activation Name) (enter_there enter_here : CallFunction Name) (t : ℕ) (a : Tree Name sequence) → SameAt (run_tag (meanings_for_statements naming_by_spelling there) enter_there) (run_tag (meanings_for_statements naming_by_spelling here) enter_here) (occurrences a)
+pub execute_sequence-alike : (there here : RunEnvironment Name) (enter_there enter_here : CallFunction Name) (t : ℕ) (a : Tree Name sequence) → SameAt (run_tag (meanings_for_statements naming_by_spelling there) enter_there) (run_tag (meanings_for_statements naming_by_spelling here) enter_here) (occurrences a)
     → execute_sequence (meanings_for_statements naming_by_spelling there) enter_there t a ≡ execute_sequence (meanings_for_statements naming_by_spelling here) enter_here t a
 execute_sequence-alike there here enter_there enter_here t a e =
     sym (execute_sequence-map (run_tag (meanings_for_statements naming_by_spelling there) enter_there) run_field run_tagged (λ x. x.entering) t a)
@@ -161,7 +161,7 @@ pub names_of-places : (xs : List Name) (v : Value) (store : Store) → names_of 
 names_of-places [] v store = refl
 names_of-places (x ∷ xs) v store = λ i. x ∷ names_of-places xs v (store ++ v ∷ []) i
 
-pub add_variables_to_frame-places : (xs : List Name) (v : Value) (env : Activation Name) (store : Store) → add_variables_to_frame xs v record { env = env; store = store } ≡ record { env = bind_all (places xs v store) env; store = stored xs v store }
+pub add_variables_to_frame-places : (xs : List Name) (v : Value) (env : RunEnvironment Name) (store : Store) → add_variables_to_frame xs v record { env = env; store = store } ≡ record { env = bind_all (places xs v store) env; store = stored xs v store }
 add_variables_to_frame-places [] v env store = refl
 add_variables_to_frame-places (x ∷ xs) v env store = add_variables_to_frame-places xs v ((x, a_variable record { variable = length store; path = [] }) ∷ env) (store ++ v ∷ [])
 
@@ -228,13 +228,13 @@ procedures-before i j k (more p rest) marks =
 
 pub own-outside : (edit : Edit) (w : Value) (known : ConstantEnvironment) (k : ℕ) (p : Tree Name (item procedure)) → HasValueBetween edit w k (ordinal_after_procedure (suc k) p) (constant_value_in_procedure known edit.constant (suc k) p) → Outside edit k (suc k)
 own-outside edit w known k (declares_procedure x fs b closing) has_value l m =
-    let above : suc k ≤ ordinal_after_names (suc k) (formal_names (formal_sections fs)) = le-ordinal_after_names (suc k) (formal_names (formal_sections fs)) in
+    let above : suc k ≤ ordinal_after_names (suc k) (formal_parameter_names (formal_parameter_sections fs)) = le-ordinal_after_names (suc k) (formal_parameter_names (formal_parameter_sections fs)) in
     bind_procedure-outside edit w known k x closing fs b has_value l (omega (arith, m, above))
 
 edited_procedure-name : (edit : Edit) (j k : ℕ) (p : Tree Name (item procedure)) → procedure_name (edited_procedure edit j k p) ≡ procedure_name p
 edited_procedure-name edit j k (declares_procedure x fs b closing) = refl
 
-pub procedures-after : (edit : Edit) (w : Value) (i j k : ℕ) (ps : Tree Name (items procedure)) (marks : Marks Place Text) → HasValueBetween edit w k (ordinal_after_procedure_list k ps) (constant_value_in_procedures (knowns marks) edit.constant k ps)
+pub procedures-after : (edit : Edit) (w : Value) (i j k : ℕ) (ps : Tree Name (items procedure)) (marks : Marks Place Text) → HasValueBetween edit w k (ordinal_after_procedure_list k ps) (constant_value_in_procedure_list (knowns marks) edit.constant k ps)
     → declare_procedures i (edited_procedures edit j k ps) (read_edited edit (after edit) marks) ≡ read_edited edit (after edit) (mark_procedures i j k ps marks)
 procedures-after edit w i j k end marks has_value = refl
 procedures-after edit w i j k (more p rest) marks has_value =
@@ -252,7 +252,7 @@ abbrev pub RightFrame : Edit → Value → ℕ → Scope Name → MarkedFrame �
 RightFrame edit w n scope f = (scope_marked f.marks ≡ scope) × Run_sound edit w n f.marks
 
 pub procedures-right : (edit : Edit) (w : Value) (i j k : ℕ) (ps : Tree Name (items procedure)) (marks : Marks Place Text) → Run_sound edit w k marks → 7 ≤ k → EachProcedure (Here edit w) j (scope_marked marks) k ps
-    → HasValueBetween edit w k (ordinal_after_procedure_list k ps) (constant_value_in_procedures (knowns marks) edit.constant k ps)
+    → HasValueBetween edit w k (ordinal_after_procedure_list k ps) (constant_value_in_procedure_list (knowns marks) edit.constant k ps)
     → (scope_marked (mark_procedures i j k ps marks) ≡ declare_procedure_names k ps (scope_marked marks)) × Run_sound edit w (ordinal_after_procedure_list k ps) (mark_procedures i j k ps marks)
 procedures-right edit w i j k end marks s seven here has_value = (refl, s)
 procedures-right edit w i j k (more p rest) marks s seven here has_value =
@@ -268,8 +268,8 @@ procedures-right edit w i j k (more p rest) marks s seven here has_value =
 pub block-kept : (edit : Edit) (w : Value) → Literal edit w → (i j k : ℕ) (f : MarkedFrame) → Run_sound edit w k f.marks → 7 ≤ k → (b : Tree Name block)
     → EachBlock (Here edit w) j (scope_marked f.marks) k b → HasValueBetween edit w k (ordinal_after_block k b) (constant_value_in_block (knowns f.marks) edit.constant k b)
     → Agree frame_before (frame_after edit) (RightFrame edit w (ordinal_after_block k b) (body_scope k b (scope_marked f.marks)))
-    (declare_block naming_by_spelling i b (frame_before f)) (declare_block naming_by_spelling i (edited_block edit j k b) (frame_after edit f))
-unfolding declare_block
+    (declare_block_in_frame naming_by_spelling i b (frame_before f)) (declare_block_in_frame naming_by_spelling i (edited_block edit j k b) (frame_after edit f))
+unfolding declare_block_in_frame
 block-kept edit w lit i j k f s seven (forms_block (declares cs ts vs ps) statements) here has_value =
     let b : Tree Name block = forms_block (declares cs ts vs ps) statements in
     let jt : ℕ = j + length (occurrences cs) in
@@ -282,16 +282,16 @@ block-kept edit w lit i j k f s seven (forms_block (declares cs ts vs ps) statem
     let over : k ≤ first_procedure_ordinal k b = procedures-below k b in
     let Middle : Marks Place Text → Type 0 = LeftRun edit w (first_variable_ordinal k b) (scope_before_variables k b (scope_marked f.marks)) known in
     let Result : MarkedFrame → Type 0 = RightFrame edit w (ordinal_after_block k b) (body_scope k b (scope_marked f.marks)) in
-    let there : ℕ → ℕ → Tree Name (items variable) → Activation Name → Option (Frame Name) = λ n m gs env. option_map (declare_procedures_in_frame (i + n + m) ps') (declare_variables naming_by_spelling (i + n) gs record { env = env; store = f.store }) in
-    subst (λ gs. Agree frame_before (frame_after edit) Result (declare_block naming_by_spelling i b (frame_before f))
+    let there : ℕ → ℕ → Tree Name (items variable) → RunEnvironment Name → Option (Frame Name) = λ n m gs env. option_map (declare_procedures_in_frame (i + n + m) ps') (declare_variables naming_by_spelling (i + n) gs record { env = env; store = f.store }) in
+    subst (λ gs. Agree frame_before (frame_after edit) Result (declare_block_in_frame naming_by_spelling i b (frame_before f))
     (option_and_then (there (types_constructor_count (section_types (leaf edit jt ts))) (variables_constructor_count (section_variables (leaf edit jv vs))) gs) (declare_constants_and_types naming_by_spelling (read_edited edit (after edit) f.marks) i (edited_block edit j k b))))
     (sym (variables-of edit jv vs))
-    (subst₂ (λ n m. Agree frame_before (frame_after edit) Result (declare_block naming_by_spelling i b (frame_before f))
+    (subst₂ (λ n m. Agree frame_before (frame_after edit) Result (declare_block_in_frame naming_by_spelling i b (frame_before f))
     (option_and_then (there n m (leaf edit jv (section_variables vs))) (declare_constants_and_types naming_by_spelling (read_edited edit (after edit) f.marks) i (edited_block edit j k b))))
     (sym (ap types_constructor_count (types-of edit jt ts) ∙ types_constructor_count-leaf edit jt (section_types ts)))
     (sym (ap variables_constructor_count (variables-of edit jv vs) ∙ variables_constructor_count-leaf edit jv (section_variables vs)))
     (agree-then (read before) (read_edited edit (after edit)) Middle frame_before (frame_after edit) Result
-    (λ env. option_map (declare_procedures_in_frame (constructors_before_procedures i b) ps) (declare_variables naming_by_spelling (constructors_before_variables i b) (section_variables vs) record { env = env; store = f.store }))
+    (λ env. option_map (declare_procedures_in_frame (constructor_count_before_procedures i b) ps) (declare_variables naming_by_spelling (constructor_count_before_variables i b) (section_variables vs) record { env = env; store = f.store }))
     (there (types_constructor_count (section_types ts)) (variables_constructor_count (section_variables vs)) (leaf edit jv (section_variables vs)))
     (declare_constants_and_types naming_by_spelling (read before f.marks) i b) (declare_constants_and_types naming_by_spelling (read_edited edit (after edit) f.marks) i (edited_block edit j k b))
     (first-edited edit w lit (IsText edit w) before (after edit) i j k f.marks s seven b here has_value)
@@ -299,19 +299,19 @@ block-kept edit w lit i j k f s seven (forms_block (declares cs ts vs ps) statem
     let g : MarkedFrame = record { marks = inner; store = f.store } in
     agree-map frame_before (frame_after edit) (LeftFrame edit w (first_procedure_ordinal k b) (declare_names (first_variable_ordinal k b) (variable_names (section_variables vs)) (scope_marked inner)) (Some (bind_names (variable_names (section_variables vs)) non_constant_placeholder (knowns inner))))
     frame_before (frame_after edit) Result
-    (declare_procedures_in_frame (constructors_before_procedures i b) ps) (declare_procedures_in_frame (constructors_before_procedures i b) ps')
-    (declare_variables naming_by_spelling (constructors_before_variables i b) (section_variables vs) (frame_before g)) (declare_variables naming_by_spelling (constructors_before_variables i b) (leaf edit jv (section_variables vs)) (frame_after edit g))
-    (variables-kept edit w lit (constructors_before_variables i b) jv (first_variable_ordinal k b) g left.sound (omega (arith, seven, above, types)) (section_variables vs)
+    (declare_procedures_in_frame (constructor_count_before_procedures i b) ps) (declare_procedures_in_frame (constructor_count_before_procedures i b) ps')
+    (declare_variables naming_by_spelling (constructor_count_before_variables i b) (section_variables vs) (frame_before g)) (declare_variables naming_by_spelling (constructor_count_before_variables i b) (leaf edit jv (section_variables vs)) (frame_after edit g))
+    (variables-kept edit w lit (constructor_count_before_variables i b) jv (first_variable_ordinal k b) g left.sound (omega (arith, seven, above, types)) (section_variables vs)
     (subst (λ scope. EachVariable (Here edit w) jv scope (first_variable_ordinal k b) (section_variables vs)) (sym left.scoped) here.2)
     (λ l m. types-outside edit w (knowns f.marks) k b has_value (omega (arith, l, types)) m))
     (λ h last.
     let final = left-then edit w (IsText edit w) (first_procedure_ordinal k b) (declare_names (first_variable_ordinal k b) (variable_names (section_variables vs)) (scope_marked inner)) (scope_marked inner) (scope_before_procedures k b (scope_marked f.marks)) (bind_names (variable_names (section_variables vs)) non_constant_placeholder) known (knowns inner) h.marks
     (ap (declare_names (first_variable_ordinal k b) (variable_names (section_variables vs))) left.scoped) left.value last in
     let procedures = procedures-has_value edit w (knowns f.marks) (knowns h.marks) k b has_value final.value in
-    let right = procedures-right edit w (constructors_before_procedures i b) jp (first_procedure_ordinal k b) ps h.marks final.sound (omega (arith, seven, over)) (subst (λ scope. EachProcedure (Here edit w) jp scope (first_procedure_ordinal k b) ps) (sym final.scoped) here.3) procedures in (
-      record { marks = mark_procedures (constructors_before_procedures i b) jp (first_procedure_ordinal k b) ps h.marks; store = h.store },
-      ap (λ env. record { env = env; store = h.store }) (procedures-before (constructors_before_procedures i b) jp (first_procedure_ordinal k b) ps h.marks),
-      ap (λ env. record { env = env; store = h.store }) (procedures-after edit w (constructors_before_procedures i b) jp (first_procedure_ordinal k b) ps h.marks procedures),
+    let right = procedures-right edit w (constructor_count_before_procedures i b) jp (first_procedure_ordinal k b) ps h.marks final.sound (omega (arith, seven, over)) (subst (λ scope. EachProcedure (Here edit w) jp scope (first_procedure_ordinal k b) ps) (sym final.scoped) here.3) procedures in (
+      record { marks = mark_procedures (constructor_count_before_procedures i b) jp (first_procedure_ordinal k b) ps h.marks; store = h.store },
+      ap (λ env. record { env = env; store = h.store }) (procedures-before (constructor_count_before_procedures i b) jp (first_procedure_ordinal k b) ps h.marks),
+      ap (λ env. record { env = env; store = h.store }) (procedures-after edit w (constructor_count_before_procedures i b) jp (first_procedure_ordinal k b) ps h.marks procedures),
       (right.0 ∙ ap (declare_procedure_names (first_procedure_ordinal k b) ps) final.scoped, right.1),
     )))))
 
@@ -367,7 +367,7 @@ continue_in_frame-kept edit P s r q here there (a, e, e', holds) next =
     go (Some f) holds = λ i. next f holds i record s { store = f.store }
 
 -- holds if calls do the same after the edit; this is the induction hypothesis for a smaller bound
-abbrev pub CallsKept : Edit → Value → (Activation Name → CallFunction Name) → (Activation Name → CallFunction Name) → Type 0
+abbrev pub CallsKept : Edit → Value → (RunEnvironment Name → CallFunction Name) → (RunEnvironment Name → CallFunction Name) → Type 0
 CallsKept edit w there here =
     (n : ℕ) (marks : Marks Place Text) → Run_sound edit w n marks → (x : Name) → Stays edit (scope_marked marks) x → there (read_edited edit (after edit) marks) x ≡ here (read before marks) x
 
@@ -376,7 +376,7 @@ pub statements-of : (edit : Edit) (j k : ℕ) (b : Tree Name block) (scope : Sco
 statements-of edit j k (forms_block (declares cs ts vs ps) statements) scope w here = (j + length (occurrences (declares cs ts vs ps)), refl, here.4)
 
 -- The statements of a declared block do the same before and after the edit, in its frame.
-pub block-runs : (edit : Edit) (w : Value) → Literal edit w → (there here : Activation Name → CallFunction Name) → CallsKept edit w there here → (t j k : ℕ) (scope : Scope Name) (b : Tree Name block) → EachBlock (Here edit w) j scope k b
+pub block-runs : (edit : Edit) (w : Value) → Literal edit w → (there here : RunEnvironment Name → CallFunction Name) → CallsKept edit w there here → (t j k : ℕ) (scope : Scope Name) (b : Tree Name block) → EachBlock (Here edit w) j scope k b
     → (f : MarkedFrame) → RightFrame edit w (ordinal_after_block k b) (body_scope k b scope) f
     → execute_body naming_by_spelling (read_edited edit (after edit) f.marks) (there (read_edited edit (after edit) f.marks)) t (block_statements (edited_block edit j k b)) ≡ execute_body naming_by_spelling (read before f.marks) (here (read before f.marks)) t (block_statements b)
 block-runs edit w lit there here known t j k scope b each f right =
@@ -388,33 +388,33 @@ block-runs edit w lit there here known t j k scope b each f right =
 -- Binding a procedure's parameters and declaring its block does the same before and after the edit. The newest mark of
 -- the frame is the procedure's own.
 pub activation-kept : (edit : Edit) (w : Value) → Literal edit w → (i j k : ℕ) (f : MarkedFrame) → Run_sound edit w (suc k) f.marks → 7 ≤ k → (x closing : Name) (fs : Tree Name (maybe formals)) (b : Tree Name block)
-    → EachBlock (Here edit w) (j + length (occurrences fs)) (declare_names (suc k) (formal_names (formal_sections fs)) (scope_marked f.marks)) (ordinal_after_names (suc k) (formal_names (formal_sections fs))) b
+    → EachBlock (Here edit w) (j + length (occurrences fs)) (declare_names (suc k) (formal_parameter_names (formal_parameter_sections fs)) (scope_marked f.marks)) (ordinal_after_names (suc k) (formal_parameter_names (formal_parameter_sections fs))) b
     → HasValueBetween edit w k (ordinal_after_procedure (suc k) (declares_procedure x fs b closing)) (constant_value_in_procedure (knowns f.marks) edit.constant (suc k) (declares_procedure x fs b closing)) → (args : List Argument)
     → Agree frame_before (frame_after edit)
-    (RightFrame edit w (ordinal_after_block (ordinal_after_names (suc k) (formal_names (formal_sections fs))) b) (body_scope (ordinal_after_names (suc k) (formal_names (formal_sections fs))) b (declare_names (suc k) (formal_names (formal_sections fs)) (scope_marked f.marks))))
-    (option_and_then (declare_block naming_by_spelling (i + formals_constructor_count (formal_sections fs)) b) (bind_parameters (parameters (formal_sections fs)) args (frame_before f)))
-    (option_and_then (declare_block naming_by_spelling (i + formals_constructor_count (formal_sections (leaf edit j fs))) (edited_block edit (j + length (occurrences fs)) (ordinal_after_names (suc k) (formal_names (formal_sections fs))) b)) (bind_parameters (parameters (formal_sections (leaf edit j fs))) args (frame_after edit f)))
+    (RightFrame edit w (ordinal_after_block (ordinal_after_names (suc k) (formal_parameter_names (formal_parameter_sections fs))) b) (body_scope (ordinal_after_names (suc k) (formal_parameter_names (formal_parameter_sections fs))) b (declare_names (suc k) (formal_parameter_names (formal_parameter_sections fs)) (scope_marked f.marks))))
+    (option_and_then (declare_block_in_frame naming_by_spelling (i + formals_constructor_count (formal_parameter_sections fs)) b) (bind_parameters (parameters (formal_parameter_sections fs)) args (frame_before f)))
+    (option_and_then (declare_block_in_frame naming_by_spelling (i + formals_constructor_count (formal_parameter_sections (leaf edit j fs))) (edited_block edit (j + length (occurrences fs)) (ordinal_after_names (suc k) (formal_parameter_names (formal_parameter_sections fs))) b)) (bind_parameters (parameters (formal_parameter_sections (leaf edit j fs))) args (frame_after edit f)))
 activation-kept edit w lit i j k f s seven x closing fs b each has_value args =
-    let xs : List Name = formal_names (formal_sections fs) in
+    let xs : List Name = formal_parameter_names (formal_parameter_sections fs) in
     let n : ℕ = ordinal_after_names (suc k) xs in
     let jb : ℕ = j + length (occurrences fs) in
     let scope : Scope Name = declare_names (suc k) xs (scope_marked f.marks) in
     let Result : MarkedFrame → Type 0 = RightFrame edit w (ordinal_after_block n b) (body_scope n b scope) in
     let Middle : MarkedFrame → Type 0 = LeftFrame edit w n scope (Some (bind_names xs non_constant_placeholder (knowns f.marks))) in
     let above : suc k ≤ n = le-ordinal_after_names (suc k) xs in
-    let named : parameter_names (parameters (formal_sections fs)) ≡ xs = formal_names-parameters (formal_sections fs) in
-    let outside : Outside edit (suc k) (ordinal_after_names (suc k) (parameter_names (parameters (formal_sections fs)))) = λ l m.
+    let named : parameter_names (parameters (formal_parameter_sections fs)) ≡ xs = formal_parameter_names-parameters (formal_parameter_sections fs) in
+    let outside : Outside edit (suc k) (ordinal_after_names (suc k) (parameter_names (parameters (formal_parameter_sections fs)))) = λ l m.
     bind_procedure-outside edit w (knowns f.marks) k x closing fs b has_value (omega (arith, l)) (subst (λ ys. edit.constant < ordinal_after_names (suc k) ys) named m) in
-    subst₂ (λ m ps. Agree frame_before (frame_after edit) Result (option_and_then (declare_block naming_by_spelling (i + formals_constructor_count (formal_sections fs)) b) (bind_parameters (parameters (formal_sections fs)) args (frame_before f)))
-    (option_and_then (declare_block naming_by_spelling (i + m) (edited_block edit jb n b)) (bind_parameters ps args (frame_after edit f))))
-    (sym (ap formals_constructor_count (formals-of edit j fs) ∙ formals_constructor_count-leaf edit j (formal_sections fs))) (sym (ap parameters (formals-of edit j fs) ∙ parameters-leaf edit j (formal_sections fs)))
+    subst₂ (λ m ps. Agree frame_before (frame_after edit) Result (option_and_then (declare_block_in_frame naming_by_spelling (i + formals_constructor_count (formal_parameter_sections fs)) b) (bind_parameters (parameters (formal_parameter_sections fs)) args (frame_before f)))
+    (option_and_then (declare_block_in_frame naming_by_spelling (i + m) (edited_block edit jb n b)) (bind_parameters ps args (frame_after edit f))))
+    (sym (ap formals_constructor_count (formals-of edit j fs) ∙ formals_constructor_count-leaf edit j (formal_parameter_sections fs))) (sym (ap parameters (formals-of edit j fs) ∙ parameters-leaf edit j (formal_parameter_sections fs)))
     (agree-then frame_before (frame_after edit) Middle frame_before (frame_after edit) Result
-    (declare_block naming_by_spelling (i + formals_constructor_count (formal_sections fs)) b) (declare_block naming_by_spelling (i + formals_constructor_count (formal_sections fs)) (edited_block edit jb n b))
-    (bind_parameters (parameters (formal_sections fs)) args (frame_before f)) (bind_parameters (parameters (formal_sections fs)) args (frame_after edit f))
-    (subst (λ ys. Agree frame_before (frame_after edit) (LeftFrame edit w (ordinal_after_names (suc k) ys) (declare_names (suc k) ys (scope_marked f.marks)) (Some (bind_names ys non_constant_placeholder (knowns f.marks)))) (bind_parameters (parameters (formal_sections fs)) args (frame_before f)) (bind_parameters (parameters (formal_sections fs)) args (frame_after edit f))) named
-    (parameters-kept edit w (suc k) f s (omega (arith, seven)) (parameters (formal_sections fs)) outside args))
-    (λ g left. subst (λ inner. Agree frame_before (frame_after edit) (RightFrame edit w (ordinal_after_block n b) (body_scope n b inner)) (declare_block naming_by_spelling (i + formals_constructor_count (formal_sections fs)) b (frame_before g)) (declare_block naming_by_spelling (i + formals_constructor_count (formal_sections fs)) (edited_block edit jb n b) (frame_after edit g))) left.scoped
-    (block-kept edit w lit (i + formals_constructor_count (formal_sections fs)) jb n g left.sound (omega (arith, seven, above)) b
+    (declare_block_in_frame naming_by_spelling (i + formals_constructor_count (formal_parameter_sections fs)) b) (declare_block_in_frame naming_by_spelling (i + formals_constructor_count (formal_parameter_sections fs)) (edited_block edit jb n b))
+    (bind_parameters (parameters (formal_parameter_sections fs)) args (frame_before f)) (bind_parameters (parameters (formal_parameter_sections fs)) args (frame_after edit f))
+    (subst (λ ys. Agree frame_before (frame_after edit) (LeftFrame edit w (ordinal_after_names (suc k) ys) (declare_names (suc k) ys (scope_marked f.marks)) (Some (bind_names ys non_constant_placeholder (knowns f.marks)))) (bind_parameters (parameters (formal_parameter_sections fs)) args (frame_before f)) (bind_parameters (parameters (formal_parameter_sections fs)) args (frame_after edit f))) named
+    (parameters-kept edit w (suc k) f s (omega (arith, seven)) (parameters (formal_parameter_sections fs)) outside args))
+    (λ g left. subst (λ inner. Agree frame_before (frame_after edit) (RightFrame edit w (ordinal_after_block n b) (body_scope n b inner)) (declare_block_in_frame naming_by_spelling (i + formals_constructor_count (formal_parameter_sections fs)) b (frame_before g)) (declare_block_in_frame naming_by_spelling (i + formals_constructor_count (formal_parameter_sections fs)) (edited_block edit jb n b) (frame_after edit g))) left.scoped
+    (block-kept edit w lit (i + formals_constructor_count (formal_parameter_sections fs)) jb n g left.sound (omega (arith, seven, above)) b
     (subst (λ inner. EachBlock (Here edit w) jb inner n b) (sym left.scoped) each)
     (subst (λ known. HasValueBetween edit w n (ordinal_after_block n b) (constant_value_in_block known edit.constant n b)) (some_inverse left.value) (body-has_value edit w (knowns f.marks) k x closing fs b has_value)))))
 
@@ -429,28 +429,28 @@ head-stays edit (b ∷ marks) x h =
     (elim (same_name x b.name) as (λ v. (edit.gone ≡ true → (elim v [ true ↦ Some b.ordinal | false ↦ ordinal_in_scope naming_by_spelling (scope_marked marks) x ]) ≡ Some edit.constant → ⊥) → HeadStays edit (elim v [ true ↦ b ∷ marks | false ↦ marks_from marks x ]))
     [ true ↦ λ stays. not-left edit b.ordinal stays | false ↦ λ stays. head-stays edit marks x stays ]) h
 
-pub activate-kept : (edit : Edit) (w : Value) → Literal edit w → (there here : Activation Name → CallFunction Name) → CallsKept edit w there here → (t n : ℕ) (marks : Marks Place Text) → Run_sound edit w n marks → HeadStays edit marks
-    → (args : List Argument) (s : State) → activate naming_by_spelling there t (read_edited edit (after edit) marks) args s ≡ activate naming_by_spelling here t (read before marks) args s
-unfolding activate
-activate-kept edit w lit there here known t n [] sound head args s = refl
-activate-kept edit w lit there here known t n (b ∷ marks) sound head args s =
-    ap (λ v. activate naming_by_spelling there t (if v then read_edited edit (after edit) marks else (b.name, object_as (after edit b.ordinal) b.object) ∷ read_edited edit (after edit) marks) args s) head
+pub execute_newest_procedure-kept : (edit : Edit) (w : Value) → Literal edit w → (there here : RunEnvironment Name → CallFunction Name) → CallsKept edit w there here → (t n : ℕ) (marks : Marks Place Text) → Run_sound edit w n marks → HeadStays edit marks
+    → (args : List Argument) (s : State) → execute_newest_procedure naming_by_spelling there t (read_edited edit (after edit) marks) args s ≡ execute_newest_procedure naming_by_spelling here t (read before marks) args s
+unfolding execute_newest_procedure
+execute_newest_procedure-kept edit w lit there here known t n [] sound head args s = refl
+execute_newest_procedure-kept edit w lit there here known t n (b ∷ marks) sound head args s =
+    ap (λ v. execute_newest_procedure naming_by_spelling there t (if v then read_edited edit (after edit) marks else (b.name, object_as (after edit b.ordinal) b.object) ∷ read_edited edit (after edit) marks) args s) head
     ∙ of_object b.object sound.1 sound.2
   where
     of_text : (i j : ℕ) (p : Tree Name (item procedure)) → IsRight {V = Place} {P = Text} edit w record { name = b.name; ordinal = b.ordinal; object = a_procedure record { code = record { constructors_before = i; text = p }; at = j } }
         → IsText edit w marks b.name b.ordinal record { code = record { constructors_before = i; text = p }; at = j }
-        → activate naming_by_spelling there t ((b.name, a_procedure record { constructors_before = i; text = edited_procedure edit j (suc b.ordinal) p }) ∷ read_edited edit (after edit) marks) args s
-        ≡ activate naming_by_spelling here t ((b.name, a_procedure record { constructors_before = i; text = p }) ∷ read before marks) args s
+        → execute_newest_procedure naming_by_spelling there t ((b.name, a_procedure record { constructors_before = i; text = edited_procedure edit j (suc b.ordinal) p }) ∷ read_edited edit (after edit) marks) args s
+        ≡ execute_newest_procedure naming_by_spelling here t ((b.name, a_procedure record { constructors_before = i; text = p }) ∷ read before marks) args s
     of_text i j (declares_procedure x fs inner closing) right text =
         let k : ℕ = b.ordinal in
         let own : Mark Place Text = record { name = b.name; ordinal = k; object = a_procedure record { code = record { constructors_before = i; text = declares_procedure x fs inner closing }; at = j } } in
         let f : MarkedFrame = record { marks = own ∷ marks; store = s.store } in
-        let m : ℕ = ordinal_after_names (suc k) (formal_names (formal_sections fs)) in
-        let scope : Scope Name = declare_names (suc k) (formal_names (formal_sections fs)) (scope_marked f.marks) in
+        let m : ℕ = ordinal_after_names (suc k) (formal_parameter_names (formal_parameter_sections fs)) in
+        let scope : Scope Name = declare_names (suc k) (formal_parameter_names (formal_parameter_sections fs)) (scope_marked f.marks) in
         let each : EachBlock (Here edit w) (j + length (occurrences fs)) scope m inner =
-        subst (λ y. EachBlock (Here edit w) (j + length (occurrences fs)) (declare_names (suc k) (formal_names (formal_sections fs)) ((y, k) ∷ scope_marked marks)) m inner) text.named text.here.1 in
+        subst (λ y. EachBlock (Here edit w) (j + length (occurrences fs)) (declare_names (suc k) (formal_parameter_names (formal_parameter_sections fs)) ((y, k) ∷ scope_marked marks)) m inner) text.named text.here.1 in
         let outside : Outside edit k (suc k) = own-outside edit w ((b.name, non_constant_placeholder) ∷ knowns marks) k (declares_procedure x fs inner closing) text.has_value in
-        ap (λ env. continue_in_frame s (option_and_then (declare_block naming_by_spelling (i + formals_constructor_count (formal_sections (leaf edit j fs))) (edited_block edit (j + length (occurrences fs)) m inner)) (bind_parameters (parameters (formal_sections (leaf edit j fs))) args record { env = env; store = s.store }))
+        ap (λ env. continue_in_frame s (option_and_then (declare_block_in_frame naming_by_spelling (i + formals_constructor_count (formal_parameter_sections (leaf edit j fs))) (edited_block edit (j + length (occurrences fs)) m inner)) (bind_parameters (parameters (formal_parameter_sections (leaf edit j fs))) args record { env = env; store = s.store }))
         (λ f. execute_body naming_by_spelling f.env (there f.env) t (block_statements (edited_block edit (j + length (occurrences fs)) m inner))))
         (sym (ap (λ v. if v then read_edited edit (after edit) marks else (b.name, a_procedure record { constructors_before = i; text = edited_procedure edit j (suc k) (declares_procedure x fs inner closing) }) ∷ read_edited edit (after edit) marks) (not-constant edit k outside)))
         ∙ continue_in_frame-kept edit (RightFrame edit w (ordinal_after_block m inner) (body_scope m inner scope)) s _ _ _ _
@@ -458,7 +458,7 @@ activate-kept edit w lit there here known t n (b ∷ marks) sound head args s =
         (λ g right. block-runs edit w lit there here known t (j + length (occurrences fs)) m scope inner each g right)
 
     of_object : (o : Object Place Text) → IsRight {V = Place} {P = Text} edit w record { name = b.name; ordinal = b.ordinal; object = o } → OfProcedure (IsText edit w marks b.name b.ordinal) o
-        → activate naming_by_spelling there t ((b.name, object_as (after edit b.ordinal) o) ∷ read_edited edit (after edit) marks) args s ≡ activate naming_by_spelling here t ((b.name, object_as (before b.ordinal) o) ∷ read before marks) args s
+        → execute_newest_procedure naming_by_spelling there t ((b.name, object_as (after edit b.ordinal) o) ∷ read_edited edit (after edit) marks) args s ≡ execute_newest_procedure naming_by_spelling here t ((b.name, object_as (before b.ordinal) o) ∷ read before marks) args s
     of_object (a_type shape) right text = refl
     of_object (a_constant v) right text = refl
     of_object (a_variable p) right text = refl
@@ -470,9 +470,9 @@ pub calls-kept : (edit : Edit) (w : Value) → Literal edit w → (c t : ℕ) �
 unfolding call
 calls-kept edit w lit zero t n marks sound x stays = refl
 calls-kept edit w lit (suc c) t n marks sound x stays = λ i args s.
-    (ap (λ env. activate naming_by_spelling (call naming_by_spelling c t) t env args s) (read_edited-from edit (after edit) marks x stays)
-    ∙ (activate-kept edit w lit (call naming_by_spelling c t) (call naming_by_spelling c t) (calls-kept edit w lit c t) t n (marks_from marks x) (Sound-from edit w (IsText edit w) n marks x sound) (head-stays edit marks x stays) args s
-    ∙ sym (ap (λ env. activate naming_by_spelling (call naming_by_spelling c t) t env args s) (read-from before marks x)))) i
+    (ap (λ env. execute_newest_procedure naming_by_spelling (call naming_by_spelling c t) t env args s) (read_edited-from edit (after edit) marks x stays)
+    ∙ (execute_newest_procedure-kept edit w lit (call naming_by_spelling c t) (call naming_by_spelling c t) (calls-kept edit w lit c t) t n (marks_from marks x) (Sound-from edit w (IsText edit w) n marks x sound) (head-stays edit marks x stays) args s
+    ∙ sym (ap (λ env. execute_newest_procedure naming_by_spelling (call naming_by_spelling c t) t env args s) (read-from before marks x)))) i
 
 -- An edited module has the same run as the original module.
 pub run-edited : (edit : Edit) (w : Value) (m : Tree Name module_text) → IsFitted edit w m → (input : List ℤ) (c t : ℕ) → run_with_naming naming_by_spelling (edited edit m) input c t ≡ run_with_naming naming_by_spelling m input c t
@@ -481,7 +481,7 @@ run-edited edit w (forms_module x b closing) h input c t =
     let sound : Run_sound edit w 7 marked_outermost = outermost-sound edit w (IsText edit w) h.literal.ordinal in
     let f : MarkedFrame = record { marks = marked_outermost; store = [] } in
     ap run_result
-    (ap (λ env. continue_in_frame record { store = []; input = input; output = [] } (declare_block naming_by_spelling 0 (edited_block edit 0 7 b) record { env = env; store = [] }) (λ f. execute_body naming_by_spelling f.env (call naming_by_spelling c t f.env) t (block_statements (edited_block edit 0 7 b))))
+    (ap (λ env. continue_in_frame record { store = []; input = input; output = [] } (declare_block_in_frame naming_by_spelling 0 (edited_block edit 0 7 b) record { env = env; store = [] }) (λ f. execute_body naming_by_spelling f.env (call naming_by_spelling c t f.env) t (block_statements (edited_block edit 0 7 b))))
     (sym (read_edited-below edit w (IsText edit w) (after edit) 7 marked_outermost sound h.literal.ordinal))
     ∙ continue_in_frame-kept edit (RightFrame edit w (ordinal_after_block 7 b) (body_scope 7 b (predeclared_scope naming_by_spelling))) record { store = []; input = input; output = [] } _ _ _ _
     (block-kept edit w h.literal 0 0 7 f sound (le_refl 7) b h.here (λ l m. h.has_value))

@@ -7,16 +7,16 @@ use Rattle.ob0_tree.specs.Tree.{Tree, begins, block, body, constant, declares_co
 use Rattle.ob0_language_names.specs.Names.{Naming}
 use Rattle.ob0_language_names.specs.BlockParts.{block_constants, block_procedures, block_statements, block_types, block_variables, module_block, names_in_list, procedure_block, procedure_formals, procedure_name}
 use Rattle.ob0_language_names.proofs.SameNames.{map_names-id}
-use Rattle.ob0_language_types.specs.Declarations.{constructors_before_procedure_block, constructors_before_variables, constructors_before_procedures, declare_constants, declare_constants_and_types, declare_types, procedure_constructor_count}
-use Rattle.ob0_language_types.specs.Environments.{environment_from_binding, meanings, newest_object, outermost_environment}
+use Rattle.ob0_language_types.specs.Declarations.{constructor_count_before_procedure_block, constructor_count_before_variables, constructor_count_before_procedures, declare_constants, declare_constants_and_types, declare_types, procedure_constructor_count}
+use Rattle.ob0_language_types.specs.Environments.{suffix_from_newest_binding, meanings, newest_object, outermost_environment}
 use Rattle.ob0_language_types.specs.Expressions.{Object, a_constant, a_procedure, a_standard_procedure, a_type, a_variable}
-use Rattle.ob0_language_types.specs.Typing.{constant_of, constant_value, constructor_count, denoted_type, type_of_type_object}
+use Rattle.ob0_language_types.specs.Typing.{value_of_constant_object, constant_expression_value, constructor_count, denoted_type, type_of_type_object}
 use Rattle.ob0_language_types.specs.WellTyped.{by_place, by_value}
-use Rattle.ob0_language_types.proofs.TypeNaturality.{constant_value-map, denoted_type-map}
+use Rattle.ob0_language_types.proofs.TypeNaturality.{constant_expression_value-map, denoted_type-map}
 use Rattle.ob0_language_values.specs.Values.{Place, Value, initial_value}
-use Rattle.ob0_language_runs.specs.FreedVariables.{call_freeing_variables, drop_variables, run_freeing_variables}
+use Rattle.ob0_language_runs.specs.FreedVariables.{call_freeing_variables, keep_first_variables, run_freeing_variables}
 use Rattle.ob0_language_runs.specs.Laws.{DroppingVariablesKeepsRuns}
-use Rattle.ob0_language_runs.specs.Runs.{Activation, Argument, CallFunction, ProcedureText, Frame, Parameter, Progress, State, activate, add_variables_to_frame, bind_parameter, bind_parameters, call, declare_block, declare_procedures, declare_variables, execute_body, run_result, formal_modes, continue_in_frame, parameters, object_for_statements, place_argument, run_with_naming, running, meanings_for_statements, stopped, value_argument, declare_procedures_in_frame}
+use Rattle.ob0_language_runs.specs.Runs.{RunEnvironment, Argument, CallFunction, ProcedureText, Frame, Parameter, Progress, State, execute_newest_procedure, add_variables_to_frame, bind_parameter, bind_parameters, call, declare_block_in_frame, declare_procedures, declare_variables, execute_body, run_result, formal_parameter_modes, continue_in_frame, parameters, object_for_statements, place_argument, run_with_naming, running, meanings_for_statements, stopped, value_argument, declare_procedures_in_frame}
 use Rattle.ob0_language_runs.proofs.LargerStores.{Alike, ArgumentIs, ArgumentsAre, EntersAlike, MeaningIs, ObjectIs, PlaceIs, ProgressIs, StateIs, StoreIs, execute_sequence-alike, variable-added, variable-last, variables-cut}
 use Rattle.ob0_language_runs.proofs.SoundStatements.{slice_get-grows}
 
@@ -41,7 +41,7 @@ same_option-then {A} Then o q f g e each = subst (λ q. OptionIs Then (option_an
 
 -- holds if two environments bind the same names to related objects
 
-abbrev pub EnvironmentIs : {N : Type 0} → List ℕ → Activation N → Activation N → Type 0
+abbrev pub EnvironmentIs : {N : Type 0} → List ℕ → RunEnvironment N → RunEnvironment N → Type 0
 EnvironmentIs at [] [] = Unit {0}
 EnvironmentIs at (b ∷ env) (d ∷ other) = (b.0 ≡ d.0) × ObjectIs at b.1 d.1 × EnvironmentIs at env other
 EnvironmentIs at _ _ = ⊥
@@ -57,7 +57,7 @@ object-grows at others (a_procedure s) (a_procedure t) h = h
 object-grows at others (a_standard_procedure s) (a_standard_procedure t) h = h
 object-grows at others _ _ h = absurd h
 
-environment-grows : {N : Type 0} (at others : List ℕ) (env other : Activation N) → EnvironmentIs at env other → EnvironmentIs (at ++ others) env other
+environment-grows : {N : Type 0} (at others : List ℕ) (env other : RunEnvironment N) → EnvironmentIs at env other → EnvironmentIs (at ++ others) env other
 environment-grows at others [] [] h = tt
 environment-grows at others (b ∷ env) (d ∷ other) h = (h.0, object-grows at others b.1 d.1 h.1, environment-grows at others env other h.2)
 environment-grows at others _ _ h = absurd h
@@ -70,15 +70,15 @@ arguments-grow at others (place_argument p ∷ args) (value_argument w ∷ bs) h
 arguments-grow at others (value_argument v ∷ args) (place_argument q ∷ bs) h = absurd (h.0)
 arguments-grow at others _ _ h = absurd h
 
-environment_from_binding-is : {N : Type 0} (naming : Naming N) (at : List ℕ) (env other : Activation N) (x : N) → EnvironmentIs at env other → EnvironmentIs at (environment_from_binding naming env x) (environment_from_binding naming other x)
-environment_from_binding-is naming at [] [] x h = tt
-environment_from_binding-is {N} naming at (b ∷ env) (d ∷ other) x h =
-    subst (λ y. EnvironmentIs {N = N} at (elim (naming.same x b.0) [ true ↦ b ∷ env | false ↦ environment_from_binding naming env x ]) (elim (naming.same x y) [ true ↦ d ∷ other | false ↦ environment_from_binding naming other x ])) h.0
-    (elim (naming.same x b.0) as (λ v. EnvironmentIs {N = N} at (elim v [ true ↦ b ∷ env | false ↦ environment_from_binding naming env x ]) (elim v [ true ↦ d ∷ other | false ↦ environment_from_binding naming other x ]))
-    [ true ↦ h | false ↦ environment_from_binding-is naming at env other x h.2 ])
-environment_from_binding-is naming at _ _ x h = absurd h
+suffix_from_newest_binding-is : {N : Type 0} (naming : Naming N) (at : List ℕ) (env other : RunEnvironment N) (x : N) → EnvironmentIs at env other → EnvironmentIs at (suffix_from_newest_binding naming env x) (suffix_from_newest_binding naming other x)
+suffix_from_newest_binding-is naming at [] [] x h = tt
+suffix_from_newest_binding-is {N} naming at (b ∷ env) (d ∷ other) x h =
+    subst (λ y. EnvironmentIs {N = N} at (elim (naming.same x b.0) [ true ↦ b ∷ env | false ↦ suffix_from_newest_binding naming env x ]) (elim (naming.same x y) [ true ↦ d ∷ other | false ↦ suffix_from_newest_binding naming other x ])) h.0
+    (elim (naming.same x b.0) as (λ v. EnvironmentIs {N = N} at (elim v [ true ↦ b ∷ env | false ↦ suffix_from_newest_binding naming env x ]) (elim v [ true ↦ d ∷ other | false ↦ suffix_from_newest_binding naming other x ]))
+    [ true ↦ h | false ↦ suffix_from_newest_binding-is naming at env other x h.2 ])
+suffix_from_newest_binding-is naming at _ _ x h = absurd h
 
-newest_object-is : {N : Type 0} (at : List ℕ) (env other : Activation N) → EnvironmentIs at env other → MeaningIs at (newest_object env) (newest_object other)
+newest_object-is : {N : Type 0} (at : List ℕ) (env other : RunEnvironment N) → EnvironmentIs at env other → MeaningIs at (newest_object env) (newest_object other)
 newest_object-is at [] [] h = tt
 newest_object-is at (b ∷ env) (d ∷ other) h = h.1
 newest_object-is at _ _ h = absurd h
@@ -88,11 +88,11 @@ object_for_statements-is at None None h = tt
 object_for_statements-is at (Some (a_type s)) (Some (a_type t)) h = h
 object_for_statements-is at (Some (a_constant s)) (Some (a_constant t)) h = h
 object_for_statements-is at (Some (a_variable s)) (Some (a_variable t)) h = h
-object_for_statements-is at (Some (a_procedure s)) (Some (a_procedure t)) h = ap (λ code. formal_modes (procedure_formals code.text)) h
+object_for_statements-is at (Some (a_procedure s)) (Some (a_procedure t)) h = ap (λ code. formal_parameter_modes (procedure_formals code.text)) h
 object_for_statements-is at (Some (a_standard_procedure s)) (Some (a_standard_procedure t)) h = h
 object_for_statements-is at _ _ h = absurd h
 
-constant-same : {P : Type 0} (at : List ℕ) (o q : Option (Object Place P)) → MeaningIs at o q → constant_of o ≡ constant_of q
+constant-same : {P : Type 0} (at : List ℕ) (o q : Option (Object Place P)) → MeaningIs at o q → value_of_constant_object o ≡ value_of_constant_object q
 constant-same at None None h = refl
 constant-same at (Some (a_type s)) (Some (a_type t)) h = refl
 constant-same at (Some (a_constant s)) (Some (a_constant t)) h = ap Some h
@@ -132,34 +132,34 @@ frames-on at others (Some f) (Some g) h = frame-on at others f g h
 frames-on at others _ _ h = absurd h
 
 module _ {N : Type 0} (naming : Naming N) where
-  value-same : (at : List ℕ) (env other : Activation N) → EnvironmentIs at env other → (e : Tree N expression) → constant_value (meanings naming env) e ≡ constant_value (meanings naming other) e
+  value-same : (at : List ℕ) (env other : RunEnvironment N) → EnvironmentIs at env other → (e : Tree N expression) → constant_expression_value (meanings naming env) e ≡ constant_expression_value (meanings naming other) e
   value-same at env other h e =
-      ap (constant_value (meanings naming env)) (sym (map_names-id e))
-      ∙ constant_value-map (λ x. x) (λ x. x) (meanings naming env) (meanings naming other) e
-      (λ x. constant-same at (newest_object (environment_from_binding naming env x)) (newest_object (environment_from_binding naming other x)) (newest_object-is at (environment_from_binding naming env x) (environment_from_binding naming other x) (environment_from_binding-is naming at env other x h))) (λ x. refl)
+      ap (constant_expression_value (meanings naming env)) (sym (map_names-id e))
+      ∙ constant_expression_value-map (λ x. x) (λ x. x) (meanings naming env) (meanings naming other) e
+      (λ x. constant-same at (newest_object (suffix_from_newest_binding naming env x)) (newest_object (suffix_from_newest_binding naming other x)) (newest_object-is at (suffix_from_newest_binding naming env x) (suffix_from_newest_binding naming other x) (suffix_from_newest_binding-is naming at env other x h))) (λ x. refl)
 
-  denoted_type-same : (at : List ℕ) (env other : Activation N) → EnvironmentIs at env other → (k : ℕ) (t : Tree N written_type) → denoted_type (meanings naming env) k t ≡ denoted_type (meanings naming other) k t
+  denoted_type-same : (at : List ℕ) (env other : RunEnvironment N) → EnvironmentIs at env other → (k : ℕ) (t : Tree N written_type) → denoted_type (meanings naming env) k t ≡ denoted_type (meanings naming other) k t
   denoted_type-same at env other h k t =
       ap (denoted_type (meanings naming env) k) (sym (map_names-id t))
       ∙ denoted_type-map (λ x. x) (λ x. x) (meanings naming env) (meanings naming other)
-      (λ x. constant-same at (newest_object (environment_from_binding naming env x)) (newest_object (environment_from_binding naming other x)) (newest_object-is at (environment_from_binding naming env x) (environment_from_binding naming other x) (environment_from_binding-is naming at env other x h)))
-      (λ x. type-same at (newest_object (environment_from_binding naming env x)) (newest_object (environment_from_binding naming other x)) (newest_object-is at (environment_from_binding naming env x) (environment_from_binding naming other x) (environment_from_binding-is naming at env other x h))) (λ x. refl) k t
+      (λ x. constant-same at (newest_object (suffix_from_newest_binding naming env x)) (newest_object (suffix_from_newest_binding naming other x)) (newest_object-is at (suffix_from_newest_binding naming env x) (suffix_from_newest_binding naming other x) (suffix_from_newest_binding-is naming at env other x h)))
+      (λ x. type-same at (newest_object (suffix_from_newest_binding naming env x)) (newest_object (suffix_from_newest_binding naming other x)) (newest_object-is at (suffix_from_newest_binding naming env x) (suffix_from_newest_binding naming other x) (suffix_from_newest_binding-is naming at env other x h))) (λ x. refl) k t
 
-  constants-are : (at : List ℕ) (env other : Activation N) (cs : Tree N (items constant)) → EnvironmentIs at env other → OptionIs (EnvironmentIs at) (declare_constants naming env cs) (declare_constants naming other cs)
+  constants-are : (at : List ℕ) (env other : RunEnvironment N) (cs : Tree N (items constant)) → EnvironmentIs at env other → OptionIs (EnvironmentIs at) (declare_constants naming env cs) (declare_constants naming other cs)
   unfolding declare_constants
   constants-are at env other end h = h
   constants-are at env other (more (declares_constant x e) cs) h =
-      same_option-then (EnvironmentIs at) (constant_value (meanings naming env) e) (constant_value (meanings naming other) e) (λ v. declare_constants naming ((x, a_constant v) ∷ env) cs) (λ v. declare_constants naming ((x, a_constant v) ∷ other) cs) (value-same at env other h e)
+      same_option-then (EnvironmentIs at) (constant_expression_value (meanings naming env) e) (constant_expression_value (meanings naming other) e) (λ v. declare_constants naming ((x, a_constant v) ∷ env) cs) (λ v. declare_constants naming ((x, a_constant v) ∷ other) cs) (value-same at env other h e)
       (λ v. constants-are at ((x, a_constant v) ∷ env) ((x, a_constant v) ∷ other) cs (refl, refl, h))
 
-  types-are : (at : List ℕ) (env other : Activation N) (k : ℕ) (ds : Tree N (items type_definition)) → EnvironmentIs at env other → OptionIs (EnvironmentIs at) (declare_types naming env k ds) (declare_types naming other k ds)
+  types-are : (at : List ℕ) (env other : RunEnvironment N) (k : ℕ) (ds : Tree N (items type_definition)) → EnvironmentIs at env other → OptionIs (EnvironmentIs at) (declare_types naming env k ds) (declare_types naming other k ds)
   unfolding declare_types
   types-are at env other k end h = h
   types-are at env other k (more (declares_type x u) ds) h =
       same_option-then (EnvironmentIs at) (denoted_type (meanings naming env) k u) (denoted_type (meanings naming other) k u) (λ s. declare_types naming ((x, a_type s) ∷ env) (k + constructor_count u) ds) (λ s. declare_types naming ((x, a_type s) ∷ other) (k + constructor_count u) ds) (denoted_type-same at env other h k u)
       (λ s. types-are at ((x, a_type s) ∷ env) ((x, a_type s) ∷ other) (k + constructor_count u) ds (refl, refl, h))
 
-  first-are : (at : List ℕ) (env other : Activation N) (k : ℕ) (b : Tree N block) → EnvironmentIs at env other → OptionIs (EnvironmentIs at) (declare_constants_and_types naming env k b) (declare_constants_and_types naming other k b)
+  first-are : (at : List ℕ) (env other : RunEnvironment N) (k : ℕ) (b : Tree N block) → EnvironmentIs at env other → OptionIs (EnvironmentIs at) (declare_constants_and_types naming env k b) (declare_constants_and_types naming other k b)
   unfolding declare_constants_and_types
   first-are at env other k b h =
       option-then (EnvironmentIs at) (EnvironmentIs at) (declare_constants naming env (block_constants b)) (declare_constants naming other (block_constants b)) (λ env. declare_types naming env k (block_types b)) (λ env. declare_types naming env k (block_types b)) (constants-are at env other (block_constants b) h)
@@ -185,7 +185,7 @@ module _ {N : Type 0} (naming : Naming N) where
       frames-on at inner.0 (declare_variables naming (k + constructor_count u) gs (add_variables_to_frame (names_in_list ns) (initial_value s) f)) (declare_variables naming (k + constructor_count u) gs (add_variables_to_frame (names_in_list ns) (initial_value s) g))
       (variables-are (at ++ inner.0) (k + constructor_count u) gs (add_variables_to_frame (names_in_list ns) (initial_value s) f) (add_variables_to_frame (names_in_list ns) (initial_value s) g) inner.1))
 
-  procedures-are : (at : List ℕ) (k : ℕ) (ps : Tree N (items procedure)) (env other : Activation N) → EnvironmentIs at env other → EnvironmentIs at (declare_procedures k ps env) (declare_procedures k ps other)
+  procedures-are : (at : List ℕ) (k : ℕ) (ps : Tree N (items procedure)) (env other : RunEnvironment N) → EnvironmentIs at env other → EnvironmentIs at (declare_procedures k ps env) (declare_procedures k ps other)
   procedures-are at k end env other h = h
   procedures-are at k (more p rest) env other h =
       procedures-are at (k + procedure_constructor_count p) rest ((procedure_name p, a_procedure record { constructors_before = k; text = p }) ∷ env) ((procedure_name p, a_procedure record { constructors_before = k; text = p }) ∷ other) (refl, refl, h)
@@ -195,14 +195,14 @@ module _ {N : Type 0} (naming : Naming N) where
   declare_procedures_in_frame-are at k ps (Some f) (Some g) h = (h.0, record { same_variables = h.1.same_variables; same_bindings = procedures-are (at ++ h.0) k ps f.env g.env h.1.same_bindings })
   declare_procedures_in_frame-are at k ps _ _ h = absurd h
 
-  block-is : (at : List ℕ) (k : ℕ) (b : Tree N block) (f g : Frame N) → FrameIs at f g → OptionIs (FrameGrown at) (declare_block naming k b f) (declare_block naming k b g)
-  unfolding declare_block
+  block-is : (at : List ℕ) (k : ℕ) (b : Tree N block) (f g : Frame N) → FrameIs at f g → OptionIs (FrameGrown at) (declare_block_in_frame naming k b f) (declare_block_in_frame naming k b g)
+  unfolding declare_block_in_frame
   block-is at k b f g h =
       option-then (EnvironmentIs at) (FrameGrown at) (declare_constants_and_types naming f.env k b) (declare_constants_and_types naming g.env k b)
-      (λ env. option_map (declare_procedures_in_frame (constructors_before_procedures k b) (block_procedures b)) (declare_variables naming (constructors_before_variables k b) (block_variables b) record { env = env; store = f.store }))
-      (λ env. option_map (declare_procedures_in_frame (constructors_before_procedures k b) (block_procedures b)) (declare_variables naming (constructors_before_variables k b) (block_variables b) record { env = env; store = g.store })) (first-are at f.env g.env k b h.same_bindings)
-      (λ env other same. declare_procedures_in_frame-are at (constructors_before_procedures k b) (block_procedures b) (declare_variables naming (constructors_before_variables k b) (block_variables b) record { env = env; store = f.store }) (declare_variables naming (constructors_before_variables k b) (block_variables b) record { env = other; store = g.store })
-      (variables-are at (constructors_before_variables k b) (block_variables b) record { env = env; store = f.store } record { env = other; store = g.store } record { same_variables = h.same_variables; same_bindings = same }))
+      (λ env. option_map (declare_procedures_in_frame (constructor_count_before_procedures k b) (block_procedures b)) (declare_variables naming (constructor_count_before_variables k b) (block_variables b) record { env = env; store = f.store }))
+      (λ env. option_map (declare_procedures_in_frame (constructor_count_before_procedures k b) (block_procedures b)) (declare_variables naming (constructor_count_before_variables k b) (block_variables b) record { env = env; store = g.store })) (first-are at f.env g.env k b h.same_bindings)
+      (λ env other same. declare_procedures_in_frame-are at (constructor_count_before_procedures k b) (block_procedures b) (declare_variables naming (constructor_count_before_variables k b) (block_variables b) record { env = env; store = f.store }) (declare_variables naming (constructor_count_before_variables k b) (block_variables b) record { env = other; store = g.store })
+      (variables-are at (constructor_count_before_variables k b) (block_variables b) record { env = env; store = f.store } record { env = other; store = g.store } record { same_variables = h.same_variables; same_bindings = same }))
 
   parameter-is : (at : List ℕ) (p : Parameter N) (a b : Argument) (f g : Frame N) → ArgumentIs at a b → FrameIs at f g → OptionIs (FrameGrown at) (bind_parameter p.mode p.name a f) (bind_parameter p.mode p.name b g)
   parameter-is at p a b f g is h = go p.mode a b is
@@ -226,23 +226,23 @@ module _ {N : Type 0} (naming : Naming N) where
   -- ---- calls
 
   -- holds if calls do the same in related environments
-  abbrev pub CallsAlike : (Activation N → CallFunction N) → (Activation N → CallFunction N) → Type 0
-  CallsAlike enter enter' = (at : List ℕ) (env other : Activation N) → EnvironmentIs at env other → (x : N) → EntersAlike at (enter env x) (enter' other x)
+  abbrev pub CallsAlike : (RunEnvironment N → CallFunction N) → (RunEnvironment N → CallFunction N) → Type 0
+  CallsAlike enter enter' = (at : List ℕ) (env other : RunEnvironment N) → EnvironmentIs at env other → (x : N) → EntersAlike at (enter env x) (enter' other x)
 
-  body-alike : (enter enter' : Activation N → CallFunction N) → CallsAlike enter enter' → (t : ℕ) (at : List ℕ) (env other : Activation N) (statements : Tree N (maybe body)) → EnvironmentIs at env other
+  body-alike : (enter enter' : RunEnvironment N → CallFunction N) → CallsAlike enter enter' → (t : ℕ) (at : List ℕ) (env other : RunEnvironment N) (statements : Tree N (maybe body)) → EnvironmentIs at env other
       → Alike at (execute_body naming env (enter env) t statements) (execute_body naming other (enter' other) t statements)
   unfolding execute_body
   body-alike enter enter' known t at env other none h s u is = is
   body-alike enter enter' known t at env other (one (begins statements)) h s u is =
       execute_sequence-alike at (meanings_for_statements naming env) (meanings_for_statements naming other) (enter env) (enter' other)
-      record { mean_same = λ x. object_for_statements-is at (newest_object (environment_from_binding naming env x)) (newest_object (environment_from_binding naming other x)) (newest_object-is at (environment_from_binding naming env x) (environment_from_binding naming other x) (environment_from_binding-is naming at env other x h)); are_written = λ x. refl }
+      record { mean_same = λ x. object_for_statements-is at (newest_object (suffix_from_newest_binding naming env x)) (newest_object (suffix_from_newest_binding naming other x)) (newest_object-is at (suffix_from_newest_binding naming env x) (suffix_from_newest_binding naming other x) (suffix_from_newest_binding-is naming at env other x h)); are_written = λ x. refl }
       (known at env other h) t statements s u is
 
   -- holds if two runs are related after new variables were added to the list
   abbrev ProgressGrown : List ℕ → Progress → Progress → Type 0
   ProgressGrown at p q = (others : List ℕ) × ProgressIs (at ++ others) p q
 
-  continue_in_frame-alike : (enter enter' : Activation N → CallFunction N) → CallsAlike enter enter' → (t : ℕ) (at : List ℕ) (s u : State) (o q : Option (Frame N)) (statements : Tree N (maybe body)) → StateIs at s u → OptionIs (FrameGrown at) o q
+  continue_in_frame-alike : (enter enter' : RunEnvironment N → CallFunction N) → CallsAlike enter enter' → (t : ℕ) (at : List ℕ) (s u : State) (o q : Option (Frame N)) (statements : Tree N (maybe body)) → StateIs at s u → OptionIs (FrameGrown at) o q
       → ProgressGrown at (continue_in_frame s o (λ f. execute_body naming f.env (enter f.env) t statements)) (continue_in_frame u q (λ f. execute_body naming f.env (enter' f.env) t statements))
   continue_in_frame-alike enter enter' known t at s u None None statements h is = ([], (refl, h.same_output))
   continue_in_frame-alike enter enter' known t at s u (Some f) (Some g) statements h is = (
@@ -251,45 +251,45 @@ module _ {N : Type 0} (naming : Naming N) where
   )
   continue_in_frame-alike enter enter' known t at s u _ _ statements h is = absurd is
 
-  activate-alike : (enter enter' : Activation N → CallFunction N) → CallsAlike enter enter' → (t : ℕ) (at : List ℕ) (env other : Activation N) (args others : List Argument) (s u : State) → EnvironmentIs at env other → ArgumentsAre at args others → StateIs at s u
-      → ProgressGrown at (activate naming enter t env args s) (activate naming enter' t other others u)
-  unfolding activate
-  activate-alike enter enter' known t at [] [] args others s u env are h = ([], (refl, h.same_output))
-  activate-alike enter enter' known t at ((x, o) ∷ rest) ((y, q) ∷ other) args others s u env are h = go o q env.1
+  execute_newest_procedure-alike : (enter enter' : RunEnvironment N → CallFunction N) → CallsAlike enter enter' → (t : ℕ) (at : List ℕ) (env other : RunEnvironment N) (args others : List Argument) (s u : State) → EnvironmentIs at env other → ArgumentsAre at args others → StateIs at s u
+      → ProgressGrown at (execute_newest_procedure naming enter t env args s) (execute_newest_procedure naming enter' t other others u)
+  unfolding execute_newest_procedure
+  execute_newest_procedure-alike enter enter' known t at [] [] args others s u env are h = ([], (refl, h.same_output))
+  execute_newest_procedure-alike enter enter' known t at ((x, o) ∷ rest) ((y, q) ∷ other) args others s u env are h = go o q env.1
     where
-      of_code : (code : ProcedureText N) → ProgressGrown at (activate naming enter t ((x, a_procedure code) ∷ rest) args s) (activate naming enter' t ((y, a_procedure code) ∷ other) others u)
+      of_code : (code : ProcedureText N) → ProgressGrown at (execute_newest_procedure naming enter t ((x, a_procedure code) ∷ rest) args s) (execute_newest_procedure naming enter' t ((y, a_procedure code) ∷ other) others u)
       of_code code =
           let f : Frame N = record { env = (x, a_procedure code) ∷ rest; store = s.store } in
           let g : Frame N = record { env = (y, a_procedure code) ∷ other; store = u.store } in
           let ps = parameters (procedure_formals code.text) in
-          let k = constructors_before_procedure_block code.constructors_before code.text in
-          continue_in_frame-alike enter enter' known t at s u (option_and_then (declare_block naming k (procedure_block code.text)) (bind_parameters ps args f)) (option_and_then (declare_block naming k (procedure_block code.text)) (bind_parameters ps others g)) (block_statements (procedure_block code.text)) h
-          (option-then (FrameGrown at) (FrameGrown at) (bind_parameters ps args f) (bind_parameters ps others g) (declare_block naming k (procedure_block code.text)) (declare_block naming k (procedure_block code.text))
+          let k = constructor_count_before_procedure_block code.constructors_before code.text in
+          continue_in_frame-alike enter enter' known t at s u (option_and_then (declare_block_in_frame naming k (procedure_block code.text)) (bind_parameters ps args f)) (option_and_then (declare_block_in_frame naming k (procedure_block code.text)) (bind_parameters ps others g)) (block_statements (procedure_block code.text)) h
+          (option-then (FrameGrown at) (FrameGrown at) (bind_parameters ps args f) (bind_parameters ps others g) (declare_block_in_frame naming k (procedure_block code.text)) (declare_block_in_frame naming k (procedure_block code.text))
           (parameters-are at ps args others f g are record { same_variables = h.same_variables; same_bindings = (env.0, refl, env.2) })
-          (λ f₁ g₁ grown. frames-on at grown.0 (declare_block naming k (procedure_block code.text) f₁) (declare_block naming k (procedure_block code.text) g₁) (block-is (at ++ grown.0) k (procedure_block code.text) f₁ g₁ grown.1)))
+          (λ f₁ g₁ grown. frames-on at grown.0 (declare_block_in_frame naming k (procedure_block code.text) f₁) (declare_block_in_frame naming k (procedure_block code.text) g₁) (block-is (at ++ grown.0) k (procedure_block code.text) f₁ g₁ grown.1)))
 
-      go : (o q : Object Place (ProcedureText N)) → ObjectIs at o q → ProgressGrown at (activate naming enter t ((x, o) ∷ rest) args s) (activate naming enter' t ((y, q) ∷ other) others u)
-      go (a_procedure code) (a_procedure code') is = subst (λ code'. ProgressGrown at (activate naming enter t ((x, a_procedure code) ∷ rest) args s) (activate naming enter' t ((y, a_procedure code') ∷ other) others u)) is (of_code code)
+      go : (o q : Object Place (ProcedureText N)) → ObjectIs at o q → ProgressGrown at (execute_newest_procedure naming enter t ((x, o) ∷ rest) args s) (execute_newest_procedure naming enter' t ((y, q) ∷ other) others u)
+      go (a_procedure code) (a_procedure code') is = subst (λ code'. ProgressGrown at (execute_newest_procedure naming enter t ((x, a_procedure code) ∷ rest) args s) (execute_newest_procedure naming enter' t ((y, a_procedure code') ∷ other) others u)) is (of_code code)
       go (a_type v) (a_type w) is = ([], (refl, h.same_output))
       go (a_constant v) (a_constant w) is = ([], (refl, h.same_output))
       go (a_variable v) (a_variable w) is = ([], (refl, h.same_output))
       go (a_standard_procedure v) (a_standard_procedure w) is = ([], (refl, h.same_output))
       go _ _ is = absurd is
-  activate-alike enter enter' known t at _ _ args others s u env are h = absurd env
+  execute_newest_procedure-alike enter enter' known t at _ _ args others s u env are h = absurd env
 
-  drop_variables-is : (at others : List ℕ) (s u : State) (p q : Progress) → StateIs at s u → ProgressIs (at ++ others) p q → ProgressIs at (drop_variables (length s.store) p) q
-  drop_variables-is at others s u (running s₁) (running u₁) h is =
+  keep_first_variables-is : (at others : List ℕ) (s u : State) (p q : Progress) → StateIs at s u → ProgressIs (at ++ others) p q → ProgressIs at (keep_first_variables (length s.store) p) q
+  keep_first_variables-is at others s u (running s₁) (running u₁) h is =
       record { same_variables = variables-cut at others s.store s₁.store u.store u₁.store h.same_variables is.same_variables; same_input = is.same_input; same_output = is.same_output }
-  drop_variables-is at others s u (stopped e out) (stopped x written) h is = is
-  drop_variables-is at others s u _ _ h is = absurd is
+  keep_first_variables-is at others s u (stopped e out) (stopped x written) h is = is
+  keep_first_variables-is at others s u _ _ h is = absurd is
 
   -- Calls do the same whether or not they free their variables, by induction on the number of calls that may be open.
   calls-alike : (c t : ℕ) → CallsAlike (call_freeing_variables naming c t) (call naming c t)
   unfolding call call_freeing_variables
   calls-alike zero t at env other h x args others s u are is = (refl, is.same_output)
   calls-alike (suc c) t at env other h x args others s u are is =
-      let (new, same) = activate-alike (call_freeing_variables naming c t) (call naming c t) (calls-alike c t) t at (environment_from_binding naming env x) (environment_from_binding naming other x) args others s u (environment_from_binding-is naming at env other x h) are is in
-      drop_variables-is at new s u (activate naming (call_freeing_variables naming c t) t (environment_from_binding naming env x) args s) (activate naming (call naming c t) t (environment_from_binding naming other x) others u) is same
+      let (new, same) = execute_newest_procedure-alike (call_freeing_variables naming c t) (call naming c t) (calls-alike c t) t at (suffix_from_newest_binding naming env x) (suffix_from_newest_binding naming other x) args others s u (suffix_from_newest_binding-is naming at env other x h) are is in
+      keep_first_variables-is at new s u (execute_newest_procedure naming (call_freeing_variables naming c t) t (suffix_from_newest_binding naming env x) args s) (execute_newest_procedure naming (call naming c t) t (suffix_from_newest_binding naming other x) others u) is same
 
   run_result-same : (at : List ℕ) (p q : Progress) → ProgressIs at p q → run_result p ≡ run_result q
   run_result-same at (running s) (running u) h = ap (λ out. record { output = out; ending = (run_result (running s)).ending }) h.same_output
@@ -301,7 +301,7 @@ module _ {N : Type 0} (naming : Naming N) where
   freeing-keeps m input c t =
       let start : State = record { store = []; input = input; output = [] } in
       let f : Frame N = record { env = outermost_environment naming; store = [] } in
-      let o = declare_block naming 0 (module_block m) f in
+      let o = declare_block_in_frame naming 0 (module_block m) f in
       let (new, same) = continue_in_frame-alike (call_freeing_variables naming c t) (call naming c t) (calls-alike c t) t [] start start o o (block_statements (module_block m)) record { same_variables = tt; same_input = refl; same_output = refl }
       (block-is [] 0 (module_block m) f f record { same_variables = tt; same_bindings = (refl, refl, (refl, refl, (refl, refl, (refl, refl, (refl, refl, (refl, refl, (refl, refl, tt))))))) }) in
       run_result-same new (continue_in_frame start o (λ f. execute_body naming f.env (call_freeing_variables naming c t f.env) t (block_statements (module_block m)))) (continue_in_frame start o (λ f. execute_body naming f.env (call naming c t f.env) t (block_statements (module_block m)))) same

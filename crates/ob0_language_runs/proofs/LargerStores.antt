@@ -2,12 +2,12 @@
 use Rattle.std.proofs.Common.{◌≡◌, ℕ, zero, suc, ◌-◌, true, false, ◌≢◌, List, [], ◌∷◌, ◌++◌, length, take, ℤ, slice_get, slice_set, Some, None, Option, option_map, option_and_then, sym, refl, ap, ◌∙◌, subst}
 use Rattle.ob0_tree.specs.Tree.{Tree, addend, adds, assigns, branches, calls, compares, designator, else_branch, else_part, elsif_branch, elsif_part, empty, end, expression, factor, field, statement_after_semicolon, index, integer, items, maybe, more, multiplier, multiplies, negation, none, one, parenthesised, product, relates, repeat_loop, runs, selector, sequence, simple, statement, sum, term, semicolon_then_statement, while_loop}
 use Rattle.ob0_language_types.specs.Arguments.{call_arguments}
-use Rattle.ob0_language_types.specs.Expressions.{Meanings, Object, StandardProcedure, a_constant, a_procedure, a_standard_procedure, a_type, a_variable, designated_place, element_step, evaluate, evaluate_addends, evaluate_factor, evaluate_multipliers, evaluate_simple, evaluate_term, evaluate_selectors, object_place, read_procedure, object_value, write_procedure, write_line_procedure}
+use Rattle.ob0_language_types.specs.Expressions.{Meanings, Object, StandardProcedure, a_constant, a_procedure, a_standard_procedure, a_type, a_variable, designated_place, element_step, evaluate, evaluate_addends, evaluate_factor, evaluate_multipliers, evaluate_simple_expression, evaluate_term, evaluate_selectors, object_place, read_procedure, object_value, write_procedure, write_line_procedure}
 use Rattle.ob0_language_types.specs.Typing.{lone_designator}
 use Rattle.ob0_language_types.specs.WellTyped.{ParameterMode, by_place, by_value}
 use Rattle.ob0_language_types.proofs.Literals.{some_inverse}
-use Rattle.ob0_language_values.specs.Values.{Outcome, Place, Store, TurnBound, Value, add, add_operator_short_circuits, at_field, value_at_path, elements, ends_run_with, succeeds_with, members, multiply, multiply_operator_short_circuits, negate, number, or_stuck, value_at_step, read_place, apply_relation, apply_sign, truth, with_value_at_path, ◌>>=◌}
-use Rattle.ob0_language_runs.specs.Runs.{Argument, CallFunction, Progress, State, PrintedItem, choose_by_truth, evaluate_argument, evaluate_arguments, execute, execute_sequence, execute_else, execute_elsifs, execute_further_statements, continue_with, line_out, argument_modes_of, number_out, perform_call, place_argument, append_output, read_number, running, stopped, store_at, execute_while, execute_repeat, continue_with_result, value_argument}
+use Rattle.ob0_language_values.specs.Values.{Outcome, Place, Store, TurnBound, Value, add, add_operator_short_circuits, at_field, value_at_path, elements, ends_run_with, succeeds_with, members, multiply, multiply_operator_short_circuits, negate, number, result_or_stuck, value_at_step, read_place, apply_relation, apply_sign, truth, with_value_at_path, ◌>>=◌}
+use Rattle.ob0_language_runs.specs.Runs.{Argument, CallFunction, Progress, State, PrintedItem, choose_by_truth_value, evaluate_argument, evaluate_arguments, execute, execute_sequence, execute_else, execute_elsifs, execute_further_statements, continue_if_running, printed_line_end, argument_modes_of, printed_number, perform_call, place_argument, append_output, read_number, running, stopped, store_value_at_place, execute_while, execute_repeat, continue_with_result, value_argument}
 use Rattle.ob0_language_runs.proofs.SoundStatements.{slice_get-grows}
 
 -- The last item of a list is at the index of its length before the item was appended.
@@ -141,7 +141,7 @@ read-same at small large p q h is = λ i. option_and_then (value_at_path (is.sam
 value-same : {P : Type 0} (at : List ℕ) (small large : Store) (o q : Option (Object Place P)) → StoreIs at small large → MeaningIs at o q → object_value small o ≡ object_value large q
 value-same at small large None None h is = refl
 value-same at small large (Some (a_constant v)) (Some (a_constant w)) h is = ap succeeds_with is
-value-same at small large (Some (a_variable p)) (Some (a_variable q)) h is = ap or_stuck (read-same at small large p q h is)
+value-same at small large (Some (a_variable p)) (Some (a_variable q)) h is = ap result_or_stuck (read-same at small large p q h is)
 value-same at small large (Some (a_type s)) (Some (a_type t)) h is = refl
 value-same at small large (Some (a_procedure a)) (Some (a_procedure b)) h is = refl
 value-same at small large (Some (a_standard_procedure a)) (Some (a_standard_procedure b)) h is = refl
@@ -163,12 +163,12 @@ module _ {N P : Type 0} (here there : Meanings N Place P) (small large : Store) 
     unfolding evaluate
 
     pub evaluate-same : (e : Tree N expression) → evaluate here small e ≡ evaluate there large e
-    evaluate-same (compares a none) = evaluate_simple-same a
+    evaluate-same (compares a none) = evaluate_simple_expression-same a
     evaluate-same (compares a (one (relates r b))) = λ i.
-        evaluate_simple-same a i >>= (λ x. evaluate_simple-same b i >>= (λ y. apply_relation r x y))
+        evaluate_simple_expression-same a i >>= (λ x. evaluate_simple_expression-same b i >>= (λ y. apply_relation r x y))
 
-    pub evaluate_simple-same : (a : Tree N simple) → evaluate_simple here small a ≡ evaluate_simple there large a
-    evaluate_simple-same (sum s t rest) = λ i.
+    pub evaluate_simple_expression-same : (a : Tree N simple) → evaluate_simple_expression here small a ≡ evaluate_simple_expression there large a
+    evaluate_simple_expression-same (sum s t rest) = λ i.
         evaluate_term-same t i >>= (λ x. apply_sign s x >>= (λ y. evaluate_addends-same y rest i))
 
     pub evaluate_addends-same : (x : Value) (rest : Tree N (items addend)) → evaluate_addends here small x rest ≡ evaluate_addends there large x rest
@@ -189,7 +189,7 @@ module _ {N P : Type 0} (here there : Meanings N Place P) (small large : Store) 
 
     pub evaluate_factor-same : (a : Tree N factor) → evaluate_factor here small a ≡ evaluate_factor there large a
     evaluate_factor-same (designator x path) = λ i.
-        values x i >>= (λ v. follow-same v path i >>= (λ steps. or_stuck (value_at_path steps v)))
+        values x i >>= (λ v. follow-same v path i >>= (λ steps. result_or_stuck (value_at_path steps v)))
     evaluate_factor-same (integer n) = refl
     evaluate_factor-same (parenthesised e) = evaluate-same e
     evaluate_factor-same (negation a) = λ i. evaluate_factor-same a i >>= negate
@@ -197,9 +197,9 @@ module _ {N P : Type 0} (here there : Meanings N Place P) (small large : Store) 
     pub follow-same : (v : Value) (path : Tree N (items selector)) → evaluate_selectors here small v path ≡ evaluate_selectors there large v path
     follow-same v end = refl
     follow-same v (more (field x) rest) = λ i.
-        or_stuck (value_at_step v (at_field (written x i))) >>= (λ w. follow-same w rest i >>= (λ steps. succeeds_with (at_field (written x i) ∷ steps)))
+        result_or_stuck (value_at_step v (at_field (written x i))) >>= (λ w. follow-same w rest i >>= (λ steps. succeeds_with (at_field (written x i) ∷ steps)))
     follow-same v (more (index e) rest) = λ i.
-        evaluate-same e i >>= (λ j. element_step v j >>= (λ s. or_stuck (value_at_step v s) >>= (λ w. follow-same w rest i >>= (λ steps. succeeds_with (s ∷ steps)))))
+        evaluate-same e i >>= (λ j. element_step v j >>= (λ s. result_or_stuck (value_at_step v s) >>= (λ w. follow-same w rest i >>= (λ steps. succeeds_with (s ∷ steps)))))
 
 -- holds if the meanings of names are related in both stores, and fields are spelled alike
 pub record NamesAre {N P : Type 0} (at : List ℕ) (here there : Meanings N Place P) : Type 0 where
@@ -214,12 +214,12 @@ pub designated_place-is : {N P : Type 0} (at : List ℕ) (here there : Meanings 
 unfolding designated_place
 designated_place-is at here there small large names h x path =
     outcome-then (PlaceIs at) (PlaceIs at) (object_place (here.object_for x)) (object_place (there.object_for x))
-    (λ p. or_stuck (read_place small p) >>= (λ v. evaluate_selectors here small v path >>= (λ steps. succeeds_with record { variable = p.variable; path = p.path ++ steps })))
-    (λ p. or_stuck (read_place large p) >>= (λ v. evaluate_selectors there large v path >>= (λ steps. succeeds_with record { variable = p.variable; path = p.path ++ steps })))
+    (λ p. result_or_stuck (read_place small p) >>= (λ v. evaluate_selectors here small v path >>= (λ steps. succeeds_with record { variable = p.variable; path = p.path ++ steps })))
+    (λ p. result_or_stuck (read_place large p) >>= (λ v. evaluate_selectors there large v path >>= (λ steps. succeeds_with record { variable = p.variable; path = p.path ++ steps })))
     (place-is at (here.object_for x) (there.object_for x) (names.mean_same x))
-    (λ p q is. same-then (PlaceIs at) (or_stuck (read_place small p)) (or_stuck (read_place large q))
+    (λ p q is. same-then (PlaceIs at) (result_or_stuck (read_place small p)) (result_or_stuck (read_place large q))
     (λ v. evaluate_selectors here small v path >>= (λ steps. succeeds_with record { variable = p.variable; path = p.path ++ steps })) (λ v. evaluate_selectors there large v path >>= (λ steps. succeeds_with record { variable = q.variable; path = q.path ++ steps }))
-    (ap or_stuck (read-same at small large p q h is))
+    (ap result_or_stuck (read-same at small large p q h is))
     (λ v. same-then (PlaceIs at) (evaluate_selectors here small v path) (evaluate_selectors there large v path) (λ steps. succeeds_with record { variable = p.variable; path = p.path ++ steps }) (λ steps. succeeds_with record { variable = q.variable; path = q.path ++ steps })
     (follow-same here there small large (λ x. value-same at small large (here.object_for x) (there.object_for x) h (names.mean_same x)) names.are_written v path)
     (λ steps. record { variable_is = is.variable_is; same_path = ap (λ l. l ++ steps) is.same_path })))
@@ -241,7 +241,7 @@ unfolding evaluate_argument
 argument-is at here there small large names h by_value e =
     same-then (ArgumentIs at) (evaluate here small e) (evaluate there large e) (λ v. succeeds_with (value_argument v)) (λ v. succeeds_with (value_argument v)) (evaluate-is at here there small large names h e) (λ v. refl)
 argument-is at here there small large names h by_place e =
-    same-then (ArgumentIs at) (or_stuck (lone_designator e)) (or_stuck (lone_designator e)) (λ d. designated_place here small d.0 d.1 >>= (λ p. succeeds_with (place_argument p))) (λ d. designated_place there large d.0 d.1 >>= (λ p. succeeds_with (place_argument p))) refl
+    same-then (ArgumentIs at) (result_or_stuck (lone_designator e)) (result_or_stuck (lone_designator e)) (λ d. designated_place here small d.0 d.1 >>= (λ p. succeeds_with (place_argument p))) (λ d. designated_place there large d.0 d.1 >>= (λ p. succeeds_with (place_argument p))) refl
     (λ d. outcome-then (PlaceIs at) (ArgumentIs at) (designated_place here small d.0 d.1) (designated_place there large d.0 d.1) (λ p. succeeds_with (place_argument p)) (λ p. succeeds_with (place_argument p)) (designated_place-is at here there small large names h d.0 d.1) (λ p q is. is))
 
 arguments-are : {N P : Type 0} (at : List ℕ) (here there : Meanings N Place P) (small large : Store) → NamesAre at here there → StoreIs at small large → (ms : List ParameterMode) (es : List (Tree N expression)) → OutcomeIs (ArgumentsAre at) (evaluate_arguments here small ms es) (evaluate_arguments there large ms es)
@@ -282,40 +282,40 @@ use_same {A} at s u o q f g out e each = subst (λ q. ProgressIs at (continue_wi
     go (succeeds_with a) = each a
     go (ends_run_with x) = (refl, out)
 
-choose_by_truth-is : (at : List ℕ) (s u : State) (v : Value) (f g f' g' : State → Progress) → StateIs at s u → ProgressIs at (f s) (f' u) → ProgressIs at (g s) (g' u) → ProgressIs at (choose_by_truth s v f g) (choose_by_truth u v f' g')
-choose_by_truth-is at s u (truth true) f g f' g' h is is' = is
-choose_by_truth-is at s u (truth false) f g f' g' h is is' = is'
-choose_by_truth-is at s u _ f g f' g' h is is' = (refl, h.same_output)
+choose_by_truth_value-is : (at : List ℕ) (s u : State) (v : Value) (f g f' g' : State → Progress) → StateIs at s u → ProgressIs at (f s) (f' u) → ProgressIs at (g s) (g' u) → ProgressIs at (choose_by_truth_value s v f g) (choose_by_truth_value u v f' g')
+choose_by_truth_value-is at s u (truth true) f g f' g' h is is' = is
+choose_by_truth_value-is at s u (truth false) f g f' g' h is is' = is'
+choose_by_truth_value-is at s u _ f g f' g' h is is' = (refl, h.same_output)
 
-pub go_on-is : (at : List ℕ) (p q : Progress) (f g : State → Progress) → ProgressIs at p q → Alike at f g → ProgressIs at (continue_with p f) (continue_with q g)
+pub go_on-is : (at : List ℕ) (p q : Progress) (f g : State → Progress) → ProgressIs at p q → Alike at f g → ProgressIs at (continue_if_running p f) (continue_if_running q g)
 go_on-is at (running s) (running u) f g h alike = alike s u h
 go_on-is at (stopped e out) (stopped x written) f g h alike = h
 go_on-is at _ _ f g h alike = absurd h
 
-store_at-is : (at : List ℕ) (s u : State) (p q : Place) (new : Value) → StateIs at s u → PlaceIs at p q → ProgressIs at (store_at s p new) (store_at u q new)
-store_at-is at s u p q new h is =
-    subst (λ path. ProgressIs at (store_at s p new) (continue_with_result u (or_stuck (option_and_then (λ old. option_map (slice_set u.store q.variable) (with_value_at_path path new old)) (slice_get u.store q.variable))) (λ store. running record u { store = store }))) is.same_path
-    (subst (λ found. ProgressIs at (continue_with_result s (or_stuck (option_and_then (λ old. option_map (slice_set s.store p.variable) (with_value_at_path p.path new old)) found)) (λ store. running record s { store = store }))
-    (continue_with_result u (or_stuck (option_and_then (λ old. option_map (slice_set u.store q.variable) (with_value_at_path p.path new old)) (slice_get u.store q.variable))) (λ store. running record u { store = store })))
+store_value_at_place-is : (at : List ℕ) (s u : State) (p q : Place) (new : Value) → StateIs at s u → PlaceIs at p q → ProgressIs at (store_value_at_place s p new) (store_value_at_place u q new)
+store_value_at_place-is at s u p q new h is =
+    subst (λ path. ProgressIs at (store_value_at_place s p new) (continue_with_result u (result_or_stuck (option_and_then (λ old. option_map (slice_set u.store q.variable) (with_value_at_path path new old)) (slice_get u.store q.variable))) (λ store. running record u { store = store }))) is.same_path
+    (subst (λ found. ProgressIs at (continue_with_result s (result_or_stuck (option_and_then (λ old. option_map (slice_set s.store p.variable) (with_value_at_path p.path new old)) found)) (λ store. running record s { store = store }))
+    (continue_with_result u (result_or_stuck (option_and_then (λ old. option_map (slice_set u.store q.variable) (with_value_at_path p.path new old)) (slice_get u.store q.variable))) (λ store. running record u { store = store })))
     (sym (variable-found at s.store u.store p.variable q.variable h.same_variables is.variable_is))
     (go (slice_get u.store q.variable) refl))
   where
     put : (old : Value) → slice_get u.store q.variable ≡ Some old → (w : Option Value)
-        → ProgressIs at (continue_with_result s (or_stuck (option_map (slice_set s.store p.variable) w)) (λ store. running record s { store = store })) (continue_with_result u (or_stuck (option_map (slice_set u.store q.variable) w)) (λ store. running record u { store = store }))
+        → ProgressIs at (continue_with_result s (result_or_stuck (option_map (slice_set s.store p.variable) w)) (λ store. running record s { store = store })) (continue_with_result u (result_or_stuck (option_map (slice_set u.store q.variable) w)) (λ store. running record u { store = store }))
     put old e None = (refl, h.same_output)
     put old e (Some w) =
         record { same_variables = variable-written at s.store u.store p.variable q.variable old w h.same_variables is.variable_is e; same_input = h.same_input; same_output = h.same_output }
 
     go : (found : Option Value) → slice_get u.store q.variable ≡ found
-        → ProgressIs at (continue_with_result s (or_stuck (option_and_then (λ old. option_map (slice_set s.store p.variable) (with_value_at_path p.path new old)) found)) (λ store. running record s { store = store }))
-        (continue_with_result u (or_stuck (option_and_then (λ old. option_map (slice_set u.store q.variable) (with_value_at_path p.path new old)) found)) (λ store. running record u { store = store }))
+        → ProgressIs at (continue_with_result s (result_or_stuck (option_and_then (λ old. option_map (slice_set s.store p.variable) (with_value_at_path p.path new old)) found)) (λ store. running record s { store = store }))
+        (continue_with_result u (result_or_stuck (option_and_then (λ old. option_map (slice_set u.store q.variable) (with_value_at_path p.path new old)) found)) (λ store. running record u { store = store }))
     go None e = (refl, h.same_output)
     go (Some old) e = put old e (with_value_at_path p.path new old)
 
 read-is : (at : List ℕ) (s u : State) (p q : Place) (input : List ℤ) → StateIs at s u → PlaceIs at p q → ProgressIs at (read_number s p input) (read_number u q input)
 read-is at s u p q [] h is = (refl, h.same_output)
 read-is at s u p q (n ∷ rest) h is =
-    store_at-is at record s { input = rest } record u { input = rest } p q (number n) record { same_variables = h.same_variables; same_input = refl; same_output = h.same_output } is
+    store_value_at_place-is at record s { input = rest } record u { input = rest } p q (number n) record { same_variables = h.same_variables; same_input = refl; same_output = h.same_output } is
 
 put_out-is : (at : List ℕ) (s u : State) (w : PrintedItem) → StateIs at s u → StateIs at (append_output s w) (append_output u w)
 put_out-is at s u w h = record { same_variables = h.same_variables; same_input = h.same_input; same_output = ap (λ out. out ++ w ∷ []) h.same_output }
@@ -348,7 +348,7 @@ reads-alike at enter enter' (value_argument v ∷ args) (place_argument q ∷ ot
 reads-alike at enter enter' _ _ s u are h = absurd are
 
 written-alike : (at : List ℕ) (enter enter' : List Argument → State → Progress) (v : Value) (s u : State) → StateIs at s u → ProgressIs at (perform_call (Some (a_standard_procedure write_procedure)) enter (value_argument v ∷ []) s) (perform_call (Some (a_standard_procedure write_procedure)) enter' (value_argument v ∷ []) u)
-written-alike at enter enter' (number n) s u h = put_out-is at s u (number_out n) h
+written-alike at enter enter' (number n) s u h = put_out-is at s u (printed_number n) h
 written-alike at enter enter' _ s u h = (refl, h.same_output)
 
 not-written : (at : List ℕ) (enter enter' : List Argument → State → Progress) (v w : Value) (a b : Argument) (args others : List Argument) (s u : State) → StateIs at s u → ProgressIs at (perform_call (Some (a_standard_procedure write_procedure)) enter (value_argument v ∷ a ∷ args) s) (perform_call (Some (a_standard_procedure write_procedure)) enter' (value_argument w ∷ b ∷ others) u)
@@ -387,7 +387,7 @@ writes-alike at enter enter' _ _ s u are h = absurd are
 standard-alike : (at : List ℕ) (a : StandardProcedure) (enter enter' : List Argument → State → Progress) → EntersAlike at (perform_call (Some (a_standard_procedure a)) enter) (perform_call (Some (a_standard_procedure a)) enter')
 standard-alike at read_procedure enter enter' args others s u are h = reads-alike at enter enter' args others s u are h
 standard-alike at write_procedure enter enter' args others s u are h = writes-alike at enter enter' args others s u are h
-standard-alike at write_line_procedure enter enter' [] [] s u are h = put_out-is at s u line_out h
+standard-alike at write_line_procedure enter enter' [] [] s u are h = put_out-is at s u printed_line_end h
 standard-alike at write_line_procedure enter enter' (a ∷ args) (b ∷ others) s u are h = (refl, h.same_output)
 standard-alike at write_line_procedure enter enter' _ _ s u are h = absurd are
 
@@ -405,22 +405,22 @@ perform_call-alike at _ _ enter enter' is alike args others s u are h = absurd i
 
 execute_while-alike : (at : List ℕ) (t : ℕ) (test test' : State → Outcome Value) (f g : State → Progress) → ((s u : State) → StateIs at s u → test s ≡ test' u) → Alike at f g → Alike at (execute_while t test f) (execute_while t test' g)
 execute_while-alike at zero test test' f g same alike s u h =
-    use_same at s u (test s) (test' u) (λ v. choose_by_truth s v (λ s'. stopped TurnBound s'.output) running) (λ v. choose_by_truth u v (λ s'. stopped TurnBound s'.output) running) h.same_output (same s u h)
-    (λ v. choose_by_truth-is at s u v (λ s'. stopped TurnBound s'.output) running (λ s'. stopped TurnBound s'.output) running h (refl, h.same_output) h)
+    use_same at s u (test s) (test' u) (λ v. choose_by_truth_value s v (λ s'. stopped TurnBound s'.output) running) (λ v. choose_by_truth_value u v (λ s'. stopped TurnBound s'.output) running) h.same_output (same s u h)
+    (λ v. choose_by_truth_value-is at s u v (λ s'. stopped TurnBound s'.output) running (λ s'. stopped TurnBound s'.output) running h (refl, h.same_output) h)
 execute_while-alike at (suc t) test test' f g same alike s u h =
-    use_same at s u (test s) (test' u) (λ v. choose_by_truth s v (λ s'. continue_with (f s') (execute_while t test f)) running) (λ v. choose_by_truth u v (λ s'. continue_with (g s') (execute_while t test' g)) running) h.same_output (same s u h)
-    (λ v. choose_by_truth-is at s u v (λ s'. continue_with (f s') (execute_while t test f)) running (λ s'. continue_with (g s') (execute_while t test' g)) running h
+    use_same at s u (test s) (test' u) (λ v. choose_by_truth_value s v (λ s'. continue_if_running (f s') (execute_while t test f)) running) (λ v. choose_by_truth_value u v (λ s'. continue_if_running (g s') (execute_while t test' g)) running) h.same_output (same s u h)
+    (λ v. choose_by_truth_value-is at s u v (λ s'. continue_if_running (f s') (execute_while t test f)) running (λ s'. continue_if_running (g s') (execute_while t test' g)) running h
     (go_on-is at (f s) (g u) (execute_while t test f) (execute_while t test' g) (alike s u h) (execute_while-alike at t test test' f g same alike)) h)
 
 execute_repeat-alike : (at : List ℕ) (t : ℕ) (test test' : State → Outcome Value) (f g : State → Progress) → ((s u : State) → StateIs at s u → test s ≡ test' u) → Alike at f g → Alike at (execute_repeat t test f) (execute_repeat t test' g)
 execute_repeat-alike at zero test test' f g same alike s u h =
-    go_on-is at (f s) (g u) (λ s'. continue_with_result s' (test s') (λ v. choose_by_truth s' v running (λ s''. stopped TurnBound s''.output))) (λ s'. continue_with_result s' (test' s') (λ v. choose_by_truth s' v running (λ s''. stopped TurnBound s''.output))) (alike s u h)
-    (λ s u h. use_same at s u (test s) (test' u) (λ v. choose_by_truth s v running (λ s''. stopped TurnBound s''.output)) (λ v. choose_by_truth u v running (λ s''. stopped TurnBound s''.output)) h.same_output (same s u h)
-    (λ v. choose_by_truth-is at s u v running (λ s''. stopped TurnBound s''.output) running (λ s''. stopped TurnBound s''.output) h h (refl, h.same_output)))
+    go_on-is at (f s) (g u) (λ s'. continue_with_result s' (test s') (λ v. choose_by_truth_value s' v running (λ s''. stopped TurnBound s''.output))) (λ s'. continue_with_result s' (test' s') (λ v. choose_by_truth_value s' v running (λ s''. stopped TurnBound s''.output))) (alike s u h)
+    (λ s u h. use_same at s u (test s) (test' u) (λ v. choose_by_truth_value s v running (λ s''. stopped TurnBound s''.output)) (λ v. choose_by_truth_value u v running (λ s''. stopped TurnBound s''.output)) h.same_output (same s u h)
+    (λ v. choose_by_truth_value-is at s u v running (λ s''. stopped TurnBound s''.output) running (λ s''. stopped TurnBound s''.output) h h (refl, h.same_output)))
 execute_repeat-alike at (suc t) test test' f g same alike s u h =
-    go_on-is at (f s) (g u) (λ s'. continue_with_result s' (test s') (λ v. choose_by_truth s' v running (execute_repeat t test f))) (λ s'. continue_with_result s' (test' s') (λ v. choose_by_truth s' v running (execute_repeat t test' g))) (alike s u h)
-    (λ s u h. use_same at s u (test s) (test' u) (λ v. choose_by_truth s v running (execute_repeat t test f)) (λ v. choose_by_truth u v running (execute_repeat t test' g)) h.same_output (same s u h)
-    (λ v. choose_by_truth-is at s u v running (execute_repeat t test f) running (execute_repeat t test' g) h h (execute_repeat-alike at t test test' f g same alike s u h)))
+    go_on-is at (f s) (g u) (λ s'. continue_with_result s' (test s') (λ v. choose_by_truth_value s' v running (execute_repeat t test f))) (λ s'. continue_with_result s' (test' s') (λ v. choose_by_truth_value s' v running (execute_repeat t test' g))) (alike s u h)
+    (λ s u h. use_same at s u (test s) (test' u) (λ v. choose_by_truth_value s v running (execute_repeat t test f)) (λ v. choose_by_truth_value u v running (execute_repeat t test' g)) h.same_output (same s u h)
+    (λ v. choose_by_truth_value-is at s u v running (execute_repeat t test f) running (execute_repeat t test' g) h h (execute_repeat-alike at t test test' f g same alike s u h)))
 
 module _ {N : Type 0} (at : List ℕ) (here there : Meanings N Place (List ParameterMode)) (enter enter' : CallFunction N) (names : NamesAre at here there) (alike : (x : N) → EntersAlike at (enter x) (enter' x)) (t : ℕ) where
   condition-same : (e : Tree N expression) (s u : State) → StateIs at s u → evaluate here s.store e ≡ evaluate there u.store e
@@ -429,9 +429,9 @@ module _ {N : Type 0} (at : List ℕ) (here there : Meanings N Place (List Param
   assigns-alike : (x : N) (path : Tree N (items selector)) (e : Tree N expression) → Alike at (execute here enter t (assigns x path e)) (execute there enter' t (assigns x path e))
   unfolding execute
   assigns-alike x path e s u h =
-      continue_with_result-is at (PlaceIs at) s u (designated_place here s.store x path) (designated_place there u.store x path) (λ p. continue_with_result s (evaluate here s.store e) (store_at s p)) (λ p. continue_with_result u (evaluate there u.store e) (store_at u p)) h.same_output
+      continue_with_result-is at (PlaceIs at) s u (designated_place here s.store x path) (designated_place there u.store x path) (λ p. continue_with_result s (evaluate here s.store e) (store_value_at_place s p)) (λ p. continue_with_result u (evaluate there u.store e) (store_value_at_place u p)) h.same_output
       (designated_place-is at here there s.store u.store names h.same_variables x path)
-      (λ p q is. use_same at s u (evaluate here s.store e) (evaluate there u.store e) (store_at s p) (store_at u q) h.same_output (condition-same e s u h) (λ v. store_at-is at s u p q v h is))
+      (λ p q is. use_same at s u (evaluate here s.store e) (evaluate there u.store e) (store_value_at_place s p) (store_value_at_place u q) h.same_output (condition-same e s u h) (λ v. store_value_at_place-is at s u p q v h is))
 
   calls-alike : (x : N) (es : List (Tree N expression)) → Alike at (λ s. continue_with_result s (argument_modes_of (here.object_for x) >>= (λ modes. evaluate_arguments here s.store modes es)) (λ args. perform_call (here.object_for x) (enter x) args s))
       (λ s. continue_with_result s (argument_modes_of (there.object_for x) >>= (λ modes. evaluate_arguments there s.store modes es)) (λ args. perform_call (there.object_for x) (enter' x) args s))
@@ -450,9 +450,9 @@ module _ {N : Type 0} (at : List ℕ) (here there : Meanings N Place (List Param
     execute-alike (assigns x path e) s u h = assigns-alike x path e s u h
     execute-alike (calls x es) s u h = calls-alike x (call_arguments es) s u h
     execute-alike (branches e statements rest last) s u h =
-        use_same at s u (evaluate here s.store e) (evaluate there u.store e) (λ v. choose_by_truth s v (execute_sequence here enter t statements) (execute_elsifs here enter t rest (execute_else here enter t last))) (λ v. choose_by_truth u v (execute_sequence there enter' t statements) (execute_elsifs there enter' t rest (execute_else there enter' t last)))
+        use_same at s u (evaluate here s.store e) (evaluate there u.store e) (λ v. choose_by_truth_value s v (execute_sequence here enter t statements) (execute_elsifs here enter t rest (execute_else here enter t last))) (λ v. choose_by_truth_value u v (execute_sequence there enter' t statements) (execute_elsifs there enter' t rest (execute_else there enter' t last)))
         h.same_output (condition-same e s u h)
-        (λ v. choose_by_truth-is at s u v (execute_sequence here enter t statements) (execute_elsifs here enter t rest (execute_else here enter t last)) (execute_sequence there enter' t statements) (execute_elsifs there enter' t rest (execute_else there enter' t last)) h
+        (λ v. choose_by_truth_value-is at s u v (execute_sequence here enter t statements) (execute_elsifs here enter t rest (execute_else here enter t last)) (execute_sequence there enter' t statements) (execute_elsifs there enter' t rest (execute_else there enter' t last)) h
         (execute_sequence-alike statements s u h) (execute_elsifs-alike rest (execute_else here enter t last) (execute_else there enter' t last) (execute_else-alike last) s u h))
     execute-alike (while_loop e statements) s u h =
         execute_while-alike at t (λ s'. evaluate here s'.store e) (λ s'. evaluate there s'.store e) (execute_sequence here enter t statements) (execute_sequence there enter' t statements) (condition-same e) (execute_sequence-alike statements) s u h
@@ -469,9 +469,9 @@ module _ {N : Type 0} (at : List ℕ) (here there : Meanings N Place (List Param
     pub execute_elsifs-alike : (a : Tree N (items elsif_part)) (f g : State → Progress) → Alike at f g → Alike at (execute_elsifs here enter t a f) (execute_elsifs there enter' t a g)
     execute_elsifs-alike end f g is s u h = is s u h
     execute_elsifs-alike (more (elsif_branch e statements) rest) f g is s u h =
-        use_same at s u (evaluate here s.store e) (evaluate there u.store e) (λ v. choose_by_truth s v (execute_sequence here enter t statements) (execute_elsifs here enter t rest f)) (λ v. choose_by_truth u v (execute_sequence there enter' t statements) (execute_elsifs there enter' t rest g))
+        use_same at s u (evaluate here s.store e) (evaluate there u.store e) (λ v. choose_by_truth_value s v (execute_sequence here enter t statements) (execute_elsifs here enter t rest f)) (λ v. choose_by_truth_value u v (execute_sequence there enter' t statements) (execute_elsifs there enter' t rest g))
         h.same_output (condition-same e s u h)
-        (λ v. choose_by_truth-is at s u v (execute_sequence here enter t statements) (execute_elsifs here enter t rest f) (execute_sequence there enter' t statements) (execute_elsifs there enter' t rest g) h
+        (λ v. choose_by_truth_value-is at s u v (execute_sequence here enter t statements) (execute_elsifs here enter t rest f) (execute_sequence there enter' t statements) (execute_elsifs there enter' t rest g) h
         (execute_sequence-alike statements s u h) (execute_elsifs-alike rest f g is s u h))
 
     pub execute_else-alike : (a : Tree N (maybe else_part)) → Alike at (execute_else here enter t a) (execute_else there enter' t a)

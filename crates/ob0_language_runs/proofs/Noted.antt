@@ -1,13 +1,13 @@
 -- Environments whose bindings also have the ordinals of their declarations. Names can be looked up by name and by
 -- ordinal, and a name and its ordinal find the same binding.
 use Rattle.std.proofs.Common.{◌≡◌, ℕ, ◌<◌, ◌≤◌, true, false, List, [], ◌∷◌, Some, refl, le_of_lt, arith}
-use Rattle.ob0_language_names.specs.Names.{Label, Naming, naming_by_label, declared, same_label}
+use Rattle.ob0_language_names.specs.Names.{Label, Naming, naming_by_label, declared, same_ordinal_label}
 use Rattle.ob0_language_names.specs.BlockParts.{procedure_name}
 use Rattle.ob0_language_names.specs.Scopes.{Scope, label_from_ordinal, ordinal_in_scope, relabel_procedure}
-use Rattle.ob0_language_types.specs.Environments.{environment_from_binding}
+use Rattle.ob0_language_types.specs.Environments.{suffix_from_newest_binding}
 use Rattle.ob0_language_types.specs.Expressions.{Object, a_constant, a_procedure, a_standard_procedure, a_type, a_variable}
 use Rattle.ob0_language_values.specs.Values.{Place}
-use Rattle.ob0_language_runs.specs.Runs.{Activation, ProcedureText}
+use Rattle.ob0_language_runs.specs.Runs.{RunEnvironment, ProcedureText}
 use Rattle.std.proofs.lemmas.Bool.{eq-eqb, ne_eqb}
 
 pub record Bound (N : Type 0) : Type 0 where
@@ -18,7 +18,7 @@ pub record Bound (N : Type 0) : Type 0 where
 abbrev pub Noted : Type 0 → Type 0
 Noted N = List (Bound N)
 
-abbrev pub by_name : {N : Type 0} → Noted N → Activation N
+abbrev pub by_name : {N : Type 0} → Noted N → RunEnvironment N
 by_name [] = []
 by_name (b ∷ noted) = (b.name, b.object) ∷ by_name noted
 
@@ -38,7 +38,7 @@ numbered_object naming scope k (a_procedure code) = a_procedure (numbered_code n
 numbered_object naming scope k (a_standard_procedure p) = a_standard_procedure p
 
 -- returns the environment by ordinal; a procedure's text is numbered in the scope of its declaration
-abbrev pub by_ordinal : {N : Type 0} → Naming N → Noted N → Activation Label
+abbrev pub by_ordinal : {N : Type 0} → Naming N → Noted N → RunEnvironment Label
 by_ordinal naming [] = []
 by_ordinal naming (b ∷ noted) = (declared b.ordinal, numbered_object naming (scope_of noted) b.ordinal b.object) ∷ by_ordinal naming noted
 
@@ -61,24 +61,24 @@ abbrev pub noted_from : {N : Type 0} → Naming N → Noted N → N → Noted N
 noted_from naming [] x = []
 noted_from naming (b ∷ noted) x = elim (naming.same x b.name) [ true ↦ b ∷ noted | false ↦ noted_from naming noted x ]
 
-pub by_name-from : {N : Type 0} (naming : Naming N) (noted : Noted N) (x : N) → environment_from_binding naming (by_name noted) x ≡ by_name (noted_from naming noted x)
+pub by_name-from : {N : Type 0} (naming : Naming N) (noted : Noted N) (x : N) → suffix_from_newest_binding naming (by_name noted) x ≡ by_name (noted_from naming noted x)
 by_name-from naming [] x = refl
 by_name-from naming (b ∷ noted) x =
-    elim (naming.same x b.name) as (λ v. (elim v [ true ↦ by_name (b ∷ noted) | false ↦ environment_from_binding naming (by_name noted) x ]) ≡ by_name (elim v [ true ↦ b ∷ noted | false ↦ noted_from naming noted x ]))
+    elim (naming.same x b.name) as (λ v. (elim v [ true ↦ by_name (b ∷ noted) | false ↦ suffix_from_newest_binding naming (by_name noted) x ]) ≡ by_name (elim v [ true ↦ b ∷ noted | false ↦ noted_from naming noted x ]))
     [ true ↦ refl | false ↦ by_name-from naming noted x ]
 
 -- The ordinal of a name is below the ordinals of all bindings newer than its own.
-pub older_ordinal : {N : Type 0} (naming : Naming N) (n : ℕ) (noted : Noted N) (x : N) → Below n noted → same_label (label_from_ordinal naming (ordinal_in_scope naming (scope_of noted) x) x) (declared n) ≡ false
+pub older_ordinal : {N : Type 0} (naming : Naming N) (n : ℕ) (noted : Noted N) (x : N) → Below n noted → same_ordinal_label (label_from_ordinal naming (ordinal_in_scope naming (scope_of noted) x) x) (declared n) ≡ false
 older_ordinal naming n [] x below = refl
 older_ordinal naming n (b ∷ noted) x below =
-    elim (naming.same x b.name) as (λ v. same_label (label_from_ordinal naming (elim v [ true ↦ Some b.ordinal | false ↦ ordinal_in_scope naming (scope_of noted) x ]) x) (declared n) ≡ false)
+    elim (naming.same x b.name) as (λ v. same_ordinal_label (label_from_ordinal naming (elim v [ true ↦ Some b.ordinal | false ↦ ordinal_in_scope naming (scope_of noted) x ]) x) (declared n) ≡ false)
     [ true ↦ ne_eqb b.ordinal n (λ e. omega (arith, e, below.0)) | false ↦ older_ordinal naming n noted x (Below-weaken b.ordinal n noted (le_of_lt below.0) below.2) ]
 
-pub by_ordinal-from : {N : Type 0} (naming : Naming N) (n : ℕ) (noted : Noted N) (x : N) → Below n noted → environment_from_binding naming_by_label (by_ordinal naming noted) (label_from_ordinal naming (ordinal_in_scope naming (scope_of noted) x) x) ≡ by_ordinal naming (noted_from naming noted x)
+pub by_ordinal-from : {N : Type 0} (naming : Naming N) (n : ℕ) (noted : Noted N) (x : N) → Below n noted → suffix_from_newest_binding naming_by_label (by_ordinal naming noted) (label_from_ordinal naming (ordinal_in_scope naming (scope_of noted) x) x) ≡ by_ordinal naming (noted_from naming noted x)
 by_ordinal-from naming n [] x below = refl
 by_ordinal-from naming n (b ∷ noted) x below =
-    elim (naming.same x b.name) as (λ v. environment_from_binding naming_by_label (by_ordinal naming (b ∷ noted)) (label_from_ordinal naming (elim v [ true ↦ Some b.ordinal | false ↦ ordinal_in_scope naming (scope_of noted) x ]) x) ≡ by_ordinal naming (elim v [ true ↦ b ∷ noted | false ↦ noted_from naming noted x ]))
-    [ true ↦ rw (eq-eqb b.ordinal b.ordinal refl, environment_from_binding) refl | false ↦ rw (older_ordinal naming b.ordinal noted x below.2, environment_from_binding) (by_ordinal-from naming b.ordinal noted x below.2) ]
+    elim (naming.same x b.name) as (λ v. suffix_from_newest_binding naming_by_label (by_ordinal naming (b ∷ noted)) (label_from_ordinal naming (elim v [ true ↦ Some b.ordinal | false ↦ ordinal_in_scope naming (scope_of noted) x ]) x) ≡ by_ordinal naming (elim v [ true ↦ b ∷ noted | false ↦ noted_from naming noted x ]))
+    [ true ↦ rw (eq-eqb b.ordinal b.ordinal refl, suffix_from_newest_binding) refl | false ↦ rw (older_ordinal naming b.ordinal noted x below.2, suffix_from_newest_binding) (by_ordinal-from naming b.ordinal noted x below.2) ]
 
 pub Below-from : {N : Type 0} (naming : Naming N) (n : ℕ) (noted : Noted N) (x : N) → Below n noted → Below n (noted_from naming noted x)
 Below-from naming n [] x below = tt

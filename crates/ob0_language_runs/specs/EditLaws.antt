@@ -2,12 +2,12 @@
 -- Rule: none; states laws about edits and runs.
 use Rattle.std.specs.Prelude.{List, Some, ℕ, ℤ, ◌≡◌, ◌≢◌}
 use Rattle.ob0_tree.specs.Tree.{Tree, factor, module_text}
-use Rattle.ob0_language_names.specs.Inlining.{OccurrenceSet, inlined, inlined_everywhere, module_without_constant}
+use Rattle.ob0_language_names.specs.Inlining.{OccurrenceSet, inlined, inlined_everywhere_and_removed, module_without_constant}
 use Rattle.ob0_language_names.specs.Names.{Name}
-use Rattle.ob0_language_names.specs.Occurrences.{IsFreeName, ordinal_bound_at}
+use Rattle.ob0_language_names.specs.Occurrences.{IsFreeName, ordinal_bound_at_occurrence}
 use Rattle.ob0_language_names.specs.Scopes.{renamed}
 use Rattle.ob0_language_values.specs.Values.{Value}
-use Rattle.ob0_language_types.specs.EditLaws.{AreInlinableUses, IsConstantWithLiteral, MeansPredeclaredTruth}
+use Rattle.ob0_language_types.specs.EditLaws.{AreInlinableUses, IsConstantWithLiteral, TruthWordMeansPredeclared}
 use Rattle.ob0_language_types.specs.WellTyped.{WellTyped}
 use Rattle.ob0_language_runs.specs.Runs.{run}
 
@@ -17,8 +17,8 @@ HaveSameRuns a b = (input : List ℤ) (c t : ℕ) → run a input c t ≡ run b 
 
 -- States that a well-typed module remains well-typed and has the same runs if a declaration is renamed to a free name.
 -- A free name causes no name conflict.
-abbrev pub FreeRenamingKeepsTypingAndRuns : Type 0
-FreeRenamingKeepsTypingAndRuns =
+abbrev pub RenamingToFreeNameKeepsTypingAndRuns : Type 0
+RenamingToFreeNameKeepsTypingAndRuns =
     (m : Tree Name module_text) (d : ℕ) (new : Name)
     → IsFreeName m d new
     → WellTyped m
@@ -41,7 +41,7 @@ abbrev pub RemovingUnusedConstantKeepsTypingAndRuns : Type 0
 RemovingUnusedConstantKeepsTypingAndRuns =
     (m : Tree Name module_text) (d : ℕ) (w : Value) (v : Tree Name factor)
     → IsConstantWithLiteral m d w v
-    → ((k : ℕ) → ordinal_bound_at m k ≢ Some d)
+    → ((k : ℕ) → ordinal_bound_at_occurrence m k ≢ Some d)
     → WellTyped m
     → WellTyped (module_without_constant d m) × HaveSameRuns (module_without_constant d m) m
 
@@ -52,6 +52,6 @@ abbrev pub InliningEverywhereKeepsTypingAndRuns : Type 0
 InliningEverywhereKeepsTypingAndRuns =
     (m : Tree Name module_text) (d : ℕ) (w : Value) (v : Tree Name factor)
     → IsConstantWithLiteral m d w v
-    → ((k : ℕ) → ordinal_bound_at m k ≡ Some d → MeansPredeclaredTruth m k w)
+    → ((k : ℕ) → ordinal_bound_at_occurrence m k ≡ Some d → TruthWordMeansPredeclared m k w)
     → WellTyped m
-    → WellTyped (inlined_everywhere m d v) × HaveSameRuns (inlined_everywhere m d v) m
+    → WellTyped (inlined_everywhere_and_removed m d v) × HaveSameRuns (inlined_everywhere_and_removed m d v) m

@@ -8,7 +8,7 @@ use Rattle.ob0_language_names.specs.Names.{Label, Name, Naming}
 use Rattle.ob0_language_names.specs.Occurrences.{IsFreeName}
 use Rattle.ob0_language_names.specs.Scopes.{numbered, renamed}
 use Rattle.ob0_language_types.specs.Expressions.{Meanings, a_constant, evaluate_factor}
-use Rattle.ob0_language_types.specs.Laws.{EachUseHas}
+use Rattle.ob0_language_types.specs.Laws.{EachUseSatisfies}
 use Rattle.ob0_language_values.specs.Values.{Place, Store, Stuck, Value, succeeds_with}
 use Rattle.ob0_language_types.specs.WellTyped.{ParameterMode, WellTyped}
 use Rattle.ob0_language_runs.specs.FreedVariables.{run_freeing_variables}
@@ -32,8 +32,8 @@ NumberedTreeDecidesRuns =
 
 -- States that a module has the same runs if a declaration is renamed to a free name. A free name causes no name
 -- conflict.
-abbrev pub FreeRenamingKeepsRuns : Type 0
-FreeRenamingKeepsRuns =
+abbrev pub RenamingToFreeNameKeepsRuns : Type 0
+RenamingToFreeNameKeepsRuns =
     (m : Tree Name module_text) (d : ℕ) (new : Name)
     → IsFreeName m d new
     → (input : List ℤ) (c t : ℕ)
@@ -64,5 +64,5 @@ InliningKeepsExecution =
     (meaning : Meanings Name Place (List ParameterMode)) (enter : CallFunction Name) (t : ℕ) (uses : OccurrenceSet)
     (v : Tree Name factor) (w : Value) (k : ℕ) (a : Tree Name statement) (s : State)
     → ((store : Store) → evaluate_factor meaning store v ≡ succeeds_with w)
-    → EachUseHas uses (λ x. meaning.object_for x ≡ Some (a_constant w)) k (occurrences a)
+    → EachUseSatisfies uses (λ x. meaning.object_for x ≡ Some (a_constant w)) k (occurrences a)
     → execute meaning enter t (inline_in_tree uses v k a) s ≡ execute meaning enter t a s

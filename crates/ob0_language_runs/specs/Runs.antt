@@ -7,17 +7,17 @@ use Rattle.ob0_tree.specs.Tree.{Tree, assigns, begins, block, body, branches, ca
 use Rattle.ob0_language_names.specs.Names.{Label, Name, Naming, naming_by_label, naming_by_spelling}
 use Rattle.ob0_language_names.specs.BlockParts.{block_procedures, block_statements, block_variables, module_block, names_in_list, procedure_block, procedure_formals, procedure_name, parameter_section_names}
 use Rattle.ob0_language_types.specs.Arguments.{call_arguments}
-use Rattle.ob0_language_types.specs.Declarations.{constructors_before_procedure_block, constructors_before_variables, constructors_before_procedures, declare_constants_and_types, procedure_constructor_count}
-use Rattle.ob0_language_types.specs.Environments.{Environment, environment_from_binding, meanings, outermost_environment}
+use Rattle.ob0_language_types.specs.Declarations.{constructor_count_before_procedure_block, constructor_count_before_variables, constructor_count_before_procedures, declare_constants_and_types, procedure_constructor_count}
+use Rattle.ob0_language_types.specs.Environments.{Environment, suffix_from_newest_binding, meanings, outermost_environment}
 use Rattle.ob0_language_types.specs.Expressions.{Meanings, Object, a_constant, a_procedure, a_standard_procedure, a_type, a_variable, designated_place, evaluate, read_procedure, write_procedure, write_line_procedure}
 use Rattle.ob0_language_types.specs.Typing.{constructor_count, denoted_type, lone_designator}
-use Rattle.ob0_language_values.specs.Values.{CallBound, Done, End, InputEnd, Outcome, Place, Store, Stuck, TurnBound, Value, ends_run_with, succeeds_with, initial_value, number, or_stuck, truth, write_place, ◌>>=◌}
+use Rattle.ob0_language_values.specs.Values.{CallBound, Done, End, InputEnd, Outcome, Place, Store, Stuck, TurnBound, Value, ends_run_with, succeeds_with, initial_value, number, result_or_stuck, truth, write_place, ◌>>=◌}
 use Rattle.ob0_language_types.specs.WellTyped.{ParameterMode, by_place, by_value, parameter_section_mode}
 
 -- an item of output: a number or an end of line
 pub data PrintedItem : Type 0 where
-  number_out : ℤ → PrintedItem
-  line_out : PrintedItem
+  printed_number : ℤ → PrintedItem
+  printed_line_end : PrintedItem
 
 -- the state of a run: its store, the input that isn't read yet, and the output so far
 pub record State : Type 0 where
@@ -43,31 +43,31 @@ continue_with_result s (succeeds_with a) next = next a
 continue_with_result s (ends_run_with e) next = stopped e s.output
 
 -- continues a run with the function `next`; a run that has ended is left unchanged
-abbrev pub continue_with : Progress → (State → Progress) → Progress
-continue_with (running s) next = next s
-continue_with (stopped e out) next = stopped e out
+abbrev pub continue_if_running : Progress → (State → Progress) → Progress
+continue_if_running (running s) next = next s
+continue_if_running (stopped e out) next = stopped e out
 
 -- continues a run from the state `s` with one of two functions: `when_true` if the value is TRUE, `when_false` if the
 -- value is FALSE; any other value ends the run with Stuck
-abbrev pub choose_by_truth : State → Value → (State → Progress) → (State → Progress) → Progress
-choose_by_truth s (truth true) when_true when_false = when_true s
-choose_by_truth s (truth false) when_true when_false = when_false s
-choose_by_truth s _ when_true when_false = stopped Stuck s.output
+abbrev pub choose_by_truth_value : State → Value → (State → Progress) → (State → Progress) → Progress
+choose_by_truth_value s (truth true) when_true when_false = when_true s
+choose_by_truth_value s (truth false) when_true when_false = when_false s
+choose_by_truth_value s _ when_true when_false = stopped Stuck s.output
 
 -- returns the state with one more item of output
 abbrev pub append_output : State → PrintedItem → State
 append_output s i = record s { output = s.output ++ i ∷ [] }
 
 -- stores a value at a place; ends the run with Stuck if there is no such place
-abbrev pub store_at : State → Place → Value → Progress
-store_at s p v =
-    continue_with_result s (or_stuck (write_place s.store p v)) (λ store. running record s { store = store })
+abbrev pub store_value_at_place : State → Place → Value → Progress
+store_value_at_place s p v =
+    continue_with_result s (result_or_stuck (write_place s.store p v)) (λ store. running record s { store = store })
 
 -- stores the next number of the input at the place `p`; the last argument is the input that isn't
 -- read yet; ends the run with InputEnd if this input is empty
 abbrev pub read_number : State → Place → List ℤ → Progress
 read_number s p [] = stopped InputEnd s.output
-read_number s p (n ∷ rest) = store_at record s { input = rest } p (number n)
+read_number s p (n ∷ rest) = store_value_at_place record s { input = rest } p (number n)
 
 -- returns the modes in which the arguments of a call are passed; Stuck if the called object isn't a procedure
 abbrev pub argument_modes_of : Option (Object Place (List ParameterMode)) → Outcome (List ParameterMode)
@@ -89,7 +89,7 @@ evaluate_argument meaning store by_value e = do
   v ← evaluate meaning store e
   succeeds_with (value_argument v)
 evaluate_argument meaning store by_place e = do
-  d ← or_stuck (lone_designator e)
+  d ← result_or_stuck (lone_designator e)
   p ← designated_place meaning store d.0 d.1
   succeeds_with (place_argument p)
 
@@ -119,8 +119,8 @@ abbrev pub perform_call : Option (Object Place (List ParameterMode))
 perform_call (Some (a_procedure modes)) enter args s = enter args s
 perform_call (Some (a_standard_procedure read_procedure)) enter (place_argument p ∷ []) s = read_number s p s.input
 perform_call (Some (a_standard_procedure write_procedure)) enter (value_argument (number n) ∷ []) s =
-    running (append_output s (number_out n))
-perform_call (Some (a_standard_procedure write_line_procedure)) enter [] s = running (append_output s line_out)
+    running (append_output s (printed_number n))
+perform_call (Some (a_standard_procedure write_line_procedure)) enter [] s = running (append_output s printed_line_end)
 perform_call _ enter args s = stopped Stuck s.output
 
 -- Executes a WHILE statement. The first argument is how many iterations may still be made. If the condition is FALSE,
@@ -128,10 +128,10 @@ perform_call _ enter args s = stopped Stuck s.output
 -- with TurnBound instead of making this iteration.
 abbrev pub execute_while : ℕ → (State → Outcome Value) → (State → Progress) → State → Progress
 execute_while zero condition statements s =
-    continue_with_result s (condition s) (λ v. choose_by_truth s v (λ s'. stopped TurnBound s'.output) running)
+    continue_with_result s (condition s) (λ v. choose_by_truth_value s v (λ s'. stopped TurnBound s'.output) running)
 execute_while (suc t) condition statements s =
-    continue_with_result s (condition s) (λ v. choose_by_truth s v
-    (λ s'. continue_with (statements s') (execute_while t condition statements)) running)
+    continue_with_result s (condition s) (λ v. choose_by_truth_value s v
+    (λ s'. continue_if_running (statements s') (execute_while t condition statements)) running)
 
 -- a function that performs the call of a procedure, given by its name, with these arguments in a state
 abbrev pub CallFunction : Type 0 → Type 0
@@ -142,11 +142,11 @@ CallFunction N = N → List Argument → State → Progress
 -- another iteration is made. If the first argument is 0, the run ends with TurnBound instead of making this iteration.
 abbrev pub execute_repeat : ℕ → (State → Outcome Value) → (State → Progress) → State → Progress
 execute_repeat zero condition turn s =
-    continue_with (turn s) (λ s'. continue_with_result s' (condition s')
-    (λ v. choose_by_truth s' v running (λ s''. stopped TurnBound s''.output)))
+    continue_if_running (turn s) (λ s'. continue_with_result s' (condition s')
+    (λ v. choose_by_truth_value s' v running (λ s''. stopped TurnBound s''.output)))
 execute_repeat (suc t) condition turn s =
-    continue_with (turn s)
-    (λ s'. continue_with_result s' (condition s') (λ v. choose_by_truth s' v running (execute_repeat t condition turn)))
+    continue_if_running (turn s)
+    (λ s'. continue_with_result s' (condition s') (λ v. choose_by_truth_value s' v running (execute_repeat t condition turn)))
 
 -- Executes a statement. An assignment first determines the place on its left side, then evaluates its right side, and
 -- then stores a copy of the value.
@@ -164,13 +164,13 @@ unfoldable mutual
   execute meaning enter t empty s = running s
   execute meaning enter t (assigns x path e) s =
       continue_with_result s (designated_place meaning s.store x path)
-      (λ p. continue_with_result s (evaluate meaning s.store e) (store_at s p))
+      (λ p. continue_with_result s (evaluate meaning s.store e) (store_value_at_place s p))
   execute meaning enter t (calls x es) s =
       continue_with_result s (argument_modes_of (meaning.object_for x) >>=
       (λ modes. evaluate_arguments meaning s.store modes (call_arguments es)))
       (λ args. perform_call (meaning.object_for x) (enter x) args s)
   execute meaning enter t (branches e statements rest last) s =
-      continue_with_result s (evaluate meaning s.store e) (λ v. choose_by_truth s v
+      continue_with_result s (evaluate meaning s.store e) (λ v. choose_by_truth_value s v
       (execute_sequence meaning enter t statements)
       (execute_elsifs meaning enter t rest (execute_else meaning enter t last)))
   execute meaning enter t (while_loop e statements) s =
@@ -188,7 +188,7 @@ unfoldable mutual
       → State
       → Progress
   execute_sequence meaning enter t (runs a rest) s =
-      continue_with (execute meaning enter t a s) (execute_further_statements meaning enter t rest)
+      continue_if_running (execute meaning enter t a s) (execute_further_statements meaning enter t rest)
 
   -- executes the statements of a sequence after the first one
   pub execute_further_statements : {N : Type 0}
@@ -200,7 +200,7 @@ unfoldable mutual
       → Progress
   execute_further_statements meaning enter t end s = running s
   execute_further_statements meaning enter t (more (semicolon_then_statement a) rest) s =
-      continue_with (execute meaning enter t a s) (execute_further_statements meaning enter t rest)
+      continue_if_running (execute meaning enter t a s) (execute_further_statements meaning enter t rest)
 
   -- executes the statements of the first ELSIF part whose condition is TRUE; if no condition is TRUE, continues with
   -- `otherwise`
@@ -214,7 +214,7 @@ unfoldable mutual
       → Progress
   execute_elsifs meaning enter t end otherwise s = otherwise s
   execute_elsifs meaning enter t (more (elsif_branch e statements) rest) otherwise s =
-      continue_with_result s (evaluate meaning s.store e) (λ v. choose_by_truth s v
+      continue_with_result s (evaluate meaning s.store e) (λ v. choose_by_truth_value s v
       (execute_sequence meaning enter t statements) (execute_elsifs meaning enter t rest otherwise))
 
   -- executes the statements of the ELSE part; does nothing if there is no ELSE part
@@ -236,12 +236,12 @@ pub record ProcedureText (N : Type 0) : Type 0 where
 
 -- the bindings of names in an activation: an environment that has the place of each variable and the text of each
 -- procedure
-abbrev pub Activation : Type 0 → Type 0
-Activation N = Environment N Place (ProcedureText N)
+abbrev pub RunEnvironment : Type 0 → Type 0
+RunEnvironment N = Environment N Place (ProcedureText N)
 
 -- the environment and the store in which a block's statements are executed
 pub record Frame (N : Type 0) : Type 0 where
-  pub env : Activation N
+  pub env : RunEnvironment N
   pub store : Store
 
 -- Returns the frame with one more variable for each name. The variables are added at the end of the store, all with the
@@ -275,8 +275,8 @@ declare_variables naming k (more (declares_variable ns u) gs) f =
 abbrev pub declare_procedures : {N : Type 0}
     → ℕ
     → Tree N (items procedure)
-    → Activation N
-    → Activation N
+    → RunEnvironment N
+    → RunEnvironment N
 declare_procedures k end env = env
 declare_procedures k (more p rest) env =
     declare_procedures (k + procedure_constructor_count p) rest
@@ -289,16 +289,16 @@ declare_procedures_in_frame k ps f = record { env = declare_procedures k ps f.en
 
 -- Returns the frame with a block's constants, types, variables and procedures added, in this order. `k` is the number
 -- of words ARRAY and RECORD before the block. Returns None if a constant, type or variable has an error.
-unfoldable pub declare_block : {N : Type 0}
+unfoldable pub declare_block_in_frame : {N : Type 0}
     → Naming N
     → ℕ
     → Tree N block
     → Frame N
     → Option (Frame N)
 unfolding declare_constants_and_types declare_variables
-declare_block naming k b f =
-    option_and_then (λ env. option_map (declare_procedures_in_frame (constructors_before_procedures k b) (block_procedures b))
-    (declare_variables naming (constructors_before_variables k b) (block_variables b)
+declare_block_in_frame naming k b f =
+    option_and_then (λ env. option_map (declare_procedures_in_frame (constructor_count_before_procedures k b) (block_procedures b))
+    (declare_variables naming (constructor_count_before_variables k b) (block_variables b)
     record { env = env; store = f.store }))
     (declare_constants_and_types naming f.env k b)
 
@@ -335,10 +335,10 @@ bind_parameters (p ∷ ps) (a ∷ args) f =
 bind_parameters _ _ f = None
 
 -- returns the modes of a procedure's parameters, in text order
-abbrev pub formal_modes : {N : Type 0} → Tree N (items section_after_semicolon) → List ParameterMode
-formal_modes end = []
-formal_modes (more (semicolon_then_section f) fs) =
-    map (λ x. parameter_section_mode f) (parameter_section_names f) ++ formal_modes fs
+abbrev pub formal_parameter_modes : {N : Type 0} → Tree N (items section_after_semicolon) → List ParameterMode
+formal_parameter_modes end = []
+formal_parameter_modes (more (semicolon_then_section f) fs) =
+    map (λ x. parameter_section_mode f) (parameter_section_names f) ++ formal_parameter_modes fs
 
 -- returns a name's object with only the data that statements need: a procedure keeps only the modes of its parameters,
 -- and any other object is unchanged
@@ -349,13 +349,13 @@ object_for_statements None = None
 object_for_statements (Some (a_type s)) = Some (a_type s)
 object_for_statements (Some (a_constant v)) = Some (a_constant v)
 object_for_statements (Some (a_variable p)) = Some (a_variable p)
-object_for_statements (Some (a_procedure code)) = Some (a_procedure (formal_modes (procedure_formals code.text)))
+object_for_statements (Some (a_procedure code)) = Some (a_procedure (formal_parameter_modes (procedure_formals code.text)))
 object_for_statements (Some (a_standard_procedure p)) = Some (a_standard_procedure p)
 
 -- returns the meanings of names for the statements of an activation
 abbrev pub meanings_for_statements : {N : Type 0}
     → Naming N
-    → Activation N
+    → RunEnvironment N
     → Meanings N Place (List ParameterMode)
 meanings_for_statements naming env =
     record
@@ -364,7 +364,7 @@ meanings_for_statements naming env =
 -- executes the statements of a block (its body); does nothing if the block has no statements
 unfoldable pub execute_body : {N : Type 0}
     → Naming N
-    → Activation N
+    → RunEnvironment N
     → CallFunction N
     → ℕ
     → Tree N (maybe body)
@@ -388,32 +388,32 @@ continue_in_frame s (Some f) next = next f record s { store = f.store }
 -- Executes the procedure in the first binding of an environment. Adds the parameters, bound to the arguments, and the
 -- procedure's own declarations to this environment, and executes the procedure's body in it. Ends the run with Stuck if
 -- the binding isn't a procedure, the arguments don't match the parameters, or a declaration has an error.
-unfoldable pub activate : {N : Type 0}
+unfoldable pub execute_newest_procedure : {N : Type 0}
     → Naming N
-    → (Activation N → CallFunction N)
+    → (RunEnvironment N → CallFunction N)
     → ℕ
-    → Activation N
+    → RunEnvironment N
     → List Argument
     → State
     → Progress
-unfolding declare_block execute_body
-activate naming enter t ((x, a_procedure code) ∷ rest) args s =
+unfolding declare_block_in_frame execute_body
+execute_newest_procedure naming enter t ((x, a_procedure code) ∷ rest) args s =
     continue_in_frame s (option_and_then
-    (declare_block naming (constructors_before_procedure_block code.constructors_before code.text)
+    (declare_block_in_frame naming (constructor_count_before_procedure_block code.constructors_before code.text)
     (procedure_block code.text))
     (bind_parameters (parameters (procedure_formals code.text)) args
     record { env = (x, a_procedure code) ∷ rest; store = s.store }))
     (λ f. execute_body naming f.env (enter f.env) t (block_statements (procedure_block code.text)))
-activate naming enter t _ args s = stopped Stuck s.output
+execute_newest_procedure naming enter t _ args s = stopped Stuck s.output
 
 -- Performs the call of the procedure `x`. The first number is how many nested calls are still allowed, including this
 -- call. If this number is 0, the run ends with CallBound. The second number bounds the iterations of each loop. The
 -- store keeps the call's variables after the call returns.
-unfoldable pub call : {N : Type 0} → Naming N → ℕ → ℕ → Activation N → CallFunction N
-unfolding activate
+unfoldable pub call : {N : Type 0} → Naming N → ℕ → ℕ → RunEnvironment N → CallFunction N
+unfolding execute_newest_procedure
 call naming zero t env x args s = stopped CallBound s.output
 call naming (suc c) t env x args s =
-    activate naming (call naming c t) t (environment_from_binding naming env x) args s
+    execute_newest_procedure naming (call naming c t) t (suffix_from_newest_binding naming env x) args s
 
 -- the result of a run: its output and the reason why it ended (`End`)
 pub record Run : Type 0 where
@@ -430,16 +430,16 @@ run_result (stopped e out) = record { output = out; ending = e }
 -- bounds the iterations of each loop
 unfoldable pub run_with_call_function : {N : Type 0}
     → Naming N
-    → (Activation N → CallFunction N)
+    → (RunEnvironment N → CallFunction N)
     → ℕ
     → Tree N module_text
     → List ℤ
     → Run
-unfolding declare_block execute_body
+unfolding declare_block_in_frame execute_body
 run_with_call_function naming enter t m input =
     let start : State = record { store = []; input = input; output = [] } in
     run_result (continue_in_frame start
-    (declare_block naming 0 (module_block m) record { env = outermost_environment naming; store = [] })
+    (declare_block_in_frame naming 0 (module_block m) record { env = outermost_environment naming; store = [] })
     (λ f. execute_body naming f.env (enter f.env) t (block_statements (module_block m))))
 
 -- returns the result of running a module's tree whose names are interpreted by `naming`; `c` bounds the number of open

@@ -4,10 +4,10 @@ use Rattle.std.specs.Prelude.{◌≡◌, true, List, [], ◌∷◌, map, if◌th
 use Rattle.ob0_language_names.specs.Names.{Naming}
 use Rattle.ob0_language_names.specs.BlockParts.{procedure_formals}
 use Rattle.ob0_language_types.specs.Expressions.{Meanings, Object, a_constant, a_procedure, a_standard_procedure, a_type, a_variable}
-use Rattle.ob0_language_types.specs.Typing.{shape_of_field}
+use Rattle.ob0_language_types.specs.Typing.{named_field_shape}
 use Rattle.ob0_language_types.specs.WellTyped.{ParameterMode, Signature, TypeEnvironment, TypeMeanings, TypedParameter, bind_typed_parameters, by_place, by_value, bind_procedure, procedure_is_well_typed, typed_parameters}
-use Rattle.ob0_language_values.specs.Values.{FieldShapes, Members, Place, Shape, Step, Store, Value, Values, array_shape, at_field, at_index, boolean_shape, count_values, elements, integer_shape, members, next_field_shape, next_member, next_value, no_field_shape, no_member, no_value, number, record_shape, truth}
-use Rattle.ob0_language_runs.specs.Runs.{Activation, Argument, ProcedureText, object_for_statements, place_argument, value_argument}
+use Rattle.ob0_language_values.specs.Values.{FieldShapes, Members, Place, Shape, PathStep, Store, Value, Values, array_shape, at_field, at_index, boolean_shape, count_values, elements, integer_shape, members, next_field_shape, next_member, next_value, no_field_shape, no_member, no_value, number, record_shape, truth}
+use Rattle.ob0_language_runs.specs.Runs.{RunEnvironment, Argument, ProcedureText, object_for_statements, place_argument, value_argument}
 
 -- States that a value has a type, including the types of the value's parts.
 abbrev mutual
@@ -35,13 +35,13 @@ abbrev mutual
 
 -- returns the type of the element or field that one step selects from the type; None if there is no such element or
 -- field, for example because an index isn't below the array's length
-abbrev pub shape_at_step : Shape → Step → Option Shape
+abbrev pub shape_at_step : Shape → PathStep → Option Shape
 shape_at_step (array_shape k n s) (at_index i) = if nat_lt i n then Some s else None
-shape_at_step (record_shape k fs) (at_field x) = shape_of_field fs x
+shape_at_step (record_shape k fs) (at_field x) = named_field_shape fs x
 shape_at_step _ _ = None
 
 -- returns the type of the part that a path selects from the type; None if there is no such part
-abbrev pub shape_at_path : List Step → Shape → Option Shape
+abbrev pub shape_at_path : List PathStep → Shape → Option Shape
 shape_at_path [] s = Some s
 shape_at_path (step ∷ path) s = option_and_then (shape_at_path path) (shape_at_step s step)
 
@@ -127,7 +127,7 @@ abbrev pub RunEnvironmentAgreesWithCheckedEnvironment : {N : Type 0}
     → Naming N
     → StoreTyping
     → TypeEnvironment N
-    → Activation N
+    → RunEnvironment N
     → Type 0
 RunEnvironmentAgreesWithCheckedEnvironment naming typing [] [] = Unit {0}
 RunEnvironmentAgreesWithCheckedEnvironment naming typing (b ∷ checked) (d ∷ active) =

@@ -9,8 +9,8 @@
 //! types of a checked module. Throughout a run of a well-typed module all of them agree, so the run
 //! doesn't get stuck.
 
-ghost use Rattle.ob0_language_runs.specs.Laws.{NumberingKeepsRuns, NumberedTreeDecidesRuns, FreeRenamingKeepsRuns, DroppingVariablesKeepsRuns, RunsNeverGetStuck, InliningKeepsExecution};
-ghost use Rattle.ob0_language_runs.specs.EditLaws.{FreeRenamingKeepsTypingAndRuns, InliningKeepsTypingAndRuns, RemovingUnusedConstantKeepsTypingAndRuns, InliningEverywhereKeepsTypingAndRuns};
+ghost use Rattle.ob0_language_runs.specs.Laws.{NumberingKeepsRuns, NumberedTreeDecidesRuns, RenamingToFreeNameKeepsRuns, DroppingVariablesKeepsRuns, RunsNeverGetStuck, InliningKeepsExecution};
+ghost use Rattle.ob0_language_runs.specs.EditLaws.{RenamingToFreeNameKeepsTypingAndRuns, InliningKeepsTypingAndRuns, RemovingUnusedConstantKeepsTypingAndRuns, InliningEverywhereKeepsTypingAndRuns};
 
 /// Proves that a module and its numbered tree have the same run for every input and all bounds on
 /// calls and loop iterations. In the numbered tree, each bound name is replaced by the ordinal of
@@ -28,8 +28,8 @@ pub fn numbered_tree_decides_runs()
 
 /// Proves that a module has the same runs if a declaration is renamed to a free name. A free name
 /// causes no name conflict.
-pub fn free_renaming_keeps_runs()
-    ensures { FreeRenamingKeepsRuns }
+pub fn renaming_to_free_name_keeps_runs()
+    ensures { RenamingToFreeNameKeepsRuns }
 {}
 
 /// Proves that dropping each call's variables from the store when the call returns doesn't change
@@ -51,8 +51,8 @@ pub fn inlining_keeps_execution()
 
 /// Proves that a well-typed module remains well-typed and has the same runs if a declaration is
 /// renamed to a free name. A free name causes no name conflict.
-pub fn free_renaming_keeps_typing_and_runs()
-    ensures { FreeRenamingKeepsTypingAndRuns }
+pub fn renaming_to_free_name_keeps_typing_and_runs()
+    ensures { RenamingToFreeNameKeepsTypingAndRuns }
 {}
 
 /// Proves that a well-typed module remains well-typed and has the same runs if uses of a constant

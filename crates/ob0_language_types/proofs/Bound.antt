@@ -4,10 +4,10 @@ use Rattle.std.proofs.Common.{◌≡◌, ℕ, ◌+◌, Bool, true, false, cond, 
 use Rattle.std.proofs.Math.Seq.{take-append_seam}
 use Rattle.ob0_tree.specs.Tree.{Tree, block, declares_procedure, formals, maybe}
 use Rattle.ob0_language_names.specs.Names.{Label, naming_by_label}
-use Rattle.ob0_language_names.specs.BlockParts.{formal_sections}
-use Rattle.ob0_language_types.specs.Bindings.{block_bindings, list_if_some, procedure_bindings, bindings_since}
+use Rattle.ob0_language_names.specs.BlockParts.{formal_parameter_sections}
+use Rattle.ob0_language_types.specs.Bindings.{block_bindings, list_if_some, procedure_bindings, added_bindings}
 use Rattle.ob0_language_types.specs.Declarations.{formals_constructor_count}
-use Rattle.ob0_language_types.specs.Environments.{environment_from_binding, newest_object}
+use Rattle.ob0_language_types.specs.Environments.{suffix_from_newest_binding, newest_object}
 use Rattle.ob0_language_types.specs.Expressions.{Object, a_variable}
 use Rattle.ob0_language_types.specs.WellTyped.{Signature, TypeEnvironment, TypedParameter, bind_typed_parameters, bind_procedure, typed_parameters}
 use Rattle.ob0_language_values.specs.Values.{Shape}
@@ -25,16 +25,16 @@ or-if : {A : Type 0} (b : Bool) (o : A) (p q : Option A) → cond b (Some o) (or
 or-if true o p q = refl
 or-if false o p q = refl
 
-pub newest_object-append : (xs ys : TypeEnvironment Label) (z : Label) → newest_object (environment_from_binding naming_by_label (xs ++ ys) z) ≡ or_else (newest_object (environment_from_binding naming_by_label xs z)) (newest_object (environment_from_binding naming_by_label ys z))
+pub newest_object-append : (xs ys : TypeEnvironment Label) (z : Label) → newest_object (suffix_from_newest_binding naming_by_label (xs ++ ys) z) ≡ or_else (newest_object (suffix_from_newest_binding naming_by_label xs z)) (newest_object (suffix_from_newest_binding naming_by_label ys z))
 newest_object-append [] ys z = refl
 newest_object-append ((y, o) ∷ xs) ys z =
-    newest_object-if (naming_by_label.same z y) y o (xs ++ ys) (environment_from_binding naming_by_label (xs ++ ys) z)
+    newest_object-if (naming_by_label.same z y) y o (xs ++ ys) (suffix_from_newest_binding naming_by_label (xs ++ ys) z)
     ∙ ap (cond (naming_by_label.same z y) (Some o)) (newest_object-append xs ys z)
-    ∙ or-if (naming_by_label.same z y) o (newest_object (environment_from_binding naming_by_label xs z)) (newest_object (environment_from_binding naming_by_label ys z))
-    ∙ ap (λ s. or_else s (newest_object (environment_from_binding naming_by_label ys z))) (sym (newest_object-if (naming_by_label.same z y) y o xs (environment_from_binding naming_by_label xs z)))
+    ∙ or-if (naming_by_label.same z y) o (newest_object (suffix_from_newest_binding naming_by_label xs z)) (newest_object (suffix_from_newest_binding naming_by_label ys z))
+    ∙ ap (λ s. or_else s (newest_object (suffix_from_newest_binding naming_by_label ys z))) (sym (newest_object-if (naming_by_label.same z y) y o xs (suffix_from_newest_binding naming_by_label xs z)))
 
-pub bindings_since-append : {A : Type 0} (first before : List A) → bindings_since before (first ++ before) ≡ first
-bindings_since-append first before =
+pub added_bindings-append : {A : Type 0} (first before : List A) → added_bindings before (first ++ before) ≡ first
+added_bindings-append first before =
     ap (λ n. take n (first ++ before)) (omega (arith, length-append first before))
     ∙ take-append_seam first before
 
@@ -43,7 +43,7 @@ bind_typed_parameters-append [] first env = refl
 bind_typed_parameters-append (p ∷ ps) first env = bind_typed_parameters-append ps ((p.name, a_variable p.formal.shape) ∷ first) env
 
 -- The bindings of a procedure are its block's bindings, followed by its heading's bindings.
-pub headed_bindings : (env : TypeEnvironment Label) (k : ℕ) (x closing : Label) (fs : Tree Label (maybe formals)) (b : Tree Label block) (qs : List (TypedParameter Label)) → typed_parameters naming_by_label env k (formal_sections fs) ≡ Some qs
-    → procedure_bindings naming_by_label env k (declares_procedure x fs b closing) ≡ block_bindings naming_by_label (bind_typed_parameters qs (bind_procedure x qs env)) (k + formals_constructor_count (formal_sections fs)) b ++ bind_typed_parameters qs (bind_procedure x qs [])
+pub headed_bindings : (env : TypeEnvironment Label) (k : ℕ) (x closing : Label) (fs : Tree Label (maybe formals)) (b : Tree Label block) (qs : List (TypedParameter Label)) → typed_parameters naming_by_label env k (formal_parameter_sections fs) ≡ Some qs
+    → procedure_bindings naming_by_label env k (declares_procedure x fs b closing) ≡ block_bindings naming_by_label (bind_typed_parameters qs (bind_procedure x qs env)) (k + formals_constructor_count (formal_parameter_sections fs)) b ++ bind_typed_parameters qs (bind_procedure x qs [])
 unfolding procedure_bindings
-headed_bindings env k x closing fs b qs e = ap (λ o. list_if_some o (λ ps. block_bindings naming_by_label (bind_typed_parameters ps (bind_procedure x ps env)) (k + formals_constructor_count (formal_sections fs)) b ++ bind_typed_parameters ps (bind_procedure x ps []))) e
+headed_bindings env k x closing fs b qs e = ap (λ o. list_if_some o (λ ps. block_bindings naming_by_label (bind_typed_parameters ps (bind_procedure x ps env)) (k + formals_constructor_count (formal_parameter_sections fs)) b ++ bind_typed_parameters ps (bind_procedure x ps []))) e

@@ -5,7 +5,7 @@ use Rattle.ob0_tree.specs.Tree.{Tree, expression, items, selector}
 use Rattle.ob0_language_names.specs.Names.{Name, same_name}
 use Rattle.ob0_language_types.specs.Expressions.{Object, a_constant, a_procedure, a_standard_procedure, a_type, a_variable}
 use Rattle.ob0_language_types.specs.Typing.{type_after_selectors}
-use Rattle.ob0_language_types.specs.WellTyped.{Signature, TypeMeanings, same_known_shape, arguments_match, call_is_well_typed, same_fields, same_shape, option_satisfies, variable_type}
+use Rattle.ob0_language_types.specs.WellTyped.{Signature, TypeMeanings, same_known_shape, arguments_match_signature, call_is_well_typed, same_fields, same_shape, option_satisfies, assignable_type}
 use Rattle.ob0_language_values.specs.Values.{FieldShapes, Shape, array_shape, boolean_shape, integer_shape, next_field_shape, no_field_shape, record_shape}
 
 pub of_some : {s t : Shape} (P : Shape → Type 0) → Some s ≡ Some t → P s → P t
@@ -54,8 +54,8 @@ same_known_shape-true None b e = absurd (cc)
 same_known_shape-true (Some s) None e = absurd (cc)
 
 -- A variable's type is the type that its selectors select from the type of its name.
-pub variable-typed : {N : Type 0} (checked : TypeMeanings N) (x : N) (path : Tree N (items selector)) (s : Shape) → variable_type checked (Some (x, path)) ≡ Some s → (t : Shape) × (checked.object_for x ≡ Some (a_variable t)) × (type_after_selectors checked t path ≡ Some s)
-unfolding variable_type
+pub variable-typed : {N : Type 0} (checked : TypeMeanings N) (x : N) (path : Tree N (items selector)) (s : Shape) → assignable_type checked (Some (x, path)) ≡ Some s → (t : Shape) × (checked.object_for x ≡ Some (a_variable t)) × (type_after_selectors checked t path ≡ Some s)
+unfolding assignable_type
 variable-typed checked x path s h = go (checked.object_for x) h
   where
     go : (o : Option (Object Shape Signature)) → (elim o [ Some (a_variable t) ↦ type_after_selectors checked t path | _ ↦ None ]) ≡ Some s → (t : Shape) × (o ≡ Some (a_variable t)) × (type_after_selectors checked t path ≡ Some s)
@@ -67,7 +67,7 @@ variable-typed checked x path s h = go (checked.object_for x) h
     go (Some (a_standard_procedure t)) e = absurd (cc)
 
 -- A well-typed call calls a procedure.
-pub call-typed : {N : Type 0} (checked : TypeMeanings N) (o : Option Signature) (es : List (Tree N expression)) → call_is_well_typed checked o es ≡ true → (signature : Signature) × (o ≡ Some signature) × (arguments_match checked signature es ≡ true)
+pub call-typed : {N : Type 0} (checked : TypeMeanings N) (o : Option Signature) (es : List (Tree N expression)) → call_is_well_typed checked o es ≡ true → (signature : Signature) × (o ≡ Some signature) × (arguments_match_signature checked signature es ≡ true)
 unfolding call_is_well_typed
 call-typed checked None es h = absurd (cc)
 call-typed checked (Some signature) es h = (signature, refl, h)

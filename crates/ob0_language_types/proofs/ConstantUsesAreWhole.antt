@@ -3,7 +3,7 @@ use Rattle.std.proofs.Common.{All, List, None, [], ap, length, map, subst, suc, 
 use Rattle.ob0_tree.specs.Tree.{Sort, Tree, block, constant, constants, declares, declares_constant, declares_const_section, declares_procedure, declares_type, declares_type_section, declares_variable, declares_var_section, end, formals, section_after_semicolon, forms_block, forms_module, item, items, maybe, module_text, more, no_formals, none, occurrences, one, procedure, section, some_formals, semicolon_then_section, type_definition, type_definitions, value_section, variable, variable_section, variables, written_type}
 use Rattle.ob0_language_names.specs.NonFactorNames.{non_factor_occurrences}
 use Rattle.ob0_language_names.specs.Occurrences.{label_ordinal}
-use Rattle.ob0_language_names.specs.BlockParts.{formal_names, formal_sections, names_in_list, procedure_name, section_constants, parameter_section_names, parameter_section_type, section_types, section_variables}
+use Rattle.ob0_language_names.specs.BlockParts.{formal_parameter_names, formal_parameter_sections, names_in_list, procedure_name, section_constants, parameter_section_names, parameter_section_type, section_types, section_variables}
 use Rattle.ob0_language_names.proofs.ElsewhereNames.{elsewhere-map_names}
 use Rattle.ob0_language_names.proofs.InliningLeavesNoUse.{NoneOf, none-of-join}
 use Rattle.ob0_language_names.proofs.Places.{EachBlock, EachConstant, EachProcedure, EachSection, EachType, EachVariable, OneProcedure}
@@ -14,16 +14,16 @@ use Rattle.ob0_language_types.proofs.EditedModules.{label_ordinal-of, seven-or-l
 use Rattle.ob0_language_types.proofs.InlinedEverywhere.{alone-module}
 use Rattle.std.proofs.lemmas.List.Elements.{All-cons, All-nil}
 use Rattle.ob0_language_names.specs.Names.{Label, Name, naming_by_spelling, declared}
-use Rattle.ob0_language_names.specs.Scopes.{Scope, ordinal_after_names, ordinal_after_procedure, label_from_ordinal, body_scope, declare_names, first_procedure_ordinal, first_type_ordinal, first_variable_ordinal, label_of, numbered, predeclared_scope, scope_before_procedures, relabel_block, relabel_constant_section, relabel_constants, relabel_formals, relabel_procedure, relabel_procedure_list, relabel_parameter_section, relabel_parameter_section_list, relabel_type_section, relabel_types, relabel_uses, relabel_variable_section, relabel_variables, scope_before_types, scope_before_variables}
+use Rattle.ob0_language_names.specs.Scopes.{Scope, ordinal_after_names, ordinal_after_procedure, label_from_ordinal, body_scope, declare_names, first_procedure_ordinal, first_type_ordinal, first_variable_ordinal, label_in_scope, numbered, predeclared_scope, scope_before_procedures, relabel_block, relabel_constant_section, relabel_constants, relabel_formals, relabel_procedure, relabel_procedure_list, relabel_parameter_section, relabel_parameter_section_list, relabel_type_section, relabel_types, relabel_uses, relabel_variable_section, relabel_variables, scope_before_types, scope_before_variables}
 
 abbrev pub IsLabelOf : ℕ → Label → Type 0
 IsLabelOf d l = l ≡ declared d
 
 alone-leaf : {s : Sort} (d j : ℕ) (scope : Scope Name) (t : Tree Name s) → UsesAreFactors d s j scope t → NoneOf (IsLabelOf d) (non_factor_occurrences (relabel_uses naming_by_spelling (label_from_ordinal naming_by_spelling) scope t))
 alone-leaf d j scope t h =
-    subst (NoneOf (IsLabelOf d)) (sym (elsewhere-map_names (label_of naming_by_spelling (label_from_ordinal naming_by_spelling) scope) (label_from_ordinal naming_by_spelling None) t)) (of_names (non_factor_occurrences t) h)
+    subst (NoneOf (IsLabelOf d)) (sym (elsewhere-map_names (label_in_scope naming_by_spelling (label_from_ordinal naming_by_spelling) scope) (label_from_ordinal naming_by_spelling None) t)) (of_names (non_factor_occurrences t) h)
   where
-    of_names : (xs : List Name) → NoneOf (IsOf d scope) xs → NoneOf (IsLabelOf d) (map (label_of naming_by_spelling (label_from_ordinal naming_by_spelling) scope) xs)
+    of_names : (xs : List Name) → NoneOf (IsOf d scope) xs → NoneOf (IsLabelOf d) (map (label_in_scope naming_by_spelling (label_from_ordinal naming_by_spelling) scope) xs)
     of_names [] h = tt
     of_names (x ∷ xs) h = (λ e. h.0 (sym (label_ordinal-of naming_by_spelling scope x) ∙ ap label_ordinal e), of_names xs h.1)
 
@@ -51,7 +51,7 @@ label-sections d j scope k end h = tt
 label-sections d j scope k (more (semicolon_then_section s) fs) h =
     none-of-join (IsLabelOf d) _ _ (label-section d j scope k s h.0) (label-sections d (j + length (occurrences s)) (declare_names k (parameter_section_names s) scope) (ordinal_after_names k (parameter_section_names s)) fs h.1)
 
-label-formals : (d j : ℕ) (scope : Scope Name) (k : ℕ) (fs : Tree Name (maybe formals)) → EachSection (UsesAreFactors d) j scope k (formal_sections fs) → NoneOf (IsLabelOf d) (non_factor_occurrences (relabel_formals naming_by_spelling (label_from_ordinal naming_by_spelling) scope k fs))
+label-formals : (d j : ℕ) (scope : Scope Name) (k : ℕ) (fs : Tree Name (maybe formals)) → EachSection (UsesAreFactors d) j scope k (formal_parameter_sections fs) → NoneOf (IsLabelOf d) (non_factor_occurrences (relabel_formals naming_by_spelling (label_from_ordinal naming_by_spelling) scope k fs))
 label-formals d j scope k none h = tt
 label-formals d j scope k (one no_formals) h = tt
 label-formals d j scope k (one (some_formals s fs)) h = label-sections d j scope k (more (semicolon_then_section s) fs) h
@@ -87,7 +87,7 @@ mutual
   label-procedure : (d j : ℕ) (scope : Scope Name) (k : ℕ) (p : Tree Name (item procedure)) → OneProcedure (UsesAreFactors d) j scope k p → NoneOf (IsLabelOf d) (non_factor_occurrences (relabel_procedure naming_by_spelling (label_from_ordinal naming_by_spelling) scope k p))
   label-procedure d j scope k (declares_procedure x fs b closing) h =
       none-of-join (IsLabelOf d) _ _ (label-formals d j scope (suc k) fs h.0)
-      (label-block d (j + length (occurrences fs)) (declare_names (suc k) (formal_names (formal_sections fs)) ((x, k) ∷ scope)) (ordinal_after_names (suc k) (formal_names (formal_sections fs))) b h.1)
+      (label-block d (j + length (occurrences fs)) (declare_names (suc k) (formal_parameter_names (formal_parameter_sections fs)) ((x, k) ∷ scope)) (ordinal_after_names (suc k) (formal_parameter_names (formal_parameter_sections fs))) b h.1)
 
 all-others : (d : ℕ) (ls : List Label) → NoneOf (IsLabelOf d) ls → All (λ l. l ≢ declared d) ls
 all-others d [] h = All-nil (λ l. l ≢ declared d)

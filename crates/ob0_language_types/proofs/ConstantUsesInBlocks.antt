@@ -3,19 +3,19 @@ use Rattle.std.proofs.Common.{Bool, List, None, Option, Some, ap, arith, eq-eqb,
 use Rattle.ob0_tree.specs.Tree.{Tree, begins, block, body, constant, declares, declares_constant, declares_procedure, declares_type, declares_variable, end, section_after_semicolon, forms_block, item, items, maybe, more, none, occurrences, one, procedure, semicolon_then_section, type_definition, variable, written_type}
 use Rattle.ob0_language_names.specs.NonFactorNames.{non_factor_occurrences}
 use Rattle.ob0_language_names.specs.Names.{Name, naming_by_spelling}
-use Rattle.ob0_language_names.specs.BlockParts.{block_constants, block_types, block_variables, constant_names, formal_names, formal_sections, declared_type_names, names_in_list, section_constants, parameter_section_names, parameter_section_type, section_types, section_variables, variable_names}
+use Rattle.ob0_language_names.specs.BlockParts.{block_constants, block_types, block_variables, constant_names, formal_parameter_names, formal_parameter_sections, declared_type_names, names_in_list, section_constants, parameter_section_names, parameter_section_type, section_types, section_variables, variable_names}
 use Rattle.ob0_language_names.specs.Scopes.{Scope, ordinal_after_block, ordinal_after_names, ordinal_after_procedure, ordinal_after_procedure_list, declare_names, declare_procedure_names, first_procedure_ordinal, first_type_ordinal, first_variable_ordinal, ordinal_in_scope, scope_before_procedures, scope_before_types, scope_before_variables}
 use Rattle.ob0_language_names.proofs.EditedTrees.{Edit, edited_block, edited_constants, leaf}
 use Rattle.ob0_language_names.proofs.InliningLeavesNoUse.{NoneOf}
 use Rattle.ob0_language_names.proofs.Ordinals.{ordinal_after_names-append, le-ordinal_after_names, le-ordinal_after_procedure}
 use Rattle.ob0_language_names.proofs.Places.{EachBlock, EachConstant, EachProcedure, EachSection, EachType, EachVariable, Placed}
 use Rattle.ob0_language_values.specs.Values.{Shape, Value, fits_in_32_bits}
-use Rattle.ob0_language_types.specs.ConstantValues.{non_constant_placeholder, constant_value_in_section, constant_value_in_block, constant_value_in_procedure, constant_value_in_procedures}
-use Rattle.ob0_language_types.specs.Declarations.{constructors_before_variables, constructors_before_procedures, declare_constants, declare_constants_and_types, declare_types, formals_constructor_count, procedure_constructor_count}
+use Rattle.ob0_language_types.specs.ConstantValues.{non_constant_placeholder, constant_value_in_section, constant_value_in_block, constant_value_in_procedure, constant_value_in_procedure_list}
+use Rattle.ob0_language_types.specs.Declarations.{constructor_count_before_variables, constructor_count_before_procedures, declare_constants, declare_constants_and_types, declare_types, formals_constructor_count, procedure_constructor_count}
 use Rattle.ob0_language_types.specs.Environments.{Environment, meanings}
 use Rattle.ob0_language_types.specs.Expressions.{a_constant, a_procedure, a_type, a_variable}
-use Rattle.ob0_language_types.specs.Typing.{constant_value, constructor_count, denoted_type}
-use Rattle.ob0_language_types.specs.WellTyped.{Signature, TypeEnvironment, TypedParameter, bind_names, bind_typed_parameters, block_is_well_typed, body_is_well_typed, declare_typed_variables, bind_procedure, procedure_is_well_typed, procedures_are_well_typed, parameter_section_mode, typed_parameters}
+use Rattle.ob0_language_types.specs.Typing.{constant_expression_value, constructor_count, denoted_type}
+use Rattle.ob0_language_types.specs.WellTyped.{Signature, TypeEnvironment, TypedParameter, bind_names, bind_typed_parameters, block_is_well_typed, body_is_well_typed, declare_typed_variables, bind_procedure, procedure_is_well_typed, procedures_and_body_are_well_typed, parameter_section_mode, typed_parameters}
 use Rattle.ob0_language_types.proofs.Agreeing.{Agree, HoldsOf}
 use Rattle.ob0_language_types.proofs.EditedDeclarations.{Outside, HasValueBetween, constants-edited, outside-right}
 use Rattle.ob0_language_types.proofs.EditedParts.{all-left, body-has_value, constants-has_value, first-edited, bind_procedure-outside, mark_all, names_of, own-has_value, procedures-has_value, read-all, rest-has_value, types-outside, with_value}
@@ -23,7 +23,7 @@ use Rattle.ob0_language_types.proofs.EditedTypes.{Checked, LeftTyped, anything, 
 use Rattle.ob0_language_types.proofs.Leaves.{Here, Literal, known-value, read-object_for, read_meanings}
 use Rattle.ob0_language_types.proofs.Literals.{some_inverse}
 use Rattle.ob0_language_types.proofs.Marks.{Marks, Sound, Sound-weaken, found, found-right, knowns, ordinal-found, read, read_edited, scope_marked, has_value-found}
-use Rattle.ob0_language_types.proofs.TypedElsewhere.{AreConstant, constant_value-elsewhere, denoted_type-elsewhere, sequence-elsewhere, then_some}
+use Rattle.ob0_language_types.proofs.TypedElsewhere.{AreConstant, constant_expression_value-elsewhere, denoted_type-elsewhere, sequence-elsewhere, then_some}
 use Rattle.ob0_language_types.proofs.TypesByOrdinal.{typed_names}
 use Rattle.ob0_language_types.proofs.Conditions.{hold-true}
 use Rattle.std.proofs.lemmas.Bool.{and_parts}
@@ -51,14 +51,14 @@ pub alone-constants : {V P Q : Type 0} (edit : Edit) (w : Value) (X : Marks V P 
 unfolding declare_constants constant_value_in_section
 alone-constants edit w X p j k marks s seven end has_value env h = tt
 alone-constants {V} {P} edit w X p j k marks s seven (more (declares_constant x e) cs) has_value env h =
-    let (v, ev, h₁) = then_some (constant_value (read_meanings p marks) e) (λ v. declare_constants naming_by_spelling ((x, a_constant v) ∷ read p marks) cs) env h in
+    let (v, ev, h₁) = then_some (constant_expression_value (read_meanings p marks) e) (λ v. declare_constants naming_by_spelling ((x, a_constant v) ∷ read p marks) cs) env h in
     let n : ℕ = ordinal_after_names (suc k) (constant_names cs) in
     let below : suc k ≤ n = le-ordinal_after_names (suc k) (constant_names cs) in
-    let known : constant_value (meanings naming_by_spelling (knowns marks)) e ≡ Some v = known-value p marks e ∙ ev in
+    let known : constant_expression_value (meanings naming_by_spelling (knowns marks)) e ≡ Some v = known-value p marks e ∙ ev in
     let choice : Bool → Option Value = λ t. if t then Some v else constant_value_in_section ((x, a_constant v) ∷ knowns marks) edit.constant (suc k) cs in
     let value : k ≤ edit.constant → edit.constant < n → choice (k == edit.constant) ≡ Some w = λ l m.
     sym (ap (option_and_then (λ v. if k == edit.constant then Some v else constant_value_in_section ((x, a_constant v) ∷ knowns marks) edit.constant (suc k) cs)) known) ∙ has_value l m in (
-      constant_value-elsewhere (IsOf edit.constant (scope_marked marks)) (read_meanings p marks) w (holds-constant edit w X p k marks s) e v ev,
+      constant_expression_value-elsewhere (IsOf edit.constant (scope_marked marks)) (read_meanings p marks) w (holds-constant edit w X p k marks s) e v ev,
       alone-constants edit w X p (j + length (occurrences e)) (suc k) (record { name = x; ordinal = k; object = a_constant v } ∷ marks) (
         le_refl (suc k),
         record {
@@ -104,12 +104,12 @@ alone-variables edit w i j k marks s seven (more (declares_variable ns t) gs) ou
     )
 
 pub alone-sections : (edit : Edit) (w : Value) (i j k : ℕ) (marks : Marks Shape Signature) → Checked edit w k marks → 7 ≤ k → (fs : Tree Name (items section_after_semicolon))
-    → Outside edit k (ordinal_after_names k (formal_names fs)) → (ps : List (TypedParameter Name)) → typed_parameters naming_by_spelling (read as_signed marks) i fs ≡ Some ps → EachSection (UsesAreFactors edit.constant) j (scope_marked marks) k fs
+    → Outside edit k (ordinal_after_names k (formal_parameter_names fs)) → (ps : List (TypedParameter Name)) → typed_parameters naming_by_spelling (read as_signed marks) i fs ≡ Some ps → EachSection (UsesAreFactors edit.constant) j (scope_marked marks) k fs
 unfolding typed_parameters
 alone-sections edit w i j k marks s seven end outside ps h = tt
 alone-sections edit w i j k marks s seven (more (semicolon_then_section f) fs) outside ps h =
     let xs : List Name = parameter_section_names f in
-    let ys : List Name = formal_names fs in
+    let ys : List Name = formal_parameter_names fs in
     let t : Tree Name written_type = parameter_section_type f in
     let n : ℕ = ordinal_after_names k xs in
     let (shape, es, h₁) = then_some (denoted_type (read_meanings as_signed marks) i t)
@@ -153,8 +153,8 @@ mutual
       let types : first_type_ordinal k b ≤ first_variable_ordinal k b = le-ordinal_after_names (first_type_ordinal k b) (declared_type_names (section_types ts)) in
       let variables : first_variable_ordinal k b ≤ first_procedure_ordinal k b = le-ordinal_after_names (first_variable_ordinal k b) (variable_names (section_variables vs)) in
       let above : k ≤ first_type_ordinal k b = le-ordinal_after_names k (constant_names (section_constants cs)) in
-      let (env₂, e₂, fits) = hold-true (option_and_then (declare_typed_variables naming_by_spelling (constructors_before_variables i b) (section_variables vs)) (declare_constants_and_types naming_by_spelling (read as_signed marks) i b)) (λ inner. procedures_are_well_typed naming_by_spelling inner (constructors_before_procedures i b) statements ps) h in
-      let (env₁, e₁, f₁) = then_some (declare_constants_and_types naming_by_spelling (read as_signed marks) i b) (declare_typed_variables naming_by_spelling (constructors_before_variables i b) (section_variables vs)) env₂ e₂ in
+      let (env₂, e₂, fits) = hold-true (option_and_then (declare_typed_variables naming_by_spelling (constructor_count_before_variables i b) (section_variables vs)) (declare_constants_and_types naming_by_spelling (read as_signed marks) i b)) (λ inner. procedures_and_body_are_well_typed naming_by_spelling inner (constructor_count_before_procedures i b) statements ps) h in
+      let (env₁, e₁, f₁) = then_some (declare_constants_and_types naming_by_spelling (read as_signed marks) i b) (declare_typed_variables naming_by_spelling (constructor_count_before_variables i b) (section_variables vs)) env₂ e₂ in
       let (env₀, e₀, f₀) = constants_first (read as_signed marks) i b env₁ e₁ in
       let (inner₀, left₀, r₀) = agree-some (read as_signed) (read_edited edit as_signed) (LeftTyped edit w (first_type_ordinal k b) (scope_before_types k b (scope_marked marks)) (declare_constants naming_by_spelling (knowns marks) (section_constants cs)))
       (declare_constants naming_by_spelling (read as_signed marks) (section_constants cs)) (declare_constants naming_by_spelling (read_edited edit as_signed marks) (edited_constants edit j k (section_constants cs)))
@@ -164,33 +164,33 @@ mutual
       (first-edited edit w lit anything as_signed as_signed i j k marks s seven b here has_value) env₁ e₁ in
       let (inner₂, left₂, r₂) = agree-some (read as_signed) (read_edited edit as_signed)
       (LeftTyped edit w (first_procedure_ordinal k b) (scope_before_procedures k b (scope_marked marks)) (option_map (bind_names (variable_names (section_variables vs)) non_constant_placeholder) (option_map (bind_names (declared_type_names (section_types ts)) non_constant_placeholder) (declare_constants naming_by_spelling (knowns marks) (section_constants cs)))))
-      (option_and_then (declare_typed_variables naming_by_spelling (constructors_before_variables i b) (section_variables vs)) (declare_constants_and_types naming_by_spelling (read as_signed marks) i b))
-      (option_and_then (declare_typed_variables naming_by_spelling (constructors_before_variables i (edited_block edit j k b)) (block_variables (edited_block edit j k b))) (declare_constants_and_types naming_by_spelling (read_edited edit as_signed marks) i (edited_block edit j k b)))
+      (option_and_then (declare_typed_variables naming_by_spelling (constructor_count_before_variables i b) (section_variables vs)) (declare_constants_and_types naming_by_spelling (read as_signed marks) i b))
+      (option_and_then (declare_typed_variables naming_by_spelling (constructor_count_before_variables i (edited_block edit j k b)) (block_variables (edited_block edit j k b))) (declare_constants_and_types naming_by_spelling (read_edited edit as_signed marks) i (edited_block edit j k b)))
       (declarations-edited edit w lit i j k marks s seven b here has_value) env₂ e₂ in
-      let later = alone-procedures edit w lit (constructors_before_procedures i b) jp js (first_procedure_ordinal k b) inner₂ left₂.sound (omega (arith, seven, above, types, variables)) statements ps
+      let later = alone-procedures edit w lit (constructor_count_before_procedures i b) jp js (first_procedure_ordinal k b) inner₂ left₂.sound (omega (arith, seven, above, types, variables)) statements ps
       (subst (λ scope. EachProcedure (Here edit w) jp scope (first_procedure_ordinal k b) ps) (sym left₂.scoped) here.3) (procedures-has_value edit w (knowns marks) (knowns inner₂) k b has_value left₂.value)
-      (ap (λ env. procedures_are_well_typed naming_by_spelling env (constructors_before_procedures i b) statements ps) r₂ ∙ fits) in (
+      (ap (λ env. procedures_and_body_are_well_typed naming_by_spelling env (constructor_count_before_procedures i b) statements ps) r₂ ∙ fits) in (
         alone-constants edit w anything as_signed j k marks s seven (section_constants cs) (constants-has_value edit w (knowns marks) k b has_value) env₀ e₀,
         subst (λ scope. EachType (UsesAreFactors d) jt scope (first_type_ordinal k b) (section_types ts)) left₀.scoped
             (alone-types edit w anything as_signed i jt (first_type_ordinal k b) inner₀ left₀.sound (omega (arith, seven, above)) (section_types ts) (λ l m. types-outside edit w (knowns marks) k b has_value l (omega (arith, m, variables))) env₁
             (ap (λ env. declare_types naming_by_spelling env i (section_types ts)) r₀ ∙ f₀)),
         subst (λ scope. EachVariable (UsesAreFactors d) jv scope (first_variable_ordinal k b) (section_variables vs)) left₁.scoped
-            (alone-variables edit w (constructors_before_variables i b) jv (first_variable_ordinal k b) inner₁ left₁.sound (omega (arith, seven, above, types)) (section_variables vs) (λ l m. types-outside edit w (knowns marks) k b has_value (omega (arith, l, types)) m) env₂
-            (ap (declare_typed_variables naming_by_spelling (constructors_before_variables i b) (section_variables vs)) r₁ ∙ f₁)),
+            (alone-variables edit w (constructor_count_before_variables i b) jv (first_variable_ordinal k b) inner₁ left₁.sound (omega (arith, seven, above, types)) (section_variables vs) (λ l m. types-outside edit w (knowns marks) k b has_value (omega (arith, l, types)) m) env₂
+            (ap (declare_typed_variables naming_by_spelling (constructor_count_before_variables i b) (section_variables vs)) r₁ ∙ f₁)),
         subst (λ scope. EachProcedure (UsesAreFactors d) jp scope (first_procedure_ordinal k b) ps) left₂.scoped later.0,
         subst (λ scope. NoneOf (IsOf d (declare_procedure_names (first_procedure_ordinal k b) ps scope)) (non_factor_occurrences statements)) left₂.scoped later.1,
       )
 
   pub alone-procedures : (edit : Edit) (w : Value) → Literal edit w → (i j js k : ℕ) (marks : Marks Shape Signature) → Checked edit w k marks → 7 ≤ k → (statements : Tree Name (maybe body)) (ps : Tree Name (items procedure))
-      → EachProcedure (Here edit w) j (scope_marked marks) k ps → HasValueBetween edit w k (ordinal_after_procedure_list k ps) (constant_value_in_procedures (knowns marks) edit.constant k ps)
-      → procedures_are_well_typed naming_by_spelling (read as_signed marks) i statements ps ≡ true
+      → EachProcedure (Here edit w) j (scope_marked marks) k ps → HasValueBetween edit w k (ordinal_after_procedure_list k ps) (constant_value_in_procedure_list (knowns marks) edit.constant k ps)
+      → procedures_and_body_are_well_typed naming_by_spelling (read as_signed marks) i statements ps ≡ true
       → EachProcedure (UsesAreFactors edit.constant) j (scope_marked marks) k ps × NoneOf (IsOf edit.constant (declare_procedure_names k ps (scope_marked marks))) (non_factor_occurrences statements)
   alone-procedures edit w lit i j js k marks s seven statements end here has_value h = (tt, alone-body edit w k marks s statements h)
   alone-procedures edit w lit i j js k marks s seven statements (more (declares_procedure x fs b closing) rest) here has_value h =
       let p : Tree Name (item procedure) = declares_procedure x fs b closing in
       let d : ℕ = edit.constant in
       let jb : ℕ = j + length (occurrences fs) in
-      let xs : List Name = formal_names (formal_sections fs) in
+      let xs : List Name = formal_parameter_names (formal_parameter_sections fs) in
       let n : ℕ = ordinal_after_names (suc k) xs in
       let jr : ℕ = j + length (occurrences p) in
       let mine : HasValueBetween edit w k (ordinal_after_procedure (suc k) p) (constant_value_in_procedure ((x, non_constant_placeholder) ∷ knowns marks) edit.constant (suc k) p) = own-has_value edit w (knowns marks) k p rest has_value in
@@ -200,10 +200,10 @@ mutual
       let own : Outside edit k (suc k) = λ l m. outside l (omega (arith, m, above)) in
       let later : Checked edit w (suc k) marks = Sound-weaken edit w anything k (suc k) marks (le_of_lt (le_refl (suc k))) s in
       let outside' : Outside edit (suc k) n = λ l m. outside (omega (arith, l)) m in
-      let (ps, e, fits) = hold-true (typed_parameters naming_by_spelling (read as_signed marks) i (formal_sections fs)) (λ ps. procedure_is_well_typed naming_by_spelling (bind_typed_parameters ps (bind_procedure x ps (read as_signed marks))) i p && procedures_are_well_typed naming_by_spelling (bind_procedure x ps (read as_signed marks)) (i + procedure_constructor_count p) statements rest) h in
-      let both = and_parts (procedure_is_well_typed naming_by_spelling (bind_typed_parameters ps (bind_procedure x ps (read as_signed marks))) i p) (procedures_are_well_typed naming_by_spelling (bind_procedure x ps (read as_signed marks)) (i + procedure_constructor_count p) statements rest) fits in
-      let (qs, spelled, r) = agree-some (λ ps. ps) (λ ps. ps) (λ ps. typed_names ps ≡ formal_names (formal_sections fs)) (typed_parameters naming_by_spelling (read as_signed marks) i (formal_sections fs)) (typed_parameters naming_by_spelling (read_edited edit as_signed marks) i (leaf edit j (formal_sections fs)))
-      (parameters-edited edit w lit i j (suc k) marks later (omega (arith, seven)) (formal_sections fs) here.0.0 outside') ps e in
+      let (ps, e, fits) = hold-true (typed_parameters naming_by_spelling (read as_signed marks) i (formal_parameter_sections fs)) (λ ps. procedure_is_well_typed naming_by_spelling (bind_typed_parameters ps (bind_procedure x ps (read as_signed marks))) i p && procedures_and_body_are_well_typed naming_by_spelling (bind_procedure x ps (read as_signed marks)) (i + procedure_constructor_count p) statements rest) h in
+      let both = and_parts (procedure_is_well_typed naming_by_spelling (bind_typed_parameters ps (bind_procedure x ps (read as_signed marks))) i p) (procedures_and_body_are_well_typed naming_by_spelling (bind_procedure x ps (read as_signed marks)) (i + procedure_constructor_count p) statements rest) fits in
+      let (qs, spelled, r) = agree-some (λ ps. ps) (λ ps. ps) (λ ps. typed_names ps ≡ formal_parameter_names (formal_parameter_sections fs)) (typed_parameters naming_by_spelling (read as_signed marks) i (formal_parameter_sections fs)) (typed_parameters naming_by_spelling (read_edited edit as_signed marks) i (leaf edit j (formal_parameter_sections fs)))
+      (parameters-edited edit w lit i j (suc k) marks later (omega (arith, seven)) (formal_parameter_sections fs) here.0.0 outside') ps e in
       let inner : Marks Shape Signature = record { name = x; ordinal = k; object = a_procedure (map (λ p. p.formal) ps) } ∷ marks in
       let sound : Checked edit w (suc k) inner = (le_refl (suc k), outside-right edit w x k (a_procedure (map (λ p. p.formal) ps)) seven own, tt, s) in
       let pairs : List (Name × Shape) = parameter_pairs ps in
@@ -215,12 +215,12 @@ mutual
       here.1 (rest-has_value edit w (knowns marks) k p rest has_value) both.1 in (
         (
           (
-            alone-sections edit w i j (suc k) marks later (omega (arith, seven)) (formal_sections fs) outside' ps e,
+            alone-sections edit w i j (suc k) marks later (omega (arith, seven)) (formal_parameter_sections fs) outside' ps e,
             subst (λ scope. EachBlock (UsesAreFactors d) jb scope n b) left.scoped
-                (alone-block edit w lit (i + formals_constructor_count (formal_sections fs)) jb n (mark_all (suc k) pairs inner) left.sound (omega (arith, seven, above)) b
+                (alone-block edit w lit (i + formals_constructor_count (formal_parameter_sections fs)) jb n (mark_all (suc k) pairs inner) left.sound (omega (arith, seven, above)) b
                 (subst (λ scope. EachBlock (Here edit w) jb scope n b) (sym left.scoped) here.0.1)
                 (subst (λ known. HasValueBetween edit w n (ordinal_after_block n b) (constant_value_in_block known edit.constant n b)) (some_inverse left.value) (body-has_value edit w ((x, non_constant_placeholder) ∷ knowns marks) k x closing fs b mine))
-                (sym (ap (λ env. block_is_well_typed naming_by_spelling env (i + formals_constructor_count (formal_sections fs)) b) (bind_typed_parameters-all ps (bind_procedure x ps (read as_signed marks)) ∙ read-all as_signed (suc k) pairs inner)) ∙ both.0)),
+                (sym (ap (λ env. block_is_well_typed naming_by_spelling env (i + formals_constructor_count (formal_parameter_sections fs)) b) (bind_typed_parameters-all ps (bind_procedure x ps (read as_signed marks)) ∙ read-all as_signed (suc k) pairs inner)) ∙ both.0)),
           ),
           last.0,
         ),

@@ -1,37 +1,37 @@
 -- The value of a constant, found by its ordinal, is the value in the binding of its declaration in the numbered tree.
--- `value_of_constant` visits names and counts ordinals; `declared_object` visits the numbered tree. Each lemma
+-- `constant_value_in_module` visits names and counts ordinals; `declared_object` visits the numbered tree. Each lemma
 -- is about a whole block or list of procedures, whose bindings have only ordinals of one range (`Binds`). From the
 -- start of the range on, the value of each ordinal is the value that it is bound to (`AreValuesBetween`).
 use Rattle.std.proofs.Common.{◌≡◌, ℕ, suc, ◌+◌, ◌<◌, ◌≤◌, ◌==◌, Bool, true, false, cond, if◌then◌else◌, nat_lt, ◌&&◌, List, [], ◌∷◌, ◌++◌, map, Some, None, Option, option_map, option_and_then, refl, sym, ap, ◌∙◌, subst, subst₂, append_assoc, arith, le_refl, le_of_lt, lit<, eq-eqb, eqb-true, true≢false}
 use Rattle.std.proofs.lemmas.Bool.{and_parts, le-ltb, lt-ltb, ltb-false, ltb-true, ne_eqb}
 use Rattle.std.proofs.lemmas.List.{append-nil}
 use Rattle.ob0_tree.specs.Tree.{Tree, block, body, constant, declares, declares_constant, declares_procedure, declares_type, declares_variable, end, expression, formals, forms_block, forms_module, item, items, maybe, module_text, more, procedure, type_definition, variable}
-use Rattle.ob0_language_names.specs.Names.{Label, Name, naming_by_label, naming_by_spelling, declared, same_label, same_name}
-use Rattle.ob0_language_names.specs.BlockParts.{block_constants, block_procedures, block_statements, block_types, block_variables, constant_names, formal_names, formal_sections, module_block, declared_type_names, names_in_list, section_constants, section_types, section_variables, variable_names}
+use Rattle.ob0_language_names.specs.Names.{Label, Name, naming_by_label, naming_by_spelling, declared, same_ordinal_label, same_name}
+use Rattle.ob0_language_names.specs.BlockParts.{block_constants, block_procedures, block_statements, block_types, block_variables, constant_names, formal_parameter_names, formal_parameter_sections, module_block, declared_type_names, names_in_list, section_constants, section_types, section_variables, variable_names}
 use Rattle.ob0_language_names.specs.Scopes.{Scope, ordinal_after_block, ordinal_after_names, ordinal_after_procedure, ordinal_after_procedure_list, label_from_ordinal, declare_names, first_procedure_ordinal, first_type_ordinal, first_variable_ordinal, numbered, scope_before_procedures, relabel_block, relabel_constants, relabel_formals, relabel_names, relabel_procedure_list, relabel_parameter_section_list, relabel_types, relabel_uses, relabel_variables, scope_before_types, scope_before_variables}
 use Rattle.ob0_language_names.proofs.Ordinals.{ordinal_after_names-append, declare_names-append, le-ordinal_after_names, le-ordinal_after_block, le-ordinal_after_procedure, le-ordinal_after_procedure_list}
 use Rattle.ob0_language_names.proofs.Relabelled.{constants-section, formals-section, names-relabel, types-section, variables-section}
-use Rattle.ob0_language_types.specs.Bindings.{block_bindings, declared_object, list_if_some, object_of_ordinal, procedure_bindings, procedures_bindings, bindings_since}
+use Rattle.ob0_language_types.specs.Bindings.{block_bindings, declared_object, list_if_some, object_of_ordinal, procedure_bindings, procedure_list_bindings, added_bindings}
 use Rattle.ob0_language_types.specs.BlockDeclarations.{declare_block, declare_procedure}
-use Rattle.ob0_language_types.specs.ConstantValues.{ConstantEnvironment, constant_or_placeholder, non_constant_placeholder, predeclared_constants, constant_value_in_section, constant_value_in_block, constant_value_in_procedure, constant_value_in_procedures, value_of_constant}
-use Rattle.ob0_language_types.specs.Declarations.{constructors_before_variables, constructors_before_procedures, declare_constants, declare_constants_and_types, declare_types, formals_constructor_count, procedure_constructor_count}
-use Rattle.ob0_language_types.specs.Environments.{environment_from_binding, meanings, newest_object, outermost_environment}
+use Rattle.ob0_language_types.specs.ConstantValues.{ConstantEnvironment, constant_or_placeholder, non_constant_placeholder, predeclared_constants, constant_value_in_section, constant_value_in_block, constant_value_in_procedure, constant_value_in_procedure_list, constant_value_in_module}
+use Rattle.ob0_language_types.specs.Declarations.{constructor_count_before_variables, constructor_count_before_procedures, declare_constants, declare_constants_and_types, declare_types, formals_constructor_count, procedure_constructor_count}
+use Rattle.ob0_language_types.specs.Environments.{suffix_from_newest_binding, meanings, newest_object, outermost_environment}
 use Rattle.ob0_language_types.specs.Expressions.{Object, a_constant, a_procedure, a_standard_procedure, a_type, a_variable}
-use Rattle.ob0_language_types.specs.Typing.{constant_of, constant_value, constructor_count, denoted_type}
-use Rattle.ob0_language_types.specs.WellTyped.{Signature, TypeEnvironment, TypedParameter, WellTyped, bind_names, bind_typed_parameters, block_is_well_typed, declare_typed_variables, passes_type_check, bind_procedure, procedure_is_well_typed, procedures_are_well_typed, typed_parameters}
+use Rattle.ob0_language_types.specs.Typing.{value_of_constant_object, constant_expression_value, constructor_count, denoted_type}
+use Rattle.ob0_language_types.specs.WellTyped.{Signature, TypeEnvironment, TypedParameter, WellTyped, bind_names, bind_typed_parameters, block_is_well_typed, declare_typed_variables, passes_type_check, bind_procedure, procedure_is_well_typed, procedures_and_body_are_well_typed, typed_parameters}
 use Rattle.ob0_language_values.specs.Values.{Shape, Value}
 use Rattle.ob0_language_types.proofs.Agreeing.{Agree, HoldsOf}
-use Rattle.ob0_language_types.proofs.Bound.{headed_bindings, newest_object-append, newest_object-if, or_else, bindings_since-append}
+use Rattle.ob0_language_types.proofs.Bound.{headed_bindings, newest_object-append, newest_object-if, or_else, added_bindings-append}
 use Rattle.ob0_language_types.proofs.EditedParts.{bind_names-append}
 use Rattle.ob0_language_types.proofs.Literals.{some_inverse}
 use Rattle.ob0_language_types.proofs.Proved.{numbering_keeps_type_check-holds}
 use Rattle.ob0_language_types.proofs.TypedElsewhere.{then_some}
-use Rattle.ob0_language_types.proofs.TypeNaturality.{constant_value-map}
+use Rattle.ob0_language_types.proofs.TypeNaturality.{constant_expression_value-map}
 use Rattle.ob0_language_types.proofs.TypesByOrdinal.{TypeNoted, TypedBelow, TypedBelow-weaken, TypedWithin, bind_names-by_ordinal, bind_typed_parameters-by_ordinal, label_typed, label_typed-formals, noted_names, noted_parameters, parameters_typed, typed_by_name, typed_by_ordinal, typed_label, typed_meanings-agree, typed_names, typed_outermost, typed_scope}
 use Rattle.ob0_language_types.proofs.Conditions.{hold-true}
 
 abbrev pub has_value : TypeEnvironment Label → ℕ → Option Value
-has_value env d = constant_of (object_of_ordinal env d)
+has_value env d = value_of_constant_object (object_of_ordinal env d)
 
 -- holds if all bindings have ordinals from `k` to `n - 1`
 abbrev pub Binds : ℕ → ℕ → TypeEnvironment Label → Type 0
@@ -49,8 +49,8 @@ binds-wider k n j m (x ∷ xs) l h a = ((a.0.0, a.0.1, omega (arith, l, a.0.2), 
 pub bound-elsewhere : (k n d : ℕ) (xs env : TypeEnvironment Label) → Binds k n xs → (k ≤ d → d < n → ⊥) → object_of_ordinal (xs ++ env) d ≡ object_of_ordinal env d
 bound-elsewhere k n d [] env b h = refl
 bound-elsewhere k n d ((x, o) ∷ xs) env b h =
-    newest_object-if (same_label (declared d) x) x o (xs ++ env) (environment_from_binding naming_by_label (xs ++ env) (declared d))
-    ∙ ap (λ t. cond t (Some o) (object_of_ordinal (xs ++ env) d)) (ap (same_label (declared d)) b.0.1 ∙ ne_eqb d b.0.0 (λ e. h (omega (arith, e, b.0.2)) (omega (arith, e, b.0.3))))
+    newest_object-if (same_ordinal_label (declared d) x) x o (xs ++ env) (suffix_from_newest_binding naming_by_label (xs ++ env) (declared d))
+    ∙ ap (λ t. cond t (Some o) (object_of_ordinal (xs ++ env) d)) (ap (same_ordinal_label (declared d)) b.0.1 ∙ ne_eqb d b.0.0 (λ e. h (omega (arith, e, b.0.2)) (omega (arith, e, b.0.3))))
     ∙ bound-elsewhere k n d xs env b.1 h
 
 or-none : {A : Type 0} (o : Option A) → or_else o None ≡ o
@@ -66,7 +66,7 @@ bound-first k n d xs ys b h =
 -- holds if no binding is a constant's
 abbrev pub AllPlain : TypeEnvironment Label → Type 0
 AllPlain [] = Unit {0}
-AllPlain (b ∷ env) = (constant_of (Some b.1) ≡ None) × AllPlain env
+AllPlain (b ∷ env) = (value_of_constant_object (Some b.1) ≡ None) × AllPlain env
 
 plain-append : (xs ys : TypeEnvironment Label) → AllPlain xs → AllPlain ys → AllPlain (xs ++ ys)
 plain-append [] ys a b = b
@@ -75,23 +75,23 @@ plain-append (x ∷ xs) ys a b = (a.0, plain-append xs ys a.1 b)
 plain-has_value : (env : TypeEnvironment Label) (d : ℕ) → AllPlain env → has_value env d ≡ None
 plain-has_value [] d a = refl
 plain-has_value ((x, o) ∷ env) d a =
-    ap constant_of (newest_object-if (same_label (declared d) x) x o env (environment_from_binding naming_by_label env (declared d)))
-    ∙ (elim (same_label (declared d) x) as (λ t. constant_of (cond t (Some o) (object_of_ordinal env d)) ≡ None) [ true ↦ a.0 | false ↦ plain-has_value env d a.1 ])
+    ap value_of_constant_object (newest_object-if (same_ordinal_label (declared d) x) x o env (suffix_from_newest_binding naming_by_label env (declared d)))
+    ∙ (elim (same_ordinal_label (declared d) x) as (λ t. value_of_constant_object (cond t (Some o) (object_of_ordinal env d)) ≡ None) [ true ↦ a.0 | false ↦ plain-has_value env d a.1 ])
 
 -- holds if both environments give each name the same constant, or none
 abbrev pub Knows : ConstantEnvironment → TypeNoted Name → Type 0
-Knows known noted = (x : Name) → constant_of (newest_object (environment_from_binding naming_by_spelling known x)) ≡ constant_of (newest_object (environment_from_binding naming_by_spelling (typed_by_name noted) x))
+Knows known noted = (x : Name) → value_of_constant_object (newest_object (suffix_from_newest_binding naming_by_spelling known x)) ≡ value_of_constant_object (newest_object (suffix_from_newest_binding naming_by_spelling (typed_by_name noted) x))
 
-knows-more : (known : ConstantEnvironment) (noted : TypeNoted Name) (x : Name) (k : ℕ) (o : Object (Unit {0}) (Unit {0})) (p : Object Shape Signature) → constant_of (Some o) ≡ constant_of (Some p) → Knows known noted → Knows ((x, o) ∷ known) (record { name = x; ordinal = k; object = p } ∷ noted)
+knows-more : (known : ConstantEnvironment) (noted : TypeNoted Name) (x : Name) (k : ℕ) (o : Object (Unit {0}) (Unit {0})) (p : Object Shape Signature) → value_of_constant_object (Some o) ≡ value_of_constant_object (Some p) → Knows known noted → Knows ((x, o) ∷ known) (record { name = x; ordinal = k; object = p } ∷ noted)
 knows-more known noted x k o p e knows = λ y.
-    elim (same_name y x) as (λ v. constant_of (newest_object (elim v [ true ↦ (x, o) ∷ known | false ↦ environment_from_binding naming_by_spelling known y ])) ≡ constant_of (newest_object (elim v [ true ↦ typed_by_name (record { name = x; ordinal = k; object = p } ∷ noted) | false ↦ environment_from_binding naming_by_spelling (typed_by_name noted) y ])))
+    elim (same_name y x) as (λ v. value_of_constant_object (newest_object (elim v [ true ↦ (x, o) ∷ known | false ↦ suffix_from_newest_binding naming_by_spelling known y ])) ≡ value_of_constant_object (newest_object (elim v [ true ↦ typed_by_name (record { name = x; ordinal = k; object = p } ∷ noted) | false ↦ suffix_from_newest_binding naming_by_spelling (typed_by_name noted) y ])))
     [ true ↦ e | false ↦ knows y ]
 
 known-has_value : (known : ConstantEnvironment) (noted : TypeNoted Name) (k : ℕ) → Knows known noted → TypedBelow k noted → (e : Tree Name expression)
-    → constant_value (meanings naming_by_label (typed_by_ordinal noted)) (relabel_uses naming_by_spelling (label_from_ordinal naming_by_spelling) (typed_scope noted) e) ≡ constant_value (meanings naming_by_spelling known) e
+    → constant_expression_value (meanings naming_by_label (typed_by_ordinal noted)) (relabel_uses naming_by_spelling (label_from_ordinal naming_by_spelling) (typed_scope noted) e) ≡ constant_expression_value (meanings naming_by_spelling known) e
 known-has_value known noted k knows below e =
-    constant_value-map (typed_label naming_by_spelling noted) (label_from_ordinal naming_by_spelling None) (meanings naming_by_label (typed_by_ordinal noted)) (meanings naming_by_spelling known) e
-    (λ x. ap constant_of (typed_meanings-agree naming_by_spelling k noted below x) ∙ sym (knows x)) (λ x. refl)
+    constant_expression_value-map (typed_label naming_by_spelling noted) (label_from_ordinal naming_by_spelling None) (meanings naming_by_label (typed_by_ordinal noted)) (meanings naming_by_spelling known) e
+    (λ x. ap value_of_constant_object (typed_meanings-agree naming_by_spelling k noted below x) ∙ sym (knows x)) (λ x. refl)
 
 -- the bindings that constants make, with facts about them and about the environment after them
 pub record Constants (known : ConstantEnvironment) (noted : TypeNoted Name) (k : ℕ) (cs : Tree Name (items constant)) (env : TypeEnvironment Label) : Type 0 where
@@ -123,7 +123,7 @@ constants-bound known noted k knows below end env h =
       has_value_is = λ d l m. absurd (omega (arith, l, m));
     }
 constants-bound known noted k knows below (more (declares_constant x e) cs) env h =
-    let found = then_some (constant_value (meanings naming_by_label (typed_by_ordinal noted)) (relabel_uses naming_by_spelling (label_from_ordinal naming_by_spelling) (typed_scope noted) e))
+    let found = then_some (constant_expression_value (meanings naming_by_label (typed_by_ordinal noted)) (relabel_uses naming_by_spelling (label_from_ordinal naming_by_spelling) (typed_scope noted) e))
     (λ v. declare_constants naming_by_label ((declared k, a_constant v) ∷ typed_by_ordinal noted) (relabel_constants naming_by_spelling (label_from_ordinal naming_by_spelling) ((x, k) ∷ typed_scope noted) (suc k) cs)) env h in
     let v : Value = found.0 in
     let n : ℕ = ordinal_after_names (suc k) (constant_names cs) in
@@ -131,15 +131,15 @@ constants-bound known noted k knows below (more (declares_constant x e) cs) env 
     let last : TypeEnvironment Label = (declared k, a_constant v) ∷ [] in
     let known' : ConstantEnvironment = (x, a_constant v) ∷ known in
     let r = constants-bound known' (record { name = x; ordinal = k; object = a_constant v } ∷ noted) (suc k) (knows-more known noted x k (a_constant v) (a_constant v) refl knows) (le_refl (suc k), below) cs env found.2 in
-    let value : constant_value (meanings naming_by_spelling known) e ≡ Some v = sym (known-has_value known noted k knows below e) ∙ found.1 in
+    let value : constant_expression_value (meanings naming_by_spelling known) e ≡ Some v = sym (known-has_value known noted k knows below e) ∙ found.1 in
     let choice : ℕ → Bool → Option Value = λ d t. if t then Some v else constant_value_in_section known' d (suc k) cs in
     let own : Binds k (suc k) last = ((k, refl, le_refl k, le_refl (suc k)), tt) in
     let chosen : (d : ℕ) → k ≤ d → d < n → (t : Bool) → (k == d) ≡ t → choice d t ≡ has_value (r.bound ++ last) d =
     λ d l m t. elim t as (λ t. (k == d) ≡ t → choice d t ≡ has_value (r.bound ++ last) d) [
-      | true ↦ λ same. sym (ap constant_of (bound-elsewhere (suc k) n d r.bound last r.binds (λ p q. omega (arith, p, eqb-true k d same))
+      | true ↦ λ same. sym (ap value_of_constant_object (bound-elsewhere (suc k) n d r.bound last r.binds (λ p q. omega (arith, p, eqb-true k d same))
           ∙ newest_object-if (d == k) (declared k) (a_constant v) [] [] ∙ ap (λ t. cond t (Some (a_constant v)) None) (eq-eqb d k (sym (eqb-true k d same)))))
       | false ↦ λ other. let differ : k ≡ d → ⊥ = λ e. true≢false (sym (eq-eqb k d e) ∙ other) in
-          r.has_value_is d (omega (arith, l, differ)) m ∙ sym (ap constant_of (bound-first k (suc k) d r.bound last own (λ p q. differ (omega (arith, p, q)))))
+          r.has_value_is d (omega (arith, l, differ)) m ∙ sym (ap value_of_constant_object (bound-first k (suc k) d r.bound last own (λ p q. differ (omega (arith, p, q)))))
     ] in
     record {
       bound = r.bound ++ last;
@@ -166,7 +166,7 @@ pub record Plain (noted : TypeNoted Name) (k : ℕ) (names : List Name) (after :
 plain-nothing : (noted : TypeNoted Name) (k : ℕ) → TypedBelow k noted → Plain noted k [] noted
 plain-nothing noted k below = record { bound = []; front = refl; binds = tt; plain = tt; within = (refl, below); knows = λ known h. h }
 
-plain-one : (noted : TypeNoted Name) (k : ℕ) (x : Name) (o : Object Shape Signature) → constant_of (Some o) ≡ None → TypedBelow k noted → Plain noted k (x ∷ []) (record { name = x; ordinal = k; object = o } ∷ noted)
+plain-one : (noted : TypeNoted Name) (k : ℕ) (x : Name) (o : Object Shape Signature) → value_of_constant_object (Some o) ≡ None → TypedBelow k noted → Plain noted k (x ∷ []) (record { name = x; ordinal = k; object = o } ∷ noted)
 plain-one noted k x o e below =
     record {
       bound = (declared k, o) ∷ [];
@@ -278,43 +278,43 @@ unfolding declare_constants_and_types
 firsts env j b after h = then_some (declare_constants naming_by_label env (block_constants b)) (λ e. declare_types naming_by_label e j (block_types b)) after h
 
 pub block-parts : (env : TypeEnvironment Label) (j : ℕ) (b : Tree Label block) → block_is_well_typed naming_by_label env j b ≡ true
-    → (inner : TypeEnvironment Label) × (declare_block naming_by_label env j b ≡ Some inner) × (procedures_are_well_typed naming_by_label inner (constructors_before_procedures j b) (block_statements b) (block_procedures b) ≡ true)
+    → (inner : TypeEnvironment Label) × (declare_block naming_by_label env j b ≡ Some inner) × (procedures_and_body_are_well_typed naming_by_label inner (constructor_count_before_procedures j b) (block_statements b) (block_procedures b) ≡ true)
 unfolding block_is_well_typed
 block-parts env j (forms_block (declares cs ts vs ps) statements) h =
-    hold-true (declare_block naming_by_label env j (forms_block (declares cs ts vs ps) statements)) (λ inner. procedures_are_well_typed naming_by_label inner (constructors_before_procedures j (forms_block (declares cs ts vs ps) statements)) statements ps) h
+    hold-true (declare_block naming_by_label env j (forms_block (declares cs ts vs ps) statements)) (λ inner. procedures_and_body_are_well_typed naming_by_label inner (constructor_count_before_procedures j (forms_block (declares cs ts vs ps) statements)) statements ps) h
 
 pub block-listed : (env : TypeEnvironment Label) (j : ℕ) (b : Tree Label block) (inner : TypeEnvironment Label) → declare_block naming_by_label env j b ≡ Some inner
-    → block_bindings naming_by_label env j b ≡ procedures_bindings naming_by_label inner (constructors_before_procedures j b) (block_procedures b) ++ bindings_since env inner
+    → block_bindings naming_by_label env j b ≡ procedure_list_bindings naming_by_label inner (constructor_count_before_procedures j b) (block_procedures b) ++ added_bindings env inner
 unfolding block_bindings
 block-listed env j (forms_block (declares cs ts vs ps) statements) inner e =
-    ap (λ o. list_if_some o (λ z. procedures_bindings naming_by_label z (constructors_before_procedures j (forms_block (declares cs ts vs ps) statements)) ps ++ bindings_since env z)) e
+    ap (λ o. list_if_some o (λ z. procedure_list_bindings naming_by_label z (constructor_count_before_procedures j (forms_block (declares cs ts vs ps) statements)) ps ++ added_bindings env z)) e
 
 pub record FitParts (env : TypeEnvironment Label) (j : ℕ) (statements : Tree Label (maybe body)) (x : Label) (fs : Tree Label (maybe formals)) (b : Tree Label block) (closing : Label) (rest : Tree Label (items procedure)) : Type 0 where
   pub listed : List (TypedParameter Label)
-  pub typed : typed_parameters naming_by_label env j (formal_sections fs) ≡ Some listed
-  pub block_right : block_is_well_typed naming_by_label (bind_typed_parameters listed (bind_procedure x listed env)) (j + formals_constructor_count (formal_sections fs)) b ≡ true
-  pub rest_right : procedures_are_well_typed naming_by_label (bind_procedure x listed env) (j + procedure_constructor_count (declares_procedure x fs b closing)) statements rest ≡ true
+  pub typed : typed_parameters naming_by_label env j (formal_parameter_sections fs) ≡ Some listed
+  pub block_right : block_is_well_typed naming_by_label (bind_typed_parameters listed (bind_procedure x listed env)) (j + formals_constructor_count (formal_parameter_sections fs)) b ≡ true
+  pub rest_right : procedures_and_body_are_well_typed naming_by_label (bind_procedure x listed env) (j + procedure_constructor_count (declares_procedure x fs b closing)) statements rest ≡ true
 
 pub procedure-parts : (env : TypeEnvironment Label) (j : ℕ) (statements : Tree Label (maybe body)) (x : Label) (fs : Tree Label (maybe formals)) (b : Tree Label block) (closing : Label) (rest : Tree Label (items procedure))
-    → procedures_are_well_typed naming_by_label env j statements (more (declares_procedure x fs b closing) rest) ≡ true → FitParts env j statements x fs b closing rest
+    → procedures_and_body_are_well_typed naming_by_label env j statements (more (declares_procedure x fs b closing) rest) ≡ true → FitParts env j statements x fs b closing rest
 unfolding block_is_well_typed
 procedure-parts env j statements x fs b closing rest h =
     let p : Tree Label (item procedure) = declares_procedure x fs b closing in
-    let all = hold-true (typed_parameters naming_by_label env j (formal_sections fs)) (λ ps. procedure_is_well_typed naming_by_label (bind_typed_parameters ps (bind_procedure x ps env)) j p && procedures_are_well_typed naming_by_label (bind_procedure x ps env) (j + procedure_constructor_count p) statements rest) h in
-    let both = and_parts (procedure_is_well_typed naming_by_label (bind_typed_parameters all.0 (bind_procedure x all.0 env)) j p) (procedures_are_well_typed naming_by_label (bind_procedure x all.0 env) (j + procedure_constructor_count p) statements rest) all.2 in
+    let all = hold-true (typed_parameters naming_by_label env j (formal_parameter_sections fs)) (λ ps. procedure_is_well_typed naming_by_label (bind_typed_parameters ps (bind_procedure x ps env)) j p && procedures_and_body_are_well_typed naming_by_label (bind_procedure x ps env) (j + procedure_constructor_count p) statements rest) h in
+    let both = and_parts (procedure_is_well_typed naming_by_label (bind_typed_parameters all.0 (bind_procedure x all.0 env)) j p) (procedures_and_body_are_well_typed naming_by_label (bind_procedure x all.0 env) (j + procedure_constructor_count p) statements rest) all.2 in
     record { listed = all.0; typed = all.1; block_right = both.0; rest_right = both.1 }
 
 pub procedures-listed : (env : TypeEnvironment Label) (j : ℕ) (statements : Tree Label (maybe body)) (x : Label) (fs : Tree Label (maybe formals)) (b : Tree Label block) (closing : Label) (rest : Tree Label (items procedure)) (f : FitParts env j statements x fs b closing rest)
-    → procedures_bindings naming_by_label env j (more (declares_procedure x fs b closing) rest)
-    ≡ procedures_bindings naming_by_label (bind_procedure x f.listed env) (j + procedure_constructor_count (declares_procedure x fs b closing)) rest ++ (block_bindings naming_by_label (bind_typed_parameters f.listed (bind_procedure x f.listed env)) (j + formals_constructor_count (formal_sections fs)) b ++ bind_typed_parameters f.listed (bind_procedure x f.listed []))
+    → procedure_list_bindings naming_by_label env j (more (declares_procedure x fs b closing) rest)
+    ≡ procedure_list_bindings naming_by_label (bind_procedure x f.listed env) (j + procedure_constructor_count (declares_procedure x fs b closing)) rest ++ (block_bindings naming_by_label (bind_typed_parameters f.listed (bind_procedure x f.listed env)) (j + formals_constructor_count (formal_parameter_sections fs)) b ++ bind_typed_parameters f.listed (bind_procedure x f.listed []))
 unfolding block_bindings declare_procedure block_is_well_typed
 procedures-listed env j statements x fs b closing rest f =
     let p : Tree Label (item procedure) = declares_procedure x fs b closing in
     let given : declare_procedure naming_by_label env j p ≡ Some (bind_procedure x f.listed env) =
     ap (option_and_then (λ ps. if procedure_is_well_typed naming_by_label (bind_typed_parameters ps (bind_procedure x ps env)) j p then Some (bind_procedure x ps env) else None)) f.typed
     ∙ ap (λ t. if t then Some (bind_procedure x f.listed env) else None) f.block_right in
-    ap (λ o. list_if_some o (λ later. procedures_bindings naming_by_label later (j + procedure_constructor_count p) rest ++ procedure_bindings naming_by_label env j p)) given
-    ∙ ap (λ e. procedures_bindings naming_by_label (bind_procedure x f.listed env) (j + procedure_constructor_count p) rest ++ e) (headed_bindings env j x closing fs b f.listed f.typed)
+    ap (λ o. list_if_some o (λ later. procedure_list_bindings naming_by_label later (j + procedure_constructor_count p) rest ++ procedure_bindings naming_by_label env j p)) given
+    ∙ ap (λ e. procedure_list_bindings naming_by_label (bind_procedure x f.listed env) (j + procedure_constructor_count p) rest ++ e) (headed_bindings env j x closing fs b f.listed f.typed)
 
 -- the environment after a block's constants, types and variables, with facts about it
 pub record Opened (known : ConstantEnvironment) (noted : TypeNoted Name) (k : ℕ) (b : Tree Name block) (inner : TypeEnvironment Label) : Type 0 where
@@ -335,15 +335,15 @@ block-opened known noted j k knows below (forms_block (declares cs ts vs ps) sta
     let b' : Tree Label block = relabel_block naming_by_spelling (label_from_ordinal naming_by_spelling) scope k b in
     let kt : ℕ = first_type_ordinal k b in
     let kv : ℕ = first_variable_ordinal k b in
-    let two = then_some (declare_constants_and_types naming_by_label env j b') (declare_typed_variables naming_by_label (constructors_before_variables j b') (block_variables b')) inner h in
+    let two = then_some (declare_constants_and_types naming_by_label env j b') (declare_typed_variables naming_by_label (constructor_count_before_variables j b') (block_variables b')) inner h in
     let one = firsts env j b' two.0 two.1 in
     let c : Constants known noted k (section_constants cs) one.0 =
     constants-bound known noted k knows below (section_constants cs) one.0 (ap (declare_constants naming_by_label env) (sym (constants-section naming_by_spelling (label_from_ordinal naming_by_spelling) scope k cs)) ∙ one.1) in
     let t : LeavesPlain c.after kt (declared_type_names (section_types ts)) two.0 = types-bound c.after j kt c.within.1 (section_types ts) two.0
     ((λ i. declare_types naming_by_label (sym c.reads i) j ((ap (λ s. relabel_types naming_by_spelling (label_from_ordinal naming_by_spelling) s kt (section_types ts)) c.within.0 ∙ sym (types-section naming_by_spelling (label_from_ordinal naming_by_spelling) (scope_before_types k b scope) kt ts)) i)) ∙ one.2) in
     let at_types : typed_scope t.0 ≡ scope_before_variables k b scope = t.2.within.0 ∙ ap (declare_names kt (declared_type_names (section_types ts))) c.within.0 in
-    let v : LeavesPlain t.0 kv (variable_names (section_variables vs)) inner = variables-bound t.0 (constructors_before_variables j b') kv t.2.within.1 (section_variables vs) inner
-    ((λ i. declare_typed_variables naming_by_label (constructors_before_variables j b') ((ap (λ s. relabel_variables naming_by_spelling (label_from_ordinal naming_by_spelling) s kv (section_variables vs)) at_types ∙ sym (variables-section naming_by_spelling (label_from_ordinal naming_by_spelling) (scope_before_variables k b scope) kv vs)) i) (sym t.1 i)) ∙ two.2) in
+    let v : LeavesPlain t.0 kv (variable_names (section_variables vs)) inner = variables-bound t.0 (constructor_count_before_variables j b') kv t.2.within.1 (section_variables vs) inner
+    ((λ i. declare_typed_variables naming_by_label (constructor_count_before_variables j b') ((ap (λ s. relabel_variables naming_by_spelling (label_from_ordinal naming_by_spelling) s kv (section_variables vs)) at_types ∙ sym (variables-section naming_by_spelling (label_from_ordinal naming_by_spelling) (scope_before_variables k b scope) kv vs)) i) (sym t.1 i)) ∙ two.2) in
     record {
       mid = one.0;
       constants = c;
@@ -360,9 +360,9 @@ opened-grown known noted k b inner o =
     let c : TypeEnvironment Label = o.constants.bound in
     o.reads ∙ o.others.front ∙ ap (λ e. w ++ e) (sym o.constants.reads ∙ o.constants.front) ∙ sym (append_assoc w c (typed_by_ordinal noted))
 
-pub opened-bindings_since : (known : ConstantEnvironment) (noted : TypeNoted Name) (k : ℕ) (b : Tree Name block) (inner : TypeEnvironment Label) (o : Opened known noted k b inner) → bindings_since (typed_by_ordinal noted) inner ≡ o.others.bound ++ o.constants.bound
-opened-bindings_since known noted k b inner o =
-    ap (bindings_since (typed_by_ordinal noted)) (opened-grown known noted k b inner o) ∙ bindings_since-append (o.others.bound ++ o.constants.bound) (typed_by_ordinal noted)
+pub opened-added_bindings : (known : ConstantEnvironment) (noted : TypeNoted Name) (k : ℕ) (b : Tree Name block) (inner : TypeEnvironment Label) (o : Opened known noted k b inner) → added_bindings (typed_by_ordinal noted) inner ≡ o.others.bound ++ o.constants.bound
+opened-added_bindings known noted k b inner o =
+    ap (added_bindings (typed_by_ordinal noted)) (opened-grown known noted k b inner o) ∙ added_bindings-append (o.others.bound ++ o.constants.bound) (typed_by_ordinal noted)
 
 others-end : (k : ℕ) (b : Tree Name block) → ordinal_after_names (first_type_ordinal k b) (declared_type_names (block_types b) ++ variable_names (block_variables b)) ≡ first_procedure_ordinal k b
 others-end k b = ordinal_after_names-append (first_type_ordinal k b) (declared_type_names (block_types b)) (variable_names (block_variables b))
@@ -387,7 +387,7 @@ opened-binds known noted k b inner o =
 
 -- The bindings of a block, after its procedures' bindings, have the values of the block's constants.
 block-values : (known : ConstantEnvironment) (noted : TypeNoted Name) (k : ℕ) (b : Tree Name block) (inner P : TypeEnvironment Label) (o : Opened known noted k b inner)
-    → AreValuesBetween (first_procedure_ordinal k b) (ordinal_after_block k b) (λ d. constant_value_in_procedures (bind_names (declared_type_names (block_types b) ++ variable_names (block_variables b)) non_constant_placeholder o.constants.known_after) d (first_procedure_ordinal k b) (block_procedures b)) P
+    → AreValuesBetween (first_procedure_ordinal k b) (ordinal_after_block k b) (λ d. constant_value_in_procedure_list (bind_names (declared_type_names (block_types b) ++ variable_names (block_variables b)) non_constant_placeholder o.constants.known_after) d (first_procedure_ordinal k b) (block_procedures b)) P
     → AreValuesBetween k (ordinal_after_block k b) (λ d. constant_value_in_block known d k b) (P ++ (o.others.bound ++ o.constants.bound))
 unfolding constant_value_in_block
 block-values known noted k (forms_block (declares cs ts vs ps) statements) inner P o p =
@@ -408,12 +408,12 @@ block-values known noted k (forms_block (declares cs ts vs ps) statements) inner
       binds = binds-append k n P own (binds-wider kp n k n P (omega (arith, first, second)) (le_refl n) p.binds) (binds-wider k kp k n own (le_refl k) third own_binds);
       has_value_is = λ d l.
           below-or d kt (constant_value_in_section known d k (section_constants cs))
-          (if nat_lt d kp then None else option_and_then (λ inner. constant_value_in_procedures (bind_names names non_constant_placeholder inner) d kp ps) (declare_constants naming_by_spelling known (section_constants cs)))
+          (if nat_lt d kp then None else option_and_then (λ inner. constant_value_in_procedure_list (bind_names names non_constant_placeholder inner) d kp ps) (declare_constants naming_by_spelling known (section_constants cs)))
           (has_value (P ++ own) d)
-          (λ m. o.constants.has_value_is d l m ∙ sym (ap constant_of (bound-elsewhere kp n d P own p.binds (λ a z. omega (arith, a, m, second)) ∙ bound-elsewhere kt kp d w c plain_binds (λ a z. omega (arith, a, m)))))
-          (λ m. below-or d kp None (option_and_then (λ inner. constant_value_in_procedures (bind_names names non_constant_placeholder inner) d kp ps) (declare_constants naming_by_spelling known (section_constants cs))) (has_value (P ++ own) d)
-          (λ z. sym (ap constant_of (bound-elsewhere kp n d P own p.binds (λ a y. omega (arith, a, z)) ∙ bound-first k kt d w c o.constants.binds (λ a y. omega (arith, m, y))) ∙ plain-has_value w d o.others.plain))
-          (λ z. ap (option_and_then (λ inner. constant_value_in_procedures (bind_names names non_constant_placeholder inner) d kp ps)) o.constants.known_is ∙ p.has_value_is d z ∙ sym (ap constant_of (bound-first k kp d P own own_binds (λ a y. omega (arith, z, y))))));
+          (λ m. o.constants.has_value_is d l m ∙ sym (ap value_of_constant_object (bound-elsewhere kp n d P own p.binds (λ a z. omega (arith, a, m, second)) ∙ bound-elsewhere kt kp d w c plain_binds (λ a z. omega (arith, a, m)))))
+          (λ m. below-or d kp None (option_and_then (λ inner. constant_value_in_procedure_list (bind_names names non_constant_placeholder inner) d kp ps) (declare_constants naming_by_spelling known (section_constants cs))) (has_value (P ++ own) d)
+          (λ z. sym (ap value_of_constant_object (bound-elsewhere kp n d P own p.binds (λ a y. omega (arith, a, z)) ∙ bound-first k kt d w c o.constants.binds (λ a y. omega (arith, m, y))) ∙ plain-has_value w d o.others.plain))
+          (λ z. ap (option_and_then (λ inner. constant_value_in_procedure_list (bind_names names non_constant_placeholder inner) d kp ps)) o.constants.known_is ∙ p.has_value_is d z ∙ sym (ap value_of_constant_object (bound-first k kp d P own own_binds (λ a y. omega (arith, z, y))))));
     }
 
 -- the environments with a procedure's name, and with its parameters, with facts about them
@@ -456,26 +456,26 @@ entered known noted k knows below x ps =
     }
 
 pub procedure-entered : (known : ConstantEnvironment) (noted : TypeNoted Name) (j k : ℕ) → Knows known noted → TypedBelow k noted → (x : Name) (fs : Tree Name (maybe formals)) (qs : List (TypedParameter Label))
-    → typed_parameters naming_by_label (typed_by_ordinal noted) j (formal_sections (relabel_formals naming_by_spelling (label_from_ordinal naming_by_spelling) (typed_scope noted) (suc k) fs)) ≡ Some qs → Entered known noted k x (formal_names (formal_sections fs)) qs
+    → typed_parameters naming_by_label (typed_by_ordinal noted) j (formal_parameter_sections (relabel_formals naming_by_spelling (label_from_ordinal naming_by_spelling) (typed_scope noted) (suc k) fs)) ≡ Some qs → Entered known noted k x (formal_parameter_names (formal_parameter_sections fs)) qs
 procedure-entered known noted j k knows below x fs qs h =
     let env : TypeEnvironment Label = typed_by_ordinal noted in
-    let xs : List Name = formal_names (formal_sections fs) in
-    let listed = agree-second (λ ps. ps) (label_typed (suc k)) (λ ps. typed_names ps ≡ xs) (typed_parameters naming_by_spelling (typed_by_name noted) j (formal_sections fs)) (typed_parameters naming_by_label env j (relabel_parameter_section_list naming_by_spelling (label_from_ordinal naming_by_spelling) (typed_scope noted) (suc k) (formal_sections fs)))
-    (parameters_typed naming_by_spelling j (suc k) noted (TypedBelow-weaken k (suc k) noted (le_of_lt (le_refl (suc k))) below) (formal_sections fs)) qs (ap (typed_parameters naming_by_label env j) (sym (formals-section naming_by_spelling (label_from_ordinal naming_by_spelling) (typed_scope noted) (suc k) fs)) ∙ h) in
+    let xs : List Name = formal_parameter_names (formal_parameter_sections fs) in
+    let listed = agree-second (λ ps. ps) (label_typed (suc k)) (λ ps. typed_names ps ≡ xs) (typed_parameters naming_by_spelling (typed_by_name noted) j (formal_parameter_sections fs)) (typed_parameters naming_by_label env j (relabel_parameter_section_list naming_by_spelling (label_from_ordinal naming_by_spelling) (typed_scope noted) (suc k) (formal_parameter_sections fs)))
+    (parameters_typed naming_by_spelling j (suc k) noted (TypedBelow-weaken k (suc k) noted (le_of_lt (le_refl (suc k))) below) (formal_parameter_sections fs)) qs (ap (typed_parameters naming_by_label env j) (sym (formals-section naming_by_spelling (label_from_ordinal naming_by_spelling) (typed_scope noted) (suc k) fs)) ∙ h) in
     subst₂ (λ ys zs. Entered known noted k x ys zs) listed.1 listed.2 (entered known noted k knows below x listed.0)
 
 -- The bindings of a procedure, after the later procedures' bindings, have the values of the constants.
 procedure-values : (known : ConstantEnvironment) (k : ℕ) (x closing : Name) (fs : Tree Name (maybe formals)) (b : Tree Name block) (rest : Tree Name (items procedure)) (B H R : TypeEnvironment Label)
-    → AreValuesBetween (ordinal_after_names (suc k) (formal_names (formal_sections fs))) (ordinal_after_procedure (suc k) (declares_procedure x fs b closing))
-    (λ d. constant_value_in_block (bind_names (formal_names (formal_sections fs)) non_constant_placeholder ((x, non_constant_placeholder) ∷ known)) d (ordinal_after_names (suc k) (formal_names (formal_sections fs))) b) B
-    → Binds k (ordinal_after_names (suc k) (formal_names (formal_sections fs))) H → AllPlain H
+    → AreValuesBetween (ordinal_after_names (suc k) (formal_parameter_names (formal_parameter_sections fs))) (ordinal_after_procedure (suc k) (declares_procedure x fs b closing))
+    (λ d. constant_value_in_block (bind_names (formal_parameter_names (formal_parameter_sections fs)) non_constant_placeholder ((x, non_constant_placeholder) ∷ known)) d (ordinal_after_names (suc k) (formal_parameter_names (formal_parameter_sections fs))) b) B
+    → Binds k (ordinal_after_names (suc k) (formal_parameter_names (formal_parameter_sections fs))) H → AllPlain H
     → AreValuesBetween (ordinal_after_procedure (suc k) (declares_procedure x fs b closing)) (ordinal_after_procedure_list (ordinal_after_procedure (suc k) (declares_procedure x fs b closing)) rest)
-    (λ d. constant_value_in_procedures ((x, non_constant_placeholder) ∷ known) d (ordinal_after_procedure (suc k) (declares_procedure x fs b closing)) rest) R
-    → AreValuesBetween k (ordinal_after_procedure_list k (more (declares_procedure x fs b closing) rest)) (λ d. constant_value_in_procedures known d k (more (declares_procedure x fs b closing) rest)) (R ++ (B ++ H))
+    (λ d. constant_value_in_procedure_list ((x, non_constant_placeholder) ∷ known) d (ordinal_after_procedure (suc k) (declares_procedure x fs b closing)) rest) R
+    → AreValuesBetween k (ordinal_after_procedure_list k (more (declares_procedure x fs b closing) rest)) (λ d. constant_value_in_procedure_list known d k (more (declares_procedure x fs b closing) rest)) (R ++ (B ++ H))
 unfolding constant_value_in_block
 procedure-values known k x closing fs b rest B H R inside_block binds plain later =
     let p : Tree Name (item procedure) = declares_procedure x fs b closing in
-    let xs : List Name = formal_names (formal_sections fs) in
+    let xs : List Name = formal_parameter_names (formal_parameter_sections fs) in
     let known' : ConstantEnvironment = (x, non_constant_placeholder) ∷ known in
     let m : ℕ = ordinal_after_names (suc k) xs in
     let q : ℕ = ordinal_after_procedure (suc k) p in
@@ -489,14 +489,14 @@ procedure-values known k x closing fs b rest B H R inside_block binds plain late
     record {
       binds = binds-append k n R Q (binds-wider q n k n R following (le_refl n) later.binds) (binds-wider k q k n Q (le_refl k) last one_binds);
       has_value_is = λ d l.
-          below-or d q (constant_value_in_procedure known' d (suc k) p) (constant_value_in_procedures known' d q rest) (has_value (R ++ Q) d)
+          below-or d q (constant_value_in_procedure known' d (suc k) p) (constant_value_in_procedure_list known' d q rest) (has_value (R ++ Q) d)
           (λ u. below-or d m None (constant_value_in_block (bind_names xs non_constant_placeholder known') d m b) (has_value (R ++ Q) d)
-          (λ z. sym (ap constant_of (bound-elsewhere q n d R Q later.binds (λ a y. omega (arith, a, u)) ∙ bound-elsewhere m q d B H inside_block.binds (λ a y. omega (arith, a, z))) ∙ plain-has_value H d plain))
-          (λ z. inside_block.has_value_is d z ∙ sym (ap constant_of (bound-elsewhere q n d R Q later.binds (λ a y. omega (arith, a, u)) ∙ bound-first k m d B H binds (λ a y. omega (arith, z, y))))))
-          (λ u. later.has_value_is d u ∙ sym (ap constant_of (bound-first k q d R Q one_binds (λ a y. omega (arith, u, y)))));
+          (λ z. sym (ap value_of_constant_object (bound-elsewhere q n d R Q later.binds (λ a y. omega (arith, a, u)) ∙ bound-elsewhere m q d B H inside_block.binds (λ a y. omega (arith, a, z))) ∙ plain-has_value H d plain))
+          (λ z. inside_block.has_value_is d z ∙ sym (ap value_of_constant_object (bound-elsewhere q n d R Q later.binds (λ a y. omega (arith, a, u)) ∙ bound-first k m d B H binds (λ a y. omega (arith, z, y))))))
+          (λ u. later.has_value_is d u ∙ sym (ap value_of_constant_object (bound-first k q d R Q one_binds (λ a y. omega (arith, u, y)))));
     }
 
-no-procedures : (known : ConstantEnvironment) (noted : TypeNoted Name) (j k : ℕ) → AreValuesBetween k k (λ d. constant_value_in_procedures known d k end) (procedures_bindings naming_by_label (typed_by_ordinal noted) j end)
+no-procedures : (known : ConstantEnvironment) (noted : TypeNoted Name) (j k : ℕ) → AreValuesBetween k k (λ d. constant_value_in_procedure_list known d k end) (procedure_list_bindings naming_by_label (typed_by_ordinal noted) j end)
 unfolding constant_value_in_block block_bindings
 no-procedures known noted j k = record { binds = tt; has_value_is = λ d l. refl }
 
@@ -510,42 +510,42 @@ mutual
       let parts = block-parts (typed_by_ordinal noted) j b' h in
       let o : Opened known noted k b parts.0 = block-opened known noted j k knows below b parts.0 parts.1 in
       let names : List Name = declared_type_names (section_types ts) ++ variable_names (section_variables vs) in
-      let p = procedures-evaluate (bind_names names non_constant_placeholder o.constants.known_after) o.last (constructors_before_procedures j b') (first_procedure_ordinal k b) (o.others.knows o.constants.known_after o.constants.knows) o.below (block_statements b') ps
-      ((λ i. procedures_are_well_typed naming_by_label (sym o.reads i) (constructors_before_procedures j b') (block_statements b') (relabel_procedure_list naming_by_spelling (label_from_ordinal naming_by_spelling) (o.scoped i) (first_procedure_ordinal k b) ps)) ∙ parts.2) in
-      let P : TypeEnvironment Label = procedures_bindings naming_by_label (typed_by_ordinal o.last) (constructors_before_procedures j b') (relabel_procedure_list naming_by_spelling (label_from_ordinal naming_by_spelling) (typed_scope o.last) (first_procedure_ordinal k b) ps) in
+      let p = procedures-evaluate (bind_names names non_constant_placeholder o.constants.known_after) o.last (constructor_count_before_procedures j b') (first_procedure_ordinal k b) (o.others.knows o.constants.known_after o.constants.knows) o.below (block_statements b') ps
+      ((λ i. procedures_and_body_are_well_typed naming_by_label (sym o.reads i) (constructor_count_before_procedures j b') (block_statements b') (relabel_procedure_list naming_by_spelling (label_from_ordinal naming_by_spelling) (o.scoped i) (first_procedure_ordinal k b) ps)) ∙ parts.2) in
+      let P : TypeEnvironment Label = procedure_list_bindings naming_by_label (typed_by_ordinal o.last) (constructor_count_before_procedures j b') (relabel_procedure_list naming_by_spelling (label_from_ordinal naming_by_spelling) (typed_scope o.last) (first_procedure_ordinal k b) ps) in
       subst (AreValuesBetween k (ordinal_after_block k b) (λ d. constant_value_in_block known d k b))
-      ((λ i. procedures_bindings naming_by_label (sym o.reads i) (constructors_before_procedures j b') (relabel_procedure_list naming_by_spelling (label_from_ordinal naming_by_spelling) (o.scoped i) (first_procedure_ordinal k b) ps) ++ sym (opened-bindings_since known noted k b parts.0 o) i)
+      ((λ i. procedure_list_bindings naming_by_label (sym o.reads i) (constructor_count_before_procedures j b') (relabel_procedure_list naming_by_spelling (label_from_ordinal naming_by_spelling) (o.scoped i) (first_procedure_ordinal k b) ps) ++ sym (opened-added_bindings known noted k b parts.0 o) i)
       ∙ sym (block-listed (typed_by_ordinal noted) j b' parts.0 parts.1))
       (block-values known noted k b parts.0 P o p)
 
   pub procedures-evaluate : (known : ConstantEnvironment) (noted : TypeNoted Name) (j k : ℕ) → Knows known noted → TypedBelow k noted → (statements : Tree Label (maybe body)) (ps : Tree Name (items procedure))
-      → procedures_are_well_typed naming_by_label (typed_by_ordinal noted) j statements (relabel_procedure_list naming_by_spelling (label_from_ordinal naming_by_spelling) (typed_scope noted) k ps) ≡ true
-      → AreValuesBetween k (ordinal_after_procedure_list k ps) (λ d. constant_value_in_procedures known d k ps) (procedures_bindings naming_by_label (typed_by_ordinal noted) j (relabel_procedure_list naming_by_spelling (label_from_ordinal naming_by_spelling) (typed_scope noted) k ps))
+      → procedures_and_body_are_well_typed naming_by_label (typed_by_ordinal noted) j statements (relabel_procedure_list naming_by_spelling (label_from_ordinal naming_by_spelling) (typed_scope noted) k ps) ≡ true
+      → AreValuesBetween k (ordinal_after_procedure_list k ps) (λ d. constant_value_in_procedure_list known d k ps) (procedure_list_bindings naming_by_label (typed_by_ordinal noted) j (relabel_procedure_list naming_by_spelling (label_from_ordinal naming_by_spelling) (typed_scope noted) k ps))
   procedures-evaluate known noted j k knows below statements end h = no-procedures known noted j k
   procedures-evaluate known noted j k knows below statements (more (declares_procedure x fs b closing) rest) h =
       let scope : Scope Name = typed_scope noted in
       let env : TypeEnvironment Label = typed_by_ordinal noted in
-      let xs : List Name = formal_names (formal_sections fs) in
+      let xs : List Name = formal_parameter_names (formal_parameter_sections fs) in
       let m : ℕ = ordinal_after_names (suc k) xs in
       let q : ℕ = ordinal_after_procedure (suc k) (declares_procedure x fs b closing) in
       let fs' : Tree Label (maybe formals) = relabel_formals naming_by_spelling (label_from_ordinal naming_by_spelling) scope (suc k) fs in
       let b' : Tree Label block = relabel_block naming_by_spelling (label_from_ordinal naming_by_spelling) (declare_names (suc k) xs ((x, k) ∷ scope)) m b in
       let rest' : Tree Label (items procedure) = relabel_procedure_list naming_by_spelling (label_from_ordinal naming_by_spelling) ((x, k) ∷ scope) q rest in
-      let jb : ℕ = j + formals_constructor_count (formal_sections fs') in
+      let jb : ℕ = j + formals_constructor_count (formal_parameter_sections fs') in
       let jr : ℕ = j + procedure_constructor_count (declares_procedure (declared k) fs' b' (declared k)) in
       let f : FitParts env j statements (declared k) fs' b' (declared k) rest' = procedure-parts env j statements (declared k) fs' b' (declared k) rest' h in
       let e : Entered known noted k x xs f.listed = procedure-entered known noted j k knows below x fs f.listed f.typed in
       let inside_block = block-evaluates (bind_names xs non_constant_placeholder ((x, non_constant_placeholder) ∷ known)) e.inner jb m e.knows e.below b ((λ i. block_is_well_typed naming_by_label (e.opened i) jb (relabel_block naming_by_spelling (label_from_ordinal naming_by_spelling) (e.scoped i) m b)) ∙ f.block_right) in
       let later = procedures-evaluate ((x, non_constant_placeholder) ∷ known) e.own jr q e.own_knows (TypedBelow-weaken (suc k) q e.own (le-ordinal_after_procedure (suc k) (declares_procedure x fs b closing)) e.own_below) statements rest
-      ((λ i. procedures_are_well_typed naming_by_label (e.headed i) jr statements (relabel_procedure_list naming_by_spelling (label_from_ordinal naming_by_spelling) (e.own_scope i) q rest)) ∙ f.rest_right) in
-      subst (AreValuesBetween k (ordinal_after_procedure_list q rest) (λ d. constant_value_in_procedures known d k (more (declares_procedure x fs b closing) rest)))
-      ((λ i. procedures_bindings naming_by_label (e.headed i) jr (relabel_procedure_list naming_by_spelling (label_from_ordinal naming_by_spelling) (e.own_scope i) q rest) ++ (block_bindings naming_by_label (e.opened i) jb (relabel_block naming_by_spelling (label_from_ordinal naming_by_spelling) (e.scoped i) m b) ++ bind_typed_parameters f.listed (bind_procedure (declared k) f.listed [])))
+      ((λ i. procedures_and_body_are_well_typed naming_by_label (e.headed i) jr statements (relabel_procedure_list naming_by_spelling (label_from_ordinal naming_by_spelling) (e.own_scope i) q rest)) ∙ f.rest_right) in
+      subst (AreValuesBetween k (ordinal_after_procedure_list q rest) (λ d. constant_value_in_procedure_list known d k (more (declares_procedure x fs b closing) rest)))
+      ((λ i. procedure_list_bindings naming_by_label (e.headed i) jr (relabel_procedure_list naming_by_spelling (label_from_ordinal naming_by_spelling) (e.own_scope i) q rest) ++ (block_bindings naming_by_label (e.opened i) jb (relabel_block naming_by_spelling (label_from_ordinal naming_by_spelling) (e.scoped i) m b) ++ bind_typed_parameters f.listed (bind_procedure (declared k) f.listed [])))
       ∙ sym (procedures-listed env j statements (declared k) fs' b' (declared k) rest' f))
       (procedure-values known k x closing fs b rest (block_bindings naming_by_label (typed_by_ordinal e.inner) jb (relabel_block naming_by_spelling (label_from_ordinal naming_by_spelling) (typed_scope e.inner) m b)) (bind_typed_parameters f.listed (bind_procedure (declared k) f.listed []))
-      (procedures_bindings naming_by_label (typed_by_ordinal e.own) jr (relabel_procedure_list naming_by_spelling (label_from_ordinal naming_by_spelling) (typed_scope e.own) q rest)) inside_block e.binds e.plain later)
+      (procedure_list_bindings naming_by_label (typed_by_ordinal e.own) jr (relabel_procedure_list naming_by_spelling (label_from_ordinal naming_by_spelling) (typed_scope e.own) q rest)) inside_block e.binds e.plain later)
 
 -- The predeclared environments of both definitions give each name the same constant, or none.
-same_known : (o : Object Shape Signature) → constant_of (Some (constant_or_placeholder o)) ≡ constant_of (Some o)
+same_known : (o : Object Shape Signature) → value_of_constant_object (Some (constant_or_placeholder o)) ≡ value_of_constant_object (Some o)
 same_known (a_type s) = refl
 same_known (a_constant v) = refl
 same_known (a_variable s) = refl
@@ -567,19 +567,19 @@ predeclared-below = (lit< tt, (lit< tt, (lit< tt, (lit< tt, (lit< tt, (lit< tt, 
 pub outermost-binds : Binds 0 7 (outermost_environment naming_by_label)
 outermost-binds = ((6, refl, omega arith, omega arith), ((5, refl, omega arith, omega arith), ((4, refl, omega arith, omega arith), ((3, refl, omega arith, omega arith), ((2, refl, omega arith, omega arith), ((1, refl, omega arith, omega arith), ((0, refl, omega arith, omega arith), tt)))))))
 
-module-evaluates : (m : Tree Name module_text) → passes_type_check naming_by_label (numbered m) ≡ true → (d : ℕ) → 7 ≤ d → constant_value_in_block predeclared_constants d 7 (module_block m) ≡ constant_of (declared_object m d)
+module-evaluates : (m : Tree Name module_text) → passes_type_check naming_by_label (numbered m) ≡ true → (d : ℕ) → 7 ≤ d → constant_value_in_block predeclared_constants d 7 (module_block m) ≡ value_of_constant_object (declared_object m d)
 unfolding passes_type_check all_known
 module-evaluates (forms_module x b closing) h d l =
     let w = block-evaluates predeclared_constants (typed_outermost naming_by_spelling) 0 7 (knows-all (typed_outermost naming_by_spelling)) predeclared-below b h in
-    w.has_value_is d l ∙ sym (ap constant_of (bound-first 0 7 d (block_bindings naming_by_label (outermost_environment naming_by_label) 0 (relabel_block naming_by_spelling (label_from_ordinal naming_by_spelling) (typed_scope (typed_outermost naming_by_spelling)) 7 b)) (outermost_environment naming_by_label) outermost-binds (λ a z. omega (arith, l, z))))
+    w.has_value_is d l ∙ sym (ap value_of_constant_object (bound-first 0 7 d (block_bindings naming_by_label (outermost_environment naming_by_label) 0 (relabel_block naming_by_spelling (label_from_ordinal naming_by_spelling) (typed_scope (typed_outermost naming_by_spelling)) 7 b)) (outermost_environment naming_by_label) outermost-binds (λ a z. omega (arith, l, z))))
 
 -- In a well-typed module a constant's value is the value in the binding of its declaration.
-pub predeclared-none : (m : Tree Name module_text) (d : ℕ) → d < 7 → None ≡ value_of_constant m d
-unfolding value_of_constant
+pub predeclared-none : (m : Tree Name module_text) (d : ℕ) → d < 7 → None ≡ constant_value_in_module m d
+unfolding constant_value_in_module
 predeclared-none m d l = sym (ap (λ t. if t then None else constant_value_in_block predeclared_constants d 7 (module_block m)) (lt-ltb d 7 l))
 
-pub constant-declared : (m : Tree Name module_text) → WellTyped m → (d : ℕ) → 7 ≤ d → constant_of (declared_object m d) ≡ value_of_constant m d
-unfolding WellTyped value_of_constant
+pub constant-declared : (m : Tree Name module_text) → WellTyped m → (d : ℕ) → 7 ≤ d → value_of_constant_object (declared_object m d) ≡ constant_value_in_module m d
+unfolding WellTyped constant_value_in_module
 constant-declared m well d l =
     sym (ap (λ t. if t then None else constant_value_in_block predeclared_constants d 7 (module_block m)) (le-ltb d 7 l)
     ∙ module-evaluates m (sym (numbering_keeps_type_check-holds m) ∙ well.1) d l)

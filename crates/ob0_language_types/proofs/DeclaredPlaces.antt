@@ -8,19 +8,19 @@ use Rattle.std.proofs.lemmas.List.{append-nil}
 use Rattle.std.proofs.lemmas.List.Elements.{All-append, All-cons, All-nil}
 use Rattle.ob0_tree.specs.Tree.{Tree, block, body, declares, declares_procedure, end, formals, forms_block, forms_module, items, maybe, module_text, more, procedure, item}
 use Rattle.ob0_language_names.specs.Names.{Label, Name, naming_by_label, naming_by_spelling, declared}
-use Rattle.ob0_language_names.specs.BlockParts.{block_procedures, block_statements, formal_names, formal_sections, declared_type_names, section_types, section_variables, variable_names, module_block, procedure_formals, procedure_name}
+use Rattle.ob0_language_names.specs.BlockParts.{block_procedures, block_statements, formal_parameter_names, formal_parameter_sections, declared_type_names, section_types, section_variables, variable_names, module_block, procedure_formals, procedure_name}
 use Rattle.ob0_language_names.specs.Scopes.{Scope, ordinal_after_block, ordinal_after_names, ordinal_after_procedure, ordinal_after_procedure_list, label_from_ordinal, declare_names, first_procedure_ordinal, numbered, relabel_block, relabel_formals, relabel_procedure_list}
 use Rattle.ob0_language_names.proofs.Ordinals.{le-ordinal_after_names, le-ordinal_after_block, le-ordinal_after_procedure, le-ordinal_after_procedure_list}
-use Rattle.ob0_language_types.specs.Bindings.{block_bindings, list_if_some, module_bindings, object_of_ordinal, procedures_bindings}
-use Rattle.ob0_language_types.specs.Bodies.{HoldsInBlock, BodyWithEnvironment, BindingsMatchDeclarations, HoldsInProcedure, HoldsInProcedures, block_bodies, procedure_bodies, procedures_bodies}
+use Rattle.ob0_language_types.specs.Bindings.{block_bindings, list_if_some, module_bindings, object_of_ordinal, procedure_list_bindings}
+use Rattle.ob0_language_types.specs.Bodies.{HoldsForBlockEnvironments, BodyWithEnvironment, BindingsMatchDeclarations, HoldsForProcedureEnvironments, HoldsForProcedureListEnvironments, block_bodies, procedure_bodies, procedure_list_bodies}
 use Rattle.ob0_language_types.specs.BlockDeclarations.{declare_block}
 use Rattle.ob0_language_types.specs.ConstantValues.{ConstantEnvironment, non_constant_placeholder}
-use Rattle.ob0_language_types.specs.Declarations.{constructors_before_procedures, formals_constructor_count, procedure_constructor_count}
+use Rattle.ob0_language_types.specs.Declarations.{constructor_count_before_procedures, formals_constructor_count, procedure_constructor_count}
 use Rattle.ob0_language_types.specs.Environments.{outermost_environment}
 use Rattle.ob0_language_types.specs.Expressions.{Object}
-use Rattle.ob0_language_types.specs.WellTyped.{Signature, TypeEnvironment, TypedParameter, WellTyped, bind_names, bind_typed_parameters, block_is_well_typed, passes_type_check, bind_procedure, procedures_are_well_typed, typed_parameters}
+use Rattle.ob0_language_types.specs.WellTyped.{Signature, TypeEnvironment, TypedParameter, WellTyped, bind_names, bind_typed_parameters, block_is_well_typed, passes_type_check, bind_procedure, procedures_and_body_are_well_typed, typed_parameters}
 use Rattle.ob0_language_values.specs.Values.{Shape}
-use Rattle.ob0_language_types.proofs.ConstantsDeclared.{Binds, Entered, FitParts, Knows, Opened, binds-append, binds-wider, block-listed, block-opened, block-parts, block-evaluates, bound-elsewhere, bound-first, knows-all, all_known, opened-above, opened-binds, opened-grown, opened-bindings_since, outermost-binds, predeclared-below, procedure-entered, procedure-parts, procedures-listed, procedures-evaluate}
+use Rattle.ob0_language_types.proofs.ConstantsDeclared.{Binds, Entered, FitParts, Knows, Opened, binds-append, binds-wider, block-listed, block-opened, block-parts, block-evaluates, bound-elsewhere, bound-first, knows-all, all_known, opened-above, opened-binds, opened-grown, opened-added_bindings, outermost-binds, predeclared-below, procedure-entered, procedure-parts, procedures-listed, procedures-evaluate}
 use Rattle.ob0_language_types.proofs.Bound.{bind_typed_parameters-append}
 use Rattle.ob0_language_types.proofs.Literals.{some_inverse}
 use Rattle.ob0_language_types.proofs.Proved.{numbering_keeps_type_check-holds}
@@ -59,55 +59,55 @@ module _ (all : TypeEnvironment Label) (Q : TypeEnvironment Label → Type 0) (s
     block-has : (known : ConstantEnvironment) (noted : TypeNoted Name) (j k : ℕ) → Knows known noted → TypedBelow k noted → Includes all (typed_by_ordinal noted) → (b : Tree Name block)
         → block_is_well_typed naming_by_label (typed_by_ordinal noted) j (relabel_block naming_by_spelling (label_from_ordinal naming_by_spelling) (typed_scope noted) k b) ≡ true
         → Has k (ordinal_after_block k b) all (block_bindings naming_by_label (typed_by_ordinal noted) j (relabel_block naming_by_spelling (label_from_ordinal naming_by_spelling) (typed_scope noted) k b))
-        → HoldsInBlock Q (typed_by_ordinal noted) j (relabel_block naming_by_spelling (label_from_ordinal naming_by_spelling) (typed_scope noted) k b)
+        → HoldsForBlockEnvironments Q (typed_by_ordinal noted) j (relabel_block naming_by_spelling (label_from_ordinal naming_by_spelling) (typed_scope noted) k b)
     block-has known noted j k knows below st (forms_block (declares cs ts vs ps) statements) h has = λ inner' given.
         let b : Tree Name block = forms_block (declares cs ts vs ps) statements in
         let env : TypeEnvironment Label = typed_by_ordinal noted in
         let b' : Tree Label block = relabel_block naming_by_spelling (label_from_ordinal naming_by_spelling) (typed_scope noted) k b in
         let kp : ℕ = first_procedure_ordinal k b in
-        let jv : ℕ = constructors_before_procedures j b' in
+        let jv : ℕ = constructor_count_before_procedures j b' in
         let n : ℕ = ordinal_after_block k b in
         let parts = block-parts env j b' h in
         let o : Opened known noted k b parts.0 = block-opened known noted j k knows below b parts.0 parts.1 in
         let names : List Name = declared_type_names (section_types ts) ++ variable_names (section_variables vs) in
         let known' : ConstantEnvironment = bind_names names non_constant_placeholder o.constants.known_after in
-        let fits = (λ i. procedures_are_well_typed naming_by_label (sym o.reads i) jv (block_statements b') (relabel_procedure_list naming_by_spelling (label_from_ordinal naming_by_spelling) (o.scoped i) kp ps)) ∙ parts.2 in
+        let fits = (λ i. procedures_and_body_are_well_typed naming_by_label (sym o.reads i) jv (block_statements b') (relabel_procedure_list naming_by_spelling (label_from_ordinal naming_by_spelling) (o.scoped i) kp ps)) ∙ parts.2 in
         let p = procedures-evaluate known' o.last jv kp (o.others.knows o.constants.known_after o.constants.knows) o.below (block_statements b') ps fits in
-        let P : TypeEnvironment Label = procedures_bindings naming_by_label (typed_by_ordinal o.last) jv (relabel_procedure_list naming_by_spelling (label_from_ordinal naming_by_spelling) (typed_scope o.last) kp ps) in
+        let P : TypeEnvironment Label = procedure_list_bindings naming_by_label (typed_by_ordinal o.last) jv (relabel_procedure_list naming_by_spelling (label_from_ordinal naming_by_spelling) (typed_scope o.last) kp ps) in
         let own : TypeEnvironment Label = o.others.bound ++ o.constants.bound in
         let own_binds : Binds k kp own = opened-binds known noted k b parts.0 o in
         let first : k ≤ kp = opened-above k b in
         let last : kp ≤ n = le-ordinal_after_procedure_list kp ps in
         let listed : block_bindings naming_by_label env j b' ≡ P ++ own =
         block-listed env j b' parts.0 parts.1
-        ∙ (λ i. procedures_bindings naming_by_label (o.reads i) jv (relabel_procedure_list naming_by_spelling (label_from_ordinal naming_by_spelling) (sym o.scoped i) kp ps) ++ opened-bindings_since known noted k b parts.0 o i) in
+        ∙ (λ i. procedure_list_bindings naming_by_label (o.reads i) jv (relabel_procedure_list naming_by_spelling (label_from_ordinal naming_by_spelling) (sym o.scoped i) kp ps) ++ opened-added_bindings known noted k b parts.0 o i) in
         let each : Has k n all (P ++ own) = λ d l m. has d l m ∙ ap (λ e. object_of_ordinal e d) listed in
         let inner : Includes all (typed_by_ordinal o.last) = subst (Includes all) (sym (opened-grown known noted k b parts.0 o) ∙ o.reads)
         (holds-grown all env own k kp first st (noted-binds k noted below) own_binds (λ d l m. each d l (omega (arith, m, last)) ∙ bound-elsewhere kp n d P own p.binds (λ a z. omega (arith, a, m)))) in
         let same : parts.0 ≡ inner' = some_inverse (sym parts.1 ∙ given) in (
           subst Q (sym o.reads ∙ same) (so kp o.last o.below inner),
-          subst (λ e. HoldsInProcedures Q e jv (block_procedures b')) same
-              (subst (λ e. e) (λ i. HoldsInProcedures Q (sym o.reads i) jv (relabel_procedure_list naming_by_spelling (label_from_ordinal naming_by_spelling) (o.scoped i) kp ps))
+          subst (λ e. HoldsForProcedureListEnvironments Q e jv (block_procedures b')) same
+              (subst (λ e. e) (λ i. HoldsForProcedureListEnvironments Q (sym o.reads i) jv (relabel_procedure_list naming_by_spelling (label_from_ordinal naming_by_spelling) (o.scoped i) kp ps))
               (procedures-have known' o.last jv kp (o.others.knows o.constants.known_after o.constants.knows) o.below inner (block_statements b') ps fits
               (λ d l m. each d (omega (arith, l, first)) m ∙ bound-first k kp d P own own_binds (λ a z. omega (arith, l, z))))),
         )
 
     procedures-have : (known : ConstantEnvironment) (noted : TypeNoted Name) (j k : ℕ) → Knows known noted → TypedBelow k noted → Includes all (typed_by_ordinal noted) → (statements : Tree Label (maybe body)) (ps : Tree Name (items procedure))
-        → procedures_are_well_typed naming_by_label (typed_by_ordinal noted) j statements (relabel_procedure_list naming_by_spelling (label_from_ordinal naming_by_spelling) (typed_scope noted) k ps) ≡ true
-        → Has k (ordinal_after_procedure_list k ps) all (procedures_bindings naming_by_label (typed_by_ordinal noted) j (relabel_procedure_list naming_by_spelling (label_from_ordinal naming_by_spelling) (typed_scope noted) k ps))
-        → HoldsInProcedures Q (typed_by_ordinal noted) j (relabel_procedure_list naming_by_spelling (label_from_ordinal naming_by_spelling) (typed_scope noted) k ps)
+        → procedures_and_body_are_well_typed naming_by_label (typed_by_ordinal noted) j statements (relabel_procedure_list naming_by_spelling (label_from_ordinal naming_by_spelling) (typed_scope noted) k ps) ≡ true
+        → Has k (ordinal_after_procedure_list k ps) all (procedure_list_bindings naming_by_label (typed_by_ordinal noted) j (relabel_procedure_list naming_by_spelling (label_from_ordinal naming_by_spelling) (typed_scope noted) k ps))
+        → HoldsForProcedureListEnvironments Q (typed_by_ordinal noted) j (relabel_procedure_list naming_by_spelling (label_from_ordinal naming_by_spelling) (typed_scope noted) k ps)
     procedures-have known noted j k knows below st statements end h has = so k noted below st
     procedures-have known noted j k knows below st statements (more (declares_procedure x fs b closing) rest) h has = λ qs' typed.
         let scope : Scope Name = typed_scope noted in
         let env : TypeEnvironment Label = typed_by_ordinal noted in
-        let xs : List Name = formal_names (formal_sections fs) in
+        let xs : List Name = formal_parameter_names (formal_parameter_sections fs) in
         let m : ℕ = ordinal_after_names (suc k) xs in
         let q : ℕ = ordinal_after_procedure (suc k) (declares_procedure x fs b closing) in
         let n : ℕ = ordinal_after_procedure_list q rest in
         let fs' : Tree Label (maybe formals) = relabel_formals naming_by_spelling (label_from_ordinal naming_by_spelling) scope (suc k) fs in
         let b' : Tree Label block = relabel_block naming_by_spelling (label_from_ordinal naming_by_spelling) (declare_names (suc k) xs ((x, k) ∷ scope)) m b in
         let rest' : Tree Label (items procedure) = relabel_procedure_list naming_by_spelling (label_from_ordinal naming_by_spelling) ((x, k) ∷ scope) q rest in
-        let jb : ℕ = j + formals_constructor_count (formal_sections fs') in
+        let jb : ℕ = j + formals_constructor_count (formal_parameter_sections fs') in
         let jr : ℕ = j + procedure_constructor_count (declares_procedure (declared k) fs' b' (declared k)) in
         let f : FitParts env j statements (declared k) fs' b' (declared k) rest' = procedure-parts env j statements (declared k) fs' b' (declared k) rest' h in
         let qs : List (TypedParameter Label) = f.listed in
@@ -115,19 +115,19 @@ module _ (all : TypeEnvironment Label) (Q : TypeEnvironment Label → Type 0) (s
         let inside_fits = (λ i. block_is_well_typed naming_by_label (e.opened i) jb (relabel_block naming_by_spelling (label_from_ordinal naming_by_spelling) (e.scoped i) m b)) ∙ f.block_right in
         let inside_block = block-evaluates (bind_names xs non_constant_placeholder ((x, non_constant_placeholder) ∷ known)) e.inner jb m e.knows e.below b inside_fits in
         let later_below : TypedBelow q e.own = TypedBelow-weaken (suc k) q e.own (le-ordinal_after_procedure (suc k) (declares_procedure x fs b closing)) e.own_below in
-        let later_fits = (λ i. procedures_are_well_typed naming_by_label (e.headed i) jr statements (relabel_procedure_list naming_by_spelling (label_from_ordinal naming_by_spelling) (e.own_scope i) q rest)) ∙ f.rest_right in
+        let later_fits = (λ i. procedures_and_body_are_well_typed naming_by_label (e.headed i) jr statements (relabel_procedure_list naming_by_spelling (label_from_ordinal naming_by_spelling) (e.own_scope i) q rest)) ∙ f.rest_right in
         let later = procedures-evaluate ((x, non_constant_placeholder) ∷ known) e.own jr q e.own_knows later_below statements rest later_fits in
         let B : TypeEnvironment Label = block_bindings naming_by_label (typed_by_ordinal e.inner) jb (relabel_block naming_by_spelling (label_from_ordinal naming_by_spelling) (typed_scope e.inner) m b) in
         let top : TypeEnvironment Label = bind_procedure (declared k) qs [] in
         let H : TypeEnvironment Label = bind_typed_parameters qs top in
-        let R : TypeEnvironment Label = procedures_bindings naming_by_label (typed_by_ordinal e.own) jr (relabel_procedure_list naming_by_spelling (label_from_ordinal naming_by_spelling) (typed_scope e.own) q rest) in
+        let R : TypeEnvironment Label = procedure_list_bindings naming_by_label (typed_by_ordinal e.own) jr (relabel_procedure_list naming_by_spelling (label_from_ordinal naming_by_spelling) (typed_scope e.own) q rest) in
         let above : suc k ≤ m = le-ordinal_after_names (suc k) xs in
         let inside : m ≤ q = le-ordinal_after_block m b in
         let last : q ≤ n = le-ordinal_after_procedure_list q rest in
         let one_binds : Binds k q (B ++ H) = binds-append k q B H (binds-wider m q k q B (omega (arith, above)) (le_refl q) inside_block.binds) (binds-wider k m k q H (le_refl k) inside e.binds) in
-        let listed : procedures_bindings naming_by_label env j (more (declares_procedure (declared k) fs' b' (declared k)) rest') ≡ R ++ (B ++ H) =
+        let listed : procedure_list_bindings naming_by_label env j (more (declares_procedure (declared k) fs' b' (declared k)) rest') ≡ R ++ (B ++ H) =
         procedures-listed env j statements (declared k) fs' b' (declared k) rest' f
-        ∙ (λ i. procedures_bindings naming_by_label (sym e.headed i) jr (relabel_procedure_list naming_by_spelling (label_from_ordinal naming_by_spelling) (sym e.own_scope i) q rest) ++ (block_bindings naming_by_label (sym e.opened i) jb (relabel_block naming_by_spelling (label_from_ordinal naming_by_spelling) (sym e.scoped i) m b) ++ H)) in
+        ∙ (λ i. procedure_list_bindings naming_by_label (sym e.headed i) jr (relabel_procedure_list naming_by_spelling (label_from_ordinal naming_by_spelling) (sym e.own_scope i) q rest) ++ (block_bindings naming_by_label (sym e.opened i) jb (relabel_block naming_by_spelling (label_from_ordinal naming_by_spelling) (sym e.scoped i) m b) ++ H)) in
         let each : Has k n all (R ++ (B ++ H)) = λ d l u. has d l u ∙ ap (λ z. object_of_ordinal z d) listed in
         let each_H : Has k m all H = λ d l u.
         each d l (omega (arith, u, inside, last)) ∙ bound-elsewhere q n d R (B ++ H) later.binds (λ a z. omega (arith, a, u, inside)) ∙ bound-elsewhere m q d B H inside_block.binds (λ a z. omega (arith, a, u)) in
@@ -138,19 +138,19 @@ module _ (all : TypeEnvironment Label) (Q : TypeEnvironment Label → Type 0) (s
         let following : Includes all (typed_by_ordinal e.own) = subst (Includes all) (sym e.headed)
         (holds-grown all env top k (suc k) (omega arith) st (noted-binds k noted below) ((k, refl, le_refl k, le_refl (suc k)), tt) each_top) in
         let same : qs ≡ qs' = some_inverse (sym f.typed ∙ typed) in
-        subst (λ ps. Q (bind_typed_parameters ps (bind_procedure (declared k) ps env)) × HoldsInBlock Q (bind_typed_parameters ps (bind_procedure (declared k) ps env)) jb b' × HoldsInProcedures Q (bind_procedure (declared k) ps env) jr rest') same (
+        subst (λ ps. Q (bind_typed_parameters ps (bind_procedure (declared k) ps env)) × HoldsForBlockEnvironments Q (bind_typed_parameters ps (bind_procedure (declared k) ps env)) jb b' × HoldsForProcedureListEnvironments Q (bind_procedure (declared k) ps env) jr rest') same (
           subst Q e.opened (so m e.inner e.below inner),
-          subst (λ z. z) (λ i. HoldsInBlock Q (e.opened i) jb (relabel_block naming_by_spelling (label_from_ordinal naming_by_spelling) (e.scoped i) m b))
+          subst (λ z. z) (λ i. HoldsForBlockEnvironments Q (e.opened i) jb (relabel_block naming_by_spelling (label_from_ordinal naming_by_spelling) (e.scoped i) m b))
               (block-has (bind_names xs non_constant_placeholder ((x, non_constant_placeholder) ∷ known)) e.inner jb m e.knows e.below inner b inside_fits
               (λ d l u. each d (omega (arith, l, above)) (omega (arith, u, last)) ∙ bound-elsewhere q n d R (B ++ H) later.binds (λ a z. omega (arith, a, u)) ∙ bound-first k m d B H e.binds (λ a z. omega (arith, l, z)))),
-          subst (λ z. z) (λ i. HoldsInProcedures Q (e.headed i) jr (relabel_procedure_list naming_by_spelling (label_from_ordinal naming_by_spelling) (e.own_scope i) q rest))
+          subst (λ z. z) (λ i. HoldsForProcedureListEnvironments Q (e.headed i) jr (relabel_procedure_list naming_by_spelling (label_from_ordinal naming_by_spelling) (e.own_scope i) q rest))
               (procedures-have ((x, non_constant_placeholder) ∷ known) e.own jr q e.own_knows later_below following statements rest later_fits
               (λ d l u. each d (omega (arith, l, inside, above)) u ∙ bound-first k q d R (B ++ H) one_binds (λ a z. omega (arith, l, z)))),
         )
 
 pub module-has : (Q : TypeEnvironment Label → Type 0) (m : Tree Name module_text)
     → ((n : ℕ) (noted : TypeNoted Name) → TypedBelow n noted → Includes (module_bindings naming_by_label (numbered m)) (typed_by_ordinal noted) → Q (typed_by_ordinal noted))
-    → WellTyped m → HoldsInBlock Q (outermost_environment naming_by_label) 0 (module_block (numbered m))
+    → WellTyped m → HoldsForBlockEnvironments Q (outermost_environment naming_by_label) 0 (module_block (numbered m))
 unfolding WellTyped passes_type_check all_known
 module-has Q (forms_module x b closing) so well =
     let h : passes_type_check naming_by_label (numbered (forms_module x b closing)) ≡ true = sym (numbering_keeps_type_check-holds (forms_module x b closing)) ∙ well.1 in
@@ -181,23 +181,23 @@ module _ (Q : TypeEnvironment Label → Type 0) where
   mutual
     unfolding block_bodies
 
-    block_bodies-have : (env : TypeEnvironment Label) (j : ℕ) (b : Tree Label block) → HoldsInBlock Q env j b → All At (block_bodies naming_by_label env j b)
+    block_bodies-have : (env : TypeEnvironment Label) (j : ℕ) (b : Tree Label block) → HoldsForBlockEnvironments Q env j b → All At (block_bodies naming_by_label env j b)
     block_bodies-have env j (forms_block (declares cs ts vs ps) statements) h =
         let b : Tree Label block = forms_block (declares cs ts vs ps) statements in
-        list_if_some-all At (declare_block naming_by_label env j b) (λ inner. procedures_bodies naming_by_label inner (constructors_before_procedures j b) statements ps)
-        (λ inner e. procedures_bodies-have inner (constructors_before_procedures j b) statements ps (h inner e).1)
+        list_if_some-all At (declare_block naming_by_label env j b) (λ inner. procedure_list_bodies naming_by_label inner (constructor_count_before_procedures j b) statements ps)
+        (λ inner e. procedure_list_bodies-have inner (constructor_count_before_procedures j b) statements ps (h inner e).1)
 
-    procedures_bodies-have : (env : TypeEnvironment Label) (j : ℕ) (statements : Tree Label (maybe body)) (ps : Tree Label (items procedure)) → HoldsInProcedures Q env j ps → All At (procedures_bodies naming_by_label env j statements ps)
-    procedures_bodies-have env j statements end h = All-cons At (record { environment = env; statements = statements }) [] h (All-nil At)
-    procedures_bodies-have env j statements (more p rest) h =
+    procedure_list_bodies-have : (env : TypeEnvironment Label) (j : ℕ) (statements : Tree Label (maybe body)) (ps : Tree Label (items procedure)) → HoldsForProcedureListEnvironments Q env j ps → All At (procedure_list_bodies naming_by_label env j statements ps)
+    procedure_list_bodies-have env j statements end h = All-cons At (record { environment = env; statements = statements }) [] h (All-nil At)
+    procedure_list_bodies-have env j statements (more p rest) h =
         list_if_some-all At (typed_parameters naming_by_label env j (procedure_formals p))
-        (λ ps. procedure_bodies naming_by_label (bind_typed_parameters ps (bind_procedure (procedure_name p) ps env)) j p ++ procedures_bodies naming_by_label (bind_procedure (procedure_name p) ps env) (j + procedure_constructor_count p) statements rest)
-        (λ ps e. All-append At (procedure_bodies naming_by_label (bind_typed_parameters ps (bind_procedure (procedure_name p) ps env)) j p) (procedures_bodies naming_by_label (bind_procedure (procedure_name p) ps env) (j + procedure_constructor_count p) statements rest)
+        (λ ps. procedure_bodies naming_by_label (bind_typed_parameters ps (bind_procedure (procedure_name p) ps env)) j p ++ procedure_list_bodies naming_by_label (bind_procedure (procedure_name p) ps env) (j + procedure_constructor_count p) statements rest)
+        (λ ps e. All-append At (procedure_bodies naming_by_label (bind_typed_parameters ps (bind_procedure (procedure_name p) ps env)) j p) (procedure_list_bodies naming_by_label (bind_procedure (procedure_name p) ps env) (j + procedure_constructor_count p) statements rest)
         (procedure_bodies-have (bind_typed_parameters ps (bind_procedure (procedure_name p) ps env)) j p (h ps e).1)
-        (procedures_bodies-have (bind_procedure (procedure_name p) ps env) (j + procedure_constructor_count p) statements rest (h ps e).2))
+        (procedure_list_bodies-have (bind_procedure (procedure_name p) ps env) (j + procedure_constructor_count p) statements rest (h ps e).2))
 
-    procedure_bodies-have : (env : TypeEnvironment Label) (j : ℕ) (p : Tree Label (item procedure)) → HoldsInProcedure Q env j p → All At (procedure_bodies naming_by_label env j p)
-    procedure_bodies-have env j (declares_procedure x fs b closing) h = block_bodies-have env (j + formals_constructor_count (formal_sections fs)) b h
+    procedure_bodies-have : (env : TypeEnvironment Label) (j : ℕ) (p : Tree Label (item procedure)) → HoldsForProcedureEnvironments Q env j p → All At (procedure_bodies naming_by_label env j p)
+    procedure_bodies-have env j (declares_procedure x fs b closing) h = block_bodies-have env (j + formals_constructor_count (formal_parameter_sections fs)) b h
 
 pub bindings_match_declarations-holds : BindingsMatchDeclarations
 bindings_match_declarations-holds m well =

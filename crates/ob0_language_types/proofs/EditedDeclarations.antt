@@ -12,7 +12,7 @@ use Rattle.ob0_language_types.specs.ConstantValues.{ConstantEnvironment, non_con
 use Rattle.ob0_language_types.specs.Declarations.{declare_constants, declare_types}
 use Rattle.ob0_language_types.specs.Environments.{meanings}
 use Rattle.ob0_language_types.specs.Expressions.{Object, a_constant, a_type}
-use Rattle.ob0_language_types.specs.Typing.{constant_value, constructor_count, denoted_type}
+use Rattle.ob0_language_types.specs.Typing.{constant_expression_value, constructor_count, denoted_type}
 use Rattle.ob0_language_types.specs.WellTyped.{bind_names}
 use Rattle.ob0_language_types.proofs.Agreeing.{Agree}
 use Rattle.ob0_language_types.proofs.DenotedInlined.{constructor_count-inlined}
@@ -59,7 +59,7 @@ constants-tail : {V P Q : Type 0} (edit : Edit) (w : Value) (X : Marks V P → N
     → ((b : Mark V P) → IsRight edit w b → (b.ordinal ≡ k) → OfProcedure (X marks b.name b.ordinal) b.object → b.name ≡ x → HasValueBetween edit w (suc k) (ordinal_after_names (suc k) (constant_names cs)) (constant_value_in_section (knowns (b ∷ marks)) edit.constant (suc k) cs)
     → Agree (read p) (read_edited edit q) (Left edit w X (ordinal_after_names (suc k) (constant_names cs)) (declare_names (suc k) (constant_names cs) (scope_marked (b ∷ marks))) (declare_constants naming_by_spelling (knowns (b ∷ marks)) cs))
     (declare_constants naming_by_spelling (read p (b ∷ marks)) cs) (declare_constants naming_by_spelling (read_edited edit q (b ∷ marks)) cs'))
-    → (v : Value) → constant_value (meanings naming_by_spelling (knowns marks)) e ≡ Some v
+    → (v : Value) → constant_expression_value (meanings naming_by_spelling (knowns marks)) e ≡ Some v
     → Agree (read p) (read_edited edit q) (Left edit w X (ordinal_after_names (suc k) (constant_names cs)) (declare_names (suc k) (constant_names cs) ((x, k) ∷ scope_marked marks)) (declare_constants naming_by_spelling (knowns marks) (more (declares_constant x e) cs)))
     (declare_constants naming_by_spelling ((x, a_constant v) ∷ read p marks) cs) (declare_constants naming_by_spelling (read_edited edit q (record { name = x; ordinal = k; object = a_constant v } ∷ marks)) cs')
 unfolding declare_constants constant_value_in_section
@@ -78,9 +78,9 @@ constants-tail {V} {P} {Q} edit w X p q k marks s seven x e cs cs' has_value nex
       no_is = λ t. absurd (omega (arith, t, seven));
     } refl tt refl (λ l m. sym (ap choice (ne_eqb k edit.constant (λ t. omega (arith, t, l)))) ∙ value (omega (arith, l)) m))
 
-value-known : (known : ConstantEnvironment) (d k : ℕ) (x : Name) (e : Tree Name expression) (cs : Tree Name (items constant)) (w : Value) → constant_value_in_section known d k (more (declares_constant x e) cs) ≡ Some w → (v : Value) × (constant_value (meanings naming_by_spelling known) e ≡ Some v)
+value-known : (known : ConstantEnvironment) (d k : ℕ) (x : Name) (e : Tree Name expression) (cs : Tree Name (items constant)) (w : Value) → constant_value_in_section known d k (more (declares_constant x e) cs) ≡ Some w → (v : Value) × (constant_expression_value (meanings naming_by_spelling known) e ≡ Some v)
 unfolding constant_value_in_section
-value-known known d k x e cs w h = go (constant_value (meanings naming_by_spelling known) e) h
+value-known known d k x e cs w h = go (constant_expression_value (meanings naming_by_spelling known) e) h
   where
     go : (o : Option Value) → option_and_then (λ v. if k == d then Some v else constant_value_in_section ((x, a_constant v) ∷ known) d (suc k) cs) o ≡ Some w → (v : Value) × (o ≡ Some v)
     go None h = absurd (cc)
@@ -96,8 +96,8 @@ constants-edited {V} {P} {Q} edit w lit X p q j k marks s seven (more (declares_
     let n : ℕ = ordinal_after_names (suc k) (constant_names cs) in
     let cs' : Tree Name (items constant) = edited_constants edit (j + length (occurrences e)) (suc k) cs in
     let Result : Marks V P → Type 0 = Left edit w X n (declare_names (suc k) (constant_names cs) ((x, k) ∷ scope_marked marks)) (declare_constants naming_by_spelling (knowns marks) (more (declares_constant x e) cs)) in
-    let before : Option Value = constant_value (read_meanings p marks) e in
-    let tail : (v : Value) → constant_value (meanings naming_by_spelling (knowns marks)) e ≡ Some v → Agree (read p) (read_edited edit q) Result (declare_constants naming_by_spelling ((x, a_constant v) ∷ read p marks) cs) (declare_constants naming_by_spelling (read_edited edit q (record { name = x; ordinal = k; object = a_constant v } ∷ marks)) cs') =
+    let before : Option Value = constant_expression_value (read_meanings p marks) e in
+    let tail : (v : Value) → constant_expression_value (meanings naming_by_spelling (knowns marks)) e ≡ Some v → Agree (read p) (read_edited edit q) Result (declare_constants naming_by_spelling ((x, a_constant v) ∷ read p marks) cs) (declare_constants naming_by_spelling (read_edited edit q (record { name = x; ordinal = k; object = a_constant v } ∷ marks)) cs') =
     constants-tail edit w X p q k marks s seven x e cs cs' has_value
     (λ b right ordinal proc named w'. constants-edited edit w lit X p q (j + length (occurrences e)) (suc k) (b ∷ marks) (omega (arith, ordinal), right, proc, Sound-weaken edit w X k b.ordinal marks (omega (arith, ordinal)) s) (omega (arith, seven)) cs
     (subst₂ (λ y m. EachConstant (Here edit w) (j + length (occurrences e)) ((y, m) ∷ scope_marked marks) (suc k) cs) (sym named) (sym ordinal) here.1) w') in
@@ -109,7 +109,7 @@ constants-edited {V} {P} {Q} edit w lit X p q j k marks s seven (more (declares_
           subst₂ (λ o env. Agree (read p) (read_edited edit q) Result (option_and_then (λ v. declare_constants naming_by_spelling ((x, a_constant v) ∷ read p marks) cs) o) (declare_constants naming_by_spelling env cs'))
           (sym v.1 ∙ known-value p marks e) (ap (λ t. if t then read_edited edit q marks else (x, a_constant v.0) ∷ read_edited edit q marks) l) (tail v.0 v.1)
       | false ↦ λ l. agree-known (read p) (read_edited edit q) Result (λ v. declare_constants naming_by_spelling ((x, a_constant v) ∷ read p marks) cs) (λ v. declare_constants naming_by_spelling ((x, a_constant v) ∷ read_edited edit q marks) cs')
-          before (constant_value (edited_meanings edit q marks) (leaf edit j e)) (constant-leaf edit w lit X p q k marks s j e here.0)
+          before (constant_expression_value (edited_meanings edit q marks) (leaf edit j e)) (constant-leaf edit w lit X p q k marks s j e here.0)
           (λ v known. subst (λ env. Agree (read p) (read_edited edit q) Result (declare_constants naming_by_spelling ((x, a_constant v) ∷ read p marks) cs) (declare_constants naming_by_spelling env cs'))
           (ap (λ t. if t then read_edited edit q marks else (x, a_constant v) ∷ read_edited edit q marks) l) (tail v (known-value p marks e ∙ known)))
     ]) refl

@@ -2,14 +2,14 @@
 use Rattle.std.proofs.Common.{IsTrue, List, None, Option, Some, [], add-zero, ap, arith, codes, false, if◌then◌else◌, le_refl, lit<, ltb-false, nat_lt, option_and_then, refl, slice_get, subst, suc, sym, true, true≢false, zero-add, ℕ, ◌+◌, ◌<◌, ◌∙◌, ◌∷◌, ◌≡◌, ◌≢◌, ◌≤◌}
 use Rattle.ob0_tree.specs.Tree.{Tree, factor, forms_module, module_text, occurrences}
 use Rattle.ob0_language_names.specs.Inlining.{OccurrenceSet, inline_in_tree}
-use Rattle.ob0_language_names.specs.Occurrences.{ordinal_bound_at, label_ordinal}
+use Rattle.ob0_language_names.specs.Occurrences.{ordinal_bound_at_occurrence, label_ordinal}
 use Rattle.ob0_language_names.specs.BlockParts.{module_block}
-use Rattle.ob0_language_names.specs.OccurrenceLookup.{naming_that_looks_up}
+use Rattle.ob0_language_names.specs.OccurrenceLookup.{naming_that_looks_up_one_name}
 use Rattle.ob0_language_names.proofs.EditedTrees.{Edit, edited, edited_block, leaf-kept, leaving_out, left-module, writing, written-module}
 use Rattle.ob0_language_names.proofs.Peeling.{both}
 use Rattle.ob0_language_names.proofs.Places.{AllAt, Both, Each, EachBlock, each-block}
 use Rattle.ob0_language_values.specs.Values.{Value, boolean_shape, elements, integer_shape, members, number, truth}
-use Rattle.ob0_language_types.specs.EditLaws.{AreInlinableUses, InliningKeepsWellTyped, IsConstantWithLiteral, MeansPredeclaredTruth, RemovingUnusedConstantKeepsWellTyped}
+use Rattle.ob0_language_types.specs.EditLaws.{AreInlinableUses, InliningKeepsWellTyped, IsConstantWithLiteral, TruthWordMeansPredeclared, RemovingUnusedConstantKeepsWellTyped}
 use Rattle.ob0_language_types.specs.Expressions.{Object, a_constant, a_standard_procedure, a_type, read_procedure, write_procedure, write_line_procedure}
 use Rattle.ob0_language_types.specs.WellTyped.{WellTyped, block_is_well_typed, passes_type_check}
 use Rattle.ob0_language_types.proofs.EditedTypes.{Checked, anything, as_signed, block_is_well_typed-edited}
@@ -17,9 +17,9 @@ use Rattle.ob0_language_types.proofs.Leaves.{AllStay, Here, Literal, Writes, sho
 use Rattle.ob0_language_types.proofs.Literals.{some_inverse}
 use Rattle.ob0_language_types.proofs.Marks.{IsRight, Marks, Sound, not-left, object_as, read, read_edited}
 use Rattle.ob0_language_names.specs.Names.{Label, Name, Naming, naming_by_spelling, predeclared_name, same_name}
-use Rattle.ob0_language_names.specs.Scopes.{Scope, label_from_ordinal, label_of, ordinal_in_scope, predeclared_scope, relabel_module, same_ordinal}
+use Rattle.ob0_language_names.specs.Scopes.{Scope, label_from_ordinal, label_in_scope, ordinal_in_scope, predeclared_scope, relabel_module, same_ordinal}
 use Rattle.ob0_language_names.proofs.EditedOnce.{has_consistent_names-edited}
-use Rattle.ob0_language_types.specs.ConstantValues.{predeclared_constants, constant_value_in_block, value_of_constant}
+use Rattle.ob0_language_types.specs.ConstantValues.{predeclared_constants, constant_value_in_block, constant_value_in_module}
 
 -- the marks of the outermost block, which has the predeclared names
 abbrev pub marked_outermost : {V P : Type 0} → Marks V P
@@ -95,15 +95,15 @@ pub all-at : (R : ℕ → Label → Type 0) (j : ℕ) (ls : List Label) → ((i 
 all-at R j [] h = tt
 all-at R j (l ∷ ls) h = (subst (λ n. R n l) (add-zero j) (h 0 l refl), all-at R (suc j) ls (λ i m e. subst (λ n. R n m) (omega arith) (h (suc i) m e)))
 
-pub label_ordinal-of : (naming : Naming Name) (scope : Scope Name) (x : Name) → label_ordinal (label_of naming (label_from_ordinal naming) scope x) ≡ ordinal_in_scope naming scope x
+pub label_ordinal-of : (naming : Naming Name) (scope : Scope Name) (x : Name) → label_ordinal (label_in_scope naming (label_from_ordinal naming) scope x) ≡ ordinal_in_scope naming scope x
 label_ordinal-of naming scope x = go (ordinal_in_scope naming scope x)
   where
     go : (o : Option ℕ) → label_ordinal (label_from_ordinal naming o x) ≡ o
     go None = refl
     go (Some k) = refl
 
-pub seven-or-less : (m : Tree Name module_text) (d : ℕ) (w : Value) → value_of_constant m d ≡ Some w → (7 ≤ d) × (constant_value_in_block predeclared_constants d 7 (module_block m) ≡ Some w)
-unfolding value_of_constant
+pub seven-or-less : (m : Tree Name module_text) (d : ℕ) (w : Value) → constant_value_in_module m d ≡ Some w → (7 ≤ d) × (constant_value_in_block predeclared_constants d 7 (module_block m) ≡ Some w)
+unfolding constant_value_in_module
 seven-or-less m d w h =
     (elim (nat_lt d 7) as (λ v. nat_lt d 7 ≡ v → (if v then None else constant_value_in_block predeclared_constants d 7 (module_block m)) ≡ Some w → (7 ≤ d) × (constant_value_in_block predeclared_constants d 7 (module_block m) ≡ Some w))
     [ true ↦ λ e h. absurd (cc) | false ↦ λ e h. (ltb-false d 7 e, h) ]) refl h
@@ -125,29 +125,29 @@ IsShownAs uses (number n) j l = Unit {0}
 IsShownAs uses (elements vs) j l = Unit {0}
 IsShownAs uses (members k ms) j l = Unit {0}
 
-pub shown-from : (uses : OccurrenceSet) (w : Value) (j : ℕ) (scope : Scope Name) (x : Name) → IsShownAs uses w j (label_of (naming_that_looks_up (truth_name w)) (label_from_ordinal (naming_that_looks_up (truth_name w))) scope x) → uses j ≡ true → shown w scope ≡ true
+pub shown-from : (uses : OccurrenceSet) (w : Value) (j : ℕ) (scope : Scope Name) (x : Name) → IsShownAs uses w j (label_in_scope (naming_that_looks_up_one_name (truth_name w)) (label_from_ordinal (naming_that_looks_up_one_name (truth_name w))) scope x) → uses j ≡ true → shown w scope ≡ true
 shown-from uses (truth true) j scope x h u =
-    ap (λ o. same_ordinal o 2) (sym (looked (codes "TRUE") scope x) ∙ (sym (label_ordinal-of (naming_that_looks_up (codes "TRUE")) scope x) ∙ h u))
+    ap (λ o. same_ordinal o 2) (sym (looked (codes "TRUE") scope x) ∙ (sym (label_ordinal-of (naming_that_looks_up_one_name (codes "TRUE")) scope x) ∙ h u))
   where
-    looked : (y : Name) (scope : Scope Name) (x : Name) → ordinal_in_scope (naming_that_looks_up y) scope x ≡ ordinal_in_scope naming_by_spelling scope y
+    looked : (y : Name) (scope : Scope Name) (x : Name) → ordinal_in_scope (naming_that_looks_up_one_name y) scope x ≡ ordinal_in_scope naming_by_spelling scope y
     looked y [] x = refl
-    looked y (b ∷ scope) x = elim (same_name y b.0) as (λ v. (elim v [ true ↦ Some b.1 | false ↦ ordinal_in_scope (naming_that_looks_up y) scope x ]) ≡ (elim v [ true ↦ Some b.1 | false ↦ ordinal_in_scope naming_by_spelling scope y ])) [ true ↦ refl | false ↦ looked y scope x ]
+    looked y (b ∷ scope) x = elim (same_name y b.0) as (λ v. (elim v [ true ↦ Some b.1 | false ↦ ordinal_in_scope (naming_that_looks_up_one_name y) scope x ]) ≡ (elim v [ true ↦ Some b.1 | false ↦ ordinal_in_scope naming_by_spelling scope y ])) [ true ↦ refl | false ↦ looked y scope x ]
 shown-from uses (truth false) j scope x h u =
-    ap (λ o. same_ordinal o 3) (sym (looked (codes "FALSE") scope x) ∙ (sym (label_ordinal-of (naming_that_looks_up (codes "FALSE")) scope x) ∙ h u))
+    ap (λ o. same_ordinal o 3) (sym (looked (codes "FALSE") scope x) ∙ (sym (label_ordinal-of (naming_that_looks_up_one_name (codes "FALSE")) scope x) ∙ h u))
   where
-    looked : (y : Name) (scope : Scope Name) (x : Name) → ordinal_in_scope (naming_that_looks_up y) scope x ≡ ordinal_in_scope naming_by_spelling scope y
+    looked : (y : Name) (scope : Scope Name) (x : Name) → ordinal_in_scope (naming_that_looks_up_one_name y) scope x ≡ ordinal_in_scope naming_by_spelling scope y
     looked y [] x = refl
-    looked y (b ∷ scope) x = elim (same_name y b.0) as (λ v. (elim v [ true ↦ Some b.1 | false ↦ ordinal_in_scope (naming_that_looks_up y) scope x ]) ≡ (elim v [ true ↦ Some b.1 | false ↦ ordinal_in_scope naming_by_spelling scope y ])) [ true ↦ refl | false ↦ looked y scope x ]
+    looked y (b ∷ scope) x = elim (same_name y b.0) as (λ v. (elim v [ true ↦ Some b.1 | false ↦ ordinal_in_scope (naming_that_looks_up_one_name y) scope x ]) ≡ (elim v [ true ↦ Some b.1 | false ↦ ordinal_in_scope naming_by_spelling scope y ])) [ true ↦ refl | false ↦ looked y scope x ]
 shown-from uses (number n) j scope x h u = refl
 shown-from uses (elements vs) j scope x h u = refl
 shown-from uses (members k ms) j scope x h u = refl
 
-pub all-shown : (m : Tree Name module_text) (w : Value) (uses : OccurrenceSet) → ((k : ℕ) → uses k ≡ true → MeansPredeclaredTruth m k w) → AllAt (IsShownAs uses w) 0 (occurrences (relabel_module (naming_that_looks_up (truth_name w)) (label_from_ordinal (naming_that_looks_up (truth_name w))) m))
-all-shown m (truth true) uses h = all-at (IsShownAs uses (truth true)) 0 (occurrences (relabel_module (naming_that_looks_up (codes "TRUE")) (label_from_ordinal (naming_that_looks_up (codes "TRUE"))) m)) (λ i l e u. sym (ap (option_and_then label_ordinal) e) ∙ h i (ap uses (sym (zero-add i)) ∙ u))
-all-shown m (truth false) uses h = all-at (IsShownAs uses (truth false)) 0 (occurrences (relabel_module (naming_that_looks_up (codes "FALSE")) (label_from_ordinal (naming_that_looks_up (codes "FALSE"))) m)) (λ i l e u. sym (ap (option_and_then label_ordinal) e) ∙ h i (ap uses (sym (zero-add i)) ∙ u))
-all-shown m (number n) uses h = all-at (IsShownAs uses (number n)) 0 (occurrences (relabel_module (naming_that_looks_up (codes "FALSE")) (label_from_ordinal (naming_that_looks_up (codes "FALSE"))) m)) (λ i l e. tt)
-all-shown m (elements vs) uses h = all-at (IsShownAs uses (elements vs)) 0 (occurrences (relabel_module (naming_that_looks_up (codes "FALSE")) (label_from_ordinal (naming_that_looks_up (codes "FALSE"))) m)) (λ i l e. tt)
-all-shown m (members n ms) uses h = all-at (IsShownAs uses (members n ms)) 0 (occurrences (relabel_module (naming_that_looks_up (codes "FALSE")) (label_from_ordinal (naming_that_looks_up (codes "FALSE"))) m)) (λ i l e. tt)
+pub all-shown : (m : Tree Name module_text) (w : Value) (uses : OccurrenceSet) → ((k : ℕ) → uses k ≡ true → TruthWordMeansPredeclared m k w) → AllAt (IsShownAs uses w) 0 (occurrences (relabel_module (naming_that_looks_up_one_name (truth_name w)) (label_from_ordinal (naming_that_looks_up_one_name (truth_name w))) m))
+all-shown m (truth true) uses h = all-at (IsShownAs uses (truth true)) 0 (occurrences (relabel_module (naming_that_looks_up_one_name (codes "TRUE")) (label_from_ordinal (naming_that_looks_up_one_name (codes "TRUE"))) m)) (λ i l e u. sym (ap (option_and_then label_ordinal) e) ∙ h i (ap uses (sym (zero-add i)) ∙ u))
+all-shown m (truth false) uses h = all-at (IsShownAs uses (truth false)) 0 (occurrences (relabel_module (naming_that_looks_up_one_name (codes "FALSE")) (label_from_ordinal (naming_that_looks_up_one_name (codes "FALSE"))) m)) (λ i l e u. sym (ap (option_and_then label_ordinal) e) ∙ h i (ap uses (sym (zero-add i)) ∙ u))
+all-shown m (number n) uses h = all-at (IsShownAs uses (number n)) 0 (occurrences (relabel_module (naming_that_looks_up_one_name (codes "FALSE")) (label_from_ordinal (naming_that_looks_up_one_name (codes "FALSE"))) m)) (λ i l e. tt)
+all-shown m (elements vs) uses h = all-at (IsShownAs uses (elements vs)) 0 (occurrences (relabel_module (naming_that_looks_up_one_name (codes "FALSE")) (label_from_ordinal (naming_that_looks_up_one_name (codes "FALSE"))) m)) (λ i l e. tt)
+all-shown m (members n ms) uses h = all-at (IsShownAs uses (members n ms)) 0 (occurrences (relabel_module (naming_that_looks_up_one_name (codes "FALSE")) (label_from_ordinal (naming_that_looks_up_one_name (codes "FALSE"))) m)) (λ i l e. tt)
 
 pub written-fitted : (m : Tree Name module_text) (d : ℕ) (w : Value) (v : Tree Name factor) (uses : OccurrenceSet) → IsConstantWithLiteral m d w v → AreInlinableUses m d w uses → IsFitted (writing uses v d) w m
 written-fitted (forms_module x b closing) d w v uses c u =
@@ -155,7 +155,7 @@ written-fitted (forms_module x b closing) d w v uses c u =
     let seven = seven-or-less m d w c.value in
     record {
       literal = record { written = c.literal; scalar = c.scalar; ordinal = seven.0 };
-      here = each-block naming_by_spelling (naming_that_looks_up (truth_name w)) (IsBound uses d) (IsShownAs uses w) (Here (writing uses v d) w)
+      here = each-block naming_by_spelling (naming_that_looks_up_one_name (truth_name w)) (IsBound uses d) (IsShownAs uses w) (Here (writing uses v d) w)
           (λ s j scope t both. (writes_at uses j scope (occurrences t) both, all-stay scope (occurrences (inline_in_tree uses v j t))))
           0 (predeclared_scope naming_by_spelling) 7 b
           (all-at (IsBound uses d) 0 (occurrences (relabel_module naming_by_spelling (label_from_ordinal naming_by_spelling) m)) (λ i l e t. sym (ap (option_and_then label_ordinal) e) ∙ u.bound i (ap uses (sym (zero-add i)) ∙ t)))
@@ -167,7 +167,7 @@ written-fitted (forms_module x b closing) d w v uses c u =
     all-stay scope [] = tt
     all-stay scope (x ∷ xs) = (λ e. absurd (true≢false (sym e)), all-stay scope xs)
 
-    writes_at : (uses : OccurrenceSet) (j : ℕ) (scope : Scope Name) (xs : List Name) → Each (Both naming_by_spelling (naming_that_looks_up (truth_name w)) (IsBound uses d) (IsShownAs uses w)) j scope xs → Each (Writes (writing uses v d) w) j scope xs
+    writes_at : (uses : OccurrenceSet) (j : ℕ) (scope : Scope Name) (xs : List Name) → Each (Both naming_by_spelling (naming_that_looks_up_one_name (truth_name w)) (IsBound uses d) (IsShownAs uses w)) j scope xs → Each (Writes (writing uses v d) w) j scope xs
     writes_at uses j scope [] both = tt
     writes_at uses j scope (x ∷ xs) both =
         ((λ e. sym (label_ordinal-of naming_by_spelling scope x) ∙ both.0.0 e, λ e. shown-from uses w j scope x both.0.1 e), writes_at uses (suc j) scope xs both.1)
@@ -180,7 +180,7 @@ inlining_keeps_well_typed-holds m d w v uses c u well = subst WellTyped (written
 abbrev pub IsOther : ℕ → ℕ → Label → Type 0
 IsOther d j l = label_ordinal l ≡ Some d → ⊥
 
-pub left-fitted : (m : Tree Name module_text) (d : ℕ) (w : Value) (v : Tree Name factor) → IsConstantWithLiteral m d w v → ((k : ℕ) → ordinal_bound_at m k ≢ Some d) → IsFitted (leaving_out v d) w m
+pub left-fitted : (m : Tree Name module_text) (d : ℕ) (w : Value) (v : Tree Name factor) → IsConstantWithLiteral m d w v → ((k : ℕ) → ordinal_bound_at_occurrence m k ≢ Some d) → IsFitted (leaving_out v d) w m
 left-fitted (forms_module x b closing) d w v c u =
     let m : Tree Name module_text = forms_module x b closing in
     let seven = seven-or-less m d w c.value in

@@ -3,14 +3,14 @@
 use Rattle.std.proofs.Common.{List, None, Option, Some, [], ap, arith, if◌then◌else◌, le-ltb, le_refl, le_trans, length, lt-ltb, nat_lt, option_and_then, option_map, refl, subst, subst₂, suc, sym, ℕ, ◌++◌, ◌+◌, ◌∙◌, ◌∷◌, ◌≡◌, ◌≤◌}
 use Rattle.ob0_tree.specs.Tree.{Tree, block, constants, declares, declares_const_section, declares_procedure, declares_type, declares_type_section, declares_variable, declares_var_section, end, formals, section_after_semicolon, forms_block, item, items, maybe, more, no_formals, none, occurrences, one, procedure, section, some_formals, semicolon_then_section, type_definition, type_definitions, value_section, variable, variable_section, variables}
 use Rattle.ob0_language_names.specs.Names.{Name, naming_by_spelling}
-use Rattle.ob0_language_names.specs.BlockParts.{block_constants, block_procedures, block_types, block_variables, constant_names, formal_names, formal_sections, declared_type_names, procedure_name, section_constants, parameter_section_names, parameter_section_type, section_types, section_variables, variable_names}
+use Rattle.ob0_language_names.specs.BlockParts.{block_constants, block_procedures, block_types, block_variables, constant_names, formal_parameter_names, formal_parameter_sections, declared_type_names, procedure_name, section_constants, parameter_section_names, parameter_section_type, section_types, section_variables, variable_names}
 use Rattle.ob0_language_names.specs.Scopes.{Scope, ordinal_after_block, ordinal_after_names, ordinal_after_procedure, ordinal_after_procedure_list, declare_names, first_procedure_ordinal, first_type_ordinal, first_variable_ordinal, scope_before_types, scope_before_variables}
 use Rattle.ob0_language_names.proofs.EditedTrees.{Edit, edited_block, edited_constants, edited_procedure, edited_procedures, edited_section, leaf}
 use Rattle.ob0_language_names.proofs.Ordinals.{ordinal_after_names-append, declare_names-append, le-ordinal_after_block, le-ordinal_after_names, le-ordinal_after_procedure, le-ordinal_after_procedure_list}
 use Rattle.ob0_language_names.proofs.Places.{EachBlock, EachType}
 use Rattle.ob0_language_values.specs.Values.{Value}
-use Rattle.ob0_language_types.specs.ConstantValues.{ConstantEnvironment, non_constant_placeholder, constant_value_in_section, constant_value_in_block, constant_value_in_procedure, constant_value_in_procedures}
-use Rattle.ob0_language_types.specs.Declarations.{block_constructor_count, declare_constants, declare_constants_and_types, declare_types, formals_constructor_count, procedure_constructor_count, procedures_constructor_count, types_constructor_count, variables_constructor_count}
+use Rattle.ob0_language_types.specs.ConstantValues.{ConstantEnvironment, non_constant_placeholder, constant_value_in_section, constant_value_in_block, constant_value_in_procedure, constant_value_in_procedure_list}
+use Rattle.ob0_language_types.specs.Declarations.{block_constructor_count, declare_constants, declare_constants_and_types, declare_types, formals_constructor_count, procedure_constructor_count, procedure_list_constructor_count, types_constructor_count, variables_constructor_count}
 use Rattle.ob0_language_types.specs.Environments.{Environment}
 use Rattle.ob0_language_types.specs.Expressions.{Object, a_variable}
 use Rattle.ob0_language_types.specs.Typing.{constructor_count}
@@ -106,7 +106,7 @@ pub variables-of : (edit : Edit) (j : ℕ) (vs : Tree Name (maybe variables)) �
 variables-of edit j none = refl
 variables-of edit j (one (declares_var_section vs)) = refl
 
-pub formals-of : (edit : Edit) (j : ℕ) (fs : Tree Name (maybe formals)) → formal_sections (leaf edit j fs) ≡ leaf edit j (formal_sections fs)
+pub formals-of : (edit : Edit) (j : ℕ) (fs : Tree Name (maybe formals)) → formal_parameter_sections (leaf edit j fs) ≡ leaf edit j (formal_parameter_sections fs)
 formals-of edit j none = refl
 formals-of edit j (one no_formals) = refl
 formals-of edit j (one (some_formals s fs)) = refl
@@ -143,17 +143,17 @@ mutual
   block_constructor_count-edited edit j k (forms_block (declares cs ts vs ps) statements) = λ i.
       (ap types_constructor_count (types-of edit (j + length (occurrences cs)) ts) ∙ types_constructor_count-leaf edit (j + length (occurrences cs)) (section_types ts)) i
       + ((ap variables_constructor_count (variables-of edit (j + length (occurrences cs) + length (occurrences ts)) vs) ∙ variables_constructor_count-leaf edit (j + length (occurrences cs) + length (occurrences ts)) (section_variables vs)) i
-      + procedures_constructor_count-edited edit (j + length (occurrences cs) + length (occurrences ts) + length (occurrences vs)) (first_procedure_ordinal k (forms_block (declares cs ts vs ps) statements)) ps i)
+      + procedure_list_constructor_count-edited edit (j + length (occurrences cs) + length (occurrences ts) + length (occurrences vs)) (first_procedure_ordinal k (forms_block (declares cs ts vs ps) statements)) ps i)
 
-  pub procedures_constructor_count-edited : (edit : Edit) (j k : ℕ) (ps : Tree Name (items procedure)) → procedures_constructor_count (edited_procedures edit j k ps) ≡ procedures_constructor_count ps
-  procedures_constructor_count-edited edit j k end = refl
-  procedures_constructor_count-edited edit j k (more p rest) = λ i.
-      procedure_constructor_count-edited edit j (suc k) p i + procedures_constructor_count-edited edit (j + length (occurrences p)) (ordinal_after_procedure (suc k) p) rest i
+  pub procedure_list_constructor_count-edited : (edit : Edit) (j k : ℕ) (ps : Tree Name (items procedure)) → procedure_list_constructor_count (edited_procedures edit j k ps) ≡ procedure_list_constructor_count ps
+  procedure_list_constructor_count-edited edit j k end = refl
+  procedure_list_constructor_count-edited edit j k (more p rest) = λ i.
+      procedure_constructor_count-edited edit j (suc k) p i + procedure_list_constructor_count-edited edit (j + length (occurrences p)) (ordinal_after_procedure (suc k) p) rest i
 
   pub procedure_constructor_count-edited : (edit : Edit) (j k : ℕ) (p : Tree Name (item procedure)) → procedure_constructor_count (edited_procedure edit j k p) ≡ procedure_constructor_count p
   procedure_constructor_count-edited edit j k (declares_procedure x fs b closing) = λ i.
-      (ap formals_constructor_count (formals-of edit j fs) ∙ formals_constructor_count-leaf edit j (formal_sections fs)) i
-      + block_constructor_count-edited edit (j + length (occurrences fs)) (ordinal_after_names k (formal_names (formal_sections fs))) b i
+      (ap formals_constructor_count (formals-of edit j fs) ∙ formals_constructor_count-leaf edit j (formal_parameter_sections fs)) i
+      + block_constructor_count-edited edit (j + length (occurrences fs)) (ordinal_after_names k (formal_parameter_names (formal_parameter_sections fs))) b i
 
 -- The constant's value is its value in the part of a block that declares it.
 
@@ -174,7 +174,7 @@ unfolding constant_value_in_block
 constants-has_value edit w known k (forms_block (declares cs ts vs ps) statements) has_value l m =
     let b : Tree Name block = forms_block (declares cs ts vs ps) statements in
     let below : first_type_ordinal k b ≤ ordinal_after_block k b = first_type_ordinal-below k b in
-    sym (ap (λ t. if t then constant_value_in_section known edit.constant k (section_constants cs) else if nat_lt edit.constant (first_procedure_ordinal k b) then None else option_and_then (λ inner. constant_value_in_procedures (bind_names (declared_type_names (section_types ts) ++ variable_names (section_variables vs)) non_constant_placeholder inner) edit.constant (first_procedure_ordinal k b) ps) (declare_constants naming_by_spelling known (section_constants cs)))
+    sym (ap (λ t. if t then constant_value_in_section known edit.constant k (section_constants cs) else if nat_lt edit.constant (first_procedure_ordinal k b) then None else option_and_then (λ inner. constant_value_in_procedure_list (bind_names (declared_type_names (section_types ts) ++ variable_names (section_variables vs)) non_constant_placeholder inner) edit.constant (first_procedure_ordinal k b) ps) (declare_constants naming_by_spelling known (section_constants cs)))
     (lt-ltb edit.constant (first_type_ordinal k b) m)) ∙ has_value l (omega (arith, m, below))
 
 pub types-outside : (edit : Edit) (w : Value) (known : ConstantEnvironment) (k : ℕ) (b : Tree Name block) → HasValueBetween edit w k (ordinal_after_block k b) (constant_value_in_block known edit.constant k b) → Outside edit (first_type_ordinal k b) (first_procedure_ordinal k b)
@@ -183,7 +183,7 @@ types-outside edit w known k (forms_block (declares cs ts vs ps) statements) has
     let b : Tree Name block = forms_block (declares cs ts vs ps) statements in
     let below : first_procedure_ordinal k b ≤ ordinal_after_block k b = first_procedure_ordinal-below k b in
     let above : k ≤ first_type_ordinal k b = le-ordinal_after_names k (constant_names (section_constants cs)) in
-    let last : Option Value = option_and_then (λ inner. constant_value_in_procedures (bind_names (declared_type_names (section_types ts) ++ variable_names (section_variables vs)) non_constant_placeholder inner) edit.constant (first_procedure_ordinal k b) ps) (declare_constants naming_by_spelling known (section_constants cs)) in
+    let last : Option Value = option_and_then (λ inner. constant_value_in_procedure_list (bind_names (declared_type_names (section_types ts) ++ variable_names (section_variables vs)) non_constant_placeholder inner) edit.constant (first_procedure_ordinal k b) ps) (declare_constants naming_by_spelling known (section_constants cs)) in
     let e : None ≡ Some w =
     sym (ap (λ t. if t then constant_value_in_section known edit.constant k (section_constants cs) else if nat_lt edit.constant (first_procedure_ordinal k b) then None else last) (le-ltb edit.constant (first_type_ordinal k b) l)
     ∙ ap (λ t. if t then None else last) (lt-ltb edit.constant (first_procedure_ordinal k b) m)) ∙ has_value (omega (arith, l, above)) (omega (arith, m, below)) in
@@ -191,61 +191,61 @@ types-outside edit w known k (forms_block (declares cs ts vs ps) statements) has
 
 pub procedures-has_value : (edit : Edit) (w : Value) (known inner : ConstantEnvironment) (k : ℕ) (b : Tree Name block) → HasValueBetween edit w k (ordinal_after_block k b) (constant_value_in_block known edit.constant k b)
     → option_map (bind_names (variable_names (block_variables b)) non_constant_placeholder) (option_map (bind_names (declared_type_names (block_types b)) non_constant_placeholder) (declare_constants naming_by_spelling known (block_constants b))) ≡ Some inner
-    → HasValueBetween edit w (first_procedure_ordinal k b) (ordinal_after_block k b) (constant_value_in_procedures inner edit.constant (first_procedure_ordinal k b) (block_procedures b))
+    → HasValueBetween edit w (first_procedure_ordinal k b) (ordinal_after_block k b) (constant_value_in_procedure_list inner edit.constant (first_procedure_ordinal k b) (block_procedures b))
 unfolding constant_value_in_block
 procedures-has_value edit w known inner k (forms_block (declares cs ts vs ps) statements) has_value e l m =
     let b : Tree Name block = forms_block (declares cs ts vs ps) statements in
     let above : k ≤ first_type_ordinal k b = le-ordinal_after_names k (constant_names (section_constants cs)) in
     let types : first_type_ordinal k b ≤ first_procedure_ordinal k b = types-below k b in
-    let last : Option ConstantEnvironment → Option Value = option_and_then (λ inner. constant_value_in_procedures (bind_names (declared_type_names (section_types ts) ++ variable_names (section_variables vs)) non_constant_placeholder inner) edit.constant (first_procedure_ordinal k b) ps) in
+    let last : Option ConstantEnvironment → Option Value = option_and_then (λ inner. constant_value_in_procedure_list (bind_names (declared_type_names (section_types ts) ++ variable_names (section_variables vs)) non_constant_placeholder inner) edit.constant (first_procedure_ordinal k b) ps) in
     go (declare_constants naming_by_spelling known (section_constants cs)) e
     (sym (ap (λ t. if t then constant_value_in_section known edit.constant k (section_constants cs) else if nat_lt edit.constant (first_procedure_ordinal k b) then None else last (declare_constants naming_by_spelling known (section_constants cs))) (le-ltb edit.constant (first_type_ordinal k b) (omega (arith, l, types)))
     ∙ ap (λ t. if t then None else last (declare_constants naming_by_spelling known (section_constants cs))) (le-ltb edit.constant (first_procedure_ordinal k b) l)) ∙ has_value (omega (arith, l, above, types)) m)
   where
     go : (o : Option ConstantEnvironment) → option_map (bind_names (variable_names (section_variables vs)) non_constant_placeholder) (option_map (bind_names (declared_type_names (section_types ts)) non_constant_placeholder) o) ≡ Some inner
-        → option_and_then (λ inner. constant_value_in_procedures (bind_names (declared_type_names (section_types ts) ++ variable_names (section_variables vs)) non_constant_placeholder inner) edit.constant (first_procedure_ordinal k (forms_block (declares cs ts vs ps) statements)) ps) o ≡ Some w
-        → constant_value_in_procedures inner edit.constant (first_procedure_ordinal k (forms_block (declares cs ts vs ps) statements)) ps ≡ Some w
+        → option_and_then (λ inner. constant_value_in_procedure_list (bind_names (declared_type_names (section_types ts) ++ variable_names (section_variables vs)) non_constant_placeholder inner) edit.constant (first_procedure_ordinal k (forms_block (declares cs ts vs ps) statements)) ps) o ≡ Some w
+        → constant_value_in_procedure_list inner edit.constant (first_procedure_ordinal k (forms_block (declares cs ts vs ps) statements)) ps ≡ Some w
     go None e h = absurd (cc)
     go (Some known) e h =
-        ap (λ env. constant_value_in_procedures env edit.constant (first_procedure_ordinal k (forms_block (declares cs ts vs ps) statements)) ps)
+        ap (λ env. constant_value_in_procedure_list env edit.constant (first_procedure_ordinal k (forms_block (declares cs ts vs ps) statements)) ps)
         (sym (bind_names-append (declared_type_names (section_types ts)) (variable_names (section_variables vs)) non_constant_placeholder known ∙ some_inverse e)) ∙ h
 
-pub own-has_value : (edit : Edit) (w : Value) (known : ConstantEnvironment) (k : ℕ) (p : Tree Name (item procedure)) (rest : Tree Name (items procedure)) → HasValueBetween edit w k (ordinal_after_procedure_list k (more p rest)) (constant_value_in_procedures known edit.constant k (more p rest))
+pub own-has_value : (edit : Edit) (w : Value) (known : ConstantEnvironment) (k : ℕ) (p : Tree Name (item procedure)) (rest : Tree Name (items procedure)) → HasValueBetween edit w k (ordinal_after_procedure_list k (more p rest)) (constant_value_in_procedure_list known edit.constant k (more p rest))
     → HasValueBetween edit w k (ordinal_after_procedure (suc k) p) (constant_value_in_procedure ((procedure_name p, non_constant_placeholder) ∷ known) edit.constant (suc k) p)
 unfolding constant_value_in_block
 own-has_value edit w known k p rest has_value l m =
     let below : ordinal_after_procedure (suc k) p ≤ ordinal_after_procedure_list (ordinal_after_procedure (suc k) p) rest = le-ordinal_after_procedure_list (ordinal_after_procedure (suc k) p) rest in
-    sym (ap (λ t. if t then constant_value_in_procedure ((procedure_name p, non_constant_placeholder) ∷ known) edit.constant (suc k) p else constant_value_in_procedures ((procedure_name p, non_constant_placeholder) ∷ known) edit.constant (ordinal_after_procedure (suc k) p) rest)
+    sym (ap (λ t. if t then constant_value_in_procedure ((procedure_name p, non_constant_placeholder) ∷ known) edit.constant (suc k) p else constant_value_in_procedure_list ((procedure_name p, non_constant_placeholder) ∷ known) edit.constant (ordinal_after_procedure (suc k) p) rest)
     (lt-ltb edit.constant (ordinal_after_procedure (suc k) p) m)) ∙ has_value l (omega (arith, m, below))
 
-pub rest-has_value : (edit : Edit) (w : Value) (known : ConstantEnvironment) (k : ℕ) (p : Tree Name (item procedure)) (rest : Tree Name (items procedure)) → HasValueBetween edit w k (ordinal_after_procedure_list k (more p rest)) (constant_value_in_procedures known edit.constant k (more p rest))
-    → HasValueBetween edit w (ordinal_after_procedure (suc k) p) (ordinal_after_procedure_list (ordinal_after_procedure (suc k) p) rest) (constant_value_in_procedures ((procedure_name p, non_constant_placeholder) ∷ known) edit.constant (ordinal_after_procedure (suc k) p) rest)
+pub rest-has_value : (edit : Edit) (w : Value) (known : ConstantEnvironment) (k : ℕ) (p : Tree Name (item procedure)) (rest : Tree Name (items procedure)) → HasValueBetween edit w k (ordinal_after_procedure_list k (more p rest)) (constant_value_in_procedure_list known edit.constant k (more p rest))
+    → HasValueBetween edit w (ordinal_after_procedure (suc k) p) (ordinal_after_procedure_list (ordinal_after_procedure (suc k) p) rest) (constant_value_in_procedure_list ((procedure_name p, non_constant_placeholder) ∷ known) edit.constant (ordinal_after_procedure (suc k) p) rest)
 unfolding constant_value_in_block
 rest-has_value edit w known k p rest has_value l m =
     let below : suc k ≤ ordinal_after_procedure (suc k) p = le-ordinal_after_procedure (suc k) p in
-    sym (ap (λ t. if t then constant_value_in_procedure ((procedure_name p, non_constant_placeholder) ∷ known) edit.constant (suc k) p else constant_value_in_procedures ((procedure_name p, non_constant_placeholder) ∷ known) edit.constant (ordinal_after_procedure (suc k) p) rest)
+    sym (ap (λ t. if t then constant_value_in_procedure ((procedure_name p, non_constant_placeholder) ∷ known) edit.constant (suc k) p else constant_value_in_procedure_list ((procedure_name p, non_constant_placeholder) ∷ known) edit.constant (ordinal_after_procedure (suc k) p) rest)
     (le-ltb edit.constant (ordinal_after_procedure (suc k) p) l)) ∙ has_value (omega (arith, l, below)) m
 
 -- Neither the procedure's ordinal nor its parameters' ordinals are the constant's.
 pub bind_procedure-outside : (edit : Edit) (w : Value) (known : ConstantEnvironment) (k : ℕ) (x closing : Name) (fs : Tree Name (maybe formals)) (b : Tree Name block)
-    → HasValueBetween edit w k (ordinal_after_procedure (suc k) (declares_procedure x fs b closing)) (constant_value_in_procedure known edit.constant (suc k) (declares_procedure x fs b closing)) → Outside edit k (ordinal_after_names (suc k) (formal_names (formal_sections fs)))
+    → HasValueBetween edit w k (ordinal_after_procedure (suc k) (declares_procedure x fs b closing)) (constant_value_in_procedure known edit.constant (suc k) (declares_procedure x fs b closing)) → Outside edit k (ordinal_after_names (suc k) (formal_parameter_names (formal_parameter_sections fs)))
 unfolding constant_value_in_block
 bind_procedure-outside edit w known k x closing fs b has_value l m =
-    let n : ℕ = ordinal_after_names (suc k) (formal_names (formal_sections fs)) in
+    let n : ℕ = ordinal_after_names (suc k) (formal_parameter_names (formal_parameter_sections fs)) in
     let below : n ≤ ordinal_after_block n b = le-ordinal_after_block n b in
     let e : None ≡ Some w =
-    sym (ap (λ t. if t then None else constant_value_in_block (bind_names (formal_names (formal_sections fs)) non_constant_placeholder known) edit.constant n b) (lt-ltb edit.constant n m)) ∙ has_value l (omega (arith, m, below)) in
+    sym (ap (λ t. if t then None else constant_value_in_block (bind_names (formal_parameter_names (formal_parameter_sections fs)) non_constant_placeholder known) edit.constant n b) (lt-ltb edit.constant n m)) ∙ has_value l (omega (arith, m, below)) in
     absurd (cc)
 
 pub body-has_value : (edit : Edit) (w : Value) (known : ConstantEnvironment) (k : ℕ) (x closing : Name) (fs : Tree Name (maybe formals)) (b : Tree Name block)
     → HasValueBetween edit w k (ordinal_after_procedure (suc k) (declares_procedure x fs b closing)) (constant_value_in_procedure known edit.constant (suc k) (declares_procedure x fs b closing))
-    → HasValueBetween edit w (ordinal_after_names (suc k) (formal_names (formal_sections fs))) (ordinal_after_block (ordinal_after_names (suc k) (formal_names (formal_sections fs))) b)
-    (constant_value_in_block (bind_names (formal_names (formal_sections fs)) non_constant_placeholder known) edit.constant (ordinal_after_names (suc k) (formal_names (formal_sections fs))) b)
+    → HasValueBetween edit w (ordinal_after_names (suc k) (formal_parameter_names (formal_parameter_sections fs))) (ordinal_after_block (ordinal_after_names (suc k) (formal_parameter_names (formal_parameter_sections fs))) b)
+    (constant_value_in_block (bind_names (formal_parameter_names (formal_parameter_sections fs)) non_constant_placeholder known) edit.constant (ordinal_after_names (suc k) (formal_parameter_names (formal_parameter_sections fs))) b)
 unfolding constant_value_in_block
 body-has_value edit w known k x closing fs b has_value l m =
-    let n : ℕ = ordinal_after_names (suc k) (formal_names (formal_sections fs)) in
-    let above : suc k ≤ n = le-ordinal_after_names (suc k) (formal_names (formal_sections fs)) in
-    sym (ap (λ t. if t then None else constant_value_in_block (bind_names (formal_names (formal_sections fs)) non_constant_placeholder known) edit.constant n b) (le-ltb edit.constant n l)) ∙ has_value (omega (arith, l, above)) m
+    let n : ℕ = ordinal_after_names (suc k) (formal_parameter_names (formal_parameter_sections fs)) in
+    let above : suc k ≤ n = le-ordinal_after_names (suc k) (formal_parameter_names (formal_parameter_sections fs)) in
+    sym (ap (λ t. if t then None else constant_value_in_block (bind_names (formal_parameter_names (formal_parameter_sections fs)) non_constant_placeholder known) edit.constant n b) (le-ltb edit.constant n l)) ∙ has_value (omega (arith, l, above)) m
 
 -- Declaring the constants and then the types of an edited block gives the same bindings as before, except a removed
 -- one.

@@ -2,20 +2,20 @@
 use Rattle.std.proofs.Common.{List, None, Option, Some, [], ap, arith, false, if◌then◌else◌, le_of_lt, le_refl, le_trans, length, map, nat_lt, negsuc, option_and_then, option_map, pos, refl, subst, subst₂, suc, sym, true, ℕ, ⊎_elim, ◌&&◌, ◌++◌, ◌+◌, ◌<◌, ◌∙◌, ◌∷◌, ◌≡◌, ◌≤◌}
 use Rattle.ob0_tree.specs.Tree.{Tree, adds, begins, block, body, compares, declares, declares_procedure, declares_variable, end, factor, section_after_semicolon, forms_block, integer, item, items, maybe, more, none, occurrences, one, parenthesised, procedure, product, sequence, sum, semicolon_then_section, variable, written_type}
 use Rattle.ob0_language_names.specs.Names.{Name, naming_by_spelling}
-use Rattle.ob0_language_names.specs.BlockParts.{block_constants, block_types, block_variables, constant_names, formal_names, formal_sections, declared_type_names, names_in_list, section_constants, parameter_section_names, parameter_section_type, section_types, section_variables, variable_names}
+use Rattle.ob0_language_names.specs.BlockParts.{block_constants, block_types, block_variables, constant_names, formal_parameter_names, formal_parameter_sections, declared_type_names, names_in_list, section_constants, parameter_section_names, parameter_section_type, section_types, section_variables, variable_names}
 use Rattle.ob0_language_names.specs.Scopes.{Scope, ordinal_after_block, ordinal_after_names, ordinal_after_procedure, ordinal_after_procedure_list, declare_names, declare_procedure_names, first_procedure_ordinal, first_type_ordinal, first_variable_ordinal, scope_before_procedures, scope_before_variables}
 use Rattle.ob0_language_names.proofs.EditedTrees.{Edit, SameAt, edited_block, edited_procedure, edited_procedures, inline-nothing, leaf, map_names-same}
 use Rattle.ob0_language_names.proofs.Ordinals.{ordinal_after_names-append, le-ordinal_after_names, le-ordinal_after_procedure}
 use Rattle.ob0_language_names.proofs.Places.{EachBlock, EachProcedure, EachSection, EachVariable}
 use Rattle.ob0_language_values.specs.Values.{Shape, Value, elements, members, number, truth}
-use Rattle.ob0_language_types.specs.ConstantValues.{ConstantEnvironment, non_constant_placeholder, constant_value_in_block, constant_value_in_procedure, constant_value_in_procedures}
-use Rattle.ob0_language_types.specs.Declarations.{constructors_before_variables, constructors_before_procedures, declare_constants, declare_constants_and_types, formals_constructor_count, procedure_constructor_count, types_constructor_count, variables_constructor_count}
+use Rattle.ob0_language_types.specs.ConstantValues.{ConstantEnvironment, non_constant_placeholder, constant_value_in_block, constant_value_in_procedure, constant_value_in_procedure_list}
+use Rattle.ob0_language_types.specs.Declarations.{constructor_count_before_variables, constructor_count_before_procedures, declare_constants, declare_constants_and_types, formals_constructor_count, procedure_constructor_count, types_constructor_count, variables_constructor_count}
 use Rattle.ob0_language_types.specs.EditLaws.{Is32BitScalar}
 use Rattle.ob0_language_types.specs.Environments.{meanings}
 use Rattle.ob0_language_types.specs.Expressions.{Meanings, a_procedure, a_variable}
 use Rattle.ob0_language_types.specs.Typing.{constructor_count, denoted_type, lone_designator, type_after_selectors}
-use Rattle.ob0_language_types.specs.WellTyped.{ParameterMode, Signature, TypeEnvironment, TypeMeanings, TypedParameter, bind_names, bind_typed_parameters, block_is_well_typed, body_is_well_typed, declare_typed_variables, bind_procedure, option_satisfies, procedure_is_well_typed, procedures_are_well_typed, parameter_section_mode, sequence_is_well_typed, typed_parameters, variable_type}
-use Rattle.ob0_language_types.specs.Written.{value_literal}
+use Rattle.ob0_language_types.specs.WellTyped.{ParameterMode, Signature, TypeEnvironment, TypeMeanings, TypedParameter, bind_names, bind_typed_parameters, block_is_well_typed, body_is_well_typed, declare_typed_variables, bind_procedure, option_satisfies, procedure_is_well_typed, procedures_and_body_are_well_typed, parameter_section_mode, sequence_is_well_typed, typed_parameters, assignable_type}
+use Rattle.ob0_language_types.specs.ValueLiterals.{value_literal}
 use Rattle.ob0_language_types.proofs.Agreeing.{Agree, agree-then}
 use Rattle.ob0_language_types.proofs.DenotedInlined.{constructor_count-inlined}
 use Rattle.ob0_language_types.proofs.EditedDeclarations.{Left, Outside, HasValueBetween, agree-known, not-constant, outside-right}
@@ -43,17 +43,17 @@ Checked edit w n marks = Sound edit w anything n marks
 abbrev pub LeftTyped : Edit → Value → ℕ → Scope Name → Option ConstantEnvironment → Marks Shape Signature → Type 0
 LeftTyped edit w = Left edit w anything
 
-pub literal-no_variable : (meaning : TypeMeanings Name) (v : Tree Name factor) (w : Value) → value_literal w ≡ Some v → Is32BitScalar w → IsSeen meaning w → variable_type meaning (lone_designator (alone v)) ≡ None
-unfolding variable_type
-literal-no_variable meaning v (number (pos n)) e h seen = subst (λ v. variable_type meaning (lone_designator (alone v)) ≡ None) (some_inverse e) refl
+pub literal-no_variable : (meaning : TypeMeanings Name) (v : Tree Name factor) (w : Value) → value_literal w ≡ Some v → Is32BitScalar w → IsSeen meaning w → assignable_type meaning (lone_designator (alone v)) ≡ None
+unfolding assignable_type
+literal-no_variable meaning v (number (pos n)) e h seen = subst (λ v. assignable_type meaning (lone_designator (alone v)) ≡ None) (some_inverse e) refl
 literal-no_variable meaning v (number (negsuc n)) e h seen =
-    subst (λ v. variable_type meaning (lone_designator (alone v)) ≡ None) (some_inverse e)
-    (elim (nat_lt n 2147483647) as (λ b. variable_type meaning (lone_designator (alone (if b then parenthesised (compares (sum (Some sign.Minus) (product (integer (suc n)) end) end) none) else parenthesised (compares (sum (Some sign.Minus) (product (integer 2147483647) end) (more (adds add_operator.Subtract (product (integer 1) end)) end)) none)))) ≡ None)
+    subst (λ v. assignable_type meaning (lone_designator (alone v)) ≡ None) (some_inverse e)
+    (elim (nat_lt n 2147483647) as (λ b. assignable_type meaning (lone_designator (alone (if b then parenthesised (compares (sum (Some sign.Minus) (product (integer (suc n)) end) end) none) else parenthesised (compares (sum (Some sign.Minus) (product (integer 2147483647) end) (more (adds add_operator.Subtract (product (integer 1) end)) end)) none)))) ≡ None)
     [ true ↦ refl | false ↦ refl ])
 literal-no_variable meaning v (truth true) e h seen =
-    subst (λ v. variable_type meaning (lone_designator (alone v)) ≡ None) (some_inverse e) (ap (λ o. elim o [ Some (a_variable s) ↦ type_after_selectors meaning s end | _ ↦ None ]) seen)
+    subst (λ v. assignable_type meaning (lone_designator (alone v)) ≡ None) (some_inverse e) (ap (λ o. elim o [ Some (a_variable s) ↦ type_after_selectors meaning s end | _ ↦ None ]) seen)
 literal-no_variable meaning v (truth false) e h seen =
-    subst (λ v. variable_type meaning (lone_designator (alone v)) ≡ None) (some_inverse e) (ap (λ o. elim o [ Some (a_variable s) ↦ type_after_selectors meaning s end | _ ↦ None ]) seen)
+    subst (λ v. assignable_type meaning (lone_designator (alone v)) ≡ None) (some_inverse e) (ap (λ o. elim o [ Some (a_variable s) ↦ type_after_selectors meaning s end | _ ↦ None ]) seen)
 literal-no_variable meaning v (elements vs) e h seen = absurd h
 literal-no_variable meaning v (members k ms) e h seen = absurd h
 
@@ -136,13 +136,13 @@ variables-edited edit w lit i j k marks s seven (more (declares_variable ns t) g
 
 -- The parameters of a heading are the same before and after the edit.
 pub parameters-edited : (edit : Edit) (w : Value) → Literal edit w → (i j k : ℕ) (marks : Marks Shape Signature) → Checked edit w k marks → 7 ≤ k → (fs : Tree Name (items section_after_semicolon))
-    → EachSection (Here edit w) j (scope_marked marks) k fs → Outside edit k (ordinal_after_names k (formal_names fs))
-    → Agree (λ ps. ps) (λ ps. ps) (λ ps. typed_names ps ≡ formal_names fs) (typed_parameters naming_by_spelling (read as_signed marks) i fs) (typed_parameters naming_by_spelling (read_edited edit as_signed marks) i (leaf edit j fs))
+    → EachSection (Here edit w) j (scope_marked marks) k fs → Outside edit k (ordinal_after_names k (formal_parameter_names fs))
+    → Agree (λ ps. ps) (λ ps. ps) (λ ps. typed_names ps ≡ formal_parameter_names fs) (typed_parameters naming_by_spelling (read as_signed marks) i fs) (typed_parameters naming_by_spelling (read_edited edit as_signed marks) i (leaf edit j fs))
 unfolding typed_parameters
 parameters-edited edit w lit i j k marks s seven end here outside = (Some [], refl, refl, refl)
 parameters-edited edit w lit i j k marks s seven (more (semicolon_then_section f) fs) here outside =
     let xs : List Name = parameter_section_names f in
-    let ys : List Name = formal_names fs in
+    let ys : List Name = formal_parameter_names fs in
     let n : ℕ = ordinal_after_names k xs in
     let t : Tree Name written_type = parameter_section_type f in
     let fs' : Tree Name (items section_after_semicolon) = leaf edit (j + length (occurrences f)) fs in
@@ -173,8 +173,8 @@ pub declarations-edited : (edit : Edit) (w : Value) → Literal edit w → (i j 
     → EachBlock (Here edit w) j (scope_marked marks) k b → HasValueBetween edit w k (ordinal_after_block k b) (constant_value_in_block (knowns marks) edit.constant k b)
     → Agree (read as_signed) (read_edited edit as_signed)
     (LeftTyped edit w (first_procedure_ordinal k b) (scope_before_procedures k b (scope_marked marks)) (option_map (bind_names (variable_names (block_variables b)) non_constant_placeholder) (option_map (bind_names (declared_type_names (block_types b)) non_constant_placeholder) (declare_constants naming_by_spelling (knowns marks) (block_constants b)))))
-    (option_and_then (declare_typed_variables naming_by_spelling (constructors_before_variables i b) (block_variables b)) (declare_constants_and_types naming_by_spelling (read as_signed marks) i b))
-    (option_and_then (declare_typed_variables naming_by_spelling (constructors_before_variables i (edited_block edit j k b)) (block_variables (edited_block edit j k b))) (declare_constants_and_types naming_by_spelling (read_edited edit as_signed marks) i (edited_block edit j k b)))
+    (option_and_then (declare_typed_variables naming_by_spelling (constructor_count_before_variables i b) (block_variables b)) (declare_constants_and_types naming_by_spelling (read as_signed marks) i b))
+    (option_and_then (declare_typed_variables naming_by_spelling (constructor_count_before_variables i (edited_block edit j k b)) (block_variables (edited_block edit j k b))) (declare_constants_and_types naming_by_spelling (read_edited edit as_signed marks) i (edited_block edit j k b)))
 declarations-edited edit w lit i j k marks s seven (forms_block (declares cs ts vs ps) statements) here has_value =
     let b : Tree Name block = forms_block (declares cs ts vs ps) statements in
     let jt : ℕ = j + length (occurrences cs) in
@@ -184,19 +184,19 @@ declarations-edited edit w lit i j k marks s seven (forms_block (declares cs ts 
     let above : k ≤ first_type_ordinal k b = le-ordinal_after_names k (constant_names (section_constants cs)) in
     let Middle : Marks Shape Signature → Type 0 = LeftTyped edit w (first_variable_ordinal k b) (scope_before_variables k b (scope_marked marks)) known in
     let Result : Marks Shape Signature → Type 0 = LeftTyped edit w (first_procedure_ordinal k b) (scope_before_procedures k b (scope_marked marks)) (option_map (bind_names (variable_names (section_variables vs)) non_constant_placeholder) known) in
-    subst₂ (λ n gs. Agree (read as_signed) (read_edited edit as_signed) Result (option_and_then (declare_typed_variables naming_by_spelling (constructors_before_variables i b) (section_variables vs)) (declare_constants_and_types naming_by_spelling (read as_signed marks) i b))
+    subst₂ (λ n gs. Agree (read as_signed) (read_edited edit as_signed) Result (option_and_then (declare_typed_variables naming_by_spelling (constructor_count_before_variables i b) (section_variables vs)) (declare_constants_and_types naming_by_spelling (read as_signed marks) i b))
     (option_and_then (declare_typed_variables naming_by_spelling (i + n) gs) (declare_constants_and_types naming_by_spelling (read_edited edit as_signed marks) i (edited_block edit j k b))))
     (sym (ap types_constructor_count (types-of edit jt ts) ∙ types_constructor_count-leaf edit jt (section_types ts))) (sym (variables-of edit jv vs))
     (agree-then (read as_signed) (read_edited edit as_signed) Middle (read as_signed) (read_edited edit as_signed) Result
-    (declare_typed_variables naming_by_spelling (constructors_before_variables i b) (section_variables vs)) (declare_typed_variables naming_by_spelling (constructors_before_variables i b) (leaf edit jv (section_variables vs)))
+    (declare_typed_variables naming_by_spelling (constructor_count_before_variables i b) (section_variables vs)) (declare_typed_variables naming_by_spelling (constructor_count_before_variables i b) (leaf edit jv (section_variables vs)))
     (declare_constants_and_types naming_by_spelling (read as_signed marks) i b) (declare_constants_and_types naming_by_spelling (read_edited edit as_signed marks) i (edited_block edit j k b))
     (first-edited edit w lit anything as_signed as_signed i j k marks s seven b here has_value)
     (λ inner left. agree-weaken (read as_signed) (read_edited edit as_signed)
     (LeftTyped edit w (first_procedure_ordinal k b) (declare_names (first_variable_ordinal k b) (variable_names (section_variables vs)) (scope_marked inner)) (Some (bind_names (variable_names (section_variables vs)) non_constant_placeholder (knowns inner)))) Result
-    (declare_typed_variables naming_by_spelling (constructors_before_variables i b) (section_variables vs) (read as_signed inner)) (declare_typed_variables naming_by_spelling (constructors_before_variables i b) (leaf edit jv (section_variables vs)) (read_edited edit as_signed inner))
+    (declare_typed_variables naming_by_spelling (constructor_count_before_variables i b) (section_variables vs) (read as_signed inner)) (declare_typed_variables naming_by_spelling (constructor_count_before_variables i b) (leaf edit jv (section_variables vs)) (read_edited edit as_signed inner))
     (λ m last. left-then edit w anything (first_procedure_ordinal k b) (declare_names (first_variable_ordinal k b) (variable_names (section_variables vs)) (scope_marked inner)) (scope_marked inner) (scope_before_procedures k b (scope_marked marks)) (bind_names (variable_names (section_variables vs)) non_constant_placeholder) known (knowns inner) m
     (ap (declare_names (first_variable_ordinal k b) (variable_names (section_variables vs))) left.scoped) left.value last)
-    (variables-edited edit w lit (constructors_before_variables i b) jv (first_variable_ordinal k b) inner left.sound (omega (arith, seven, above, types)) (section_variables vs)
+    (variables-edited edit w lit (constructor_count_before_variables i b) jv (first_variable_ordinal k b) inner left.sound (omega (arith, seven, above, types)) (section_variables vs)
     (subst (λ scope. EachVariable (Here edit w) jv scope (first_variable_ordinal k b) (section_variables vs)) (sym left.scoped) here.2)
     (λ l m. types-outside edit w (knowns marks) k b has_value (omega (arith, l, types)) m))))
 
@@ -230,65 +230,65 @@ mutual
       let above : k ≤ first_procedure_ordinal k b = procedures-below k b in
       hold-agrees (read as_signed) (read_edited edit as_signed)
       (LeftTyped edit w (first_procedure_ordinal k b) (scope_before_procedures k b (scope_marked marks)) (option_map (bind_names (variable_names (section_variables vs)) non_constant_placeholder) (option_map (bind_names (declared_type_names (section_types ts)) non_constant_placeholder) (declare_constants naming_by_spelling (knowns marks) (section_constants cs)))))
-      (option_and_then (declare_typed_variables naming_by_spelling (constructors_before_variables i b) (section_variables vs)) (declare_constants_and_types naming_by_spelling (read as_signed marks) i b))
-      (option_and_then (declare_typed_variables naming_by_spelling (constructors_before_variables i b') (block_variables b')) (declare_constants_and_types naming_by_spelling (read_edited edit as_signed marks) i b'))
-      (λ inner. procedures_are_well_typed naming_by_spelling inner (constructors_before_procedures i b) statements ps)
-      (λ inner. procedures_are_well_typed naming_by_spelling inner (constructors_before_procedures i b') (leaf edit js statements) (edited_procedures edit jp (first_procedure_ordinal k b) ps))
+      (option_and_then (declare_typed_variables naming_by_spelling (constructor_count_before_variables i b) (section_variables vs)) (declare_constants_and_types naming_by_spelling (read as_signed marks) i b))
+      (option_and_then (declare_typed_variables naming_by_spelling (constructor_count_before_variables i b') (block_variables b')) (declare_constants_and_types naming_by_spelling (read_edited edit as_signed marks) i b'))
+      (λ inner. procedures_and_body_are_well_typed naming_by_spelling inner (constructor_count_before_procedures i b) statements ps)
+      (λ inner. procedures_and_body_are_well_typed naming_by_spelling inner (constructor_count_before_procedures i b') (leaf edit js statements) (edited_procedures edit jp (first_procedure_ordinal k b) ps))
       (declarations-edited edit w lit i j k marks s seven b here has_value)
       (λ inner left.
-      (λ m. procedures_are_well_typed naming_by_spelling (read_edited edit as_signed inner)
+      (λ m. procedures_and_body_are_well_typed naming_by_spelling (read_edited edit as_signed inner)
       (i + (ap types_constructor_count (types-of edit (j + length (occurrences cs)) ts) ∙ types_constructor_count-leaf edit (j + length (occurrences cs)) (section_types ts)) m
       + (ap variables_constructor_count (variables-of edit (j + length (occurrences cs) + length (occurrences ts)) vs) ∙ variables_constructor_count-leaf edit (j + length (occurrences cs) + length (occurrences ts)) (section_variables vs)) m)
       (leaf edit js statements) (edited_procedures edit jp (first_procedure_ordinal k b) ps))
-      ∙ procedures_are_well_typed-edited edit w lit (constructors_before_procedures i b) jp js (first_procedure_ordinal k b) inner left.sound (omega (arith, seven, above)) statements ps
+      ∙ procedures_and_body_are_well_typed-edited edit w lit (constructor_count_before_procedures i b) jp js (first_procedure_ordinal k b) inner left.sound (omega (arith, seven, above)) statements ps
       (subst (λ scope. EachProcedure (Here edit w) jp scope (first_procedure_ordinal k b) ps) (sym left.scoped) here.3)
       (subst (λ scope. Here edit w (maybe body) js (declare_procedure_names (first_procedure_ordinal k b) ps scope) statements) (sym left.scoped) here.4)
       (procedures-has_value edit w (knowns marks) (knowns inner) k b has_value left.value))
 
-  pub procedures_are_well_typed-edited : (edit : Edit) (w : Value) → Literal edit w → (i j js k : ℕ) (marks : Marks Shape Signature) → Checked edit w k marks → 7 ≤ k → (statements : Tree Name (maybe body)) (ps : Tree Name (items procedure))
-      → EachProcedure (Here edit w) j (scope_marked marks) k ps → Here edit w (maybe body) js (declare_procedure_names k ps (scope_marked marks)) statements → HasValueBetween edit w k (ordinal_after_procedure_list k ps) (constant_value_in_procedures (knowns marks) edit.constant k ps)
-      → procedures_are_well_typed naming_by_spelling (read_edited edit as_signed marks) i (leaf edit js statements) (edited_procedures edit j k ps) ≡ procedures_are_well_typed naming_by_spelling (read as_signed marks) i statements ps
-  procedures_are_well_typed-edited edit w lit i j js k marks s seven statements end here below has_value = body_is_well_typed-edited edit w lit k marks s js statements below
-  procedures_are_well_typed-edited edit w lit i j js k marks s seven statements (more (declares_procedure x fs b closing) rest) here below has_value =
+  pub procedures_and_body_are_well_typed-edited : (edit : Edit) (w : Value) → Literal edit w → (i j js k : ℕ) (marks : Marks Shape Signature) → Checked edit w k marks → 7 ≤ k → (statements : Tree Name (maybe body)) (ps : Tree Name (items procedure))
+      → EachProcedure (Here edit w) j (scope_marked marks) k ps → Here edit w (maybe body) js (declare_procedure_names k ps (scope_marked marks)) statements → HasValueBetween edit w k (ordinal_after_procedure_list k ps) (constant_value_in_procedure_list (knowns marks) edit.constant k ps)
+      → procedures_and_body_are_well_typed naming_by_spelling (read_edited edit as_signed marks) i (leaf edit js statements) (edited_procedures edit j k ps) ≡ procedures_and_body_are_well_typed naming_by_spelling (read as_signed marks) i statements ps
+  procedures_and_body_are_well_typed-edited edit w lit i j js k marks s seven statements end here below has_value = body_is_well_typed-edited edit w lit k marks s js statements below
+  procedures_and_body_are_well_typed-edited edit w lit i j js k marks s seven statements (more (declares_procedure x fs b closing) rest) here below has_value =
       let p : Tree Name (item procedure) = declares_procedure x fs b closing in
       let p' : Tree Name (item procedure) = edited_procedure edit j (suc k) p in
       let jb : ℕ = j + length (occurrences fs) in
-      let n : ℕ = ordinal_after_names (suc k) (formal_names (formal_sections fs)) in
+      let n : ℕ = ordinal_after_names (suc k) (formal_parameter_names (formal_parameter_sections fs)) in
       let jr : ℕ = j + length (occurrences p) in
       let rest' : Tree Name (items procedure) = edited_procedures edit jr (ordinal_after_procedure (suc k) p) rest in
       let statements' : Tree Name (maybe body) = leaf edit js statements in
       let mine : HasValueBetween edit w k (ordinal_after_procedure (suc k) p) (constant_value_in_procedure ((x, non_constant_placeholder) ∷ knowns marks) edit.constant (suc k) p) = own-has_value edit w (knowns marks) k p rest has_value in
       let outside : Outside edit k n = bind_procedure-outside edit w ((x, non_constant_placeholder) ∷ knowns marks) k x closing fs b mine in
-      let above : suc k ≤ n = le-ordinal_after_names (suc k) (formal_names (formal_sections fs)) in
+      let above : suc k ≤ n = le-ordinal_after_names (suc k) (formal_parameter_names (formal_parameter_sections fs)) in
       let following : suc k ≤ ordinal_after_procedure (suc k) p = le-ordinal_after_procedure (suc k) p in
       let own : Outside edit k (suc k) = λ l m. outside l (omega (arith, m, above)) in
       ap (λ gs. option_satisfies (typed_parameters naming_by_spelling (read_edited edit as_signed marks) i gs) (λ ps. procedure_is_well_typed naming_by_spelling (bind_typed_parameters ps (bind_procedure x ps (read_edited edit as_signed marks))) i p'
-      && procedures_are_well_typed naming_by_spelling (bind_procedure x ps (read_edited edit as_signed marks)) (i + procedure_constructor_count p') statements' rest')) (formals-of edit j fs)
-      ∙ hold-agrees (λ ps. ps) (λ ps. ps) (λ ps. typed_names ps ≡ formal_names (formal_sections fs))
-      (typed_parameters naming_by_spelling (read as_signed marks) i (formal_sections fs)) (typed_parameters naming_by_spelling (read_edited edit as_signed marks) i (leaf edit j (formal_sections fs)))
-      (λ ps. procedure_is_well_typed naming_by_spelling (bind_typed_parameters ps (bind_procedure x ps (read as_signed marks))) i p && procedures_are_well_typed naming_by_spelling (bind_procedure x ps (read as_signed marks)) (i + procedure_constructor_count p) statements rest)
-      (λ ps. procedure_is_well_typed naming_by_spelling (bind_typed_parameters ps (bind_procedure x ps (read_edited edit as_signed marks))) i p' && procedures_are_well_typed naming_by_spelling (bind_procedure x ps (read_edited edit as_signed marks)) (i + procedure_constructor_count p') statements' rest')
-      (parameters-edited edit w lit i j (suc k) marks (Sound-weaken edit w anything k (suc k) marks (le_of_lt (le_refl (suc k))) s) (omega (arith, seven)) (formal_sections fs) here.0.0 (λ l m. outside (omega (arith, l)) m))
+      && procedures_and_body_are_well_typed naming_by_spelling (bind_procedure x ps (read_edited edit as_signed marks)) (i + procedure_constructor_count p') statements' rest')) (formals-of edit j fs)
+      ∙ hold-agrees (λ ps. ps) (λ ps. ps) (λ ps. typed_names ps ≡ formal_parameter_names (formal_parameter_sections fs))
+      (typed_parameters naming_by_spelling (read as_signed marks) i (formal_parameter_sections fs)) (typed_parameters naming_by_spelling (read_edited edit as_signed marks) i (leaf edit j (formal_parameter_sections fs)))
+      (λ ps. procedure_is_well_typed naming_by_spelling (bind_typed_parameters ps (bind_procedure x ps (read as_signed marks))) i p && procedures_and_body_are_well_typed naming_by_spelling (bind_procedure x ps (read as_signed marks)) (i + procedure_constructor_count p) statements rest)
+      (λ ps. procedure_is_well_typed naming_by_spelling (bind_typed_parameters ps (bind_procedure x ps (read_edited edit as_signed marks))) i p' && procedures_and_body_are_well_typed naming_by_spelling (bind_procedure x ps (read_edited edit as_signed marks)) (i + procedure_constructor_count p') statements' rest')
+      (parameters-edited edit w lit i j (suc k) marks (Sound-weaken edit w anything k (suc k) marks (le_of_lt (le_refl (suc k))) s) (omega (arith, seven)) (formal_parameter_sections fs) here.0.0 (λ l m. outside (omega (arith, l)) m))
       (λ ps e.
       let mark : Mark Shape Signature = record { name = x; ordinal = k; object = a_procedure (map (λ p. p.formal) ps) } in
       let inner : Marks Shape Signature = mark ∷ marks in
       let sound : Checked edit w (suc k) inner = (le_refl (suc k), outside-right edit w x k (a_procedure (map (λ p. p.formal) ps)) seven own, tt, s) in
       let bound : bind_procedure x ps (read_edited edit as_signed marks) ≡ read_edited edit as_signed inner = sym (ap (λ t. if t then read_edited edit as_signed marks else (x, a_procedure (map (λ p. p.formal) ps)) ∷ read_edited edit as_signed marks) (not-constant edit k own)) in
       let pairs : List (Name × Shape) = parameter_pairs ps in
-      let named : names_of pairs ≡ formal_names (formal_sections fs) = parameter_pairs-names ps ∙ e in
+      let named : names_of pairs ≡ formal_parameter_names (formal_parameter_sections fs) = parameter_pairs-names ps ∙ e in
       let outside' : Outside edit (suc k) (ordinal_after_names (suc k) (names_of pairs)) = λ l m. outside (omega (arith, l)) (subst (λ ys. edit.constant < ordinal_after_names (suc k) ys) named m) in
-      let left : LeftTyped edit w n (declare_names (suc k) (formal_names (formal_sections fs)) (scope_marked inner)) (Some (bind_names (formal_names (formal_sections fs)) non_constant_placeholder (knowns inner))) (mark_all (suc k) pairs inner) =
+      let left : LeftTyped edit w n (declare_names (suc k) (formal_parameter_names (formal_parameter_sections fs)) (scope_marked inner)) (Some (bind_names (formal_parameter_names (formal_parameter_sections fs)) non_constant_placeholder (knowns inner))) (mark_all (suc k) pairs inner) =
       subst (λ ys. LeftTyped edit w (ordinal_after_names (suc k) ys) (declare_names (suc k) ys (scope_marked inner)) (Some (bind_names ys non_constant_placeholder (knowns inner))) (mark_all (suc k) pairs inner)) named
       (all-left edit w anything (suc k) pairs inner sound (omega (arith, seven)) outside') in
       let first : procedure_is_well_typed naming_by_spelling (bind_typed_parameters ps (bind_procedure x ps (read_edited edit as_signed marks))) i p' ≡ procedure_is_well_typed naming_by_spelling (bind_typed_parameters ps (bind_procedure x ps (read as_signed marks))) i p =
       (λ m. block_is_well_typed naming_by_spelling ((bind_typed_parameters-all ps (bind_procedure x ps (read_edited edit as_signed marks)) ∙ (ap (bind_all pairs) bound ∙ edited-all edit as_signed (suc k) pairs inner outside')) m)
-      (i + (ap formals_constructor_count (formals-of edit j fs) ∙ formals_constructor_count-leaf edit j (formal_sections fs)) m) (edited_block edit jb n b))
-      ∙ (block_is_well_typed-edited edit w lit (i + formals_constructor_count (formal_sections fs)) jb n (mark_all (suc k) pairs inner) left.sound (omega (arith, seven, above)) b
+      (i + (ap formals_constructor_count (formals-of edit j fs) ∙ formals_constructor_count-leaf edit j (formal_parameter_sections fs)) m) (edited_block edit jb n b))
+      ∙ (block_is_well_typed-edited edit w lit (i + formals_constructor_count (formal_parameter_sections fs)) jb n (mark_all (suc k) pairs inner) left.sound (omega (arith, seven, above)) b
       (subst (λ scope. EachBlock (Here edit w) jb scope n b) (sym left.scoped) here.0.1)
       (subst (λ known. HasValueBetween edit w n (ordinal_after_block n b) (constant_value_in_block known edit.constant n b)) (some_inverse left.value) (body-has_value edit w ((x, non_constant_placeholder) ∷ knowns marks) k x closing fs b mine))
-      ∙ sym (ap (λ env. block_is_well_typed naming_by_spelling env (i + formals_constructor_count (formal_sections fs)) b) (bind_typed_parameters-all ps (bind_procedure x ps (read as_signed marks)) ∙ read-all as_signed (suc k) pairs inner))) in
-      let second : procedures_are_well_typed naming_by_spelling (bind_procedure x ps (read_edited edit as_signed marks)) (i + procedure_constructor_count p') statements' rest' ≡ procedures_are_well_typed naming_by_spelling (bind_procedure x ps (read as_signed marks)) (i + procedure_constructor_count p) statements rest =
-      (λ m. procedures_are_well_typed naming_by_spelling (bound m) (i + procedure_constructor_count-edited edit j (suc k) p m) statements' rest')
-      ∙ procedures_are_well_typed-edited edit w lit (i + procedure_constructor_count p) jr js (ordinal_after_procedure (suc k) p) inner (Sound-weaken edit w anything (suc k) (ordinal_after_procedure (suc k) p) inner following sound) (omega (arith, seven, following)) statements rest
+      ∙ sym (ap (λ env. block_is_well_typed naming_by_spelling env (i + formals_constructor_count (formal_parameter_sections fs)) b) (bind_typed_parameters-all ps (bind_procedure x ps (read as_signed marks)) ∙ read-all as_signed (suc k) pairs inner))) in
+      let second : procedures_and_body_are_well_typed naming_by_spelling (bind_procedure x ps (read_edited edit as_signed marks)) (i + procedure_constructor_count p') statements' rest' ≡ procedures_and_body_are_well_typed naming_by_spelling (bind_procedure x ps (read as_signed marks)) (i + procedure_constructor_count p) statements rest =
+      (λ m. procedures_and_body_are_well_typed naming_by_spelling (bound m) (i + procedure_constructor_count-edited edit j (suc k) p m) statements' rest')
+      ∙ procedures_and_body_are_well_typed-edited edit w lit (i + procedure_constructor_count p) jr js (ordinal_after_procedure (suc k) p) inner (Sound-weaken edit w anything (suc k) (ordinal_after_procedure (suc k) p) inner following sound) (omega (arith, seven, following)) statements rest
       here.1 below (rest-has_value edit w (knowns marks) k p rest has_value) in
       λ m. first m && second m)

@@ -6,11 +6,11 @@ use Rattle.ob0_language_names.specs.Names.{Name}
 use Rattle.ob0_language_values.specs.Values.{Value, boolean_shape}
 use Rattle.ob0_language_types.specs.Arguments.{call_arguments, further_arguments}
 use Rattle.ob0_language_types.specs.Expressions.{a_constant, a_variable}
-use Rattle.ob0_language_types.specs.Laws.{EachUseHas}
-use Rattle.ob0_language_types.specs.Typing.{lone_designator, type_after_selectors, type_of, type_of_factor, value_type}
-use Rattle.ob0_language_types.specs.WellTyped.{FormalParameter, Signature, TypeMeanings, same_known_shape, argument_matches, arguments_match, by_place, by_value, call_is_well_typed, condition_is_boolean, else_is_well_typed, elsifs_are_well_typed, sequence_is_well_typed, signature_of, statement_is_well_typed, further_statements_are_well_typed, variable_type}
+use Rattle.ob0_language_types.specs.Laws.{EachUseSatisfies}
+use Rattle.ob0_language_types.specs.Typing.{lone_designator, type_after_selectors, type_of_expression, type_of_factor, value_type}
+use Rattle.ob0_language_types.specs.WellTyped.{FormalParameter, Signature, TypeMeanings, same_known_shape, argument_matches_parameter, arguments_match_signature, by_place, by_value, call_is_well_typed, condition_is_boolean, else_is_well_typed, elsifs_are_well_typed, sequence_is_well_typed, signature_of, statement_is_well_typed, further_statements_are_well_typed, assignable_type}
 use Rattle.ob0_language_types.proofs.Inlined.{uses-split}
-use Rattle.ob0_language_types.proofs.InlinedTypes.{IsConstant, type_after_selectors-inlined, type_of-inlined}
+use Rattle.ob0_language_types.proofs.InlinedTypes.{IsConstant, type_after_selectors-inlined, type_of_expression-inlined}
 
 abbrev pub alone : Tree Name factor → Tree Name expression
 alone f = compares (sum None (product f end) end) none
@@ -37,70 +37,70 @@ product-no_designator (negation f) m ms rest c = refl
 -- holds if a literal has the constant's type and isn't a variable
 pub record Written (checked : TypeMeanings Name) (v : Tree Name factor) (w : Value) : Type 0 where
   pub typed : type_of_factor checked v ≡ value_type w
-  pub no_variable : variable_type checked (lone_designator (alone v)) ≡ None
+  pub no_variable : assignable_type checked (lone_designator (alone v)) ≡ None
 
 abbrev pub AreUses : TypeMeanings Name → Value → OccurrenceSet → ℕ → List Name → Type 0
-AreUses checked w uses k xs = EachUseHas uses (IsConstant checked w) k xs
+AreUses checked w uses k xs = EachUseSatisfies uses (IsConstant checked w) k xs
 
-pub type-written : (checked : TypeMeanings Name) (uses : OccurrenceSet) (v : Tree Name factor) (w : Value) → Written checked v w → (k : ℕ) (e : Tree Name expression) → AreUses checked w uses k (occurrences e) → type_of checked (inline_in_tree uses v k e) ≡ type_of checked e
-type-written checked uses v w h k e u = type_of-inlined checked uses v w record { typed = h.typed } k e u
+pub type-written : (checked : TypeMeanings Name) (uses : OccurrenceSet) (v : Tree Name factor) (w : Value) → Written checked v w → (k : ℕ) (e : Tree Name expression) → AreUses checked w uses k (occurrences e) → type_of_expression checked (inline_in_tree uses v k e) ≡ type_of_expression checked e
+type-written checked uses v w h k e u = type_of_expression-inlined checked uses v w record { typed = h.typed } k e u
 
 pub variable-written : (checked : TypeMeanings Name) (uses : OccurrenceSet) (v : Tree Name factor) (w : Value) → Written checked v w → (k : ℕ) (x : Name) (path : Tree Name (items selector)) → AreUses checked w uses k (occurrences path)
-    → variable_type checked (Some (x, inline_in_tree uses v k path)) ≡ variable_type checked (Some (x, path))
-unfolding variable_type
+    → assignable_type checked (Some (x, inline_in_tree uses v k path)) ≡ assignable_type checked (Some (x, path))
+unfolding assignable_type
 variable-written checked uses v w h k x path u = λ i.
     elim (checked.object_for x) [ Some (a_variable s) ↦ type_after_selectors-inlined checked uses v w record { typed = h.typed } k s path u i | _ ↦ None ]
 
-use-no_variable : (checked : TypeMeanings Name) (x : Name) (w : Value) → checked.object_for x ≡ Some (a_constant w) → variable_type checked (Some (x, end)) ≡ None
-unfolding variable_type
+use-no_variable : (checked : TypeMeanings Name) (x : Name) (w : Value) → checked.object_for x ≡ Some (a_constant w) → assignable_type checked (Some (x, end)) ≡ None
+unfolding assignable_type
 use-no_variable checked x w e = ap (λ o. elim o [ Some (a_variable s) ↦ type_after_selectors checked s end | _ ↦ None ]) e
 
 pub lone_designator-written : (checked : TypeMeanings Name) (uses : OccurrenceSet) (v : Tree Name factor) (w : Value) → Written checked v w → (k : ℕ) (e : Tree Name expression) → AreUses checked w uses k (occurrences e)
-    → variable_type checked (lone_designator (inline_in_tree uses v k e)) ≡ variable_type checked (lone_designator e)
+    → assignable_type checked (lone_designator (inline_in_tree uses v k e)) ≡ assignable_type checked (lone_designator e)
 lone_designator-written checked uses v w h k (compares (sum None (product (designator x end) end) end) none) u =
-    (elim (uses k) as (λ b. uses k ≡ b → variable_type checked (lone_designator (alone (if b then v else designator x end))) ≡ variable_type checked (Some (x, end)))
+    (elim (uses k) as (λ b. uses k ≡ b → assignable_type checked (lone_designator (alone (if b then v else designator x end))) ≡ assignable_type checked (Some (x, end)))
     [ true ↦ λ e. h.no_variable ∙ sym (use-no_variable checked x w (u.0 e)) | false ↦ λ e. refl ]) refl
 lone_designator-written checked uses v w h k (compares (sum None (product (designator x (more s rest)) end) end) none) u =
     variable-written checked uses v w h (suc k) x (more s rest) (uses-split uses (IsConstant checked w) (suc k) (occurrences (more s rest)) [] (uses-split uses (IsConstant checked w) (suc k) (occurrences (more s rest) ++ []) [] (uses-split uses (IsConstant checked w) (suc k) ((occurrences (more s rest) ++ []) ++ []) [] u.1).0).0).0
 lone_designator-written checked uses v w h k (compares (sum None (product (designator x end) end) end) (one c)) u =
-    ap (variable_type checked) (compared-no_designator (if uses k then v else designator x end) _)
+    ap (assignable_type checked) (compared-no_designator (if uses k then v else designator x end) _)
 lone_designator-written checked uses v w h k (compares (sum None (product (designator x end) end) (more a rest)) c) u =
-    ap (variable_type checked) (sum-no_designator (if uses k then v else designator x end) _ _ _)
+    ap (assignable_type checked) (sum-no_designator (if uses k then v else designator x end) _ _ _)
 lone_designator-written checked uses v w h k (compares (sum None (product (designator x end) (more m ms)) rest) c) u =
-    ap (variable_type checked) (product-no_designator (if uses k then v else designator x end) _ _ _ _)
+    ap (assignable_type checked) (product-no_designator (if uses k then v else designator x end) _ _ _ _)
 lone_designator-written checked uses v w h k _ u = refl
 
-pub argument_matches-written : (checked : TypeMeanings Name) (uses : OccurrenceSet) (v : Tree Name factor) (w : Value) → Written checked v w → (f : FormalParameter) (k : ℕ) (e : Tree Name expression) → AreUses checked w uses k (occurrences e)
-    → argument_matches checked f (inline_in_tree uses v k e) ≡ argument_matches checked f e
-unfolding argument_matches
-argument_matches-written checked uses v w h f k e u = λ i.
+pub argument_matches_parameter-written : (checked : TypeMeanings Name) (uses : OccurrenceSet) (v : Tree Name factor) (w : Value) → Written checked v w → (f : FormalParameter) (k : ℕ) (e : Tree Name expression) → AreUses checked w uses k (occurrences e)
+    → argument_matches_parameter checked f (inline_in_tree uses v k e) ≡ argument_matches_parameter checked f e
+unfolding argument_matches_parameter
+argument_matches_parameter-written checked uses v w h f k e u = λ i.
     same_known_shape (Some f.shape) (elim f.mode [ by_value ↦ type-written checked uses v w h k e u i | by_place ↦ lone_designator-written checked uses v w h k e u i ])
 
 pub further_fit-written : (checked : TypeMeanings Name) (uses : OccurrenceSet) (v : Tree Name factor) (w : Value) → Written checked v w → (fs : Signature) (k : ℕ) (es : Tree Name (items argument_after_comma)) → AreUses checked w uses k (occurrences es)
-    → arguments_match checked fs (further_arguments (inline_in_tree uses v k es)) ≡ arguments_match checked fs (further_arguments es)
-unfolding arguments_match
+    → arguments_match_signature checked fs (further_arguments (inline_in_tree uses v k es)) ≡ arguments_match_signature checked fs (further_arguments es)
+unfolding arguments_match_signature
 further_fit-written checked uses v w h [] k end u = refl
 further_fit-written checked uses v w h (f ∷ fs) k end u = refl
 further_fit-written checked uses v w h [] k (more (comma_then_argument e) es) u = refl
 further_fit-written checked uses v w h (f ∷ fs) k (more (comma_then_argument e) es) u =
     let s = uses-split uses (IsConstant checked w) k (occurrences e) (occurrences es) u in
-    λ i. argument_matches-written checked uses v w h f k e s.0 i && further_fit-written checked uses v w h fs (k + length (occurrences e)) es s.1 i
+    λ i. argument_matches_parameter-written checked uses v w h f k e s.0 i && further_fit-written checked uses v w h fs (k + length (occurrences e)) es s.1 i
 
-pub arguments_match-written : (checked : TypeMeanings Name) (uses : OccurrenceSet) (v : Tree Name factor) (w : Value) → Written checked v w → (fs : Signature) (k : ℕ) (es : Tree Name (maybe arguments)) → AreUses checked w uses k (occurrences es)
-    → arguments_match checked fs (call_arguments (inline_in_tree uses v k es)) ≡ arguments_match checked fs (call_arguments es)
-unfolding arguments_match
-arguments_match-written checked uses v w h fs k none u = refl
-arguments_match-written checked uses v w h fs k (one no_arguments) u = refl
-arguments_match-written checked uses v w h [] k (one (some_arguments e es)) u = refl
-arguments_match-written checked uses v w h (f ∷ fs) k (one (some_arguments e es)) u =
+pub arguments_match_signature-written : (checked : TypeMeanings Name) (uses : OccurrenceSet) (v : Tree Name factor) (w : Value) → Written checked v w → (fs : Signature) (k : ℕ) (es : Tree Name (maybe arguments)) → AreUses checked w uses k (occurrences es)
+    → arguments_match_signature checked fs (call_arguments (inline_in_tree uses v k es)) ≡ arguments_match_signature checked fs (call_arguments es)
+unfolding arguments_match_signature
+arguments_match_signature-written checked uses v w h fs k none u = refl
+arguments_match_signature-written checked uses v w h fs k (one no_arguments) u = refl
+arguments_match_signature-written checked uses v w h [] k (one (some_arguments e es)) u = refl
+arguments_match_signature-written checked uses v w h (f ∷ fs) k (one (some_arguments e es)) u =
     let s = uses-split uses (IsConstant checked w) k (occurrences e) (occurrences es) u in
-    λ i. argument_matches-written checked uses v w h f k e s.0 i && further_fit-written checked uses v w h fs (k + length (occurrences e)) es s.1 i
+    λ i. argument_matches_parameter-written checked uses v w h f k e s.0 i && further_fit-written checked uses v w h fs (k + length (occurrences e)) es s.1 i
 
 pub call_is_well_typed-written : (checked : TypeMeanings Name) (uses : OccurrenceSet) (v : Tree Name factor) (w : Value) → Written checked v w → (signature : Option Signature) (k : ℕ) (es : Tree Name (maybe arguments)) → AreUses checked w uses k (occurrences es)
     → call_is_well_typed checked signature (call_arguments (inline_in_tree uses v k es)) ≡ call_is_well_typed checked signature (call_arguments es)
 unfolding call_is_well_typed
 call_is_well_typed-written checked uses v w h None k es u = refl
-call_is_well_typed-written checked uses v w h (Some fs) k es u = arguments_match-written checked uses v w h fs k es u
+call_is_well_typed-written checked uses v w h (Some fs) k es u = arguments_match_signature-written checked uses v w h fs k es u
 
 pub condition_is_boolean-written : (checked : TypeMeanings Name) (uses : OccurrenceSet) (v : Tree Name factor) (w : Value) → Written checked v w → (k : ℕ) (e : Tree Name expression) → AreUses checked w uses k (occurrences e)
     → condition_is_boolean checked (inline_in_tree uses v k e) ≡ condition_is_boolean checked e

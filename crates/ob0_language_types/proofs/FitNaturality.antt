@@ -7,35 +7,35 @@ use Rattle.ob0_language_types.specs.Arguments.{call_arguments}
 use Rattle.ob0_language_types.specs.Expressions.{Meanings, a_variable}
 use Rattle.ob0_language_types.specs.Typing.{lone_designator}
 use Rattle.ob0_language_values.specs.Values.{Shape, boolean_shape}
-use Rattle.ob0_language_types.specs.WellTyped.{FormalParameter, Signature, TypeMeanings, same_known_shape, argument_matches, arguments_match, by_place, by_value, call_is_well_typed, condition_is_boolean, else_is_well_typed, elsifs_are_well_typed, sequence_is_well_typed, signature_of, statement_is_well_typed, further_statements_are_well_typed, variable_type}
+use Rattle.ob0_language_types.specs.WellTyped.{FormalParameter, Signature, TypeMeanings, same_known_shape, argument_matches_parameter, arguments_match_signature, by_place, by_value, call_is_well_typed, condition_is_boolean, else_is_well_typed, elsifs_are_well_typed, sequence_is_well_typed, signature_of, statement_is_well_typed, further_statements_are_well_typed, assignable_type}
 use Rattle.ob0_language_types.proofs.Naturality.{arguments-map, lone_designator-map, map_designator, through}
-use Rattle.ob0_language_types.proofs.TypeNaturality.{type_after_selectors-map, type_of-map}
+use Rattle.ob0_language_types.proofs.TypeNaturality.{type_after_selectors-map, type_of_expression-map}
 
-pub variable_type-map : {N M P : Type 0} (f h : N → M) (meaning : Meanings M Shape P) (d : Option (N × Tree N (items selector))) → variable_type meaning (option_map (map_designator f h) d) ≡ variable_type (through f h meaning) d
-unfolding variable_type
-variable_type-map f h meaning None = refl
-variable_type-map f h meaning (Some (x, path)) = λ i. elim (meaning.object_for (f x)) [ Some (a_variable s) ↦ type_after_selectors-map f h meaning s path i | _ ↦ None ]
+pub assignable_type-map : {N M P : Type 0} (f h : N → M) (meaning : Meanings M Shape P) (d : Option (N × Tree N (items selector))) → assignable_type meaning (option_map (map_designator f h) d) ≡ assignable_type (through f h meaning) d
+unfolding assignable_type
+assignable_type-map f h meaning None = refl
+assignable_type-map f h meaning (Some (x, path)) = λ i. elim (meaning.object_for (f x)) [ Some (a_variable s) ↦ type_after_selectors-map f h meaning s path i | _ ↦ None ]
 
-pub argument_matches-map : {N M P : Type 0} (f h : N → M) (meaning : Meanings M Shape P) (g : FormalParameter) (e : Tree N expression) → argument_matches meaning g (map_names f h e) ≡ argument_matches (through f h meaning) g e
-unfolding argument_matches
-argument_matches-map f h meaning g e = λ i.
-    same_known_shape (Some g.shape) (elim g.mode [ by_value ↦ type_of-map f h meaning e i | by_place ↦ (ap (variable_type meaning) (lone_designator-map f h e) ∙ variable_type-map f h meaning (lone_designator e)) i ])
+pub argument_matches_parameter-map : {N M P : Type 0} (f h : N → M) (meaning : Meanings M Shape P) (g : FormalParameter) (e : Tree N expression) → argument_matches_parameter meaning g (map_names f h e) ≡ argument_matches_parameter (through f h meaning) g e
+unfolding argument_matches_parameter
+argument_matches_parameter-map f h meaning g e = λ i.
+    same_known_shape (Some g.shape) (elim g.mode [ by_value ↦ type_of_expression-map f h meaning e i | by_place ↦ (ap (assignable_type meaning) (lone_designator-map f h e) ∙ assignable_type-map f h meaning (lone_designator e)) i ])
 
-pub arguments_match-map : {N M P : Type 0} (f h : N → M) (meaning : Meanings M Shape P) (gs : Signature) (es : List (Tree N expression)) → arguments_match meaning gs (map (map_names f h) es) ≡ arguments_match (through f h meaning) gs es
-unfolding arguments_match
-arguments_match-map f h meaning [] [] = refl
-arguments_match-map f h meaning [] (e ∷ es) = refl
-arguments_match-map f h meaning (g ∷ gs) [] = refl
-arguments_match-map f h meaning (g ∷ gs) (e ∷ es) = λ i. argument_matches-map f h meaning g e i && arguments_match-map f h meaning gs es i
+pub arguments_match_signature-map : {N M P : Type 0} (f h : N → M) (meaning : Meanings M Shape P) (gs : Signature) (es : List (Tree N expression)) → arguments_match_signature meaning gs (map (map_names f h) es) ≡ arguments_match_signature (through f h meaning) gs es
+unfolding arguments_match_signature
+arguments_match_signature-map f h meaning [] [] = refl
+arguments_match_signature-map f h meaning [] (e ∷ es) = refl
+arguments_match_signature-map f h meaning (g ∷ gs) [] = refl
+arguments_match_signature-map f h meaning (g ∷ gs) (e ∷ es) = λ i. argument_matches_parameter-map f h meaning g e i && arguments_match_signature-map f h meaning gs es i
 
 pub call_is_well_typed-map : {N M P : Type 0} (f h : N → M) (meaning : Meanings M Shape P) (signature : Option Signature) (es : Tree N (maybe arguments)) → call_is_well_typed meaning signature (call_arguments (map_names f h es)) ≡ call_is_well_typed (through f h meaning) signature (call_arguments es)
 unfolding call_is_well_typed
 call_is_well_typed-map f h meaning None es = refl
-call_is_well_typed-map f h meaning (Some gs) es = ap (arguments_match meaning gs) (arguments-map f h es) ∙ arguments_match-map f h meaning gs (call_arguments es)
+call_is_well_typed-map f h meaning (Some gs) es = ap (arguments_match_signature meaning gs) (arguments-map f h es) ∙ arguments_match_signature-map f h meaning gs (call_arguments es)
 
 pub condition_is_boolean-map : {N M P : Type 0} (f h : N → M) (meaning : Meanings M Shape P) (e : Tree N expression) → condition_is_boolean meaning (map_names f h e) ≡ condition_is_boolean (through f h meaning) e
 unfolding condition_is_boolean
-condition_is_boolean-map f h meaning e = λ i. same_known_shape (Some boolean_shape) (type_of-map f h meaning e i)
+condition_is_boolean-map f h meaning e = λ i. same_known_shape (Some boolean_shape) (type_of_expression-map f h meaning e i)
 
 mutual
   unfolding statement_is_well_typed
@@ -43,7 +43,7 @@ mutual
   pub statement_is_well_typed-map : {N M : Type 0} (f h : N → M) (meaning : TypeMeanings M) (a : Tree N statement) → statement_is_well_typed meaning (map_names f h a) ≡ statement_is_well_typed (through f h meaning) a
   statement_is_well_typed-map f h meaning empty = refl
   statement_is_well_typed-map f h meaning (assigns x path e) = λ i.
-      same_known_shape (variable_type-map f h meaning (Some (x, path)) i) (type_of-map f h meaning e i)
+      same_known_shape (assignable_type-map f h meaning (Some (x, path)) i) (type_of_expression-map f h meaning e i)
   statement_is_well_typed-map f h meaning (calls x es) = call_is_well_typed-map f h meaning (signature_of (meaning.object_for (f x))) es
   statement_is_well_typed-map f h meaning (branches e statements rest last) = λ i.
       condition_is_boolean-map f h meaning e i && (sequence_is_well_typed-map f h meaning statements i && (elsifs_are_well_typed-map f h meaning rest i && else_is_well_typed-map f h meaning last i))

@@ -1,20 +1,20 @@
 -- A well-typed module remains well-typed if a constant is inlined everywhere.
 use Rattle.std.proofs.Common.{List, Some, [], ap, arith, codes, eq-eqb, false, if◌then◌else◌, le_refl, nat_lt, negsuc, option_and_then, pos, refl, slice_get, subst, suc, sym, true, true≢false, zero-add, ℕ, ⊎_elim, ◌∙◌, ◌∷◌, ◌≡◌, ◌≤◌}
 use Rattle.ob0_tree.specs.Tree.{Sort, Tree, adds, compares, end, factor, integer, forms_module, module_text, more, none, occurrences, parenthesised, product, sum}
-use Rattle.ob0_language_names.specs.Inlining.{OccurrenceSet, occurrences_bound_to}
+use Rattle.ob0_language_names.specs.Inlining.{OccurrenceSet, occurrences_bound_to_ordinal}
 use Rattle.ob0_language_names.specs.Names.{Label, Name, naming_by_spelling}
-use Rattle.ob0_language_names.specs.Occurrences.{bindings, ordinal_bound_at, label_ordinal}
+use Rattle.ob0_language_names.specs.Occurrences.{bindings, ordinal_bound_at_occurrence, label_ordinal}
 use Rattle.ob0_language_names.specs.BlockParts.{module_block}
-use Rattle.ob0_language_names.specs.OccurrenceLookup.{naming_that_looks_up}
+use Rattle.ob0_language_names.specs.OccurrenceLookup.{naming_that_looks_up_one_name}
 use Rattle.ob0_language_names.proofs.EditedTrees.{Edit, inline-nothing, leaf, no_uses, writing}
 use Rattle.ob0_language_names.proofs.EverywhereTrees.{everywhere, gone-module}
 use Rattle.ob0_language_names.proofs.InliningLeavesNoUse.{AllGiveWay, NoneOf, none-left}
 use Rattle.ob0_language_names.proofs.Peeling.{both}
 use Rattle.ob0_language_names.proofs.Places.{AllAt, Both, Each, EachBlock, Placed, both-block, each-block}
 use Rattle.ob0_language_values.specs.Values.{Value, elements, members, number, truth}
-use Rattle.ob0_language_types.specs.EditLaws.{InliningEverywhereKeepsWellTyped, IsConstantWithLiteral, MeansPredeclaredTruth}
+use Rattle.ob0_language_types.specs.EditLaws.{InliningEverywhereKeepsWellTyped, IsConstantWithLiteral, TruthWordMeansPredeclared}
 use Rattle.ob0_language_types.specs.WellTyped.{WellTyped, passes_type_check}
-use Rattle.ob0_language_types.specs.Written.{value_literal}
+use Rattle.ob0_language_types.specs.ValueLiterals.{value_literal}
 use Rattle.ob0_language_types.proofs.ConstantUsesInBlocks.{IsOf, UsesAreFactors, alone-block}
 use Rattle.ob0_language_types.proofs.EditedModules.{IsFitted, IsShownAs, all-at, all-shown, label_ordinal-of, marked_outermost, outermost-sound, seven-or-less, shown-from, truth_name, well_typed-edited}
 use Rattle.ob0_language_types.proofs.EditedTypes.{anything}
@@ -70,7 +70,7 @@ here-everywhere edit w lit s j scope t reported alone_there = (
       (cases_Bool (shown w scope))),
 )
 
-reported-from : (edit : Edit) (w : Value) (j : ℕ) (scope : Scope Name) (xs : List Name) → Each (Both naming_by_spelling (naming_that_looks_up (truth_name w)) (IsUseOf edit.uses edit.constant) (IsShownAs edit.uses w)) j scope xs
+reported-from : (edit : Edit) (w : Value) (j : ℕ) (scope : Scope Name) (xs : List Name) → Each (Both naming_by_spelling (naming_that_looks_up_one_name (truth_name w)) (IsUseOf edit.uses edit.constant) (IsShownAs edit.uses w)) j scope xs
     → Each (Writes edit w) j scope xs × AllGiveWay edit.uses (IsOf edit.constant scope) j xs
 reported-from edit w j scope [] both = (tt, tt)
 reported-from edit w j scope (x ∷ xs) both =
@@ -91,10 +91,10 @@ all_kept v d scope (x ∷ xs) = (λ e. absurd (true≢false (sym e)), all_kept v
 abbrev pub Nothing : ℕ → Label → Type 0
 Nothing j l = Unit {0}
 
-bound-exactly : (m : Tree Name module_text) (d i : ℕ) (l : Label) → slice_get (bindings m) i ≡ Some l → IsUseOf (occurrences_bound_to m d) d i l
+bound-exactly : (m : Tree Name module_text) (d i : ℕ) (l : Label) → slice_get (bindings m) i ≡ Some l → IsUseOf (occurrences_bound_to_ordinal m d) d i l
 bound-exactly m d i l e =
-    let bound : ordinal_bound_at m i ≡ label_ordinal l = ap (option_and_then label_ordinal) e in
-    (λ u. sym bound ∙ same_ordinal-true (ordinal_bound_at m i) d u, λ k. ap (λ o. same_ordinal o d) (bound ∙ k) ∙ eq-eqb d d refl)
+    let bound : ordinal_bound_at_occurrence m i ≡ label_ordinal l = ap (option_and_then label_ordinal) e in
+    (λ u. sym bound ∙ same_ordinal-true (ordinal_bound_at_occurrence m i) d u, λ k. ap (λ o. same_ordinal o d) (bound ∙ k) ∙ eq-eqb d d refl)
 
 -- In a well-typed module each use of the constant is a whole factor.
 pub alone-module : (m : Tree Name module_text) (d : ℕ) (w : Value) (v : Tree Name factor) → IsConstantWithLiteral m d w v → WellTyped m → EachBlock (UsesAreFactors d) 0 (predeclared_scope naming_by_spelling) 7 (module_block m)
@@ -110,20 +110,20 @@ alone-module (forms_module x b closing) d w v c well =
     each-block naming_by_spelling naming_by_spelling Nothing Nothing (Here plain w) (λ s j scope t both. (no_writes v d w j scope (occurrences t), all_kept v d scope (occurrences (leaf plain j t)))) 0 scope 7 b all_plain all_plain in
     alone-block plain w plain_lit 0 0 7 marked_outermost (outermost-sound plain w anything low.0) (le_refl 7) b plain_here (λ l n. low.1) well.1
 
-pub everywhere-fitted : (m : Tree Name module_text) (d : ℕ) (w : Value) (v : Tree Name factor) → IsConstantWithLiteral m d w v → ((k : ℕ) → ordinal_bound_at m k ≡ Some d → MeansPredeclaredTruth m k w) → WellTyped m → IsFitted (everywhere (occurrences_bound_to m d) v d) w m
+pub everywhere-fitted : (m : Tree Name module_text) (d : ℕ) (w : Value) (v : Tree Name factor) → IsConstantWithLiteral m d w v → ((k : ℕ) → ordinal_bound_at_occurrence m k ≡ Some d → TruthWordMeansPredeclared m k w) → WellTyped m → IsFitted (everywhere (occurrences_bound_to_ordinal m d) v d) w m
 everywhere-fitted (forms_module x b closing) d w v c seen well =
     let m : Tree Name module_text = forms_module x b closing in
-    let uses : OccurrenceSet = occurrences_bound_to m d in
+    let uses : OccurrenceSet = occurrences_bound_to_ordinal m d in
     let edit : Edit = everywhere uses v d in
     let low = seven-or-less m d w c.value in
     let lit : Literal edit w = record { written = c.literal; scalar = c.scalar; ordinal = low.0 } in
     let scope : Scope Name = predeclared_scope naming_by_spelling in
     let reported : EachBlock (IsLabelled edit w) 0 scope 7 b =
-    each-block naming_by_spelling (naming_that_looks_up (truth_name w)) (IsUseOf uses d) (IsShownAs uses w) (IsLabelled edit w) (λ s j scope t both. reported-from edit w j scope (occurrences t) both) 0 scope 7 b
+    each-block naming_by_spelling (naming_that_looks_up_one_name (truth_name w)) (IsUseOf uses d) (IsShownAs uses w) (IsLabelled edit w) (λ s j scope t both. reported-from edit w j scope (occurrences t) both) 0 scope 7 b
     (all-at (IsUseOf uses d) 0 (occurrences (relabel_module naming_by_spelling (label_from_ordinal naming_by_spelling) m)) (λ i l e. subst (λ n. IsUseOf uses d n l) (sym (zero-add i)) (bound-exactly m d i l e)))
-    (all-shown m w uses (λ k u. seen k (same_ordinal-true (ordinal_bound_at m k) d u))) in
+    (all-shown m w uses (λ k u. seen k (same_ordinal-true (ordinal_bound_at_occurrence m k) d u))) in
     record { literal = lit; here = both-block (IsLabelled edit w) (UsesAreFactors d) (Here edit w) (here-everywhere edit w lit) 0 scope 7 b reported (alone-module m d w v c well); has_value = low.1 }
 
 pub inlining_everywhere_keeps_well_typed-holds : InliningEverywhereKeepsWellTyped
 inlining_everywhere_keeps_well_typed-holds m d w v c seen well =
-    subst WellTyped (gone-module (occurrences_bound_to m d) v d m) (well_typed-edited (everywhere (occurrences_bound_to m d) v d) w m (everywhere-fitted m d w v c seen well) well)
+    subst WellTyped (gone-module (occurrences_bound_to_ordinal m d) v d m) (well_typed-edited (everywhere (occurrences_bound_to_ordinal m d) v d) w m (everywhere-fitted m d w v c seen well) well)

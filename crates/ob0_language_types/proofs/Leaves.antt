@@ -14,13 +14,13 @@ use Rattle.ob0_language_types.specs.ConstantValues.{constant_or_placeholder}
 use Rattle.ob0_language_types.specs.EditLaws.{Is32BitScalar}
 use Rattle.ob0_language_types.specs.Environments.{Environment, meanings, newest_object}
 use Rattle.ob0_language_types.specs.Expressions.{Meanings, Object, a_constant, a_procedure, a_standard_procedure, a_type, a_variable}
-use Rattle.ob0_language_types.specs.Laws.{EachUseHas}
-use Rattle.ob0_language_types.specs.Typing.{constant_of, constant_value, constant_meanings, denoted_type, type_of_type_object}
-use Rattle.ob0_language_types.specs.Written.{value_literal}
-use Rattle.ob0_language_types.proofs.DenotedInlined.{ConstantWritten, NamesConstant, constant_value-written, denoted_type-written}
+use Rattle.ob0_language_types.specs.Laws.{EachUseSatisfies}
+use Rattle.ob0_language_types.specs.Typing.{value_of_constant_object, constant_expression_value, meanings_in_constant_expressions, denoted_type, type_of_type_object}
+use Rattle.ob0_language_types.specs.ValueLiterals.{value_literal}
+use Rattle.ob0_language_types.proofs.DenotedInlined.{ConstantWritten, NamesConstant, constant_expression_value-written, denoted_type-written}
 use Rattle.ob0_language_types.proofs.Literals.{IsSeen, literal-typed, literal-has_value}
 use Rattle.ob0_language_types.proofs.Marks.{Mark, Marks, Sound, Stays, edited-holds, found, found-right, known-found, knowns, no-found, object_as, object_of, ordinal-found, read, read-from, read-holds, read_edited, read_edited-from, scope_marked, has_value-found, yes-found}
-use Rattle.ob0_language_types.proofs.TypeNaturality.{constant_value-map, denoted_type-map}
+use Rattle.ob0_language_types.proofs.TypeNaturality.{constant_expression_value-map, denoted_type-map}
 use Rattle.std.proofs.lemmas.Bool.{cases_Bool, false_from_ne_true}
 
 -- returns true if the literal's name is bound to the predeclared TRUE or FALSE, or if the literal has no name
@@ -72,7 +72,7 @@ pub read-object_for : {V P Q : Type 0} (q : ℕ → P → Q) (marks : Marks V P)
 read-object_for q marks x = ap newest_object (read-from q marks x) ∙ read-holds q marks x
 
 pub uses-read : {V P Q : Type 0} (edit : Edit) (w : Value) (X : Marks V P → Name → ℕ → P → Type 0) (p : ℕ → P → Q) (n : ℕ) (marks : Marks V P) → Sound edit w X n marks → (j : ℕ) (xs : List Name)
-    → Each (Writes edit w) j (scope_marked marks) xs → EachUseHas edit.uses (NamesConstant (read_meanings p marks) w) j xs
+    → Each (Writes edit w) j (scope_marked marks) xs → EachUseSatisfies edit.uses (NamesConstant (read_meanings p marks) w) j xs
 uses-read edit w X p n marks s j [] reported = tt
 uses-read edit w X p n marks s j (x ∷ xs) reported = (
   λ u. read-object_for p marks x ∙ has_value-found edit w p (found marks x) (found-right edit w X n marks x s) (sym (ordinal-found marks x) ∙ reported.0.0 u),
@@ -91,17 +91,17 @@ seen-read edit (number m) X p n marks s h = tt
 seen-read edit (elements vs) X p n marks s h = tt
 seen-read edit (members k ms) X p n marks s h = tt
 
-pub seen-constants : {V P : Type 0} (W R : Type 0) (meaning : Meanings Name V P) (w : Value) → IsSeen meaning w → IsSeen {V = W} {P = R} (constant_meanings meaning) w
-seen-constants W R meaning (truth true) e = ap (λ o. option_map a_constant (constant_of o)) e
-seen-constants W R meaning (truth false) e = ap (λ o. option_map a_constant (constant_of o)) e
+pub seen-constants : {V P : Type 0} (W R : Type 0) (meaning : Meanings Name V P) (w : Value) → IsSeen meaning w → IsSeen {V = W} {P = R} (meanings_in_constant_expressions meaning) w
+seen-constants W R meaning (truth true) e = ap (λ o. option_map a_constant (value_of_constant_object o)) e
+seen-constants W R meaning (truth false) e = ap (λ o. option_map a_constant (value_of_constant_object o)) e
 seen-constants W R meaning (number n) e = tt
 seen-constants W R meaning (elements vs) e = tt
 seen-constants W R meaning (members k ms) e = tt
 
 pub literal-constant : {V P : Type 0} (edit : Edit) (w : Value) → Literal edit w → (meaning : Meanings Name V P) → IsSeen meaning w → ConstantWritten meaning edit.literal w
 literal-constant edit w lit meaning seen = record {
-  typed = literal-typed {P = Unit {0}} (constant_meanings meaning) edit.literal w lit.written lit.scalar (seen-constants Shape (Unit {0}) meaning w seen);
-  has_value = literal-has_value {P = Unit {0}} (constant_meanings meaning) [] edit.literal w lit.written lit.scalar (seen-constants Place (Unit {0}) meaning w seen);
+  typed = literal-typed {P = Unit {0}} (meanings_in_constant_expressions meaning) edit.literal w lit.written lit.scalar (seen-constants Shape (Unit {0}) meaning w seen);
+  has_value = literal-has_value {P = Unit {0}} (meanings_in_constant_expressions meaning) [] edit.literal w lit.written lit.scalar (seen-constants Place (Unit {0}) meaning w seen);
 }
 
 -- a name's meaning and spelling, which replace the name in a tree
@@ -126,13 +126,13 @@ plain_object (a_standard_procedure p) = a_standard_procedure p
 abbrev pub plain_tag : {V P : Type 0} → Environment Name V P → Name → Tag (Unit {0}) (Unit {0})
 plain_tag env x = record { object = option_map plain_object ((meanings naming_by_spelling env).object_for x); text = [] }
 
-pub constant_of-plain : {V P : Type 0} (o : Option (Object V P)) → constant_of (option_map plain_object o) ≡ constant_of o
-constant_of-plain None = refl
-constant_of-plain (Some (a_type s)) = refl
-constant_of-plain (Some (a_constant v)) = refl
-constant_of-plain (Some (a_variable p)) = refl
-constant_of-plain (Some (a_procedure p)) = refl
-constant_of-plain (Some (a_standard_procedure p)) = refl
+pub value_of_constant_object-plain : {V P : Type 0} (o : Option (Object V P)) → value_of_constant_object (option_map plain_object o) ≡ value_of_constant_object o
+value_of_constant_object-plain None = refl
+value_of_constant_object-plain (Some (a_type s)) = refl
+value_of_constant_object-plain (Some (a_constant v)) = refl
+value_of_constant_object-plain (Some (a_variable p)) = refl
+value_of_constant_object-plain (Some (a_procedure p)) = refl
+value_of_constant_object-plain (Some (a_standard_procedure p)) = refl
 
 pub type_of_type_object-plain : {V P : Type 0} (o : Option (Object V P)) → type_of_type_object (option_map plain_object o) ≡ type_of_type_object o
 type_of_type_object-plain None = refl
@@ -142,17 +142,17 @@ type_of_type_object-plain (Some (a_variable p)) = refl
 type_of_type_object-plain (Some (a_procedure p)) = refl
 type_of_type_object-plain (Some (a_standard_procedure p)) = refl
 
-constant_value-tagged : {V P : Type 0} (env : Environment Name V P) (e : Tree Name expression) → constant_value tagged (map_names (plain_tag env) as_field e) ≡ constant_value (meanings naming_by_spelling env) e
-constant_value-tagged env e =
-    constant_value-map (plain_tag env) as_field tagged (meanings naming_by_spelling env) e (λ x. constant_of-plain ((meanings naming_by_spelling env).object_for x)) (λ x. refl)
+constant_expression_value-tagged : {V P : Type 0} (env : Environment Name V P) (e : Tree Name expression) → constant_expression_value tagged (map_names (plain_tag env) as_field e) ≡ constant_expression_value (meanings naming_by_spelling env) e
+constant_expression_value-tagged env e =
+    constant_expression_value-map (plain_tag env) as_field tagged (meanings naming_by_spelling env) e (λ x. value_of_constant_object-plain ((meanings naming_by_spelling env).object_for x)) (λ x. refl)
 
 denoted_type-tagged : {V P : Type 0} (env : Environment Name V P) (k : ℕ) (t : Tree Name written_type) → denoted_type tagged k (map_names (plain_tag env) as_field t) ≡ denoted_type (meanings naming_by_spelling env) k t
 denoted_type-tagged env k t =
-    denoted_type-map (plain_tag env) as_field tagged (meanings naming_by_spelling env) (λ x. constant_of-plain ((meanings naming_by_spelling env).object_for x)) (λ x. type_of_type_object-plain ((meanings naming_by_spelling env).object_for x)) (λ x. refl) k t
+    denoted_type-map (plain_tag env) as_field tagged (meanings naming_by_spelling env) (λ x. value_of_constant_object-plain ((meanings naming_by_spelling env).object_for x)) (λ x. type_of_type_object-plain ((meanings naming_by_spelling env).object_for x)) (λ x. refl) k t
 
-pub constant_value-alike : {V P W Q : Type 0} (there : Environment Name V P) (here : Environment Name W Q) (e : Tree Name expression) → SameAt (plain_tag there) (plain_tag here) (occurrences e) → constant_value (meanings naming_by_spelling there) e ≡ constant_value (meanings naming_by_spelling here) e
-constant_value-alike there here e same =
-    sym (constant_value-tagged there e) ∙ (ap (constant_value tagged) (map_names-same (plain_tag there) (plain_tag here) as_field e same) ∙ constant_value-tagged here e)
+pub constant_expression_value-alike : {V P W Q : Type 0} (there : Environment Name V P) (here : Environment Name W Q) (e : Tree Name expression) → SameAt (plain_tag there) (plain_tag here) (occurrences e) → constant_expression_value (meanings naming_by_spelling there) e ≡ constant_expression_value (meanings naming_by_spelling here) e
+constant_expression_value-alike there here e same =
+    sym (constant_expression_value-tagged there e) ∙ (ap (constant_expression_value tagged) (map_names-same (plain_tag there) (plain_tag here) as_field e same) ∙ constant_expression_value-tagged here e)
 
 pub denoted_type-alike : {V P W Q : Type 0} (there : Environment Name V P) (here : Environment Name W Q) (k : ℕ) (t : Tree Name written_type) → SameAt (plain_tag there) (plain_tag here) (occurrences t) → denoted_type (meanings naming_by_spelling there) k t ≡ denoted_type (meanings naming_by_spelling here) k t
 denoted_type-alike there here k t same =
@@ -179,13 +179,13 @@ edited-same edit p q marks (x ∷ xs) stay = (
 -- A constant expression has the same value, and a type's text denotes the same type, after the edit.
 
 pub constant-leaf : {V P Q : Type 0} (edit : Edit) (w : Value) → Literal edit w → (X : Marks V P → Name → ℕ → P → Type 0) (p q : ℕ → P → Q) (n : ℕ) (marks : Marks V P) → Sound edit w X n marks → (j : ℕ) (e : Tree Name expression)
-    → Here edit w expression j (scope_marked marks) e → constant_value (edited_meanings edit q marks) (leaf edit j e) ≡ constant_value (read_meanings p marks) e
+    → Here edit w expression j (scope_marked marks) e → constant_expression_value (edited_meanings edit q marks) (leaf edit j e) ≡ constant_expression_value (read_meanings p marks) e
 constant-leaf edit w lit X p q n marks s j e here =
-    constant_value-alike (read_edited edit q marks) (read p marks) (leaf edit j e) (edited-same edit p q marks (occurrences (leaf edit j e)) here.1)
+    constant_expression_value-alike (read_edited edit q marks) (read p marks) (leaf edit j e) (edited-same edit p q marks (occurrences (leaf edit j e)) here.1)
     ∙ ⊎_elim
-    (λ yes_shown. constant_value-written (read_meanings p marks) edit.uses edit.literal w (literal-constant edit w lit (read_meanings p marks) (seen-read edit w X p n marks s yes_shown)) j e
+    (λ yes_shown. constant_expression_value-written (read_meanings p marks) edit.uses edit.literal w (literal-constant edit w lit (read_meanings p marks) (seen-read edit w X p n marks s yes_shown)) j e
     (uses-read edit w X p n marks s j (occurrences e) here.0))
-    (λ not_shown. ap (constant_value (read_meanings p marks)) (inline-nothing edit.uses edit.literal j e (none-used edit w j (scope_marked marks) (occurrences e) not_shown here.0)))
+    (λ not_shown. ap (constant_expression_value (read_meanings p marks)) (inline-nothing edit.uses edit.literal j e (none-used edit w j (scope_marked marks) (occurrences e) not_shown here.0)))
     (cases_Bool (shown w (scope_marked marks)))
 
 pub denoted_type-leaf : {V P Q : Type 0} (edit : Edit) (w : Value) → Literal edit w → (X : Marks V P → Name → ℕ → P → Type 0) (p q : ℕ → P → Q) (n : ℕ) (marks : Marks V P) → Sound edit w X n marks → (j k : ℕ) (t : Tree Name written_type)
@@ -199,19 +199,19 @@ denoted_type-leaf edit w lit X p q n marks s j k t here =
     (cases_Bool (shown w (scope_marked marks)))
 
 -- A constant expression has the same value if only the constants are known.
-pub known-value : {V P Q : Type 0} (p : ℕ → P → Q) (marks : Marks V P) (e : Tree Name expression) → constant_value (meanings naming_by_spelling (knowns marks)) e ≡ constant_value (read_meanings p marks) e
+pub known-value : {V P Q : Type 0} (p : ℕ → P → Q) (marks : Marks V P) (e : Tree Name expression) → constant_expression_value (meanings naming_by_spelling (knowns marks)) e ≡ constant_expression_value (read_meanings p marks) e
 known-value {V} {P} {Q} p marks e =
-    ap (constant_value (meanings naming_by_spelling (knowns marks))) (sym (map_names-id e))
-    ∙ constant_value-map (λ x. x) (λ x. x) (meanings naming_by_spelling (knowns marks)) (read_meanings p marks) e
-    (λ x. ap constant_of (known-found marks x) ∙ (same (found marks x) ∙ sym (ap constant_of (read-object_for p marks x)))) (λ x. refl)
+    ap (constant_expression_value (meanings naming_by_spelling (knowns marks))) (sym (map_names-id e))
+    ∙ constant_expression_value-map (λ x. x) (λ x. x) (meanings naming_by_spelling (knowns marks)) (read_meanings p marks) e
+    (λ x. ap value_of_constant_object (known-found marks x) ∙ (same (found marks x) ∙ sym (ap value_of_constant_object (read-object_for p marks x)))) (λ x. refl)
   where
-    of_object : (k : ℕ) (o : Object V P) → constant_of (Some (constant_or_placeholder o)) ≡ constant_of (Some (object_as (p k) o))
+    of_object : (k : ℕ) (o : Object V P) → value_of_constant_object (Some (constant_or_placeholder o)) ≡ value_of_constant_object (Some (object_as (p k) o))
     of_object k (a_type s) = refl
     of_object k (a_constant v) = refl
     of_object k (a_variable s) = refl
     of_object k (a_procedure s) = refl
     of_object k (a_standard_procedure s) = refl
 
-    same : (o : Option (Mark V P)) → constant_of (option_map (λ b. constant_or_placeholder b.object) o) ≡ constant_of (option_map (object_of p) o)
+    same : (o : Option (Mark V P)) → value_of_constant_object (option_map (λ b. constant_or_placeholder b.object) o) ≡ value_of_constant_object (option_map (object_of p) o)
     same None = refl
     same (Some b) = of_object b.ordinal b.object

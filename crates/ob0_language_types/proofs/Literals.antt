@@ -3,11 +3,11 @@
 use Rattle.std.proofs.Common.{Some, [], ap, arith, codes, false, if◌then◌else◌, ltb-false, ltb-true, nat_lt, negsuc, option_and_then, pos, refl, subst, suc, sym, true, unwrap_or, ℕ, ◌∙◌, ◌≡◌}
 use Rattle.ob0_tree.specs.Tree.{Tree, adds, compares, end, factor, integer, more, none, parenthesised, product, sum}
 use Rattle.ob0_language_names.specs.Names.{Name}
-use Rattle.ob0_language_values.specs.Values.{Overflow, Place, Shape, Store, Value, value_at_path, elements, ends_run_with, fits_in_32_bits, succeeds_with, integer_shape, members, number, or_stuck, truth, ◌>>=◌}
+use Rattle.ob0_language_values.specs.Values.{Overflow, Place, Shape, Store, Value, value_at_path, elements, ends_run_with, fits_in_32_bits, succeeds_with, integer_shape, members, number, result_or_stuck, truth, ◌>>=◌}
 use Rattle.ob0_language_types.specs.EditLaws.{Is32BitScalar}
 use Rattle.ob0_language_types.specs.Expressions.{Meanings, a_constant, evaluate, evaluate_factor, object_value}
-use Rattle.ob0_language_types.specs.Typing.{type_of_variable_or_constant, type_of, type_of_factor, value_type}
-use Rattle.ob0_language_types.specs.Written.{number_literal, value_literal}
+use Rattle.ob0_language_types.specs.Typing.{type_of_variable_or_constant, type_of_expression, type_of_factor, value_type}
+use Rattle.ob0_language_types.specs.ValueLiterals.{number_literal, value_literal}
 use Rattle.ob0_tree.specs.declared.tree.Sign.TheVariants as sign
 use Rattle.ob0_tree.specs.declared.tree.AddOperator.TheVariants as add_operator
 
@@ -38,15 +38,15 @@ literal-has_value meaning store v (number (negsuc n)) e h seen =
     ]) refl)
 literal-has_value {P} meaning store v (truth true) e h seen =
     subst (λ v. evaluate_factor meaning store v ≡ succeeds_with (truth true)) (some_inverse e)
-    (ap (λ o. object_value {P = P} store o >>= (λ v. succeeds_with [] >>= (λ steps. or_stuck (value_at_path steps v)))) seen)
+    (ap (λ o. object_value {P = P} store o >>= (λ v. succeeds_with [] >>= (λ steps. result_or_stuck (value_at_path steps v)))) seen)
 literal-has_value {P} meaning store v (truth false) e h seen =
     subst (λ v. evaluate_factor meaning store v ≡ succeeds_with (truth false)) (some_inverse e)
-    (ap (λ o. object_value {P = P} store o >>= (λ v. succeeds_with [] >>= (λ steps. or_stuck (value_at_path steps v)))) seen)
+    (ap (λ o. object_value {P = P} store o >>= (λ v. succeeds_with [] >>= (λ steps. result_or_stuck (value_at_path steps v)))) seen)
 literal-has_value meaning store v (elements vs) e h seen = absurd h
 literal-has_value meaning store v (members k ms) e h seen = absurd h
 
 pub literal-typed : {P : Type 0} (meaning : Meanings Name Shape P) (v : Tree Name factor) (w : Value) → value_literal w ≡ Some v → Is32BitScalar w → IsSeen meaning w → type_of_factor meaning v ≡ value_type w
-unfolding type_of
+unfolding type_of_expression
 literal-typed meaning v (number (pos n)) e h seen = subst (λ v. type_of_factor meaning v ≡ value_type (number (pos n))) (some_inverse e) refl
 literal-typed meaning v (number (negsuc n)) e h seen =
     subst (λ v. type_of_factor meaning v ≡ value_type (number (negsuc n))) (some_inverse e)

@@ -7,7 +7,7 @@ use Rattle.ob0_language_names.specs.Scopes.{Scope, ordinal_in_scope}
 use Rattle.ob0_language_names.proofs.EditedTrees.{Edit}
 use Rattle.ob0_language_values.specs.Values.{Value, truth}
 use Rattle.ob0_language_types.specs.ConstantValues.{ConstantEnvironment, constant_or_placeholder}
-use Rattle.ob0_language_types.specs.Environments.{Environment, environment_from_binding, newest_object}
+use Rattle.ob0_language_types.specs.Environments.{Environment, suffix_from_newest_binding, newest_object}
 use Rattle.ob0_language_types.specs.Expressions.{Object, a_constant, a_procedure, a_standard_procedure, a_type, a_variable}
 use Rattle.ob0_language_types.proofs.Agreeing.{HoldsOf}
 use Rattle.ob0_language_types.proofs.Literals.{some_inverse}
@@ -61,33 +61,33 @@ marks_from (b ∷ marks) x = elim (same_name x b.name) [ true ↦ b ∷ marks | 
 abbrev pub Stays : Edit → Scope Name → Name → Type 0
 Stays edit scope x = edit.gone ≡ true → ordinal_in_scope naming_by_spelling scope x ≡ Some edit.constant → ⊥
 
-pub read-from : {V P Q : Type 0} (q : ℕ → P → Q) (marks : Marks V P) (x : Name) → environment_from_binding naming_by_spelling (read q marks) x ≡ read q (marks_from marks x)
+pub read-from : {V P Q : Type 0} (q : ℕ → P → Q) (marks : Marks V P) (x : Name) → suffix_from_newest_binding naming_by_spelling (read q marks) x ≡ read q (marks_from marks x)
 read-from q [] x = refl
 read-from q (b ∷ marks) x =
-    elim (same_name x b.name) as (λ v. (elim v [ true ↦ read q (b ∷ marks) | false ↦ environment_from_binding naming_by_spelling (read q marks) x ]) ≡ read q (elim v [ true ↦ b ∷ marks | false ↦ marks_from marks x ]))
+    elim (same_name x b.name) as (λ v. (elim v [ true ↦ read q (b ∷ marks) | false ↦ suffix_from_newest_binding naming_by_spelling (read q marks) x ]) ≡ read q (elim v [ true ↦ b ∷ marks | false ↦ marks_from marks x ]))
     [ true ↦ refl | false ↦ read-from q marks x ]
 
 -- If the declaration of a name isn't removed, its first mark is also found after the edit.
 pub not-left : (edit : Edit) (k : ℕ) → (edit.gone ≡ true → Some k ≡ Some edit.constant → ⊥) → is_left edit k ≡ false
 not-left edit k h = false_from_ne_true (is_left edit k) (λ t. let p = and_parts edit.gone (k == edit.constant) t in h p.0 (ap Some (eqb-true k edit.constant p.1)))
 
-pub read_edited-from : {V P Q : Type 0} (edit : Edit) (q : ℕ → P → Q) (marks : Marks V P) (x : Name) → Stays edit (scope_marked marks) x → environment_from_binding naming_by_spelling (read_edited edit q marks) x ≡ read_edited edit q (marks_from marks x)
+pub read_edited-from : {V P Q : Type 0} (edit : Edit) (q : ℕ → P → Q) (marks : Marks V P) (x : Name) → Stays edit (scope_marked marks) x → suffix_from_newest_binding naming_by_spelling (read_edited edit q marks) x ≡ read_edited edit q (marks_from marks x)
 read_edited-from edit q [] x h = refl
 read_edited-from {V} {P} {Q} edit q (b ∷ marks) x h = by_name (same_name x b.name) refl (λ stays. read_edited-from edit q marks x stays) h
   where
-    by_name : (v : Bool) → same_name x b.name ≡ v → (Stays edit (scope_marked marks) x → environment_from_binding naming_by_spelling (read_edited edit q marks) x ≡ read_edited edit q (marks_from marks x))
+    by_name : (v : Bool) → same_name x b.name ≡ v → (Stays edit (scope_marked marks) x → suffix_from_newest_binding naming_by_spelling (read_edited edit q marks) x ≡ read_edited edit q (marks_from marks x))
         → (edit.gone ≡ true → (elim v [ true ↦ Some b.ordinal | false ↦ ordinal_in_scope naming_by_spelling (scope_marked marks) x ]) ≡ Some edit.constant → ⊥)
-        → environment_from_binding naming_by_spelling (read_edited edit q (b ∷ marks)) x ≡ read_edited edit q (elim v [ true ↦ b ∷ marks | false ↦ marks_from marks x ])
+        → suffix_from_newest_binding naming_by_spelling (read_edited edit q (b ∷ marks)) x ≡ read_edited edit q (elim v [ true ↦ b ∷ marks | false ↦ marks_from marks x ])
     by_name true e next stays =
         let c : Name × Object V Q = (b.name, object_as (q b.ordinal) b.object) in
         let rest : Environment Name V Q = read_edited edit q marks in
-        ap (λ w. environment_from_binding naming_by_spelling (if w then rest else c ∷ rest) x) (not-left edit b.ordinal stays)
-        ∙ (ap (λ v. elim v [ true ↦ c ∷ rest | false ↦ environment_from_binding naming_by_spelling rest x ]) e ∙ sym (ap (λ w. if w then rest else c ∷ rest) (not-left edit b.ordinal stays)))
+        ap (λ w. suffix_from_newest_binding naming_by_spelling (if w then rest else c ∷ rest) x) (not-left edit b.ordinal stays)
+        ∙ (ap (λ v. elim v [ true ↦ c ∷ rest | false ↦ suffix_from_newest_binding naming_by_spelling rest x ]) e ∙ sym (ap (λ w. if w then rest else c ∷ rest) (not-left edit b.ordinal stays)))
     by_name false e next stays =
         let c : Name × Object V Q = (b.name, object_as (q b.ordinal) b.object) in
         let rest : Environment Name V Q = read_edited edit q marks in
-        elim (is_left edit b.ordinal) as (λ w. environment_from_binding naming_by_spelling (if w then rest else c ∷ rest) x ≡ read_edited edit q (marks_from marks x))
-        [ true ↦ next stays | false ↦ ap (λ v. elim v [ true ↦ c ∷ rest | false ↦ environment_from_binding naming_by_spelling rest x ]) e ∙ next stays ]
+        elim (is_left edit b.ordinal) as (λ w. suffix_from_newest_binding naming_by_spelling (if w then rest else c ∷ rest) x ≡ read_edited edit q (marks_from marks x))
+        [ true ↦ next stays | false ↦ ap (λ v. elim v [ true ↦ c ∷ rest | false ↦ suffix_from_newest_binding naming_by_spelling rest x ]) e ∙ next stays ]
 
 abbrev pub object_of : {V P Q : Type 0} → (ℕ → P → Q) → Mark V P → Object V Q
 object_of q b = object_as (q b.ordinal) b.object
@@ -113,10 +113,10 @@ ordinal-found (b ∷ marks) x =
     elim (same_name x b.name) as (λ v. (elim v [ true ↦ Some b.ordinal | false ↦ ordinal_in_scope naming_by_spelling (scope_marked marks) x ]) ≡ option_map (λ b. b.ordinal) (elim v [ true ↦ Some b | false ↦ found marks x ]))
     [ true ↦ refl | false ↦ ordinal-found marks x ]
 
-pub known-found : {V P : Type 0} (marks : Marks V P) (x : Name) → newest_object (environment_from_binding naming_by_spelling (knowns marks) x) ≡ option_map (λ b. constant_or_placeholder b.object) (found marks x)
+pub known-found : {V P : Type 0} (marks : Marks V P) (x : Name) → newest_object (suffix_from_newest_binding naming_by_spelling (knowns marks) x) ≡ option_map (λ b. constant_or_placeholder b.object) (found marks x)
 known-found [] x = refl
 known-found (b ∷ marks) x =
-    elim (same_name x b.name) as (λ v. newest_object (elim v [ true ↦ knowns (b ∷ marks) | false ↦ environment_from_binding naming_by_spelling (knowns marks) x ]) ≡ option_map (λ b. constant_or_placeholder b.object) (elim v [ true ↦ Some b | false ↦ found marks x ]))
+    elim (same_name x b.name) as (λ v. newest_object (elim v [ true ↦ knowns (b ∷ marks) | false ↦ suffix_from_newest_binding naming_by_spelling (knowns marks) x ]) ≡ option_map (λ b. constant_or_placeholder b.object) (elim v [ true ↦ Some b | false ↦ found marks x ]))
     [ true ↦ refl | false ↦ known-found marks x ]
 
 -- holds if the mark of the constant, of TRUE or of FALSE has its object

@@ -3,9 +3,9 @@ use Rattle.std.proofs.Common.{◌≡◌, true, false, ◌∷◌, ◌++◌, map, 
 use Rattle.ob0_tree.specs.Tree.{Tree, addend, adds, arguments, compares, designator, end, expression, factor, field, argument_after_comma, index, integer, items, maybe, more, multiplier, multiplies, negation, no_arguments, none, one, parenthesised, product, relates, selector, simple, some_arguments, sum, term, comma_then_argument}
 use Rattle.ob0_language_names.specs.MappedNames.{map_names}
 use Rattle.ob0_language_types.specs.Arguments.{call_arguments, further_arguments}
-use Rattle.ob0_language_types.specs.Expressions.{Meanings, designated_place, element_step, evaluate, evaluate_addends, evaluate_factor, evaluate_multipliers, evaluate_simple, evaluate_term, evaluate_selectors, object_place, object_value}
+use Rattle.ob0_language_types.specs.Expressions.{Meanings, designated_place, element_step, evaluate, evaluate_addends, evaluate_factor, evaluate_multipliers, evaluate_simple_expression, evaluate_term, evaluate_selectors, object_place, object_value}
 use Rattle.ob0_language_types.specs.Typing.{lone_designator}
-use Rattle.ob0_language_values.specs.Values.{Place, Store, Value, add, add_operator_short_circuits, at_field, value_at_path, succeeds_with, multiply, multiply_operator_short_circuits, negate, or_stuck, value_at_step, read_place, apply_relation, apply_sign, ◌>>=◌}
+use Rattle.ob0_language_values.specs.Values.{Place, Store, Value, add, add_operator_short_circuits, at_field, value_at_path, succeeds_with, multiply, multiply_operator_short_circuits, negate, result_or_stuck, value_at_step, read_place, apply_relation, apply_sign, ◌>>=◌}
 
 -- returns the meanings of names, each looked up under its new name
 abbrev pub through : {N M V P : Type 0} → (N → M) → (N → M) → Meanings M V P → Meanings N V P
@@ -15,12 +15,12 @@ mutual
   unfolding evaluate
 
   pub evaluate-map : {N M P : Type 0} (f h : N → M) (meaning : Meanings M Place P) (store : Store) (e : Tree N expression) → evaluate meaning store (map_names f h e) ≡ evaluate (through f h meaning) store e
-  evaluate-map f h meaning store (compares a none) = evaluate_simple-map f h meaning store a
+  evaluate-map f h meaning store (compares a none) = evaluate_simple_expression-map f h meaning store a
   evaluate-map f h meaning store (compares a (one (relates r b))) = λ i.
-      evaluate_simple-map f h meaning store a i >>= (λ x. evaluate_simple-map f h meaning store b i >>= (λ y. apply_relation r x y))
+      evaluate_simple_expression-map f h meaning store a i >>= (λ x. evaluate_simple_expression-map f h meaning store b i >>= (λ y. apply_relation r x y))
 
-  pub evaluate_simple-map : {N M P : Type 0} (f h : N → M) (meaning : Meanings M Place P) (store : Store) (a : Tree N simple) → evaluate_simple meaning store (map_names f h a) ≡ evaluate_simple (through f h meaning) store a
-  evaluate_simple-map f h meaning store (sum s t rest) = λ i.
+  pub evaluate_simple_expression-map : {N M P : Type 0} (f h : N → M) (meaning : Meanings M Place P) (store : Store) (a : Tree N simple) → evaluate_simple_expression meaning store (map_names f h a) ≡ evaluate_simple_expression (through f h meaning) store a
+  evaluate_simple_expression-map f h meaning store (sum s t rest) = λ i.
       evaluate_term-map f h meaning store t i >>= (λ x. apply_sign s x >>= (λ y. evaluate_addends-map f h meaning store y rest i))
 
   pub evaluate_addends-map : {N M P : Type 0} (f h : N → M) (meaning : Meanings M Place P) (store : Store) (x : Value) (rest : Tree N (items addend)) → evaluate_addends meaning store x (map_names f h rest) ≡ evaluate_addends (through f h meaning) store x rest
@@ -41,7 +41,7 @@ mutual
 
   pub evaluate_factor-map : {N M P : Type 0} (f h : N → M) (meaning : Meanings M Place P) (store : Store) (a : Tree N factor) → evaluate_factor meaning store (map_names f h a) ≡ evaluate_factor (through f h meaning) store a
   evaluate_factor-map f h meaning store (designator x path) = λ i.
-      object_value store (meaning.object_for (f x)) >>= (λ v. follow-map f h meaning store v path i >>= (λ steps. or_stuck (value_at_path steps v)))
+      object_value store (meaning.object_for (f x)) >>= (λ v. follow-map f h meaning store v path i >>= (λ steps. result_or_stuck (value_at_path steps v)))
   evaluate_factor-map f h meaning store (integer n) = refl
   evaluate_factor-map f h meaning store (parenthesised e) = evaluate-map f h meaning store e
   evaluate_factor-map f h meaning store (negation a) = λ i. evaluate_factor-map f h meaning store a i >>= negate
@@ -49,14 +49,14 @@ mutual
   pub follow-map : {N M P : Type 0} (f h : N → M) (meaning : Meanings M Place P) (store : Store) (v : Value) (path : Tree N (items selector)) → evaluate_selectors meaning store v (map_names f h path) ≡ evaluate_selectors (through f h meaning) store v path
   follow-map f h meaning store v end = refl
   follow-map f h meaning store v (more (field x) rest) = λ i.
-      or_stuck (value_at_step v (at_field (meaning.written (h x)))) >>= (λ w. follow-map f h meaning store w rest i >>= (λ steps. succeeds_with (at_field (meaning.written (h x)) ∷ steps)))
+      result_or_stuck (value_at_step v (at_field (meaning.written (h x)))) >>= (λ w. follow-map f h meaning store w rest i >>= (λ steps. succeeds_with (at_field (meaning.written (h x)) ∷ steps)))
   follow-map f h meaning store v (more (index e) rest) = λ i.
-      evaluate-map f h meaning store e i >>= (λ j. element_step v j >>= (λ s. or_stuck (value_at_step v s) >>= (λ w. follow-map f h meaning store w rest i >>= (λ steps. succeeds_with (s ∷ steps)))))
+      evaluate-map f h meaning store e i >>= (λ j. element_step v j >>= (λ s. result_or_stuck (value_at_step v s) >>= (λ w. follow-map f h meaning store w rest i >>= (λ steps. succeeds_with (s ∷ steps)))))
 
 pub designated_place-map : {N M P : Type 0} (f h : N → M) (meaning : Meanings M Place P) (store : Store) (x : N) (path : Tree N (items selector)) → designated_place meaning store (f x) (map_names f h path) ≡ designated_place (through f h meaning) store x path
 unfolding designated_place
 designated_place-map f h meaning store x path = λ i.
-    object_place (meaning.object_for (f x)) >>= (λ p. or_stuck (read_place store p) >>= (λ v. follow-map f h meaning store v path i >>= (λ steps. succeeds_with record { variable = p.variable; path = p.path ++ steps })))
+    object_place (meaning.object_for (f x)) >>= (λ p. result_or_stuck (read_place store p) >>= (λ v. follow-map f h meaning store v path i >>= (λ steps. succeeds_with record { variable = p.variable; path = p.path ++ steps })))
 
 abbrev pub map_designator : {N M : Type 0} → (N → M) → (N → M) → N × Tree N (items selector) → M × Tree M (items selector)
 map_designator f h d = (f d.0, map_names f h d.1)

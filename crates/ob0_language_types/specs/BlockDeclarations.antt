@@ -4,7 +4,7 @@ use Rattle.std.specs.Prelude.{ℕ, if◌then◌else◌, Some, None, Option}
 use Rattle.ob0_tree.specs.Tree.{Tree, block, item, procedure}
 use Rattle.ob0_language_names.specs.Names.{Naming}
 use Rattle.ob0_language_names.specs.BlockParts.{block_variables, procedure_formals, procedure_name}
-use Rattle.ob0_language_types.specs.Declarations.{constructors_before_variables, declare_constants_and_types}
+use Rattle.ob0_language_types.specs.Declarations.{constructor_count_before_variables, declare_constants_and_types}
 use Rattle.ob0_language_types.specs.Typing.{◌>>=◌}
 use Rattle.ob0_language_types.specs.WellTyped.{TypeEnvironment, bind_typed_parameters, declare_typed_variables, bind_procedure, procedure_is_well_typed, typed_parameters}
 
@@ -33,4 +33,4 @@ abbrev pub declare_block : {N : Type 0}
     → Tree N block
     → Option (TypeEnvironment N)
 declare_block naming env k b =
-    declare_constants_and_types naming env k b >>= declare_typed_variables naming (constructors_before_variables k b) (block_variables b)
+    declare_constants_and_types naming env k b >>= declare_typed_variables naming (constructor_count_before_variables k b) (block_variables b)

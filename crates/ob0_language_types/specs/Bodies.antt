@@ -3,11 +3,11 @@
 use Rattle.std.specs.Prelude.{◌≡◌, ℕ, ◌+◌, List, [], ◌∷◌, ◌++◌, Some, All}
 use Rattle.ob0_tree.specs.Tree.{Tree, block, body, declares, declares_procedure, end, forms_block, item, items, maybe, module_text, more, procedure}
 use Rattle.ob0_language_names.specs.Names.{Label, Name, Naming, naming_by_label}
-use Rattle.ob0_language_names.specs.BlockParts.{formal_sections, module_block, procedure_formals, procedure_name}
+use Rattle.ob0_language_names.specs.BlockParts.{formal_parameter_sections, module_block, procedure_formals, procedure_name}
 use Rattle.ob0_language_names.specs.Scopes.{numbered}
 use Rattle.ob0_language_types.specs.Bindings.{declared_object, list_if_some, object_of_ordinal}
 use Rattle.ob0_language_types.specs.BlockDeclarations.{declare_block}
-use Rattle.ob0_language_types.specs.Declarations.{constructors_before_procedures, formals_constructor_count, procedure_constructor_count}
+use Rattle.ob0_language_types.specs.Declarations.{constructor_count_before_procedures, formals_constructor_count, procedure_constructor_count}
 use Rattle.ob0_language_types.specs.Environments.{outermost_environment}
 use Rattle.ob0_language_types.specs.Expressions.{Object}
 use Rattle.ob0_language_types.specs.WellTyped.{Signature, TypeEnvironment, TypedParameter, WellTyped, bind_typed_parameters, bind_procedure, typed_parameters}
@@ -33,26 +33,26 @@ unfoldable mutual
       → List (BodyWithEnvironment N)
   block_bodies naming env k (forms_block (declares cs ts vs ps) statements) =
       list_if_some (declare_block naming env k (forms_block (declares cs ts vs ps) statements))
-      (λ inner. procedures_bodies naming inner
-      (constructors_before_procedures k (forms_block (declares cs ts vs ps) statements)) statements ps)
+      (λ inner. procedure_list_bodies naming inner
+      (constructor_count_before_procedures k (forms_block (declares cs ts vs ps) statements)) statements ps)
 
   -- Returns the bodies of a list of procedures in text order, then the body `statements` of the
   -- block that contains these procedures. If a parameter's type has an error, the result ends
   -- before the bodies of that parameter's procedure. `k` is the number of words ARRAY and RECORD
   -- before the procedures.
-  pub procedures_bodies : {N : Type 0}
+  pub procedure_list_bodies : {N : Type 0}
       → Naming N
       → TypeEnvironment N
       → ℕ
       → Tree N (maybe body)
       → Tree N (items procedure)
       → List (BodyWithEnvironment N)
-  procedures_bodies naming env k statements end =
+  procedure_list_bodies naming env k statements end =
       record { environment = env; statements = statements } ∷ []
-  procedures_bodies naming env k statements (more p rest) =
+  procedure_list_bodies naming env k statements (more p rest) =
       list_if_some (typed_parameters naming env k (procedure_formals p))
       (λ ps. procedure_bodies naming (bind_typed_parameters ps (bind_procedure (procedure_name p) ps env)) k p
-      ++ procedures_bodies naming (bind_procedure (procedure_name p) ps env)
+      ++ procedure_list_bodies naming (bind_procedure (procedure_name p) ps env)
       (k + procedure_constructor_count p) statements rest)
 
   -- returns the bodies of a procedure's block; `env` already binds the procedure's name and
@@ -64,7 +64,7 @@ unfoldable mutual
       → Tree N (item procedure)
       → List (BodyWithEnvironment N)
   procedure_bodies naming env k (declares_procedure x fs b closing) =
-      block_bodies naming env (k + formals_constructor_count (formal_sections fs)) b
+      block_bodies naming env (k + formals_constructor_count (formal_parameter_sections fs)) b
 
 -- returns the bodies of a module, each with the environment in which its statements are checked
 abbrev pub module_bodies : {N : Type 0} → Naming N → Tree N module_text → List (BodyWithEnvironment N)
@@ -75,46 +75,46 @@ module_bodies naming m = block_bodies naming (outermost_environment naming) 0 (m
 -- within each procedure.
 abbrev mutual
   -- States that `Q` holds for the environment after a block's constants, types and variables, and
-  -- that `HoldsInProcedures` holds for the block's procedures in this environment. States nothing if a
+  -- that `HoldsForProcedureListEnvironments` holds for the block's procedures in this environment. States nothing if a
   -- constant, type or variable has an error. `k` is the number of words ARRAY and RECORD before the
   -- block.
-  pub HoldsInBlock : (TypeEnvironment Label → Type 0)
+  pub HoldsForBlockEnvironments : (TypeEnvironment Label → Type 0)
       → TypeEnvironment Label
       → ℕ
       → Tree Label block
       → Type 0
-  HoldsInBlock Q env k (forms_block (declares cs ts vs ps) statements) =
+  HoldsForBlockEnvironments Q env k (forms_block (declares cs ts vs ps) statements) =
       (inner : TypeEnvironment Label)
       → declare_block naming_by_label env k (forms_block (declares cs ts vs ps) statements) ≡ Some inner
       → Q inner
-      × HoldsInProcedures Q inner (constructors_before_procedures k (forms_block (declares cs ts vs ps) statements)) ps
+      × HoldsForProcedureListEnvironments Q inner (constructor_count_before_procedures k (forms_block (declares cs ts vs ps) statements)) ps
 
   -- States that `Q` holds for the environment of each procedure's block, for the environments
   -- within that block, and for the environment after all procedures. If a parameter's type has an
   -- error, states nothing about that parameter's procedure and the environments after it. `k` is
   -- the number of words ARRAY and RECORD before the procedures.
-  pub HoldsInProcedures : (TypeEnvironment Label → Type 0)
+  pub HoldsForProcedureListEnvironments : (TypeEnvironment Label → Type 0)
       → TypeEnvironment Label
       → ℕ
       → Tree Label (items procedure)
       → Type 0
-  HoldsInProcedures Q env k end = Q env
-  HoldsInProcedures Q env k (more p rest) =
+  HoldsForProcedureListEnvironments Q env k end = Q env
+  HoldsForProcedureListEnvironments Q env k (more p rest) =
       (ps : List (TypedParameter Label))
       → typed_parameters naming_by_label env k (procedure_formals p) ≡ Some ps
       → Q (bind_typed_parameters ps (bind_procedure (procedure_name p) ps env))
-      × HoldsInProcedure Q (bind_typed_parameters ps (bind_procedure (procedure_name p) ps env)) k p
-      × HoldsInProcedures Q (bind_procedure (procedure_name p) ps env) (k + procedure_constructor_count p) rest
+      × HoldsForProcedureEnvironments Q (bind_typed_parameters ps (bind_procedure (procedure_name p) ps env)) k p
+      × HoldsForProcedureListEnvironments Q (bind_procedure (procedure_name p) ps env) (k + procedure_constructor_count p) rest
 
-  -- states that `HoldsInBlock` holds for a procedure's block; `k` is the number of
+  -- states that `HoldsForBlockEnvironments` holds for a procedure's block; `k` is the number of
   -- words ARRAY and RECORD before the procedure
-  pub HoldsInProcedure : (TypeEnvironment Label → Type 0)
+  pub HoldsForProcedureEnvironments : (TypeEnvironment Label → Type 0)
       → TypeEnvironment Label
       → ℕ
       → Tree Label (item procedure)
       → Type 0
-  HoldsInProcedure Q env k (declares_procedure x fs b closing) =
-      HoldsInBlock Q env (k + formals_constructor_count (formal_sections fs)) b
+  HoldsForProcedureEnvironments Q env k (declares_procedure x fs b closing) =
+      HoldsForBlockEnvironments Q env (k + formals_constructor_count (formal_parameter_sections fs)) b
 
 -- States that environments agree with declarations. Let the statements of a block in a well-typed
 -- module be checked in an environment that binds an ordinal to an object. Then `declared_object`

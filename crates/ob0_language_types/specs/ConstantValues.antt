@@ -4,13 +4,13 @@
 use Rattle.std.specs.Prelude.{None, Option, Some, if◌then◌else◌, map, nat_lt, option_and_then, suc, ℕ, ◌++◌, ◌==◌, ◌∷◌}
 use Rattle.ob0_tree.specs.Tree.{Tree, block, constant, declares, declares_constant, declares_procedure, end, forms_block, item, items, module_text, more, procedure}
 use Rattle.ob0_language_names.specs.Names.{Name, naming_by_spelling}
-use Rattle.ob0_language_names.specs.BlockParts.{formal_names, formal_sections, module_block, declared_type_names, procedure_name, section_constants, section_types, section_variables, variable_names}
+use Rattle.ob0_language_names.specs.BlockParts.{formal_parameter_names, formal_parameter_sections, module_block, declared_type_names, procedure_name, section_constants, section_types, section_variables, variable_names}
 use Rattle.ob0_language_names.specs.Scopes.{ordinal_after_names, ordinal_after_procedure, first_procedure_ordinal, first_type_ordinal, predeclared_count}
 use Rattle.ob0_language_values.specs.Values.{Value}
 use Rattle.ob0_language_types.specs.Declarations.{declare_constants}
 use Rattle.ob0_language_types.specs.Environments.{Environment, meanings, outermost_environment}
 use Rattle.ob0_language_types.specs.Expressions.{Object, a_constant, a_procedure, a_standard_procedure, a_type, a_variable}
-use Rattle.ob0_language_types.specs.Typing.{constant_value, ◌>>=◌}
+use Rattle.ob0_language_types.specs.Typing.{constant_expression_value, ◌>>=◌}
 use Rattle.ob0_language_types.specs.WellTyped.{bind_names}
 
 -- environments that bind the name of each constant to its value, and any other name to the
@@ -40,10 +40,10 @@ predeclared_constants =
 -- the environment before the list. The first declaration in the list has ordinal `k`. Returns None
 -- if the list doesn't declare `d`, or if this constant or an earlier one in the list has no value.
 unfoldable pub constant_value_in_section : ConstantEnvironment → ℕ → ℕ → Tree Name (items constant) → Option Value
-unfolding constant_value
+unfolding constant_expression_value
 constant_value_in_section known d k end = None
 constant_value_in_section known d k (more (declares_constant x e) cs) = do
-  v ← constant_value (meanings naming_by_spelling known) e
+  v ← constant_expression_value (meanings naming_by_spelling known) e
   if k == d then Some v else constant_value_in_section ((x, a_constant v) ∷ known) d (suc k) cs
 
 -- Returns the value of the constant with ordinal `d`. Returns None if no CONST section declares
@@ -60,7 +60,7 @@ unfoldable mutual
       if nat_lt d (first_type_ordinal k (forms_block (declares cs ts vs ps) statements))
       then constant_value_in_section known d k (section_constants cs)
       else if nat_lt d (first_procedure_ordinal k (forms_block (declares cs ts vs ps) statements)) then None
-      else option_and_then (λ inner. constant_value_in_procedures (bind_names
+      else option_and_then (λ inner. constant_value_in_procedure_list (bind_names
       (declared_type_names (section_types ts) ++ variable_names (section_variables vs)) non_constant_placeholder
       inner) d (first_procedure_ordinal k (forms_block (declares cs ts vs ps) statements)) ps)
       (declare_constants naming_by_spelling known (section_constants cs))
@@ -68,12 +68,12 @@ unfoldable mutual
   -- returns the value of the constant with ordinal `d` in a list of procedures, the first of which
   -- has ordinal `k`; None if no procedure in the list declares this constant or its value can't be
   -- computed
-  pub constant_value_in_procedures : ConstantEnvironment → ℕ → ℕ → Tree Name (items procedure) → Option Value
-  constant_value_in_procedures known d k end = None
-  constant_value_in_procedures known d k (more p rest) =
+  pub constant_value_in_procedure_list : ConstantEnvironment → ℕ → ℕ → Tree Name (items procedure) → Option Value
+  constant_value_in_procedure_list known d k end = None
+  constant_value_in_procedure_list known d k (more p rest) =
       if nat_lt d (ordinal_after_procedure (suc k) p)
       then constant_value_in_procedure ((procedure_name p, non_constant_placeholder) ∷ known) d (suc k) p
-      else constant_value_in_procedures ((procedure_name p, non_constant_placeholder) ∷ known) d
+      else constant_value_in_procedure_list ((procedure_name p, non_constant_placeholder) ∷ known) d
       (ordinal_after_procedure (suc k) p) rest
 
   -- Returns the value of the constant with ordinal `d` in a procedure's block. The procedure's
@@ -81,17 +81,17 @@ unfoldable mutual
   -- value can't be computed. Also returns None if `d` is the ordinal of a parameter.
   pub constant_value_in_procedure : ConstantEnvironment → ℕ → ℕ → Tree Name (item procedure) → Option Value
   constant_value_in_procedure known d k (declares_procedure x fs b closing) =
-      if nat_lt d (ordinal_after_names k (formal_names (formal_sections fs))) then None
-      else constant_value_in_block (bind_names (formal_names (formal_sections fs)) non_constant_placeholder known) d
-      (ordinal_after_names k (formal_names (formal_sections fs))) b
+      if nat_lt d (ordinal_after_names k (formal_parameter_names (formal_parameter_sections fs))) then None
+      else constant_value_in_block (bind_names (formal_parameter_names (formal_parameter_sections fs)) non_constant_placeholder known) d
+      (ordinal_after_names k (formal_parameter_names (formal_parameter_sections fs))) b
 
 -- Returns the value of the constant with ordinal `d`. A declaration's ordinal is its number in text
 -- order, after the predeclared names 0 to 6. Returns None if no CONST section declares `d`. Also
 -- returns None if this constant, an earlier constant in its section or a constant of an enclosing
 -- block has no value.
-unfoldable pub value_of_constant : Tree Name module_text → ℕ → Option Value
+unfoldable pub constant_value_in_module : Tree Name module_text → ℕ → Option Value
 unfolding constant_value_in_block
-value_of_constant m d =
+constant_value_in_module m d =
     if nat_lt d predeclared_count
     then None
     else constant_value_in_block predeclared_constants d predeclared_count (module_block m)

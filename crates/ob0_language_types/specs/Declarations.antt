@@ -4,10 +4,10 @@
 use Rattle.std.specs.Prelude.{ℕ, ◌+◌, ◌∷◌, Some, Option}
 use Rattle.ob0_tree.specs.Tree.{Tree, block, constant, declares, declares_constant, declares_procedure, declares_type, declares_variable, end, section_after_semicolon, forms_block, item, items, more, procedure, semicolon_then_section, type_definition, variable}
 use Rattle.ob0_language_names.specs.Names.{Naming}
-use Rattle.ob0_language_names.specs.BlockParts.{block_constants, block_types, block_variables, formal_sections, procedure_formals, parameter_section_type, section_types, section_variables}
+use Rattle.ob0_language_names.specs.BlockParts.{block_constants, block_types, block_variables, formal_parameter_sections, procedure_formals, parameter_section_type, section_types, section_variables}
 use Rattle.ob0_language_types.specs.Environments.{Environment, meanings}
 use Rattle.ob0_language_types.specs.Expressions.{a_constant, a_type}
-use Rattle.ob0_language_types.specs.Typing.{constant_value, constructor_count, denoted_type, ◌>>=◌}
+use Rattle.ob0_language_types.specs.Typing.{constant_expression_value, constructor_count, denoted_type, ◌>>=◌}
 
 -- Returns the environment `env` with constants added. A constant is visible only after its own
 -- declaration. Returns None if the right side of a declaration isn't a constant expression with a
@@ -17,10 +17,10 @@ unfoldable pub declare_constants : {N V P : Type 0}
     → Environment N V P
     → Tree N (items constant)
     → Option (Environment N V P)
-unfolding constant_value
+unfolding constant_expression_value
 declare_constants naming env end = Some env
 declare_constants naming env (more (declares_constant x e) cs) = do
-  v ← constant_value (meanings naming env) e
+  v ← constant_expression_value (meanings naming env) e
   declare_constants naming ((x, a_constant v) ∷ env) cs
 
 -- Returns the environment `env` with types added. A type is visible only after its own declaration.
@@ -75,29 +75,29 @@ abbrev mutual
   pub block_constructor_count : {N : Type 0} → Tree N block → ℕ
   block_constructor_count (forms_block (declares cs ts vs ps) statements) =
       types_constructor_count (section_types ts)
-      + (variables_constructor_count (section_variables vs) + procedures_constructor_count ps)
+      + (variables_constructor_count (section_variables vs) + procedure_list_constructor_count ps)
 
   -- returns the number of words ARRAY and RECORD in procedures
-  pub procedures_constructor_count : {N : Type 0} → Tree N (items procedure) → ℕ
-  procedures_constructor_count end = 0
-  procedures_constructor_count (more p rest) = procedure_constructor_count p + procedures_constructor_count rest
+  pub procedure_list_constructor_count : {N : Type 0} → Tree N (items procedure) → ℕ
+  procedure_list_constructor_count end = 0
+  procedure_list_constructor_count (more p rest) = procedure_constructor_count p + procedure_list_constructor_count rest
 
   -- returns the number of words ARRAY and RECORD in a procedure: in its parameters and its block
   pub procedure_constructor_count : {N : Type 0} → Tree N (item procedure) → ℕ
   procedure_constructor_count (declares_procedure x fs b closing) =
-      formals_constructor_count (formal_sections fs) + block_constructor_count b
+      formals_constructor_count (formal_parameter_sections fs) + block_constructor_count b
 
 -- returns the number of words ARRAY and RECORD before a block's variables; `k` of these words are
 -- before the block
-abbrev pub constructors_before_variables : {N : Type 0} → ℕ → Tree N block → ℕ
-constructors_before_variables k b = k + types_constructor_count (block_types b)
+abbrev pub constructor_count_before_variables : {N : Type 0} → ℕ → Tree N block → ℕ
+constructor_count_before_variables k b = k + types_constructor_count (block_types b)
 
 -- returns the number of words ARRAY and RECORD before a block's procedures; `k` of these words are
 -- before the block
-abbrev pub constructors_before_procedures : {N : Type 0} → ℕ → Tree N block → ℕ
-constructors_before_procedures k b = constructors_before_variables k b + variables_constructor_count (block_variables b)
+abbrev pub constructor_count_before_procedures : {N : Type 0} → ℕ → Tree N block → ℕ
+constructor_count_before_procedures k b = constructor_count_before_variables k b + variables_constructor_count (block_variables b)
 
 -- returns the number of words ARRAY and RECORD before a procedure's block; `k` of these words are
 -- before the procedure
-abbrev pub constructors_before_procedure_block : {N : Type 0} → ℕ → Tree N (item procedure) → ℕ
-constructors_before_procedure_block k p = k + formals_constructor_count (procedure_formals p)
+abbrev pub constructor_count_before_procedure_block : {N : Type 0} → ℕ → Tree N (item procedure) → ℕ
+constructor_count_before_procedure_block k p = k + formals_constructor_count (procedure_formals p)

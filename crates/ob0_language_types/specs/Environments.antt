@@ -11,10 +11,10 @@ Environment N V P = List (N × Object V P)
 
 -- returns the part of an environment that begins with the newest binding of the name `x`; an empty list if no binding
 -- is for `x`
-abbrev pub environment_from_binding : {N V P : Type 0} → Naming N → Environment N V P → N → Environment N V P
-environment_from_binding naming [] x = []
-environment_from_binding naming (b ∷ env) x =
-    elim (naming.same x b.0) [ true ↦ b ∷ env | false ↦ environment_from_binding naming env x ]
+abbrev pub suffix_from_newest_binding : {N V P : Type 0} → Naming N → Environment N V P → N → Environment N V P
+suffix_from_newest_binding naming [] x = []
+suffix_from_newest_binding naming (b ∷ env) x =
+    elim (naming.same x b.0) [ true ↦ b ∷ env | false ↦ suffix_from_newest_binding naming env x ]
 
 -- returns the object of the first binding, which is the newest binding; None if the environment is empty
 abbrev pub newest_object : {N V P : Type 0} → Environment N V P → Option (Object V P)
@@ -25,7 +25,7 @@ newest_object (b ∷ env) = Some b.1
 -- a binding means nothing
 abbrev pub meanings : {N V P : Type 0} → Naming N → Environment N V P → Meanings N V P
 meanings naming env =
-    record { object_for = λ x. newest_object (environment_from_binding naming env x); written = naming.written }
+    record { object_for = λ x. newest_object (suffix_from_newest_binding naming env x); written = naming.written }
 
 -- returns the environment of the outermost block: INTEGER, BOOLEAN, TRUE, FALSE, Read, Write and WriteLn
 abbrev pub outermost_environment : {N V P : Type 0} → Naming N → Environment N V P

@@ -4,7 +4,7 @@
 use Rattle.std.specs.Prelude.{true, false, List, [], ◌∷◌, ◌++◌, pos, negsuc, if◌then◌else◌, nat_lt, Some, Option}
 use Rattle.ob0_tree.specs.Tree.{Tree, addend, adds, compares, designator, end, expression, factor, field, index, integer, items, more, multiplier, multiplies, negation, none, one, parenthesised, product, relates, selector, simple, sum, term}
 use Rattle.ob0_language_names.specs.Names.{Name}
-use Rattle.ob0_language_values.specs.Values.{Index, Outcome, Place, Shape, Step, Store, Stuck, Value, add, add_operator_short_circuits, at_field, at_index, value_at_path, count_values, elements, ends_run_with, succeeds_with, multiply, multiply_operator_short_circuits, negate, number, or_stuck, value_at_step, read_place, apply_relation, apply_sign, ◌>>=◌}
+use Rattle.ob0_language_values.specs.Values.{Index, Outcome, Place, Shape, PathStep, Store, Stuck, Value, add, add_operator_short_circuits, at_field, at_index, value_at_path, count_values, elements, ends_run_with, succeeds_with, multiply, multiply_operator_short_circuits, negate, number, result_or_stuck, value_at_step, read_place, apply_relation, apply_sign, ◌>>=◌}
 
 -- the standard procedures: Read, Write and WriteLn
 pub data StandardProcedure : Type 0 where
@@ -27,7 +27,7 @@ pub record Meanings (N V P : Type 0) : Type 0 where
 
 -- Returns the step of a path (`at_index`) that leads from an array to its element at an index. An index below 0 or not
 -- below the array's length ends the run with Index. Returns Stuck if the operands aren't an array and a number.
-abbrev pub element_step : Value → Value → Outcome Step
+abbrev pub element_step : Value → Value → Outcome PathStep
 element_step (elements vs) (number (pos i)) =
     if nat_lt i (count_values vs) then succeeds_with (at_index i) else ends_run_with Index
 element_step (elements vs) (number (negsuc i)) = ends_run_with Index
@@ -41,22 +41,22 @@ object_place _ = ends_run_with Stuck
 -- returns the value of a constant, or the value at a variable's place; Stuck for any other object
 abbrev pub object_value : {P : Type 0} → Store → Option (Object Place P) → Outcome Value
 object_value store (Some (a_constant v)) = succeeds_with v
-object_value store (Some (a_variable p)) = or_stuck (read_place store p)
+object_value store (Some (a_variable p)) = result_or_stuck (read_place store p)
 object_value store _ = ends_run_with Stuck
 
 -- Evaluates an expression from left to right: returns its value, or the reason why the run ends.
 unfoldable mutual
   -- evaluates an expression: one simple expression, or a relation between two simple expressions
   pub evaluate : {N P : Type 0} → Meanings N Place P → Store → Tree N expression → Outcome Value
-  evaluate meaning store (compares a none) = evaluate_simple meaning store a
+  evaluate meaning store (compares a none) = evaluate_simple_expression meaning store a
   evaluate meaning store (compares a (one (relates r b))) = do
-    x ← evaluate_simple meaning store a
-    y ← evaluate_simple meaning store b
+    x ← evaluate_simple_expression meaning store a
+    y ← evaluate_simple_expression meaning store b
     apply_relation r x y
 
   -- evaluates a simple expression: its first term with its sign, then the further terms
-  pub evaluate_simple : {N P : Type 0} → Meanings N Place P → Store → Tree N simple → Outcome Value
-  evaluate_simple meaning store (sum s t rest) = do
+  pub evaluate_simple_expression : {N P : Type 0} → Meanings N Place P → Store → Tree N simple → Outcome Value
+  evaluate_simple_expression meaning store (sum s t rest) = do
     x ← evaluate_term meaning store t
     y ← apply_sign s x
     evaluate_addends meaning store y rest
@@ -100,7 +100,7 @@ unfoldable mutual
   evaluate_factor meaning store (designator x path) = do
     v ← object_value store (meaning.object_for x)
     steps ← evaluate_selectors meaning store v path
-    or_stuck (value_at_path steps v)
+    result_or_stuck (value_at_path steps v)
   evaluate_factor meaning store (integer n) = succeeds_with (number (pos n))
   evaluate_factor meaning store (parenthesised e) = evaluate meaning store e
   evaluate_factor meaning store (negation f) = evaluate_factor meaning store f >>= negate
@@ -112,16 +112,16 @@ unfoldable mutual
       → Store
       → Value
       → Tree N (items selector)
-      → Outcome (List Step)
+      → Outcome (List PathStep)
   evaluate_selectors meaning store v end = succeeds_with []
   evaluate_selectors meaning store v (more (field x) rest) = do
-    w ← or_stuck (value_at_step v (at_field (meaning.written x)))
+    w ← result_or_stuck (value_at_step v (at_field (meaning.written x)))
     steps ← evaluate_selectors meaning store w rest
     succeeds_with (at_field (meaning.written x) ∷ steps)
   evaluate_selectors meaning store v (more (index e) rest) = do
     i ← evaluate meaning store e
     s ← element_step v i
-    w ← or_stuck (value_at_step v s)
+    w ← result_or_stuck (value_at_step v s)
     steps ← evaluate_selectors meaning store w rest
     succeeds_with (s ∷ steps)
 
@@ -136,6 +136,6 @@ unfoldable pub designated_place : {N P : Type 0}
 unfolding evaluate
 designated_place meaning store x path = do
   p ← object_place (meaning.object_for x)
-  v ← or_stuck (read_place store p)
+  v ← result_or_stuck (read_place store p)
   steps ← evaluate_selectors meaning store v path
   succeeds_with record { variable = p.variable; path = p.path ++ steps }

@@ -8,7 +8,7 @@ use Rattle.ob0_language_names.specs.Inlining.{OccurrenceSet, inline_in_tree}
 use Rattle.ob0_language_names.specs.Names.{Name, naming_by_label, naming_by_spelling}
 use Rattle.ob0_language_names.specs.Scopes.{numbered}
 use Rattle.ob0_language_types.specs.Expressions.{Meanings, a_constant, evaluate, evaluate_factor}
-use Rattle.ob0_language_types.specs.Typing.{constant_of, constant_value, type_of, type_of_factor, value_type}
+use Rattle.ob0_language_types.specs.Typing.{value_of_constant_object, constant_expression_value, type_of_expression, type_of_factor, value_type}
 use Rattle.ob0_language_values.specs.Values.{Place, Store, Value, succeeds_with}
 use Rattle.ob0_language_names.specs.ConsistentNames.{has_consistent_names}
 use Rattle.ob0_language_types.specs.WellTyped.{ParameterMode, TypeMeanings, WellTyped, passes_type_check}
@@ -38,15 +38,15 @@ ConstantsHaveSameValueInRunAndChecker =
     (e : Tree Name expression) (v : Value)
     → ((x : Name) → checked.written x ≡ active.written x)
     → ((x : Name) (w : Value)
-    → constant_of (checked.object_for x) ≡ Some w
-    → constant_of (active.object_for x) ≡ Some w)
-    → constant_value checked e ≡ Some v → evaluate active store e ≡ succeeds_with v
+    → value_of_constant_object (checked.object_for x) ≡ Some w
+    → value_of_constant_object (active.object_for x) ≡ Some w)
+    → constant_expression_value checked e ≡ Some v → evaluate active store e ≡ succeeds_with v
 
 -- States that `P` holds for each listed name whose occurrence number is in `uses`. The names are consecutive
 -- occurrences, and the first one has number `k`.
-abbrev pub EachUseHas : OccurrenceSet → (Name → Type 0) → ℕ → List Name → Type 0
-EachUseHas uses P k [] = Unit {0}
-EachUseHas uses P k (x ∷ xs) = (uses k ≡ true → P x) × EachUseHas uses P (suc k) xs
+abbrev pub EachUseSatisfies : OccurrenceSet → (Name → Type 0) → ℕ → List Name → Type 0
+EachUseSatisfies uses P k [] = Unit {0}
+EachUseSatisfies uses P k (x ∷ xs) = (uses k ≡ true → P x) × EachUseSatisfies uses P (suc k) xs
 
 -- States that replacing uses of a constant by a factor with the constant's value leaves an expression's evaluation
 -- unchanged. `k` is the number of the first occurrence of a name in the expression. Occurrences are numbered from 0 in
@@ -56,7 +56,7 @@ InliningKeepsEvaluation =
     (meaning : Meanings Name Place (List ParameterMode)) (store : Store) (uses : OccurrenceSet) (v : Tree Name factor)
     (w : Value) (k : ℕ) (e : Tree Name expression)
     → evaluate_factor meaning store v ≡ succeeds_with w
-    → EachUseHas uses (λ x. meaning.object_for x ≡ Some (a_constant w)) k (occurrences e)
+    → EachUseSatisfies uses (λ x. meaning.object_for x ≡ Some (a_constant w)) k (occurrences e)
     → evaluate meaning store (inline_in_tree uses v k e) ≡ evaluate meaning store e
 
 -- States that replacing uses of a constant by a factor with the constant's type leaves an expression's type unchanged.
@@ -66,5 +66,5 @@ InliningKeepsTypes =
     (checked : TypeMeanings Name) (uses : OccurrenceSet) (v : Tree Name factor) (w : Value) (k : ℕ)
     (e : Tree Name expression)
     → type_of_factor checked v ≡ value_type w
-    → EachUseHas uses (λ x. checked.object_for x ≡ Some (a_constant w)) k (occurrences e)
-    → type_of checked (inline_in_tree uses v k e) ≡ type_of checked e
+    → EachUseSatisfies uses (λ x. checked.object_for x ≡ Some (a_constant w)) k (occurrences e)
+    → type_of_expression checked (inline_in_tree uses v k e) ≡ type_of_expression checked e

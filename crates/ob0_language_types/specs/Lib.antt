@@ -4,7 +4,7 @@ pub mod Arguments
 pub mod Typing
 pub mod Declarations
 pub mod WellTyped
-pub mod Written
+pub mod ValueLiterals
 pub mod Laws
 pub mod DesignatorSelectors
 pub mod EditLaws

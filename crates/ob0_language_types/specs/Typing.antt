@@ -51,11 +51,11 @@ relation_type _ _ _ = None
 
 -- returns the type of an operand with an optional sign; None for a sign before an operand that
 -- isn't INTEGER
-abbrev pub sign_type : Option Sign → Shape → Option Shape
-sign_type None s = Some s
-sign_type (Some sign.Plus) integer_shape = Some integer_shape
-sign_type (Some sign.Minus) integer_shape = Some integer_shape
-sign_type _ _ = None
+abbrev pub signed_operand_type : Option Sign → Shape → Option Shape
+signed_operand_type None s = Some s
+signed_operand_type (Some sign.Plus) integer_shape = Some integer_shape
+signed_operand_type (Some sign.Minus) integer_shape = Some integer_shape
+signed_operand_type _ _ = None
 
 -- returns the type of the operator `~` with an operand of this type: BOOLEAN if the operand is BOOLEAN, otherwise None
 abbrev pub negation_type : Shape → Option Shape
@@ -81,66 +81,66 @@ element_type (array_shape k n s) integer_shape = Some s
 element_type _ _ = None
 
 -- returns the type of the first field with the name `x` in a list of fields; None if there is no such field
-abbrev pub shape_of_field : FieldShapes → Name → Option Shape
-shape_of_field no_field_shape x = None
-shape_of_field (next_field_shape y s rest) x =
-    if same_name x y then Some s else shape_of_field rest x
+abbrev pub named_field_shape : FieldShapes → Name → Option Shape
+named_field_shape no_field_shape x = None
+named_field_shape (next_field_shape y s rest) x =
+    if same_name x y then Some s else named_field_shape rest x
 
 -- returns the type of the field `x` of a record type; None if the type isn't a record type or has no such field
 abbrev pub field_type : Shape → Name → Option Shape
-field_type (record_shape k fs) x = shape_of_field fs x
+field_type (record_shape k fs) x = named_field_shape fs x
 field_type _ x = None
 
 -- Returns the type of an expression, or None if it has an error.
 unfoldable mutual
   -- returns the type of an expression: one simple expression, or a relation between two simple expressions; None if the
   -- expression has an error
-  pub type_of : {N P : Type 0} → Meanings N Shape P → Tree N expression → Option Shape
-  type_of meaning (compares a none) = type_of_simple meaning a
-  type_of meaning (compares a (one (relates r b))) = do
-    x ← type_of_simple meaning a
-    y ← type_of_simple meaning b
+  pub type_of_expression : {N P : Type 0} → Meanings N Shape P → Tree N expression → Option Shape
+  type_of_expression meaning (compares a none) = type_of_simple_expression meaning a
+  type_of_expression meaning (compares a (one (relates r b))) = do
+    x ← type_of_simple_expression meaning a
+    y ← type_of_simple_expression meaning b
     relation_type r x y
 
   -- returns the type of a simple expression: its first term with its sign, then the further terms; None if the
   -- expression has an error
-  pub type_of_simple : {N P : Type 0} → Meanings N Shape P → Tree N simple → Option Shape
-  type_of_simple meaning (sum s t rest) = do
+  pub type_of_simple_expression : {N P : Type 0} → Meanings N Shape P → Tree N simple → Option Shape
+  type_of_simple_expression meaning (sum s t rest) = do
     x ← type_of_term meaning t
-    y ← sign_type s x
-    type_of_addends meaning y rest
+    y ← signed_operand_type s x
+    type_after_addends meaning y rest
 
   -- returns the type of a simple expression, given the type `x` of its first operand and the terms that follow; None if
   -- a term has an error or an operand has the wrong type
-  pub type_of_addends : {N P : Type 0}
+  pub type_after_addends : {N P : Type 0}
       → Meanings N Shape P
       → Shape
       → Tree N (items addend)
       → Option Shape
-  type_of_addends meaning x end = Some x
-  type_of_addends meaning x (more (adds o t) rest) = do
+  type_after_addends meaning x end = Some x
+  type_after_addends meaning x (more (adds o t) rest) = do
     y ← type_of_term meaning t
     z ← addition_type o x y
-    type_of_addends meaning z rest
+    type_after_addends meaning z rest
 
   -- returns the type of a term: its first factor, then the further factors; None if the term has an error
   pub type_of_term : {N P : Type 0} → Meanings N Shape P → Tree N term → Option Shape
   type_of_term meaning (product f rest) = do
     x ← type_of_factor meaning f
-    type_of_multipliers meaning x rest
+    type_after_multipliers meaning x rest
 
   -- returns the type of a term, given the type `x` of its first factor and the factors that follow; None if a factor
   -- has an error or the wrong type
-  pub type_of_multipliers : {N P : Type 0}
+  pub type_after_multipliers : {N P : Type 0}
       → Meanings N Shape P
       → Shape
       → Tree N (items multiplier)
       → Option Shape
-  type_of_multipliers meaning x end = Some x
-  type_of_multipliers meaning x (more (multiplies o f) rest) = do
+  type_after_multipliers meaning x end = Some x
+  type_after_multipliers meaning x (more (multiplies o f) rest) = do
     y ← type_of_factor meaning f
     z ← multiplication_type o x y
-    type_of_multipliers meaning z rest
+    type_after_multipliers meaning z rest
 
   -- returns the type of a factor: a designator, an integer, an expression in parentheses or a negation; None if the
   -- factor has an error
@@ -149,7 +149,7 @@ unfoldable mutual
     s ← type_of_variable_or_constant (meaning.object_for x)
     type_after_selectors meaning s path
   type_of_factor meaning (integer n) = Some integer_shape
-  type_of_factor meaning (parenthesised e) = type_of meaning e
+  type_of_factor meaning (parenthesised e) = type_of_expression meaning e
   type_of_factor meaning (negation f) = type_of_factor meaning f >>= negation_type
 
   -- returns the type of the element or field that selectors select from a value of type `s`; None if there is no such
@@ -160,22 +160,22 @@ unfoldable mutual
     t ← field_type s (meaning.written x)
     type_after_selectors meaning t rest
   type_after_selectors meaning s (more (index e) rest) = do
-    i ← type_of meaning e
+    i ← type_of_expression meaning e
     t ← element_type s i
     type_after_selectors meaning t rest
 
 -- returns the value of a constant; None for any other object
-abbrev pub constant_of : {V P : Type 0} → Option (Object V P) → Option Value
-constant_of (Some (a_constant v)) = Some v
-constant_of _ = None
+abbrev pub value_of_constant_object : {V P : Type 0} → Option (Object V P) → Option Value
+value_of_constant_object (Some (a_constant v)) = Some v
+value_of_constant_object _ = None
 
 -- returns the meanings of names in constant expressions: constants keep their meaning, and any other name means
 -- nothing, because a constant expression may contain no other names
-abbrev pub constant_meanings : {N V P W Q : Type 0} → Meanings N V P → Meanings N W Q
-constant_meanings meaning =
+abbrev pub meanings_in_constant_expressions : {N V P W Q : Type 0} → Meanings N V P → Meanings N W Q
+meanings_in_constant_expressions meaning =
     record {
       object_for
-          = λ x. option_map a_constant (constant_of (meaning.object_for x));
+          = λ x. option_map a_constant (value_of_constant_object (meaning.object_for x));
       written = meaning.written;
     }
 
@@ -186,15 +186,15 @@ outcome_value (ends_run_with e) = None
 
 -- Returns the value of a constant expression, in which only the names of constants have a meaning. Returns None if the
 -- expression has no type or its evaluation ends with a fault.
-unfoldable pub constant_value : {N V P : Type 0} → Meanings N V P → Tree N expression → Option Value
-unfolding type_of evaluate
-constant_value meaning e = do
-  s ← type_of {P = Unit {0}} (constant_meanings meaning) e
-  outcome_value (evaluate {P = Unit {0}} (constant_meanings meaning) [] e)
+unfoldable pub constant_expression_value : {N V P : Type 0} → Meanings N V P → Tree N expression → Option Value
+unfolding type_of_expression evaluate
+constant_expression_value meaning e = do
+  s ← type_of_expression {P = Unit {0}} (meanings_in_constant_expressions meaning) e
+  outcome_value (evaluate {P = Unit {0}} (meanings_in_constant_expressions meaning) [] e)
 
 -- the greatest number of scalars in a type, which is also the greatest number of elements in an array
-abbrev pub max_scalars : ℕ
-max_scalars = 65536
+abbrev pub max_scalars_in_type : ℕ
+max_scalars_in_type = 65536
 
 -- the greatest depth to which arrays and records may be nested
 abbrev pub max_type_depth : ℕ
@@ -202,9 +202,9 @@ max_type_depth = 100
 
 -- returns the length of an array, given the value of its length expression; None if this value isn't a number from 1 to
 -- 65,536
-abbrev pub array_length : Value → Option ℕ
-array_length (number (pos (suc n))) = if nat_lt n max_scalars then Some (suc n) else None
-array_length _ = None
+abbrev pub array_length_from_value : Value → Option ℕ
+array_length_from_value (number (pos (suc n))) = if nat_lt n max_scalars_in_type then Some (suc n) else None
+array_length_from_value _ = None
 
 -- Returns the number of scalars in a type. An empty record counts as one.
 abbrev mutual
@@ -214,12 +214,12 @@ abbrev mutual
   scalars integer_shape = 1
   scalars boolean_shape = 1
   scalars (array_shape k n s) = n * scalars s
-  scalars (record_shape k fs) = max 1 (field_scalars fs)
+  scalars (record_shape k fs) = max 1 (scalar_count_of_fields fs)
 
   -- returns the number of scalars in several fields together
-  pub field_scalars : FieldShapes → ℕ
-  field_scalars no_field_shape = 0
-  field_scalars (next_field_shape x s rest) = scalars s + field_scalars rest
+  pub scalar_count_of_fields : FieldShapes → ℕ
+  scalar_count_of_fields no_field_shape = 0
+  scalar_count_of_fields (next_field_shape x s rest) = scalars s + scalar_count_of_fields rest
 
 -- Returns the depth to which arrays and records are nested in a type. If a part of the type is written as a type's
 -- name, the arrays and records that this name means also count.
@@ -230,18 +230,18 @@ abbrev mutual
   depth integer_shape = 0
   depth boolean_shape = 0
   depth (array_shape k n s) = suc (depth s)
-  depth (record_shape k fs) = suc (field_depth fs)
+  depth (record_shape k fs) = suc (deepest_field_depth fs)
 
   -- returns the depth of the deepest of several fields; 0 if there are no fields
-  pub field_depth : FieldShapes → ℕ
-  field_depth no_field_shape = 0
-  field_depth (next_field_shape x s rest) = max (depth s) (field_depth rest)
+  pub deepest_field_depth : FieldShapes → ℕ
+  deepest_field_depth no_field_shape = 0
+  deepest_field_depth (next_field_shape x s rest) = max (depth s) (deepest_field_depth rest)
 
 -- returns the type `s` if it has at most 65,536 scalars and its arrays and records are nested at most 100 deep,
 -- otherwise None
 abbrev pub type_within_limits : Shape → Option Shape
 type_within_limits s =
-    if nat_le (scalars s) max_scalars && nat_le (depth s) max_type_depth then Some s else None
+    if nat_le (scalars s) max_scalars_in_type && nat_le (depth s) max_type_depth then Some s else None
 
 -- Returns the number of words ARRAY and RECORD in a type's text.
 abbrev mutual
@@ -249,7 +249,7 @@ abbrev mutual
   pub constructor_count : {N : Type 0} → Tree N written_type → ℕ
   constructor_count (named_type x) = 0
   constructor_count (array_type e t) = suc (constructor_count t)
-  constructor_count (record_type g rest) = suc (group_constructor_count g + groups_constructor_count rest)
+  constructor_count (record_type g rest) = suc (group_constructor_count g + later_groups_constructor_count rest)
 
   -- returns the number of words ARRAY and RECORD in a group of fields, such as `x, y: T`, whose type is written once
   -- for all its names
@@ -258,9 +258,9 @@ abbrev mutual
   group_constructor_count (some_fields ns t) = constructor_count t
 
   -- returns the number of words ARRAY and RECORD in the groups of fields after the first group
-  pub groups_constructor_count : {N : Type 0} → Tree N (items fields_after_semicolon) → ℕ
-  groups_constructor_count end = 0
-  groups_constructor_count (more (semicolon_then_fields g) rest) = group_constructor_count g + groups_constructor_count rest
+  pub later_groups_constructor_count : {N : Type 0} → Tree N (items fields_after_semicolon) → ℕ
+  later_groups_constructor_count end = 0
+  later_groups_constructor_count (more (semicolon_then_fields g) rest) = group_constructor_count g + later_groups_constructor_count rest
 
 -- returns the type that a type's name means; None for any other object
 abbrev pub type_of_type_object : {V P : Type 0} → Option (Object V P) → Option Shape
@@ -275,15 +275,15 @@ prepend_fields (x ∷ xs) s rest = next_field_shape x s (prepend_fields xs s res
 -- Returns the type that a written type denotes. Returns None if the written type has an error. Each word ARRAY and
 -- RECORD in a module makes a separate type. These types are numbered from 0 in text order.
 unfoldable mutual
-  unfolding constant_value
+  unfolding constant_expression_value
 
   -- Returns the type that a written type denotes: a name's type, or an array or a record within the limits. Returns
   -- None if the written type has an error. `k` is the number of words ARRAY and RECORD before the written type.
   pub denoted_type : {N V P : Type 0} → Meanings N V P → ℕ → Tree N written_type → Option Shape
   denoted_type meaning k (named_type x) = type_of_type_object (meaning.object_for x)
   denoted_type meaning k (array_type e t) = do
-    v ← constant_value meaning e
-    n ← array_length v
+    v ← constant_expression_value meaning e
+    n ← array_length_from_value v
     s ← denoted_type meaning (suc k) t
     type_within_limits (array_shape k n s)
   denoted_type meaning k (record_type g rest) = do

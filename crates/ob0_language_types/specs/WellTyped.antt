@@ -4,12 +4,12 @@ use Rattle.std.specs.Prelude.{ℕ, ◌+◌, Bool, true, false, ◌&&◌, List, [
 use Rattle.ob0_tree.specs.Tree.{Tree, assigns, begins, block, body, branches, calls, declares, declares_procedure, declares_variable, else_branch, else_part, elsif_branch, elsif_part, empty, end, expression, section_after_semicolon, statement_after_semicolon, forms_block, item, items, maybe, module_text, more, none, one, procedure, repeat_loop, runs, section, selector, sequence, statement, semicolon_then_section, semicolon_then_statement, value_section, variable, variable_section, while_loop}
 use Rattle.ob0_language_names.specs.ConsistentNames.{has_consistent_names}
 use Rattle.ob0_language_names.specs.Names.{Name, Naming, naming_by_spelling, same_name}
-use Rattle.ob0_language_names.specs.BlockParts.{formal_sections, module_block, names_in_list, procedure_formals, procedure_name, parameter_section_names, parameter_section_type, section_variables}
+use Rattle.ob0_language_names.specs.BlockParts.{formal_parameter_sections, module_block, names_in_list, procedure_formals, procedure_name, parameter_section_names, parameter_section_type, section_variables}
 use Rattle.ob0_language_types.specs.Arguments.{call_arguments}
-use Rattle.ob0_language_types.specs.Declarations.{constructors_before_variables, constructors_before_procedures, declare_constants_and_types, formals_constructor_count, procedure_constructor_count}
+use Rattle.ob0_language_types.specs.Declarations.{constructor_count_before_variables, constructor_count_before_procedures, declare_constants_and_types, formals_constructor_count, procedure_constructor_count}
 use Rattle.ob0_language_types.specs.Environments.{Environment, meanings, outermost_environment}
 use Rattle.ob0_language_types.specs.Expressions.{Meanings, Object, a_procedure, a_standard_procedure, a_variable, read_procedure, write_procedure, write_line_procedure}
-use Rattle.ob0_language_types.specs.Typing.{constructor_count, denoted_type, lone_designator, type_after_selectors, type_of, ◌>>=◌}
+use Rattle.ob0_language_types.specs.Typing.{constructor_count, denoted_type, lone_designator, type_after_selectors, type_of_expression, ◌>>=◌}
 use Rattle.ob0_language_values.specs.Values.{FieldShapes, Shape, array_shape, boolean_shape, integer_shape, next_field_shape, no_field_shape, record_shape}
 
 -- Returns whether two types are equal.
@@ -66,13 +66,13 @@ same_known_shape _ _ = false
 -- Returns the type of a designator that may be assigned to or passed as a VAR argument: a variable or parameter,
 -- possibly followed by selectors. Returns None if there is no designator, its name isn't a variable or parameter, or
 -- its selectors have an error.
-unfoldable pub variable_type : {N P : Type 0}
+unfoldable pub assignable_type : {N P : Type 0}
     → Meanings N Shape P
     → Option (N × Tree N (items selector))
     → Option Shape
-unfolding type_of
-variable_type meaning None = None
-variable_type meaning (Some (x, path)) =
+unfolding type_of_expression
+assignable_type meaning None = None
+assignable_type meaning (Some (x, path)) =
     elim (meaning.object_for x) [ Some (a_variable s) ↦ type_after_selectors meaning s path | _ ↦ None ]
 
 -- returns the signature of a procedure or a standard procedure; None for any other object
@@ -87,27 +87,27 @@ signature_of _ = None
 
 -- Returns whether an argument has its parameter's type. For a VAR parameter, the argument must also be a variable or
 -- parameter, possibly followed by selectors, without parentheses.
-unfoldable pub argument_matches : {N P : Type 0}
+unfoldable pub argument_matches_parameter : {N P : Type 0}
     → Meanings N Shape P
     → FormalParameter
     → Tree N expression
     → Bool
-unfolding type_of variable_type
-argument_matches meaning f e =
+unfolding type_of_expression assignable_type
+argument_matches_parameter meaning f e =
     same_known_shape (Some f.shape) (elim f.mode
-    [ by_value ↦ type_of meaning e | by_place ↦ variable_type meaning (lone_designator e) ])
+    [ by_value ↦ type_of_expression meaning e | by_place ↦ assignable_type meaning (lone_designator e) ])
 
 -- Returns whether there are as many arguments as parameters, and each argument has the type and
 -- form that its parameter requires. See docs/LANGUAGE.md, Types 2 and 5.
-unfoldable pub arguments_match : {N P : Type 0}
+unfoldable pub arguments_match_signature : {N P : Type 0}
     → Meanings N Shape P
     → Signature
     → List (Tree N expression)
     → Bool
-unfolding argument_matches
-arguments_match meaning [] [] = true
-arguments_match meaning (f ∷ fs) (e ∷ es) = argument_matches meaning f e && arguments_match meaning fs es
-arguments_match meaning _ _ = false
+unfolding argument_matches_parameter
+arguments_match_signature meaning [] [] = true
+arguments_match_signature meaning (f ∷ fs) (e ∷ es) = argument_matches_parameter meaning f e && arguments_match_signature meaning fs es
+arguments_match_signature meaning _ _ = false
 
 -- returns whether there is a signature and the arguments match it; the signature is None if the called name isn't the
 -- name of a procedure
@@ -116,14 +116,14 @@ unfoldable pub call_is_well_typed : {N P : Type 0}
     → Option Signature
     → List (Tree N expression)
     → Bool
-unfolding arguments_match
+unfolding arguments_match_signature
 call_is_well_typed meaning None es = false
-call_is_well_typed meaning (Some signature) es = arguments_match meaning signature es
+call_is_well_typed meaning (Some signature) es = arguments_match_signature meaning signature es
 
 -- returns whether an expression has the type BOOLEAN, as a condition must
 unfoldable pub condition_is_boolean : {N P : Type 0} → Meanings N Shape P → Tree N expression → Bool
-unfolding type_of
-condition_is_boolean meaning e = same_known_shape (Some boolean_shape) (type_of meaning e)
+unfolding type_of_expression
+condition_is_boolean meaning e = same_known_shape (Some boolean_shape) (type_of_expression meaning e)
 
 -- Returns whether a statement is well-typed: both sides of an assignment have the same type, the arguments of a call
 -- match the procedure's parameters, and conditions are BOOLEAN.
@@ -134,7 +134,7 @@ unfoldable mutual
   pub statement_is_well_typed : {N : Type 0} → TypeMeanings N → Tree N statement → Bool
   statement_is_well_typed meaning empty = true
   statement_is_well_typed meaning (assigns x path e) =
-      same_known_shape (variable_type meaning (Some (x, path))) (type_of meaning e)
+      same_known_shape (assignable_type meaning (Some (x, path))) (type_of_expression meaning e)
   statement_is_well_typed meaning (calls x es) =
       call_is_well_typed meaning (signature_of (meaning.object_for x)) (call_arguments es)
   statement_is_well_typed meaning (branches e statements rest last) =
@@ -252,26 +252,26 @@ unfoldable mutual
   block_is_well_typed naming env k (forms_block (declares cs ts vs ps) statements) =
       option_satisfies (do
         first ← declare_constants_and_types naming env k (forms_block (declares cs ts vs ps) statements)
-        declare_typed_variables naming (constructors_before_variables k (forms_block (declares cs ts vs ps) statements))
+        declare_typed_variables naming (constructor_count_before_variables k (forms_block (declares cs ts vs ps) statements))
             (section_variables vs) first)
-      (λ inner. procedures_are_well_typed naming inner
-      (constructors_before_procedures k (forms_block (declares cs ts vs ps) statements)) statements ps)
+      (λ inner. procedures_and_body_are_well_typed naming inner
+      (constructor_count_before_procedures k (forms_block (declares cs ts vs ps) statements)) statements ps)
 
   -- Returns whether each procedure of a block is well-typed in the environment that has the earlier procedures. The
   -- block's body `statements` must also be well-typed in the environment that has all procedures. `k` is the number of
   -- words ARRAY and RECORD before the procedures.
-  pub procedures_are_well_typed : {N : Type 0}
+  pub procedures_and_body_are_well_typed : {N : Type 0}
       → Naming N
       → TypeEnvironment N
       → ℕ
       → Tree N (maybe body)
       → Tree N (items procedure)
       → Bool
-  procedures_are_well_typed naming env k statements end = body_is_well_typed naming env statements
-  procedures_are_well_typed naming env k statements (more p rest) =
+  procedures_and_body_are_well_typed naming env k statements end = body_is_well_typed naming env statements
+  procedures_and_body_are_well_typed naming env k statements (more p rest) =
       option_satisfies (typed_parameters naming env k (procedure_formals p))
       (λ ps. procedure_is_well_typed naming (bind_typed_parameters ps (bind_procedure (procedure_name p) ps env)) k p
-      && procedures_are_well_typed naming (bind_procedure (procedure_name p) ps env) (k + procedure_constructor_count p)
+      && procedures_and_body_are_well_typed naming (bind_procedure (procedure_name p) ps env) (k + procedure_constructor_count p)
       statements rest)
 
   -- returns whether a procedure's block is well-typed; `env` already binds the procedure's name and parameters; `k` is
@@ -283,7 +283,7 @@ unfoldable mutual
       → Tree N (item procedure)
       → Bool
   procedure_is_well_typed naming env k (declares_procedure x fs b closing) =
-      block_is_well_typed naming env (k + formals_constructor_count (formal_sections fs)) b
+      block_is_well_typed naming env (k + formals_constructor_count (formal_parameter_sections fs)) b
 
 -- returns whether a module passes the type check; this check ignores names that are declared twice and wrong closing
 -- names

@@ -2,7 +2,7 @@
 //! its contract is the law.
 
 ghost use Rattle.ob0_language_types.specs.Laws.{NumberingKeepsTypeCheck, NumberedTreeDecidesTyping, ConstantsHaveSameValueInRunAndChecker, InliningKeepsEvaluation, InliningKeepsTypes};
-ghost use Rattle.ob0_language_types.specs.EditLaws.{FreeRenamingKeepsWellTyped, InliningKeepsWellTyped, RemovingUnusedConstantKeepsWellTyped, InliningEverywhereKeepsWellTyped, ConstantUsesAreFactors};
+ghost use Rattle.ob0_language_types.specs.EditLaws.{RenamingToFreeNameKeepsWellTyped, InliningKeepsWellTyped, RemovingUnusedConstantKeepsWellTyped, InliningEverywhereKeepsWellTyped, ConstantUsesAreFactors};
 
 /// Proves that the type check by names accepts a module exactly if the type check by ordinals
 /// accepts the module's numbered tree. In this tree, each bound name is replaced by the ordinal of
@@ -40,8 +40,8 @@ pub fn inlining_keeps_types()
 
 /// Proves that a well-typed module remains well-typed if a declaration is renamed to a free name. A
 /// free name causes no name conflict.
-pub fn free_renaming_keeps_well_typed()
-    ensures { FreeRenamingKeepsWellTyped }
+pub fn renaming_to_free_name_keeps_well_typed()
+    ensures { RenamingToFreeNameKeepsWellTyped }
 {}
 
 /// Proves that a well-typed module remains well-typed if uses of a constant are replaced by the

@@ -67,9 +67,9 @@ abbrev pub ◌>>=◌ : {A B : Type 0} → Outcome A → (A → Outcome B) → Ou
 ◌>>=◌ (ends_run_with e) next = ends_run_with e
 
 -- returns an optional result as an outcome: the result, or the end Stuck if it is None
-abbrev pub or_stuck : {A : Type 0} → Option A → Outcome A
-or_stuck None = ends_run_with Stuck
-or_stuck (Some a) = succeeds_with a
+abbrev pub result_or_stuck : {A : Type 0} → Option A → Outcome A
+result_or_stuck None = ends_run_with Stuck
+result_or_stuck (Some a) = succeeds_with a
 
 -- returns whether a number fits in 32 bits as a signed integer
 abbrev pub fits_in_32_bits : ℤ → Bool
@@ -148,16 +148,16 @@ negate (truth b) = succeeds_with (truth (not b))
 negate _ = ends_run_with Stuck
 
 -- a step of a path into a value: to an element of an array, or to a field of a record
-pub data Step : Type 0 where
-  at_index : ℕ → Step
-  at_field : Name → Step
+pub data PathStep : Type 0 where
+  at_index : ℕ → PathStep
+  at_field : Name → PathStep
 
 -- A place, which a designator gives. `variable` is the index of a variable in the store, counted
 -- from 0. `path` leads from the variable's value to an element or member within it. An empty path
 -- leads to the whole value.
 pub record Place : Type 0 where
   pub variable : ℕ
-  pub path : List Step
+  pub path : List PathStep
 
 -- the store of a run: the value of each variable, at the variable's index
 abbrev pub Store : Type 0
@@ -190,26 +190,26 @@ with_named_member (next_member y v rest) x new =
 
 -- returns the element or member that one step of a path selects from a value; None if the step
 -- selects nothing
-abbrev pub value_at_step : Value → Step → Option Value
+abbrev pub value_at_step : Value → PathStep → Option Value
 value_at_step (elements vs) (at_index i) = nth_value vs i
 value_at_step (members k ms) (at_field x) = named_member ms x
 value_at_step _ _ = None
 
 -- returns a value in which `new` replaces the element or member that one step selects; unchanged if
 -- the step selects nothing
-abbrev pub with_value_at_step : Value → Step → Value → Value
+abbrev pub with_value_at_step : Value → PathStep → Value → Value
 with_value_at_step (elements vs) (at_index i) new = elements (with_nth_value vs i new)
 with_value_at_step (members k ms) (at_field x) new = members k (with_named_member ms x new)
 with_value_at_step v _ new = v
 
 -- returns the value that a path leads to, starting at a value; None if a step selects nothing
-abbrev pub value_at_path : List Step → Value → Option Value
+abbrev pub value_at_path : List PathStep → Value → Option Value
 value_at_path [] v = Some v
 value_at_path (s ∷ path) v = option_and_then (value_at_path path) (value_at_step v s)
 
 -- returns the value `v`, in which `new` replaces the value that a path leads to; None if a step
 -- selects nothing
-abbrev pub with_value_at_path : List Step → Value → Value → Option Value
+abbrev pub with_value_at_path : List PathStep → Value → Value → Option Value
 with_value_at_path [] new v = Some new
 with_value_at_path (s ∷ path) new v =
     option_and_then (λ old. option_map (with_value_at_step v s) (with_value_at_path path new old)) (value_at_step v s)

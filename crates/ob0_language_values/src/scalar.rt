@@ -81,7 +81,7 @@ pub fn add(operator: AddOperator, left: Scalar, right: Scalar) -> Result<Scalar,
         },
         Scalar::Truth(a) => match right {
             Scalar::Number(_) => Err(OperatorFault::Operand),
-            Scalar::Truth(b) => apply_add_operator_to_truths(operator, a, b),
+            Scalar::Truth(b) => apply_add_operator_to_truth_values(operator, a, b),
         },
     }
 }
@@ -103,7 +103,7 @@ fn apply_add_operator_to_numbers(
 }
 
 /// Returns `a OR b`. Returns the error `Operand` if the operator is `+` or `-`.
-fn apply_add_operator_to_truths(
+fn apply_add_operator_to_truth_values(
     operator: AddOperator,
     a: bool,
     b: bool,
@@ -138,7 +138,7 @@ pub fn multiply(
         },
         Scalar::Truth(a) => match right {
             Scalar::Number(_) => Err(OperatorFault::Operand),
-            Scalar::Truth(b) => apply_multiply_operator_to_truths(operator, a, b),
+            Scalar::Truth(b) => apply_multiply_operator_to_truth_values(operator, a, b),
         },
     }
 }
@@ -161,7 +161,7 @@ fn apply_multiply_operator_to_numbers(
 }
 
 /// Returns `a & b`. Returns the error `Operand` if the operator is `*`, DIV or MOD.
-fn apply_multiply_operator_to_truths(
+fn apply_multiply_operator_to_truth_values(
     operator: MultiplyOperator,
     a: bool,
     b: bool,
@@ -227,7 +227,7 @@ pub fn apply_relation(
         },
         Scalar::Truth(a) => match right {
             Scalar::Number(_) => Err(OperatorFault::Operand),
-            Scalar::Truth(b) => compare_truths(relation, a, b),
+            Scalar::Truth(b) => compare_truth_values(relation, a, b),
         },
     }
 }
@@ -248,7 +248,7 @@ fn compare_numbers(relation: Relation, a: i32, b: i32) -> bool
 
 /// Returns the truth value of `a = b` or `a # b`. Returns the error `Operand` for any other
 /// relation.
-fn compare_truths(relation: Relation, a: bool, b: bool) -> Result<Scalar, OperatorFault>
+fn compare_truth_values(relation: Relation, a: bool, b: bool) -> Result<Scalar, OperatorFault>
     ensures { scalar_outcome result ≡ apply_relation relation (truth a) (truth b) }
 {
     match relation {

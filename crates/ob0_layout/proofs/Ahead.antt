@@ -17,8 +17,8 @@ use Rattle.ob0_scan.specs.declared.lexeme.LexemeKind.{LexemeKind}
 use Rattle.ob0_scan.specs.declared.lexeme.LexemeKind.TheVariants as lexeme
 use Rattle.ob0_scan.specs.declared.lexeme.Span.{Span}
 use Rattle.ob0_scan.specs.declared.lexeme.Token.{Token}
-use Rattle.ob0_scan.specs.Lexed.{Lexeme, text_of_lexemes}
-use Rattle.ob0_scan.specs.TextWithTokens.{TextWithTokens, IsScan, span_from, tokens_of_lexeme, comments_of_lexeme, tokens_of_lexemes_from, comments_of_lexemes_from}
+use Rattle.ob0_scan.specs.TextLexemes.{Lexeme, text_of_lexemes}
+use Rattle.ob0_scan.specs.TextWithTokens.{TextWithTokens, IsScan, span_with_length, tokens_of_one_lexeme, comments_of_one_lexeme, tokens_of_lexemes_from, comments_of_lexemes_from}
 use Rattle.ob0_scan.proofs.Cuts.{nonempty}
 use Rattle.ob0_scan.proofs.Spans.{LexemesFrom, next_from}
 use Rattle.ob0_layout.specs.declared.gap.Gap.{Gap}
@@ -27,8 +27,8 @@ use Rattle.ob0_layout.specs.declared.gap_sites.TokenOrComment.{TokenOrComment}
 use Rattle.ob0_layout.specs.declared.gap_sites.TokenOrComment.TheVariants as next
 use Rattle.ob0_layout.specs.declared.gap_sites.KindAndRole.{KindAndRole}
 use Rattle.ob0_layout.specs.declared.line_role.LineRole.{LineRole}
-use Rattle.ob0_layout.specs.Cuts.{gap_sites_to_change, gap_before, gap_cut, gap_at_text_end, next_token_or_comment}
-use Rattle.ob0_layout.specs.Gaps.{all_gaps, changed_gaps, gaps_of_lexemes, gaps_after, formatting_changes_gap}
+use Rattle.ob0_layout.specs.Cuts.{gap_sites_to_change, gap_before_token_or_comment, gap_cut, gap_at_text_end, next_token_or_comment}
+use Rattle.ob0_layout.specs.Gaps.{all_gaps, changed_gaps, gaps_of_lexemes, gaps_after_token_or_comment, formatting_changes_gap}
 use Rattle.ob0_layout.specs.Layout.{LexemeWithRole, lexemes_with_roles, next_token_line_level, next_token_role, contains_line_break, comment_role, gap_text_between, indentation}
 use Rattle.ob0_layout.proofs.Apart.{IsSolid}
 
@@ -46,8 +46,8 @@ or_assoc true b c = refl
 or_assoc false b c = refl
 
 first_token_kind : (k : LexemeKind) (at size : ℕ) (ls : List Lexeme) (t : Token) (ts : List Token) → (tokens_of_lexemes_from (at + size) ls ≡ t ∷ ts → at + size ≤ t.span.start)
-    → tokens_of_lexeme k (span_from at size) ++ tokens_of_lexemes_from (at + size) ls ≡ t ∷ ts → at ≤ t.span.start
-first_token_kind (lexeme.Token k) at size ls t ts more e = let same : record { kind = k; span = span_from at size } ≡ t = first_same e in omega (arith, ap (λ (x : Token). x.span.start) same)
+    → tokens_of_one_lexeme k (span_with_length at size) ++ tokens_of_lexemes_from (at + size) ls ≡ t ∷ ts → at ≤ t.span.start
+first_token_kind (lexeme.Token k) at size ls t ts more e = let same : record { kind = k; span = span_with_length at size } ≡ t = first_same e in omega (arith, ap (λ (x : Token). x.span.start) same)
 first_token_kind _ at size ls t ts more e = omega (arith, more e)
 
 -- The tokens of a suffix begin at its start or later.
@@ -56,8 +56,8 @@ first_bound_token at [] t ts e = absurd (cc)
 first_bound_token at (l ∷ ls) t ts e = first_token_kind l.kind at (length l.text) ls t ts (first_bound_token (at + length l.text) ls t ts) e
 
 first_comment_kind : (k : LexemeKind) (at size : ℕ) (ls : List Lexeme) (c : Span) (cs : List Span) → (comments_of_lexemes_from (at + size) ls ≡ c ∷ cs → at + size ≤ c.start)
-    → comments_of_lexeme k (span_from at size) ++ comments_of_lexemes_from (at + size) ls ≡ c ∷ cs → at ≤ c.start
-first_comment_kind lexeme.Comment at size ls c cs more e = let same : span_from at size ≡ c = first_same e in omega (arith, ap (λ (x : Span). x.start) same)
+    → comments_of_one_lexeme k (span_with_length at size) ++ comments_of_lexemes_from (at + size) ls ≡ c ∷ cs → at ≤ c.start
+first_comment_kind lexeme.Comment at size ls c cs more e = let same : span_with_length at size ≡ c = first_same e in omega (arith, ap (λ (x : Span). x.start) same)
 first_comment_kind _ at size ls c cs more e = omega (arith, more e)
 
 first_comment : (at : ℕ) (ls : List Lexeme) (c : Span) (cs : List Span) → comments_of_lexemes_from at ls ≡ c ∷ cs → at ≤ c.start
@@ -66,25 +66,25 @@ first_comment at (l ∷ ls) c cs e = first_comment_kind l.kind at (length l.text
 
 -- returns a lexeme at this place as the next token or comment; None if it is white space
 abbrev first_of : LexemeKind → Span → Option TokenOrComment
-first_of lexeme.Space span = None
+first_of lexeme.WhiteSpace span = None
 first_of lexeme.Comment span = Some (next.Comment span)
 first_of (lexeme.Token k) span = Some (next.Token (record { kind = k; span = span }))
 
 comes_first : (k : LexemeKind) (at : ℕ) (t : List ℕ) (ls : List Lexeme) → IsSolid k → 0 < length t
-    → next_token_or_comment (tokens_of_lexemes_from at (record { kind = k; text = t } ∷ ls)) (comments_of_lexemes_from at (record { kind = k; text = t } ∷ ls)) ≡ first_of k (span_from at (length t))
-comes_first lexeme.Space at t ls solid some = absurd solid
+    → next_token_or_comment (tokens_of_lexemes_from at (record { kind = k; text = t } ∷ ls)) (comments_of_lexemes_from at (record { kind = k; text = t } ∷ ls)) ≡ first_of k (span_with_length at (length t))
+comes_first lexeme.WhiteSpace at t ls solid some = absurd solid
 comes_first lexeme.Comment at t ls solid some = by_tokens (tokens_of_lexemes_from (at + length t) ls) refl
   where
-    by_tokens : (ts : List Token) → tokens_of_lexemes_from (at + length t) ls ≡ ts → next_token_or_comment ts (span_from at (length t) ∷ comments_of_lexemes_from (at + length t) ls) ≡ Some (next.Comment (span_from at (length t)))
+    by_tokens : (ts : List Token) → tokens_of_lexemes_from (at + length t) ls ≡ ts → next_token_or_comment ts (span_with_length at (length t) ∷ comments_of_lexemes_from (at + length t) ls) ≡ Some (next.Comment (span_with_length at (length t)))
     by_tokens [] e = refl
     by_tokens (u ∷ ts) e =
         let later = first_bound_token (at + length t) ls u ts e in
         let test : nat_lt at u.span.start ≡ true = grind (arith, nat_tests) in
-        ap (λ b. if b then Some (next.Comment (span_from at (length t))) else Some (next.Token u)) test
+        ap (λ b. if b then Some (next.Comment (span_with_length at (length t))) else Some (next.Token u)) test
 comes_first (lexeme.Token k) at t ls solid some = by_comments (comments_of_lexemes_from (at + length t) ls) refl
   where
     token : Token
-    token = record { kind = k; span = span_from at (length t) }
+    token = record { kind = k; span = span_with_length at (length t) }
 
     by_comments : (cs : List Span) → comments_of_lexemes_from (at + length t) ls ≡ cs → next_token_or_comment (token ∷ tokens_of_lexemes_from (at + length t) ls) cs ≡ Some (next.Token token)
     by_comments [] e = refl
@@ -116,7 +116,7 @@ module _ (text : List ℕ) where
         → lexemes_with_roles at level broken ss rest ≡ lexemes_with_roles place level (broken || contains_line_break (slice_range text at place)) ss (record { kind = kind; text = t } ∷ ls)
 
   over_space : (at : ℕ) (t : List ℕ) (ls : List Lexeme) → drop at text ≡ t ++ text_of_lexemes ls → drop (at + length t) text ≡ text_of_lexemes ls
-      → NoMore (at + length t) ls ⊎ Found (at + length t) ls → NoMore at (record { kind = lexeme.Space; text = t } ∷ ls) ⊎ Found at (record { kind = lexeme.Space; text = t } ∷ ls)
+      → NoMore (at + length t) ls ⊎ Found (at + length t) ls → NoMore at (record { kind = lexeme.WhiteSpace; text = t } ∷ ls) ⊎ Found at (record { kind = lexeme.WhiteSpace; text = t } ∷ ls)
   over_space at t ls here there (inl n) = inl (record { up = omega (arith, n.up); tokens = n.tokens; comments = n.comments; none = λ level broken ss. n.none level (broken || contains_line_break t) ss })
   over_space at t ls here there (inr n) =
       let further : n.place - at ≡ length t + (n.place - (at + length t)) = omega (arith, n.up) in
@@ -156,7 +156,7 @@ module _ (text : List ℕ) where
 
   over_kind : (k : LexemeKind) (at : ℕ) (t : List ℕ) (ls : List Lexeme) → LexemesFrom text at (record { kind = k; text = t } ∷ ls) []
       → LexemesFrom text (at + length t) ls [] → NoMore (at + length t) ls ⊎ Found (at + length t) ls → NoMore at (record { kind = k; text = t } ∷ ls) ⊎ Found at (record { kind = k; text = t } ∷ ls)
-  over_kind lexeme.Space at t ls s s' more = over_space at t ls (s.rest ∙ append-nil (t ++ text_of_lexemes ls)) (s'.rest ∙ append-nil (text_of_lexemes ls)) more
+  over_kind lexeme.WhiteSpace at t ls s s' more = over_space at t ls (s.rest ∙ append-nil (t ++ text_of_lexemes ls)) (s'.rest ∙ append-nil (text_of_lexemes ls)) more
   over_kind lexeme.Comment at t ls s s' more = inr (found_here lexeme.Comment at t ls tt s)
   over_kind (lexeme.Token k) at t ls s s' more = inr (found_here (lexeme.Token k) at t ls tt s)
 
@@ -181,24 +181,24 @@ module _ (indent : Indent) (text : List ℕ) where
   -- comment
   abbrev gaps_left : Option KindAndRole → ℕ → List LexemeWithRole → List Cut
   gaps_left None start [] = record { from = start; to = length text; new = [] } ∷ []
-  gaps_left None start (b ∷ bs) = record { from = start; to = b.span.start; new = [] } ∷ gaps_after indent (length text) b bs
-  gaps_left (Some a) start bs = gaps_after indent (length text) (record { lexeme = record { kind = a.kind; text = [] }; span = record { start = start; end = start }; role = a.role }) bs
+  gaps_left None start (b ∷ bs) = record { from = start; to = b.span.start; new = [] } ∷ gaps_after_token_or_comment indent (length text) b bs
+  gaps_left (Some a) start bs = gaps_after_token_or_comment indent (length text) (record { lexeme = record { kind = a.kind; text = [] }; span = record { start = start; end = start }; role = a.role }) bs
 
   at_start : (bs : List LexemeWithRole) → gaps_left None 0 bs ≡ gaps_of_lexemes indent (length text) bs
   at_start [] = refl
   at_start (b ∷ bs) = refl
 
   -- The gaps after a token or comment depend only on its kind, role and end.
-  same_after : (b : LexemeWithRole) (bs : List LexemeWithRole) → gaps_after indent (length text) b bs ≡ gaps_left (Some (make_solid b.lexeme.kind b.role)) b.span.end bs
+  same_after : (b : LexemeWithRole) (bs : List LexemeWithRole) → gaps_after_token_or_comment indent (length text) b bs ≡ gaps_left (Some (make_solid b.lexeme.kind b.role)) b.span.end bs
   unfolding gap_text_between
   same_after b [] = refl
   same_after b (c ∷ cs) = refl
 
   one_gap : (before : Option KindAndRole) (start : ℕ) (b : LexemeWithRole) (bs : List LexemeWithRole)
-      → gap_cut indent (make_site start b.span.start (gap_before before b.lexeme.kind b.role)) ∷ gaps_left (Some (make_solid b.lexeme.kind b.role)) b.span.end bs ≡ gaps_left before start (b ∷ bs)
+      → gap_cut indent (make_site start b.span.start (gap_before_token_or_comment before b.lexeme.kind b.role)) ∷ gaps_left (Some (make_solid b.lexeme.kind b.role)) b.span.end bs ≡ gaps_left before start (b ∷ bs)
   unfolding gap_text_between
   one_gap None start b bs = ap (λ cs. record { from = start; to = b.span.start; new = [] } ∷ cs) (sym (same_after b bs))
-  one_gap (Some a) start b bs = ap (λ cs. gap_cut indent (make_site start b.span.start (gap_before (Some a) b.lexeme.kind b.role)) ∷ cs) (sym (same_after b bs))
+  one_gap (Some a) start b bs = ap (λ cs. gap_cut indent (make_site start b.span.start (gap_before_token_or_comment (Some a) b.lexeme.kind b.role)) ∷ cs) (sym (same_after b bs))
 
   final_gap : (before : Option KindAndRole) (start : ℕ) → gap_cut indent (make_site start (length text) (gap_at_text_end before)) ∷ [] ≡ gaps_left before start []
   final_gap None start = refl
@@ -257,7 +257,7 @@ module _ (indent : Indent) (text : List ℕ) where
       pub up : start ≤ span.start
       pub ordered : span.start ≤ span.end
       pub within : span.end ≤ length text
-      pub after : Passing whole left' comments' ss' (Some (make_solid kind role)) level' span.end (with_gap span.start (gap_before before kind role))
+      pub after : Passing whole left' comments' ss' (Some (make_solid kind role)) level' span.end (with_gap span.start (gap_before_token_or_comment before kind role))
 
     abbrev role_at : Span → LineRole
     role_at span = comment_role (is_none before || contains_line_break (slice_range text start span.start)) (next_token_line_level level ss)
@@ -279,11 +279,11 @@ module _ (indent : Indent) (text : List ℕ) where
       passes : (kind : LexemeKind) (place : ℕ) (t : List ℕ) (ls : List Lexeme) (role : LineRole) (left' : List Token) (comments' : List Span) (ss' : List LineRole) (level' : ℕ)
           → start ≤ place → LexemesFrom text place (record { kind = kind; text = t } ∷ ls) []
           → left' ≡ tokens_of_lexemes_from (place + length t) ls → comments' ≡ comments_of_lexemes_from (place + length t) ls
-          → lexemes_with_roles start level (is_none before) ss h.rest ≡ record { lexeme = record { kind = kind; text = t }; span = span_from place (length t); role = role } ∷ lexemes_with_roles (place + length t) level' false ss' ls
-          → Passes kind (span_from place (length t)) role left' comments' ss' level'
+          → lexemes_with_roles start level (is_none before) ss h.rest ≡ record { lexeme = record { kind = kind; text = t }; span = span_with_length place (length t); role = role } ∷ lexemes_with_roles (place + length t) level' false ss' ls
+          → Passes kind (span_with_length place (length t)) role left' comments' ss' level'
       passes kind place t ls role left' comments' ss' level' up s tokens others found =
           let s' = next_from text place (record { kind = kind; text = t }) ls [] s in
-          let b : LexemeWithRole = record { lexeme = record { kind = kind; text = t }; span = span_from place (length t); role = role } in
+          let b : LexemeWithRole = record { lexeme = record { kind = kind; text = t }; span = span_with_length place (length t); role = role } in
           let bs : List LexemeWithRole = lexemes_with_roles (place + length t) level' false ss' ls in
           record {
             up = up;
@@ -294,7 +294,7 @@ module _ (indent : Indent) (text : List ℕ) where
               from_there = s';
               left_is = tokens;
               comments_is = others;
-              same = one_more out (make_site start place (gap_before before kind role)) (gaps_left (Some (make_solid kind role)) (place + length t) bs)
+              same = one_more out (make_site start place (gap_before_token_or_comment before kind role)) (gaps_left (Some (make_solid kind role)) (place + length t) bs)
                   ∙ ap (λ cs. map (gap_cut indent) out ++ changed_gaps text cs) (one_gap before start b bs ∙ ap (gaps_left before start) (sym found)) ∙ h.same;
             };
           }
@@ -302,10 +302,10 @@ module _ (indent : Indent) (text : List ℕ) where
       passes_kind : (kind : LexemeKind) (place : ℕ) (t : List ℕ) (ls : List Lexeme) → IsSolid kind → start ≤ place → LexemesFrom text place (record { kind = kind; text = t } ∷ ls) []
           → left ≡ tokens_of_lexemes_from place (record { kind = kind; text = t } ∷ ls) → comments ≡ comments_of_lexemes_from place (record { kind = kind; text = t } ∷ ls)
           → lexemes_with_roles start level (is_none before) ss h.rest ≡ lexemes_with_roles place level (is_none before || contains_line_break (slice_range text start place)) ss (record { kind = kind; text = t } ∷ ls)
-          → Goes (first_of kind (span_from place (length t)))
-      passes_kind lexeme.Space place t ls solid up s tokens others found = absurd solid
+          → Goes (first_of kind (span_with_length place (length t)))
+      passes_kind lexeme.WhiteSpace place t ls solid up s tokens others found = absurd solid
       passes_kind lexeme.Comment place t ls solid up s tokens others found =
-          passes lexeme.Comment place t ls (role_at (span_from place (length t))) left (drop 1 comments) ss level up s tokens (ap (drop 1) others) found
+          passes lexeme.Comment place t ls (role_at (span_with_length place (length t))) left (drop 1 comments) ss level up s tokens (ap (drop 1) others) found
       passes_kind (lexeme.Token k) place t ls solid up s tokens others found =
           passes (lexeme.Token k) place t ls (next_token_role ss) (drop 1 left) comments (drop 1 ss) (next_token_line_level level ss) up s (ap (drop 1) tokens) others found
 

@@ -14,28 +14,28 @@ use Rattle.ob0_scan.specs.declared.lexeme.TokenKind.TheVariants as token
 use Rattle.ob0_scan.specs.declared.lexeme.LexemeKind.{LexemeKind}
 use Rattle.ob0_scan.specs.declared.lexeme.LexemeKind.TheVariants as lexeme
 use Rattle.ob0_scan.specs.LexemeClasses.{symbol_text, is_white_space, IsNonEmptySequenceOf, IsLexemeOfKind}
-use Rattle.ob0_scan.specs.Lexed.{Lexeme, text_of_lexemes}
+use Rattle.ob0_scan.specs.TextLexemes.{Lexeme, text_of_lexemes}
 use Rattle.ob0_scan.specs.LexemeEnds.{continues_symbol, continues_lexeme, EachLexemeEndsBeforeNext}
-use Rattle.ob0_scan.specs.TextWithTokens.{span_from, words_of_lexemes}
+use Rattle.ob0_scan.specs.TextWithTokens.{span_with_length, words_of_lexemes}
 use Rattle.ob0_scan.proofs.Families.{Family, Blank, Letter, Digit, family, family_of, family-blank, head_family}
 use Rattle.ob0_scan.proofs.Families as families
 use Rattle.ob0_scan.proofs.Cuts.{nonempty}
 use Rattle.ob0_text.specs.declared.edits.Indent.{Indent}
 use Rattle.ob0_text.specs.declared.edits.Indent.TheVariants as indent_by
-use Rattle.ob0_tree.specs.Lexeme as spelled_as
-use Rattle.ob0_tree.specs.Lexeme.{terminal_of_kind}
+use Rattle.ob0_tree.specs.Terminals as spelled_as
+use Rattle.ob0_tree.specs.Terminals.{terminal_of_kind}
 use Rattle.ob0_tree.specs.Tree.{Sort, Tree, spell}
 use Rattle.ob0_layout.proofs.Named.{named_lexeme}
 use Rattle.ob0_layout.specs.declared.gap.Gap.TheVariants.{Nothing, Space}
 use Rattle.ob0_layout.specs.declared.line_role.LineRole.{LineRole}
 use Rattle.ob0_layout.specs.declared.line_role.LineRole.TheVariants.{BeginsLine, OpensParameters, JoinsNextToken, Plain}
 use Rattle.ob0_layout.specs.LineRoles.{line_roles}
-use Rattle.ob0_layout.specs.Layout.{LexemeWithRole, lexemes_with_roles, next_token_line_level, next_token_role, contains_line_break, comment_role, is_comment, has_no_space_before, has_no_space_after, indentation, gap_text_between, gap_between, gap_in_line, gap_text, optional_white_space_lexeme, lexemes_with_formatted_gaps_after, lexemes_with_formatted_gaps, formatted_lexemes}
+use Rattle.ob0_layout.specs.Layout.{LexemeWithRole, lexemes_with_roles, next_token_line_level, next_token_role, contains_line_break, comment_role, is_comment, has_no_space_before, has_no_space_after, indentation, gap_text_between, gap_between, gap_between_on_same_line, gap_text, white_space_lexeme_unless_empty, further_lexemes_with_formatted_gaps, lexemes_with_formatted_gaps, formatted_lexemes}
 use Rattle.ob0_layout.proofs.Pairs.{Calm, calm_next, calm_paren, is_paren, is_star, calm_spelled}
 
 -- holds if a lexeme is a token or comment
 abbrev pub IsSolid : LexemeKind → Type 0
-IsSolid lexeme.Space = ⊥
+IsSolid lexeme.WhiteSpace = ⊥
 IsSolid other = Unit {0}
 
 -- states that a byte continues no token
@@ -52,13 +52,13 @@ quiet_joins symbol.LeftParen x q = q.starless
 quiet_joins _ x q = refl
 
 quiet_ends : (k : LexemeKind) (x : ℕ) → IsSolid k → Quiet x → continues_lexeme k x ≡ false
-quiet_ends lexeme.Space x solid q = absurd solid
+quiet_ends lexeme.WhiteSpace x solid q = absurd solid
 quiet_ends lexeme.Comment x solid q = refl
 quiet_ends (lexeme.Token (token.Symbol s)) x solid q = quiet_joins s x q
 quiet_ends _ x solid q = q.alone
 
 not_blank : (k : LexemeKind) → IsSolid k → Blank ≡ family_of k → ⊥
-not_blank lexeme.Space solid e = solid
+not_blank lexeme.WhiteSpace solid e = solid
 not_blank (lexeme.Token token.Identifier) solid e = cc
 not_blank _ solid e = cc
 
@@ -159,7 +159,7 @@ in_line_fits indent a b n false true e f = joined_fits a b n (both_false (is_com
 in_line_fits indent a b n _ _ e f = space_fits a.lexeme.kind (get_or b.lexeme.text 0 0)
 
 gap_in_line_fits : (indent : Indent) (a b : LexemeWithRole) → Neighbours a b
-    → Fits a.lexeme.kind (get_or b.lexeme.text 0 0) (gap_text indent (gap_in_line a.lexeme.kind a.role b.lexeme.kind b.role))
+    → Fits a.lexeme.kind (get_or b.lexeme.text 0 0) (gap_text indent (gap_between_on_same_line a.lexeme.kind a.role b.lexeme.kind b.role))
 gap_in_line_fits indent a b n = in_line_fits indent a b n _ _ refl refl
 
 gap_between_fits : (indent : Indent) (a : LexemeWithRole) (l : Lexeme) (u : Span) (s : LineRole) → Neighbours a (record { lexeme = l; span = u; role = s })
@@ -177,7 +177,7 @@ first_of : (l : Lexeme) (ls : List Lexeme) → IsLexemeOfKind l.kind l.text → 
 first_of l ls h = get_or_append_left l.text (text_of_lexemes ls) 0 0 (nonempty l.kind l.text h)
 
 fits_apart : (a b : LexemeWithRole) (rest : List Lexeme) (g : List ℕ) → Neighbours a b → IsLexemeOfKind a.lexeme.kind a.lexeme.text
-    → Fits a.lexeme.kind (get_or b.lexeme.text 0 0) g → EachLexemeEndsBeforeNext (b.lexeme ∷ rest) → EachLexemeEndsBeforeNext (a.lexeme ∷ (optional_white_space_lexeme g ++ (b.lexeme ∷ rest)))
+    → Fits a.lexeme.kind (get_or b.lexeme.text 0 0) g → EachLexemeEndsBeforeNext (b.lexeme ∷ rest) → EachLexemeEndsBeforeNext (a.lexeme ∷ (white_space_lexeme_unless_empty g ++ (b.lexeme ∷ rest)))
 fits_apart a b rest _ n h (directly e) more =
     (record { belongs = h; ends = ap (continues_lexeme a.lexeme.kind) (first_of b.lexeme rest n.right_belongs) ∙ e }, more)
 fits_apart a b rest _ n h (by_space {x = x} q run) more = (
@@ -207,24 +207,24 @@ paren_of k text e = let same : k ≡ token.Symbol symbol.LeftParen = cc in ap (�
 
 abbrev Spread : Indent → List Lexeme → Type 0
 Spread indent ls = (at level : ℕ) (broken : Bool) (ss : List LineRole) (a : LexemeWithRole) → IsSolid a.lexeme.kind → IsLexemeOfKind a.lexeme.kind a.lexeme.text
-    → (a.lexeme.kind ≡ left_paren → NoStar (spelled ls)) → Calm (spelled ls) → EachLexemeEndsBeforeNext ls → EachLexemeEndsBeforeNext (a.lexeme ∷ lexemes_with_formatted_gaps_after indent a (lexemes_with_roles at level broken ss ls))
+    → (a.lexeme.kind ≡ left_paren → NoStar (spelled ls)) → Calm (spelled ls) → EachLexemeEndsBeforeNext ls → EachLexemeEndsBeforeNext (a.lexeme ∷ further_lexemes_with_formatted_gaps indent a (lexemes_with_roles at level broken ss ls))
 
 comment_spread : (indent : Indent) (text : List ℕ) (ls : List Lexeme) → Spread indent ls → Spread indent (record { kind = lexeme.Comment; text = text } ∷ ls)
 comment_spread indent text ls rest at level broken ss a solid h after calm apart =
-    let c : LexemeWithRole = record { lexeme = record { kind = lexeme.Comment; text = text }; span = span_from at (length text); role = comment_role broken (next_token_line_level level ss) } in
+    let c : LexemeWithRole = record { lexeme = record { kind = lexeme.Comment; text = text }; span = span_with_length at (length text); role = comment_role broken (next_token_line_level level ss) } in
     let n : Neighbours a c = record { left = solid; right = tt; right_belongs = apart.0.belongs; starless = λ paren uncommented. absurd (differ (sym uncommented)) } in
-    fits_apart a c (lexemes_with_formatted_gaps_after indent c (lexemes_with_roles (at + length text) level false ss ls)) (gap_text_between indent a c) n h (gap_fits indent a c n)
+    fits_apart a c (further_lexemes_with_formatted_gaps indent c (lexemes_with_roles (at + length text) level false ss ls)) (gap_text_between indent a c) n h (gap_fits indent a c n)
     (rest (at + length text) level false ss c tt apart.0.belongs (λ e. cc) calm apart.1)
 
 token_spread : (indent : Indent) (k : TokenKind) (text : List ℕ) (ls : List Lexeme) → Spread indent ls → Spread indent (record { kind = lexeme.Token k; text = text } ∷ ls)
 token_spread indent k text ls rest at level broken ss a solid h after calm apart =
-    let t : LexemeWithRole = record { lexeme = record { kind = lexeme.Token k; text = text }; span = span_from at (length text); role = next_token_role ss } in
+    let t : LexemeWithRole = record { lexeme = record { kind = lexeme.Token k; text = text }; span = span_with_length at (length text); role = next_token_role ss } in
     let n : Neighbours a t = record { left = solid; right = tt; right_belongs = apart.0.belongs; starless = λ paren uncommented. token_first k text apart.0.belongs (after paren) } in
-    fits_apart a t (lexemes_with_formatted_gaps_after indent t (lexemes_with_roles (at + length text) (next_token_line_level level ss) false (drop 1 ss) ls)) (gap_text_between indent a t) n h (gap_fits indent a t n)
+    fits_apart a t (further_lexemes_with_formatted_gaps indent t (lexemes_with_roles (at + length text) (next_token_line_level level ss) false (drop 1 ss) ls)) (gap_text_between indent a t) n h (gap_fits indent a t n)
     (rest (at + length text) (next_token_line_level level ss) false (drop 1 ss) t tt apart.0.belongs (λ e. calm_first calm (paren_of k text e)) (calm_following calm) apart.1)
 
 kind_spread : (indent : Indent) (k : LexemeKind) (text : List ℕ) (ls : List Lexeme) → Spread indent ls → Spread indent (record { kind = k; text = text } ∷ ls)
-kind_spread indent lexeme.Space text ls rest = λ at level broken ss a solid h after calm apart. rest (at + length text) level (broken || contains_line_break text) ss a solid h after calm apart.1
+kind_spread indent lexeme.WhiteSpace text ls rest = λ at level broken ss a solid h after calm apart. rest (at + length text) level (broken || contains_line_break text) ss a solid h after calm apart.1
 kind_spread indent lexeme.Comment text ls rest = comment_spread indent text ls rest
 kind_spread indent (lexeme.Token k) text ls rest = token_spread indent k text ls rest
 
@@ -242,12 +242,12 @@ abbrev FirstSpread : Indent → List Lexeme → Type 0
 FirstSpread indent ls = (at level : ℕ) (broken : Bool) (ss : List LineRole) → Calm (spelled ls) → EachLexemeEndsBeforeNext ls → EachLexemeEndsBeforeNext (lexemes_with_formatted_gaps indent (lexemes_with_roles at level broken ss ls))
 
 kind_first_spread : (indent : Indent) (k : LexemeKind) (text : List ℕ) (ls : List Lexeme) → FirstSpread indent ls → FirstSpread indent (record { kind = k; text = text } ∷ ls)
-kind_first_spread indent lexeme.Space text ls rest = λ at level broken ss calm apart. rest (at + length text) level (broken || contains_line_break text) ss calm apart.1
+kind_first_spread indent lexeme.WhiteSpace text ls rest = λ at level broken ss calm apart. rest (at + length text) level (broken || contains_line_break text) ss calm apart.1
 kind_first_spread indent lexeme.Comment text ls rest = λ at level broken ss calm apart.
-    let c : LexemeWithRole = record { lexeme = record { kind = lexeme.Comment; text = text }; span = span_from at (length text); role = comment_role broken (next_token_line_level level ss) } in
+    let c : LexemeWithRole = record { lexeme = record { kind = lexeme.Comment; text = text }; span = span_with_length at (length text); role = comment_role broken (next_token_line_level level ss) } in
     following_spread indent ls (at + length text) level false ss c tt apart.0.belongs (λ e. cc) calm apart.1
 kind_first_spread indent (lexeme.Token k) text ls rest = λ at level broken ss calm apart.
-    let t : LexemeWithRole = record { lexeme = record { kind = lexeme.Token k; text = text }; span = span_from at (length text); role = next_token_role ss } in
+    let t : LexemeWithRole = record { lexeme = record { kind = lexeme.Token k; text = text }; span = span_with_length at (length text); role = next_token_role ss } in
     following_spread indent ls (at + length text) (next_token_line_level level ss) false (drop 1 ss) t tt apart.0.belongs (λ e. calm_first calm (paren_of k text e)) (calm_following calm) apart.1
 
 first_spread : (indent : Indent) (ls : List Lexeme) → FirstSpread indent ls

@@ -11,23 +11,23 @@ use Rattle.std.proofs.lemmas.List.Elements.{All-cons, All-head, All-nil, All-tai
 use Rattle.std.proofs.lemmas.Slice.Eq.{bytes_eq-Decides}
 use Rattle.std.proofs.lemmas.Str.{IsCharBoundary-start, IsUtf8-from_ascii}
 use Rattle.ob0_scan.specs.LexemeClasses.{is_white_space}
-use Rattle.ob0_scan.specs.Lexed.{Lexeme, text_of_lexemes}
+use Rattle.ob0_scan.specs.TextLexemes.{Lexeme, text_of_lexemes}
 use Rattle.ob0_scan.specs.TextWithTokens.{TextWithTokens, IsScan}
 use Rattle.ob0_text.specs.declared.edits.Edit.{Edit}
 use Rattle.ob0_text.specs.declared.edits.Indent.{Indent}
 use Rattle.ob0_text.specs.declared.position_types.Unit as counting
 use Rattle.ob0_text.specs.Patches.{Cut, patched_text, text_from_place_with_cuts}
 use Rattle.ob0_text.specs.Units.{width_of}
-use Rattle.ob0_edits_tokens.specs.ByteCuts.{edit_of_cut, length_with_cuts}
+use Rattle.ob0_edits_tokens.specs.ByteCuts.{edit_of_cut, length_from_place_with_cuts}
 use Rattle.ob0_edits_tokens.specs.Replacements.{range_and_text}
 use Rattle.ob0_edits_tokens.proofs.TextCuts.{AreCuts, cuts_from, made_length, made_utf8, patched_at_cuts, pieced_here, pieced_later, two_parts}
 use Rattle.ob0_layout.specs.declared.gap.Gap.{Gap}
 use Rattle.ob0_layout.specs.declared.gap.Gap.TheVariants.{Nothing, Space, Line}
 use Rattle.ob0_layout.specs.declared.line_role.LineRole.{LineRole}
 use Rattle.ob0_layout.specs.declared.gap_sites.GapSite.{GapSite}
-use Rattle.ob0_layout.specs.Cuts.{GapLiesWithin, gap_cut}
-use Rattle.ob0_layout.specs.Gaps.{ReplacesOnlyWhiteSpace, all_gaps, changed_gaps, gaps_of_lexemes, gaps_after, formatting_changes_gap}
-use Rattle.ob0_layout.specs.Layout.{LexemeWithRole, lexemes_with_roles, indentation, gap_text_between, gap_text, optional_white_space_lexeme, lexemes_with_formatted_gaps_after, lexemes_with_formatted_gaps}
+use Rattle.ob0_layout.specs.Cuts.{GapLiesInText, gap_cut}
+use Rattle.ob0_layout.specs.Gaps.{ReplacesOnlyWhiteSpace, all_gaps, changed_gaps, gaps_of_lexemes, gaps_after_token_or_comment, formatting_changes_gap}
+use Rattle.ob0_layout.specs.Layout.{LexemeWithRole, lexemes_with_roles, indentation, gap_text_between, gap_text, white_space_lexeme_unless_empty, further_lexemes_with_formatted_gaps, lexemes_with_formatted_gaps}
 use Rattle.ob0_layout.proofs.Apart.{indented}
 use Rattle.ob0_layout.proofs.InText.{AreIn, IsAt, IsSpaced, White, all_in, no_white}
 
@@ -43,7 +43,7 @@ gap_white : (indent : Indent) (a b : LexemeWithRole) → White (gap_text_between
 unfolding gap_text_between
 gap_white indent a b = laid_white indent _
 
-joined_spaced : (g : List ℕ) (ls : List Lexeme) → text_of_lexemes (optional_white_space_lexeme g ++ ls) ≡ g ++ text_of_lexemes ls
+joined_spaced : (g : List ℕ) (ls : List Lexeme) → text_of_lexemes (white_space_lexeme_unless_empty g ++ ls) ≡ g ++ text_of_lexemes ls
 joined_spaced [] ls = refl
 joined_spaced (b ∷ bs) ls = refl
 
@@ -80,9 +80,9 @@ module _ (text : List ℕ) where
   gaps_from : (at low : ℕ) (cs : List Cut) → low ≤ at → AreGaps at cs → AreGaps low cs
   gaps_from at low cs h are = record { cuts = cuts_from text at low cs h are.cuts; old = are.old; new = are.new }
 
-  pub sites_lie : (indent : Indent) (at : ℕ) (gs : List GapSite) → AreCuts text at (map (gap_cut indent) gs) → All (GapLiesWithin (length text)) gs
-  sites_lie indent at [] are = All-nil (GapLiesWithin (length text))
-  sites_lie indent at (g ∷ gs) are = All-cons (GapLiesWithin (length text)) g gs (record { ordered = are.0.ordered; within = are.0.end.place.0 }) (sites_lie indent g.end gs are.1)
+  pub sites_lie : (indent : Indent) (at : ℕ) (gs : List GapSite) → AreCuts text at (map (gap_cut indent) gs) → All (GapLiesInText (length text)) gs
+  sites_lie indent at [] are = All-nil (GapLiesInText (length text))
+  sites_lie indent at (g ∷ gs) are = All-cons (GapLiesInText (length text)) g gs (record { ordered = are.0.ordered; within = are.0.end.place.0 }) (sites_lie indent g.end gs are.1)
 
   changed_are : (at : ℕ) (cs : List Cut) → AreCuts text at cs → AreCuts text at (changed_gaps text cs)
   changed_are at [] are = tt
@@ -111,19 +111,19 @@ module _ (text : List ℕ) where
           ∙ ap (λ xs. take (c.from - at) (drop at text) ++ (c.new ++ xs)) more
 
   module _ (indent : Indent) where
-    after_are : (a : LexemeWithRole) (bs : List LexemeWithRole) → AreIn text a.span.end bs → AreGaps a.span.end (gaps_after indent (length text) a bs)
+    after_are : (a : LexemeWithRole) (bs : List LexemeWithRole) → AreIn text a.span.end bs → AreGaps a.span.end (gaps_after_token_or_comment indent (length text) a bs)
     unfolding AreIn
     after_are a [] h = first_gap a.span.end (record { from = a.span.end; to = length text; new = 10 ∷ [] }) [] (omega arith) h line_feed (no_gap (length text))
     after_are a (b ∷ bs) h =
-        first_gap a.span.end (record { from = a.span.end; to = b.span.start; new = gap_text_between indent a b }) (gaps_after indent (length text) b bs) (omega arith) h.0 (gap_white indent a b)
-        (gaps_from b.span.end b.span.start (gaps_after indent (length text) b bs) h.1.ordered (after_are b bs h.2))
+        first_gap a.span.end (record { from = a.span.end; to = b.span.start; new = gap_text_between indent a b }) (gaps_after_token_or_comment indent (length text) b bs) (omega arith) h.0 (gap_white indent a b)
+        (gaps_from b.span.end b.span.start (gaps_after_token_or_comment indent (length text) b bs) h.1.ordered (after_are b bs h.2))
 
     gaps_are : (bs : List LexemeWithRole) → AreIn text 0 bs → AreGaps 0 (gaps_of_lexemes indent (length text) bs)
     unfolding AreIn
     gaps_are [] h = first_gap 0 (record { from = 0; to = length text; new = [] }) [] (omega arith) h no_white (no_gap (length text))
     gaps_are (b ∷ bs) h =
-        first_gap 0 (record { from = 0; to = b.span.start; new = [] }) (gaps_after indent (length text) b bs) (omega arith) h.0 no_white
-        (gaps_from b.span.end b.span.start (gaps_after indent (length text) b bs) h.1.ordered (after_are b bs h.2))
+        first_gap 0 (record { from = 0; to = b.span.start; new = [] }) (gaps_after_token_or_comment indent (length text) b bs) (omega arith) h.0 no_white
+        (gaps_from b.span.end b.span.start (gaps_after_token_or_comment indent (length text) b bs) h.1.ordered (after_are b bs h.2))
 
     nothing_after : text_from_place_with_cuts text (length text) [] ≡ []
     unfolding text_from_place_with_cuts
@@ -131,24 +131,24 @@ module _ (text : List ℕ) where
 
     -- A token or comment and the gaps after it give the token or comment and the formatted lexemes
     -- after it.
-    over : (b : LexemeWithRole) (bs : List LexemeWithRole) → IsAt text b → AreIn text b.span.end bs → text_from_place_with_cuts text b.span.end (gaps_after indent (length text) b bs) ≡ text_of_lexemes (lexemes_with_formatted_gaps_after indent b bs)
-        → text_from_place_with_cuts text b.span.start (gaps_after indent (length text) b bs) ≡ text_of_lexemes (b.lexeme ∷ lexemes_with_formatted_gaps_after indent b bs)
+    over : (b : LexemeWithRole) (bs : List LexemeWithRole) → IsAt text b → AreIn text b.span.end bs → text_from_place_with_cuts text b.span.end (gaps_after_token_or_comment indent (length text) b bs) ≡ text_of_lexemes (further_lexemes_with_formatted_gaps indent b bs)
+        → text_from_place_with_cuts text b.span.start (gaps_after_token_or_comment indent (length text) b bs) ≡ text_of_lexemes (b.lexeme ∷ further_lexemes_with_formatted_gaps indent b bs)
     over b bs is h more =
-        pieced_later text b.span.start b.span.end (gaps_after indent (length text) b bs) is.ordered (after_are b bs h).cuts
+        pieced_later text b.span.start b.span.end (gaps_after_token_or_comment indent (length text) b bs) is.ordered (after_are b bs h).cuts
         ∙ ap₂ (λ xs ys. xs ++ ys) is.here more
 
-    after_made : (a : LexemeWithRole) (bs : List LexemeWithRole) → AreIn text a.span.end bs → text_from_place_with_cuts text a.span.end (gaps_after indent (length text) a bs) ≡ text_of_lexemes (lexemes_with_formatted_gaps_after indent a bs)
+    after_made : (a : LexemeWithRole) (bs : List LexemeWithRole) → AreIn text a.span.end bs → text_from_place_with_cuts text a.span.end (gaps_after_token_or_comment indent (length text) a bs) ≡ text_of_lexemes (further_lexemes_with_formatted_gaps indent a bs)
     unfolding AreIn
     after_made a [] h = pieced_here text a.span.end (record { from = a.span.end; to = length text; new = 10 ∷ [] }) (length text) [] refl refl ∙ ap (λ xs. 10 ∷ xs) nothing_after
     after_made a (b ∷ bs) h =
-        pieced_here text a.span.end (record { from = a.span.end; to = b.span.start; new = gap_text_between indent a b }) b.span.start (gaps_after indent (length text) b bs) refl refl
+        pieced_here text a.span.end (record { from = a.span.end; to = b.span.start; new = gap_text_between indent a b }) b.span.start (gaps_after_token_or_comment indent (length text) b bs) refl refl
         ∙ ap (λ xs. gap_text_between indent a b ++ xs) (over b bs h.1 h.2 (after_made b bs h.2))
-        ∙ sym (joined_spaced (gap_text_between indent a b) (b.lexeme ∷ lexemes_with_formatted_gaps_after indent b bs))
+        ∙ sym (joined_spaced (gap_text_between indent a b) (b.lexeme ∷ further_lexemes_with_formatted_gaps indent b bs))
 
     gaps_made : (bs : List LexemeWithRole) → AreIn text 0 bs → text_from_place_with_cuts text 0 (gaps_of_lexemes indent (length text) bs) ≡ text_of_lexemes (lexemes_with_formatted_gaps indent bs)
     unfolding AreIn
     gaps_made [] h = pieced_here text 0 (record { from = 0; to = length text; new = [] }) (length text) [] refl refl ∙ nothing_after
-    gaps_made (b ∷ bs) h = pieced_here text 0 (record { from = 0; to = b.span.start; new = [] }) b.span.start (gaps_after indent (length text) b bs) refl refl ∙ over b bs h.1 h.2 (after_made b bs h.2)
+    gaps_made (b ∷ bs) h = pieced_here text 0 (record { from = 0; to = b.span.start; new = [] }) b.span.start (gaps_after_token_or_comment indent (length text) b bs) refl refl ∙ over b bs h.1 h.2 (after_made b bs h.2)
 
 -- the gaps of a scanned text
 module _ (indent : Indent) (s : TextWithTokens) (scan : IsScan s) (ss : List LineRole) where
@@ -170,10 +170,10 @@ module _ (indent : Indent) (s : TextWithTokens) (scan : IsScan s) (ss : List Lin
   pub changed_made : text_from_place_with_cuts s.text 0 (changed_gaps s.text gaps) ≡ formatted
   changed_made = kept_or_changed s.text 0 gaps all_are.cuts ∙ all_made
 
-  pub all_length : length_with_cuts (length s.text) 0 gaps ≡ length formatted
+  pub all_length : length_from_place_with_cuts (length s.text) 0 gaps ≡ length formatted
   all_length = sym (made_length s.text 0 gaps all_are.cuts) ∙ ap length all_made
 
-  pub changed_length : length_with_cuts (length s.text) 0 (changed_gaps s.text gaps) ≡ length formatted
+  pub changed_length : length_from_place_with_cuts (length s.text) 0 (changed_gaps s.text gaps) ≡ length formatted
   changed_length = sym (made_length s.text 0 (changed_gaps s.text gaps) all_changed_are) ∙ ap length changed_made
 
   pub formatted_utf8 : IsUtf8 formatted

@@ -9,8 +9,8 @@ use Rattle.std.proofs.lemmas.List.Elements.{All-append, All-nil}
 use Rattle.ob0_scan.specs.LexemeClasses.{is_white_space}
 use Rattle.ob0_scan.specs.declared.lexeme.LexemeKind.{LexemeKind}
 use Rattle.ob0_scan.specs.declared.lexeme.LexemeKind.TheVariants as lexeme
-use Rattle.ob0_scan.specs.Lexed.{Lexeme, text_of_lexemes}
-use Rattle.ob0_scan.specs.TextWithTokens.{TextWithTokens, IsScan, text_in_span, span_from}
+use Rattle.ob0_scan.specs.TextLexemes.{Lexeme, text_of_lexemes}
+use Rattle.ob0_scan.specs.TextWithTokens.{TextWithTokens, IsScan, text_in_span, span_with_length}
 use Rattle.ob0_edits_tokens.proofs.Borders.{IsBorder, IsRest, next_rest, scan_rest}
 use Rattle.ob0_edits_tokens.proofs.TextCuts.{none_taken, two_parts}
 use Rattle.ob0_layout.specs.declared.line_role.LineRole.{LineRole}
@@ -60,7 +60,7 @@ module _ (text : List ℕ) (u : IsUtf8 text) where
 
   placed_solid : (k : LexemeKind) (at : ℕ) (t : List ℕ) (ls : List Lexeme) → IsRest text at (record { kind = k; text = t } ∷ ls) → Placed (at + length t) ls
       → (role : LineRole) (from level : ℕ) (ss : List LineRole) → from ≤ at → IsBorder text from → White (slice_range text from at)
-      → AreIn text from (record { lexeme = record { kind = k; text = t }; span = span_from at (length t); role = role } ∷ lexemes_with_roles (at + length t) level false ss ls)
+      → AreIn text from (record { lexeme = record { kind = k; text = t }; span = span_with_length at (length t); role = role } ∷ lexemes_with_roles (at + length t) level false ss ls)
   unfolding AreIn
   placed_solid k at t ls s more role from level ss up start white =
       let long : length t ≡ at + length t - at = omega arith in (
@@ -70,7 +70,7 @@ module _ (text : List ℕ) (u : IsUtf8 text) where
       )
 
   placed_kind : (k : LexemeKind) (at : ℕ) (t : List ℕ) (ls : List Lexeme) → IsRest text at (record { kind = k; text = t } ∷ ls) → Placed (at + length t) ls → Placed at (record { kind = k; text = t } ∷ ls)
-  placed_kind lexeme.Space at t ls s more = λ from level broken ss up start white.
+  placed_kind lexeme.WhiteSpace at t ls s more = λ from level broken ss up start white.
       more from level (broken || contains_line_break t) ss (omega (arith, up)) start (longer from at t (text_of_lexemes ls) up s.whole white s.apart.0.belongs.all)
   placed_kind lexeme.Comment at t ls s more = λ from level broken ss. placed_solid lexeme.Comment at t ls s more (comment_role broken (next_token_line_level level ss)) from level ss
   placed_kind (lexeme.Token k) at t ls s more = λ from level broken ss. placed_solid (lexeme.Token k) at t ls s more (next_token_role ss) from (next_token_line_level level ss) (drop 1 ss)

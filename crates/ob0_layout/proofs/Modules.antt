@@ -1,6 +1,6 @@
 -- Proves that a formatted text is a text of the same module.
 use Rattle.std.proofs.Common.{◌≡◌, ℕ, List, map, refl, ap, ◌∙◌, subst}
-use Rattle.ob0_scan.specs.Lexed.{text_of_lexemes, LexesInto}
+use Rattle.ob0_scan.specs.TextLexemes.{text_of_lexemes, LexesInto}
 use Rattle.ob0_scan.specs.TextWithTokens.{TextWithTokens, IsScan, words_of_lexemes}
 use Rattle.ob0_scan.proofs.Borders.{cut_into_lexemes_depends_only_on_next_bytes}
 use Rattle.ob0_scan.proofs.Cuts.{cut_into_lexemes_is_unique}

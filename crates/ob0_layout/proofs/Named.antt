@@ -2,7 +2,7 @@
 use Rattle.std.proofs.Common.{◌≡◌, ℕ, List, [], ◌∷◌, map, refl, sym, ap, ◌∙◌}
 use Rattle.ob0_scan.specs.declared.lexeme.Token.{Token}
 use Rattle.ob0_scan.specs.TextWithTokens.{TextWithTokens, IsScan, Word, words_of_lexemes, word_of_token}
-use Rattle.ob0_tree.specs.Lexeme.{Terminal, terminal_of_kind}
+use Rattle.ob0_tree.specs.Terminals.{Terminal, terminal_of_kind}
 use Rattle.ob0_tree.specs.Tree.{Tree, module_text, spell}
 use Rattle.ob0_tree.specs.Module.{IsModuleWithTree, terminal_of_token, terminals_of_text}
 use Rattle.ob0_scan.proofs.Spans.{scan_words}

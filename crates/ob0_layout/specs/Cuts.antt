@@ -29,9 +29,9 @@ next_token_or_comment (t ∷ ts) (c ∷ cs) =
 -- Returns the formatted gap between a token or comment and the next one, which has the kind `kind`
 -- and the role `role`. At the start of the text, no token or comment comes before (None), and the
 -- gap is empty.
-abbrev pub gap_before : Option KindAndRole → LexemeKind → LineRole → Gap
-gap_before None kind role = Nothing
-gap_before (Some b) kind role = gap_between b.kind b.role kind role
+abbrev pub gap_before_token_or_comment : Option KindAndRole → LexemeKind → LineRole → Gap
+gap_before_token_or_comment None kind role = Nothing
+gap_before_token_or_comment (Some b) kind role = gap_between b.kind b.role kind role
 
 -- Returns the formatted gap at the end of the text: a line feed after the last token or comment. If
 -- the text has no token or comment (None), the gap is empty.
@@ -49,7 +49,7 @@ gap_sites_to_change indent text gs = filter (λ (g : GapSite). formatting_change
 
 -- States that the gap `g` lies in a text of `len` bytes: its start isn't after its end, and its end
 -- is at most `len`.
-pub record GapLiesWithin (len : ℕ) (g : GapSite) : Type 0 where
+pub record GapLiesInText (len : ℕ) (g : GapSite) : Type 0 where
   pub ordered : g.start ≤ g.end
   pub within : g.end ≤ len
 

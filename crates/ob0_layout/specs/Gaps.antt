@@ -3,7 +3,7 @@
 use Rattle.std.specs.Prelude.{ℕ, Bool, true, not, bytes_eq, List, [], ◌∷◌, length, filter, slice_range}
 use Rattle.std.specs.List.{AllPass}
 use Rattle.ob0_scan.specs.LexemeClasses.{is_white_space}
-use Rattle.ob0_scan.specs.Lexed.{Lexeme}
+use Rattle.ob0_scan.specs.TextLexemes.{Lexeme}
 use Rattle.ob0_text.specs.declared.edits.Indent.{Indent}
 use Rattle.ob0_text.specs.Patches.{Cut}
 use Rattle.ob0_layout.specs.declared.line_role.LineRole.{LineRole}
@@ -12,11 +12,11 @@ use Rattle.ob0_layout.specs.Layout.{LexemeWithRole, lexemes_with_roles, gap_text
 -- Returns the gaps after the token or comment `a`, given the tokens and comments that follow it.
 -- Each gap is a cut: its byte range and its replacement. `len` is the length of the text in bytes.
 -- The replacement of the last gap is a line feed.
-abbrev pub gaps_after : Indent → ℕ → LexemeWithRole → List LexemeWithRole → List Cut
-gaps_after indent len a [] = record { from = a.span.end; to = len; new = 10 ∷ [] } ∷ []
-gaps_after indent len a (b ∷ bs) =
+abbrev pub gaps_after_token_or_comment : Indent → ℕ → LexemeWithRole → List LexemeWithRole → List Cut
+gaps_after_token_or_comment indent len a [] = record { from = a.span.end; to = len; new = 10 ∷ [] } ∷ []
+gaps_after_token_or_comment indent len a (b ∷ bs) =
     record { from = a.span.end; to = b.span.start; new = gap_text_between indent a b }
-    ∷ gaps_after indent len b bs
+    ∷ gaps_after_token_or_comment indent len b bs
 
 -- Returns all gaps of a text of `len` bytes, given the text's tokens and comments. Each gap is a
 -- cut: its byte range and its replacement. The gap at the start of the text has an empty
@@ -24,7 +24,7 @@ gaps_after indent len a (b ∷ bs) =
 abbrev pub gaps_of_lexemes : Indent → ℕ → List LexemeWithRole → List Cut
 gaps_of_lexemes indent len [] = record { from = 0; to = len; new = [] } ∷ []
 gaps_of_lexemes indent len (a ∷ bs) =
-    record { from = 0; to = a.span.start; new = [] } ∷ gaps_after indent len a bs
+    record { from = 0; to = a.span.start; new = [] } ∷ gaps_after_token_or_comment indent len a bs
 
 -- Returns all gaps of a text as cuts: for each gap its byte range, and the text that replaces it.
 -- `lexemes` are all lexemes of the text, including white space, and `ss` has the line roles of the

@@ -8,11 +8,11 @@ ghost use Rattle.ob0_text.specs.Patches.{patched_text};
 ghost use Rattle.ob0_text.specs.Units.{width_of};
 ghost use Rattle.ob0_text.specs.declared.refusals.EditRefusal.TheVariants.{TooLong, Memory};
 ghost use Rattle.ob0_tree.specs.ParsedModule.{named_tree_of};
-ghost use Rattle.ob0_edits_tokens.specs.ByteCuts.{edit_of_cut, length_with_cuts};
+ghost use Rattle.ob0_edits_tokens.specs.ByteCuts.{edit_of_cut, length_from_place_with_cuts};
 ghost use Rattle.ob0_edits_tokens.specs.Replacements.{range_and_text};
 ghost use Rattle.ob0_layout.specs.Layout.{formatted_text};
 ghost use Rattle.ob0_layout.specs.LineRoles.{line_roles};
-ghost use Rattle.ob0_layout.specs.Cuts.{gap_cut, GapLiesWithin};
+ghost use Rattle.ob0_layout.specs.Cuts.{gap_cut, GapLiesInText};
 ghost use Rattle.ob0_layout.specs.Gaps.{all_gaps, changed_gaps};
 
 use crate::gap_sites::{GapSite, gap_sites_to_change};
@@ -56,16 +56,16 @@ pub fn format<T: TextStore>(
     if !is_formatted_text_within_limit(&gap_sites, tokens.text().len(), indent) {
         return Err(EditRefusal::TooLong);
     }
-    Ok(edits(alloc, store, &gap_sites, indent)?)
+    Ok(gap_edits(alloc, store, &gap_sites, indent)?)
 }
 
 /// Returns whether a text of `len` bytes has at most `MAX_TEXT_LENGTH` bytes after the gaps `gap_sites`
 /// are formatted.
 fn is_formatted_text_within_limit(gap_sites: &[GapSite], len: usize, indent: Indent) -> bool
     requires length { len ≤ max_text_length }
-    requires within { All (GapLiesWithin len) gap_sites.now }
+    requires within { All (GapLiesInText len) gap_sites.now }
     ensures { IsTrue result
-        ↔ length_with_cuts len 0 (map (gap_cut indent) gap_sites.now) ≤ max_text_length }
+        ↔ length_from_place_with_cuts len 0 (map (gap_cut indent) gap_sites.now) ≤ max_text_length }
 {
     let mut made = 0;
     let mut at = 0;
@@ -80,7 +80,7 @@ fn is_formatted_text_within_limit(gap_sites: &[GapSite], len: usize, indent: Ind
 }
 
 /// Returns the edits that replace the gaps `gap_sites` by their formatted texts, in the same order.
-fn edits<T: TextStore>(
+fn gap_edits<T: TextStore>(
     alloc: Global,
     store: &T,
     gap_sites: &[GapSite],

@@ -5,7 +5,7 @@
 
 ghost use Rattle.std.specs.Prelude.{◌≡◌, ◌||◌, ◌==◌, ◌++◌, ◌∷◌, [], IfOk, OnOk, is_none, drop, length, map};
 ghost use Rattle.ob0_scan.specs.TextWithTokens.{IsScan};
-ghost use Rattle.ob0_layout.specs.Cuts.{gap_sites_to_change, gap_cut, next_token_or_comment, gap_before, gap_at_text_end, GapLiesWithin};
+ghost use Rattle.ob0_layout.specs.Cuts.{gap_sites_to_change, gap_cut, next_token_or_comment, gap_before_token_or_comment, gap_at_text_end, GapLiesInText};
 ghost use Rattle.ob0_layout.specs.Gaps.{all_gaps, changed_gaps, formatting_changes_gap};
 ghost use Rattle.ob0_layout.specs.Layout.{next_token_line_level, next_token_role, comment_role, contains_line_break};
 
@@ -64,7 +64,7 @@ pub fn gap_sites_to_change(
                 let broken = comment_begins_line(before, &text[start..span.start as usize]);
                 let role = comment_role(broken, next_token_line_level(level, roles));
                 let kind = LexemeKind::Comment;
-                let gap = gap_before(before, kind, role);
+                let gap = gap_before_token_or_comment(before, kind, role);
                 let end = span.start as usize;
                 add_gap_if_changed(&mut gap_sites, text, GapSite { start, end, gap }, indent)?;
                 before = Some(KindAndRole { kind, role });
@@ -74,7 +74,7 @@ pub fn gap_sites_to_change(
             TokenOrComment::Token(token) => {
                 let role = next_token_role(roles);
                 let kind = LexemeKind::Token(token.kind);
-                let gap = gap_before(before, kind, role);
+                let gap = gap_before_token_or_comment(before, kind, role);
                 let end = token.span.start as usize;
                 add_gap_if_changed(&mut gap_sites, text, GapSite { start, end, gap }, indent)?;
                 before = Some(KindAndRole { kind, role });
@@ -98,7 +98,7 @@ fn add_gap_if_changed(
     site: GapSite,
     indent: Indent,
 ) -> Result<(), AllocError>
-    requires { GapLiesWithin (length text.now) site }
+    requires { GapLiesInText (length text.now) site }
     ensures { OnOk result
         (gap_sites.new.items ≡ gap_sites.old.items ++ gap_sites_to_change indent text.now (site ∷ [])) }
 {
@@ -110,7 +110,7 @@ fn add_gap_if_changed(
 
 /// Returns whether formatting changes the white space of the gap `site` of `text`.
 fn formatting_changes_gap(text: &[u8], site: GapSite, indent: Indent) -> bool
-    requires { GapLiesWithin (length text.now) site }
+    requires { GapLiesInText (length text.now) site }
     ensures { result ≡ formatting_changes_gap text.now (gap_cut indent site) }
 {
     !site.gap.matches_bytes(&text[site.start..site.end], indent)
@@ -140,8 +140,8 @@ fn next_token_or_comment(left: &[Token], comments: &[Span]) -> Option<TokenOrCom
 /// Returns the formatted gap between the token or comment `before` and the next one, which has the
 /// kind `kind` and the role `role`. At the start of the text, `before` is None and the gap is
 /// empty.
-fn gap_before(before: Option<KindAndRole>, kind: LexemeKind, role: LineRole) -> Gap
-    ensures { result ≡ gap_before before kind role }
+fn gap_before_token_or_comment(before: Option<KindAndRole>, kind: LexemeKind, role: LineRole) -> Gap
+    ensures { result ≡ gap_before_token_or_comment before kind role }
 {
     match before {
         None => Gap::Nothing,

@@ -6,13 +6,13 @@ ghost use Rattle.std.specs.Prelude.{◌≡◌, ℕ, List, length};
 ghost use Rattle.std.specs.List.{All, AllPass};
 ghost use Rattle.std.specs.Str.{IsUtf8};
 ghost use Rattle.ob0_scan.specs.LexemeClasses.{is_white_space};
-ghost use Rattle.ob0_scan.specs.Lexed.{LexesInto};
+ghost use Rattle.ob0_scan.specs.TextLexemes.{LexesInto};
 ghost use Rattle.ob0_scan.specs.TextWithTokens.{TextWithTokens, IsScan};
 ghost use Rattle.ob0_text.specs.Patches.{Cut, text_from_place_with_cuts};
 ghost use Rattle.ob0_text.specs.declared.edits.Indent.{Indent};
 ghost use Rattle.ob0_tree.specs.Tree.{Tree, module_text};
 ghost use Rattle.ob0_tree.specs.Module.{IsModuleWithTree};
-ghost use Rattle.ob0_edits_tokens.specs.ByteCuts.{length_with_cuts};
+ghost use Rattle.ob0_edits_tokens.specs.ByteCuts.{length_from_place_with_cuts};
 ghost use Rattle.ob0_layout.specs.Layout.{lexemes_without_white_space, formatted_lexemes, formatted_text};
 ghost use Rattle.ob0_layout.specs.Gaps.{ReplacesOnlyWhiteSpace, all_gaps, changed_gaps};
 ghost use Rattle.ob0_layout.specs.LineRoles.{line_roles};
@@ -31,7 +31,7 @@ pub fn formatting_keeps_tokens_and_comments()
 {}
 
 /// Proves that a formatted text is a module with the same tree as the original text.
-pub fn formatting_keeps_module()
+pub fn formatting_keeps_module_tree()
     ensures { (indent : Indent) (s : TextWithTokens) (scan : IsScan s) (tree : Tree (List ℕ) module_text)
         → IsModuleWithTree s tree
         → (t : TextWithTokens) → IsScan t → t.text ≡ formatted_text indent tree scan.lexemes → IsModuleWithTree t tree }
@@ -46,9 +46,9 @@ pub fn formatting_is_idempotent()
 {}
 
 /// Proves three facts: replacing the gaps that formatting changes gives the formatted text, the
-/// formatted text is UTF-8, and `length_with_cuts` computes the length of the formatted text in
+/// formatted text is UTF-8, and `length_from_place_with_cuts` computes the length of the formatted text in
 /// bytes.
-pub fn gaps_give_formatted_text()
+pub fn replacing_gaps_gives_formatted_text()
     ensures utf8 { (indent : Indent) (s : TextWithTokens) (scan : IsScan s)
         (tree : Tree (List ℕ) module_text)
         → IsUtf8 (formatted_text indent tree scan.lexemes) }
@@ -59,7 +59,7 @@ pub fn gaps_give_formatted_text()
         ≡ formatted_text indent tree scan.lexemes }
     ensures length { (indent : Indent) (s : TextWithTokens) (scan : IsScan s)
         (tree : Tree (List ℕ) module_text)
-        → length_with_cuts (length s.text) 0
+        → length_from_place_with_cuts (length s.text) 0
         (all_gaps indent s.text (line_roles 0 tree) scan.lexemes)
         ≡ length (formatted_text indent tree scan.lexemes) }
 {}

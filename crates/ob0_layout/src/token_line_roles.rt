@@ -9,9 +9,10 @@ ghost use Rattle.ob0_tree.specs.View.{items_of, expression_of, compound_expressi
 
 use crate::line_role::LineRole;
 use ob0_tree::{
-    Assignment, Block, Call, CompoundExpression, Constant, Designator, Elsif, Expression, Factor,
-    If, Module, Names, OptionalFieldGroup, ParameterSection, Procedure, RecordType, Selector, Sign,
-    SimpleExpression, Statement, Term, TypeDeclaration, VariableDeclaration, WrittenType,
+    Assignment, Block, Call, CompoundExpression, ConstantDeclaration, Designator, Elsif,
+    Expression, Factor, If, Module, Names, OptionalFieldGroup, ParameterSection, Procedure,
+    RecordType, Selector, Sign, SimpleExpression, Statement, Term, TypeDeclaration,
+    VariableDeclaration, WrittenType,
 };
 use std::alloc::{AllocError, Global};
 
@@ -431,7 +432,7 @@ fn add_parameter_section_roles(
 fn add_constant_section_roles(
     out: &mut Vec<LineRole>,
     level: u32,
-    declared: &Option<Vec<Constant>>,
+    declared: &Option<Vec<ConstantDeclaration>>,
 ) -> Result<(), AllocError>
     ensures { IfOk result
         (λ _. out.new.items ≡ out.old.items ++ line_roles level (constant_section_of declared.now)) }

@@ -5,10 +5,10 @@ use Rattle.std.proofs.lemmas.List.{length-append}
 use Rattle.ob0_scan.specs.declared.lexeme.Token.{Token}
 use Rattle.ob0_scan.specs.TextWithTokens.{IsScan, TextWithTokens}
 use Rattle.ob0_tree.specs.declared.tree.ModuleTree.{ModuleTree}
-use Rattle.ob0_tree.specs.Lexeme.{EndOfText}
+use Rattle.ob0_tree.specs.Terminals.{EndOfText}
 use Rattle.ob0_tree.specs.Module.{IsModuleWithTree, max_nesting, terminals_of_text}
-use Rattle.ob0_tree.specs.ParsedModule.{IsParsed, ParsedModule, named_tree_of, parsed_module, tree_of}
-use Rattle.ob0_tree.specs.Places.{indexed_terminals, indexed_terminals_from, token_text_at, token_value_at}
+use Rattle.ob0_tree.specs.ParsedModule.{TreeMatchesText, ParsedModule, named_tree_of, parsed_module, tree_of}
+use Rattle.ob0_tree.specs.TokenIndexLeaves.{indexed_terminals, indexed_terminals_from, token_text_at, token_value_at}
 use Rattle.ob0_tree.specs.Tree.{Tree, module_text, nesting, spell}
 use Rattle.ob0_tree.proofs.Indexed.{indexed, nesting_indexed, reindexed, reindexed-append, spell_indexed}
 use Rattle.ob0_tree_values.proofs.TreeValues.{tree_made}
@@ -18,7 +18,7 @@ use Rattle.ob0_scope_table.specs.DuplicatesAndEndNames.{declaration_faults}
 use Rattle.ob0_scope_table.specs.Resolution.{IsResolution, Resolution, undeclared_faults_from_table}
 use Rattle.ob0_scope_numbering.specs.MarkWalk.{initial_walk_state}
 use Rattle.ob0_scope_numbering.specs.IdentifierWalk.{visit_module}
-use Rattle.ob0_scope_numbering.specs.OrdinalMarks.{with_marks}
+use Rattle.ob0_scope_numbering.specs.OrdinalMarks.{table_with_marks}
 use Rattle.ob0_scope_numbering.specs.IdentifierSpellings.{original_spellings}
 use Rattle.ob0_scope.proofs.Made.{resolution_made}
 
@@ -29,7 +29,7 @@ OneTree = (text : TextWithTokens) (a b : Tree (List ℕ) module_text) → IsModu
 pub record ParsedOf (s : TextWithTokens) (t : Tree (List ℕ) module_text) : Type 0 where
   pub module_read : ParsedModule
   pub source : module_read.source ≡ s
-  pub parsed : IsParsed module_read
+  pub parsed : TreeMatchesText module_read
   pub tree : named_tree_of module_read ≡ t
 
 lexemes_counted : (i : ℕ) (ts : List Token) → length (indexed_terminals_from i ts) ≡ length ts + 1
@@ -70,10 +70,10 @@ parsed_of tree_is_unique s scan t h =
     }
 
 -- Returns the resolved module of a parsed module, in which the names are bound.
-pub resolution_of : (m : ParsedModule) → IsParsed m → (r : Resolution) × IsResolution r × (r.module_read ≡ m)
+pub resolution_of : (m : ParsedModule) → TreeMatchesText m → (r : Resolution) × IsResolution r × (r.module_read ≡ m)
 resolution_of m parsed =
     let visit = visit_module (tree_of m) (initial_walk_state (original_spellings m.source)) in
-    let ordinals = with_marks (replicate (length m.source.tokens) None) visit.marks in
+    let ordinals = table_with_marks (replicate (length m.source.tokens) None) visit.marks in
     let faults = declaration_faults m ++ undeclared_faults_from_table m.source ordinals visit.uses in (
       record { module_read = m; ordinals = ordinals; declaration_tokens = visit.declaration_tokens; uses = visit.uses; faults = faults },
       resolution_made m visit ordinals visit.declaration_tokens visit.uses (declaration_faults m) faults parsed refl refl refl refl refl refl,

@@ -11,17 +11,17 @@ use Rattle.ob0_tree.specs.declared.tree.Block.{Block, out-Block, roll-Block}
 use Rattle.ob0_tree.specs.declared.tree.ModuleTree.{ModuleTree}
 use Rattle.ob0_tree.specs.declared.tree.Procedure.{Procedure, out-Procedure}
 use Rattle.ob0_tree.specs.declared.tree.Statement.{Statement}
-use Rattle.ob0_tree.specs.Lexeme.{Terminal, Name, WordOrSymbol, EndOfText}
+use Rattle.ob0_tree.specs.Terminals.{Terminal, Name, WordOrSymbol, EndOfText}
 use Rattle.ob0_tree.specs.Module.{max_nesting}
-use Rattle.ob0_tree.specs.ParsedModule.{ParsedModule, IsParsed, tree_of, parsed_module}
-use Rattle.ob0_tree.specs.Places.{indexed_terminals, token_text_at, token_value_at}
+use Rattle.ob0_tree.specs.ParsedModule.{ParsedModule, TreeMatchesText, tree_of, parsed_module}
+use Rattle.ob0_tree.specs.TokenIndexLeaves.{indexed_terminals, token_text_at, token_value_at}
 use Rattle.ob0_tree.specs.Tree.{procedure, item, items, Tree, declares_procedure, declares, forms_block, forms_module, spell, nesting}
 use Rattle.ob0_tree.specs.View.{items_of, procedure_of, constant_section_of, type_section_of, variable_section_of, body_of}
 use Rattle.ob0_tree.proofs.Mapped.{nesting_mapped}
 use Rattle.ob0_tree.proofs.Viewed.{block_parts}
-use Rattle.ob0_parse_descent.specs.ParserPromises.{rest}
+use Rattle.ob0_parse_descent.specs.ParserPromises.{remaining_terminals}
 use Rattle.ob0_parse_descent.proofs.Items.{Taking}
-use Rattle.ob0_parse.specs.KeptTreeTokens.{IsTreeInPlace, TokensContainProcedures, ModuleEndsWithParts}
+use Rattle.ob0_parse.specs.KeptTreeTokens.{TreeMatchesTokens, TokensContainProcedures, ModuleEndsWithParts}
 use Rattle.ob0_parse.proofs.MovedParts.{block_between}
 use Rattle.ob0_parse.proofs.Keeping.{count_rest, kept_there, name_at, placed, rest_following}
 
@@ -40,19 +40,19 @@ nesting_snoc (q ∷ ps) p n h = let k = nesting_snoc ps p n (omega (arith, h)) i
 
 -- The last procedure is in place, and the others are before it.
 pub last_procedure : (ts : List Token) (ps : List Procedure) (p : Procedure) (h : TokensContainProcedures ts (ps ++ (p ∷ [])))
-    → TokensContainProcedures ts ps × IsTreeInPlace ts ((out-Procedure p).name - 1) ((out-Procedure p).closing + 2) (procedure_of p) × ((out-Procedure p).closing + 2 ≡ h.next)
+    → TokensContainProcedures ts ps × TreeMatchesTokens ts ((out-Procedure p).name - 1) ((out-Procedure p).closing + 2) (procedure_of p) × ((out-Procedure p).closing + 2 ≡ h.next)
 last_procedure ts ps p h =
     let t : Tree ℕ (item procedure) = procedure_of p in
     let others : Tree ℕ (items procedure) = items_of procedure_of ps in
     let mid : ℕ = h.at + length (spell others) in
-    let whole : rest ts h.at ≡ spell others ++ (spell t ++ rest ts h.next) = h.spelled ∙ ap (λ w. w ++ rest ts h.next) (spell_snoc ps p) ∙ append_assoc (spell others) (spell t) (rest ts h.next) in
-    let here : rest ts mid ≡ spell t ++ rest ts h.next = rest_following ts h.at (spell others) (spell t ++ rest ts h.next) whole in
+    let whole : remaining_terminals ts h.at ≡ spell others ++ (spell t ++ remaining_terminals ts h.next) = h.spelled ∙ ap (λ w. w ++ remaining_terminals ts h.next) (spell_snoc ps p) ∙ append_assoc (spell others) (spell t) (remaining_terminals ts h.next) in
+    let here : remaining_terminals ts mid ≡ spell t ++ remaining_terminals ts h.next = rest_following ts h.at (spell others) (spell t ++ remaining_terminals ts h.next) whole in
     let levels = nesting_snoc ps p max_nesting h.shallow in
-    let there : IsTreeInPlace ts mid h.next t = kept_there ts mid h.next t here levels.1 (some_tokens t) h.within in
+    let there : TreeMatchesTokens ts mid h.next t = kept_there ts mid h.next t here levels.1 (some_tokens t) h.within in
     let names = placed ts mid h.next p here h.within in
     let first : mid ≡ (out-Procedure p).name - 1 = omega (arith, names.0) in (
       record { at = h.at; next = mid; spelled = whole ∙ ap (λ w. spell others ++ w) (sym here); shallow = levels.0; within = omega (arith, there.forward, there.within) },
-      subst (λ n. IsTreeInPlace ts ((out-Procedure p).name - 1) n t) (sym names.1) (subst (λ i. IsTreeInPlace ts i h.next t) first there),
+      subst (λ n. TreeMatchesTokens ts ((out-Procedure p).name - 1) n t) (sym names.1) (subst (λ i. TreeMatchesTokens ts i h.next t) first there),
       names.1,
     )
 
@@ -64,11 +64,11 @@ spelled_so_far {at = at} {next = next} h = record { at = at; next = next; spelle
 cut : {A : Type 0} (c d v p b e z : List A) → (((c ++ (d ++ (v ++ p))) ++ b) ++ e) ++ z ≡ (c ++ (d ++ v)) ++ (p ++ (b ++ (e ++ z)))
 cut c d v p b e z = simp append_assoc
 
-all_rest : (ts : List Token) → rest ts 0 ≡ indexed_terminals ts
-unfolding rest
+all_rest : (ts : List Token) → remaining_terminals ts 0 ≡ indexed_terminals ts
+unfolding remaining_terminals
 all_rest ts = refl
 
-parts_of : (m : ParsedModule) → IsParsed m → ModuleEndsWithParts m.source.tokens (out-Block m.block).procedures.items (out-Block m.block).body m.closing
+parts_of : (m : ParsedModule) → TreeMatchesText m → ModuleEndsWithParts m.source.tokens (out-Block m.block).procedures.items (out-Block m.block).body m.closing
 parts_of m parsed =
     let ts = m.source.tokens in
     let b = out-Block m.block in
@@ -80,17 +80,17 @@ parts_of m parsed =
     let end : List (Terminal ℕ) = WordOrSymbol (kind.ReservedWord reserved.End) ∷ [] in
     let last : List (Terminal ℕ) = Name m.closing ∷ WordOrSymbol (kind.Symbol symbol.Dot) ∷ EndOfText ∷ [] in
     let begun : List (Terminal ℕ) = WordOrSymbol (kind.ReservedWord reserved.Module) ∷ Name m.name ∷ WordOrSymbol (kind.Symbol symbol.Semicolon) ∷ (spell cs ++ (spell ds ++ spell vs)) in
-    let whole : rest ts 0 ≡ begun ++ (spell ps ++ (spell s ++ (end ++ last))) =
+    let whole : remaining_terminals ts 0 ≡ begun ++ (spell ps ++ (spell s ++ (end ++ last))) =
     all_rest ts ∙ sym parsed.places ∙ ap (λ t. spell (forms_module m.name t m.closing) ++ (EndOfText ∷ [])) (block_parts m.block)
     ∙ ap (λ w. WordOrSymbol (kind.ReservedWord reserved.Module) ∷ Name m.name ∷ WordOrSymbol (kind.Symbol symbol.Semicolon) ∷ w)
     (cut (spell cs) (spell ds) (spell vs) (spell ps) (spell s) (WordOrSymbol (kind.ReservedWord reserved.End) ∷ Name m.closing ∷ WordOrSymbol (kind.Symbol symbol.Dot) ∷ []) (EndOfText ∷ [])) in
     let at : ℕ = 0 + length begun in
     let begin : ℕ = at + length (spell ps) in
     let next : ℕ = begin + length (spell s) in
-    let first : rest ts at ≡ spell ps ++ (spell s ++ (end ++ last)) = rest_following ts 0 begun (spell ps ++ (spell s ++ (end ++ last))) whole in
-    let middle : rest ts begin ≡ spell s ++ (end ++ last) = rest_following ts at (spell ps) (spell s ++ (end ++ last)) first in
-    let ended : rest ts next ≡ end ++ last = rest_following ts begin (spell s) (end ++ last) middle in
-    let four : length (rest ts next) ≡ 4 = ap (λ (w : List (Terminal ℕ)). length w) ended in
+    let first : remaining_terminals ts at ≡ spell ps ++ (spell s ++ (end ++ last)) = rest_following ts 0 begun (spell ps ++ (spell s ++ (end ++ last))) whole in
+    let middle : remaining_terminals ts begin ≡ spell s ++ (end ++ last) = rest_following ts at (spell ps) (spell s ++ (end ++ last)) first in
+    let ended : remaining_terminals ts next ≡ end ++ last = rest_following ts begin (spell s) (end ++ last) middle in
+    let four : length (remaining_terminals ts next) ≡ 4 = ap (λ (w : List (Terminal ℕ)). length w) ended in
     let within : next ≤ length ts = omega (arith, count_rest ts next, four) in
     let closing : m.closing ≡ next + 1 = name_at ts (next + 1) m.closing _ (omega (arith, count_rest ts next, four)) (rest_following ts next end last ended) in
     let named : nesting (tree_of m) ≤ max_nesting = subst (λ n. n ≤ max_nesting) (nesting_mapped (token_text_at m.source) (token_value_at m.source) (tree_of m)) parsed.module_of.shallow in
@@ -106,16 +106,16 @@ parts_of m parsed =
 
 -- The body begins after the last procedure, and ends before END.
 pub body_there : (ts : List Token) (ps : List Procedure) (p : Procedure) (statements : Vec Statement Global) (closing next : ℕ) → ModuleEndsWithParts ts (ps ++ (p ∷ [])) (Some statements) closing → next + 1 ≡ closing
-    → IsTreeInPlace ts ((out-Procedure p).closing + 2) next (body_of (Some statements))
+    → TreeMatchesTokens ts ((out-Procedure p).closing + 2) next (body_of (Some statements))
 body_there ts ps p statements closing next h closed =
     let begin = (last_procedure ts ps p h.procedures).2 in
     let end : next ≡ h.next = omega (arith, closed, h.closed) in
     kept_there ts ((out-Procedure p).closing + 2) next (body_of (Some statements))
-    (ap (rest ts) begin ∙ h.spelled ∙ ap (λ i. spell (body_of (Some statements)) ++ rest ts i) (sym end))
+    (ap (remaining_terminals ts) begin ∙ h.spelled ∙ ap (λ i. spell (body_of (Some statements)) ++ remaining_terminals ts i) (sym end))
     h.shallow (omega arith) (omega (arith, end, h.within))
 
 -- The parts of a tree, if the body is removed before the procedures.
-pub parts_taken : (s : TextWithTokens) (tree : ModuleTree) → IsParsed (parsed_module s tree) → (b left : Block) (without statements : Option (Vec Statement Global)) (ps : Vec Procedure Global)
+pub parts_taken : (s : TextWithTokens) (tree : ModuleTree) → TreeMatchesText (parsed_module s tree) → (b left : Block) (without statements : Option (Vec Statement Global)) (ps : Vec Procedure Global)
     → b ≡ tree.block
     → statements ≡ (out-Block b).body
     → left ≡ roll-Block record { constants = (out-Block b).constants; types = (out-Block b).types; variables = (out-Block b).variables; procedures = (out-Block b).procedures; body = without }

@@ -17,7 +17,7 @@ use Rattle.ob0_tree.specs.declared.tree.While as while_module
 use Rattle.ob0_tree.specs.declared.tree.Repeat as repeat_module
 use Rattle.ob0_tree.specs.declared.tree.Elsif.{Elsif}
 use Rattle.ob0_tree.specs.declared.tree.If.{If, roll-If, out-If, out-roll-If}
-use Rattle.ob0_tree.specs.declared.tree.Constant.{Constant}
+use Rattle.ob0_tree.specs.declared.tree.ConstantDeclaration.{ConstantDeclaration}
 use Rattle.ob0_tree.specs.declared.tree.TypeDeclaration.{TypeDeclaration}
 use Rattle.ob0_tree.specs.declared.tree.VariableDeclaration.{VariableDeclaration}
 use Rattle.ob0_tree.specs.declared.tree.Procedure.{Procedure}
@@ -67,7 +67,7 @@ block_between x r is = ap out-Block is ∙ out-roll-Block r
 
 -- If all parts of a block are moved, one after another from the constants to the body, the block is
 -- moved.
-pub block_moved : (by : TokenIndexShift) (s w x y z : Block) (cs : Option (Vec Constant Global)) (ts : Option (Vec TypeDeclaration Global)) (vs : Option (Vec VariableDeclaration Global)) (ps : Vec Procedure Global) (b : Option (Vec Statement Global))
+pub block_moved : (by : TokenIndexShift) (s w x y z : Block) (cs : Option (Vec ConstantDeclaration Global)) (ts : Option (Vec TypeDeclaration Global)) (vs : Option (Vec VariableDeclaration Global)) (ps : Vec Procedure Global) (b : Option (Vec Statement Global))
     → w ≡ roll-Block record { constants = cs; types = (out-Block s).types; variables = (out-Block s).variables; procedures = (out-Block s).procedures; body = (out-Block s).body }
     → x ≡ roll-Block record { constants = (out-Block w).constants; types = ts; variables = (out-Block w).variables; procedures = (out-Block w).procedures; body = (out-Block w).body }
     → y ≡ roll-Block record { constants = (out-Block x).constants; types = (out-Block x).types; variables = vs; procedures = (out-Block x).procedures; body = (out-Block x).body }

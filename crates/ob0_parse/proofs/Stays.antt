@@ -4,12 +4,12 @@ use Rattle.std.proofs.Common.{◌≡◌, ℕ, ◌+◌, ◌≤◌, List, [], ◌�
 use Rattle.std.proofs.lemmas.List.{map-append, length-map, take-map}
 use Rattle.ob0_scan.specs.declared.lexeme.Token.{Token}
 use Rattle.ob0_scan.specs.TextWithTokens.{TextWithTokens, max_text_length}
-use Rattle.ob0_scan.specs.ReusedLexemes.{kind_without_value, kinds}
-use Rattle.ob0_tree.specs.Lexeme.{Terminal, EndOfText, mapped_terminal}
+use Rattle.ob0_scan.specs.ReusedLexemes.{kind_without_value, token_kinds_without_values}
+use Rattle.ob0_tree.specs.Terminals.{Terminal, EndOfText, mapped_terminal}
 use Rattle.ob0_tree.specs.Tree.{Tree, module_text, nesting, spell, mapped_tree}
 use Rattle.ob0_tree.specs.Module.{max_nesting, terminals_of_text}
-use Rattle.ob0_tree.specs.ParsedModule.{ParsedModule, IsParsed, tree_of}
-use Rattle.ob0_tree.specs.Places.{indexed_terminals, token_text_at, token_value_at}
+use Rattle.ob0_tree.specs.ParsedModule.{ParsedModule, TreeMatchesText, tree_of}
+use Rattle.ob0_tree.specs.TokenIndexLeaves.{indexed_terminals, token_text_at, token_value_at}
 use Rattle.ob0_tree.proofs.Mapped.{nesting_mapped, spell_mapped}
 use Rattle.ob0_tree.proofs.Indexed.{reindexed, reindexed-append, indexed, spell_indexed, nesting_indexed}
 use Rattle.ob0_parse_descent.specs.Descent.{TextDescentEndsWith, Expects, TooDeepAt}
@@ -20,10 +20,10 @@ use Rattle.ob0_parse.specs.KeptTreeTokens.{indexed_terminals_of_kinds}
 use Rattle.ob0_parse.proofs.TerminalsOfKinds.{terminals_of_tokens}
 use Rattle.ob0_parse.proofs.Whole.{module_spelled, texts, indexes_again, reindexed-take}
 
-same_lexemes : (a b : List Token) → kinds a ≡ kinds b → indexed_terminals a ≡ indexed_terminals b
+same_lexemes : (a b : List Token) → token_kinds_without_values a ≡ token_kinds_without_values b → indexed_terminals a ≡ indexed_terminals b
 same_lexemes a b same = terminals_of_tokens 0 a ∙ ap (λ ks. indexed_terminals_of_kinds 0 ks ++ (EndOfText ∷ [])) same ∙ sym (terminals_of_tokens 0 b)
 
-pub tree_stays : (old new : ParsedModule) → IsParsed old → tree_of new ≡ tree_of old → length new.source.text ≤ max_text_length → kinds new.source.tokens ≡ kinds old.source.tokens → IsParsed new
+pub tree_stays : (old new : ParsedModule) → TreeMatchesText old → tree_of new ≡ tree_of old → length new.source.text ≤ max_text_length → token_kinds_without_values new.source.tokens ≡ token_kinds_without_values old.source.tokens → TreeMatchesText new
 tree_stays old new parsed tree short same =
     let places = ap (λ (t : Tree ℕ module_text). spell t ++ (EndOfText ∷ [])) tree ∙ parsed.places ∙ sym (same_lexemes _ _ same) in
     record {
@@ -40,7 +40,7 @@ indexed_again s = ap (reindexed 0) (sym (texts s)) ∙ indexes_again (token_text
 
 -- If no module begins with the first tokens of a text, none begins with the first tokens of another
 -- text whose tokens have the same kinds.
-none_begins : (old new : TextWithTokens) (i : ℕ) → kinds new.tokens ≡ kinds old.tokens → NoModuleBeginsWithTokens old i → NoModuleBeginsWithTokens new i
+none_begins : (old new : TextWithTokens) (i : ℕ) → token_kinds_without_values new.tokens ≡ token_kinds_without_values old.tokens → NoModuleBeginsWithTokens old i → NoModuleBeginsWithTokens new i
 none_begins old new i same none t more shallow begins =
     let r = mapped_terminal (token_text_at old) (token_value_at old) in
     let front = take (i + 1) (terminals_of_text new ++ (EndOfText ∷ [])) in
@@ -59,10 +59,10 @@ none_begins old new i same none t more shallow begins =
     (subst (λ n. n ≤ max_nesting) (sym (nesting_mapped (token_text_at old) (token_value_at old) (indexed 0 t))) (subst (λ n. n ≤ max_nesting) (sym (nesting_indexed 0 t)) shallow))
     (under ∙ (ap (map r) whole ∙ (map-append r (take (i + 1) (indexed_terminals old.tokens)) unseen ∙ ap (λ z. z ++ map r unseen) cut)))
 
-as_many : (a b : List Token) → kinds a ≡ kinds b → length a ≡ length b
+as_many : (a b : List Token) → token_kinds_without_values a ≡ token_kinds_without_values b → length a ≡ length b
 as_many a b same = sym (length-map a (λ (t : Token). kind_without_value t.kind)) ∙ (ap length same ∙ length-map b (λ (t : Token). kind_without_value t.kind))
 
-pub refusal_stays : (old new : TextWithTokens) (e : ParseRefusal) → kinds new.tokens ≡ kinds old.tokens → IsRightParseRefusal old e → IsRightParseRefusal new e
+pub refusal_stays : (old new : TextWithTokens) (e : ParseRefusal) → token_kinds_without_values new.tokens ≡ token_kinds_without_values old.tokens → IsRightParseRefusal old e → IsRightParseRefusal new e
 refusal_stays old new (Syntax i expected) same by = (
   subst (λ n. i ≤ n) (sym (as_many _ _ same)) by.0,
   none_begins old new i same by.1,

@@ -4,9 +4,9 @@ use Rattle.std.proofs.lemmas.List.{drop_at}
 use Rattle.ob0_scan.specs.declared.lexeme.TokenKind.{TokenKind}
 use Rattle.ob0_scan.specs.declared.lexeme.TokenKind.TheVariants as kind
 use Rattle.ob0_scan.specs.declared.lexeme.Token.{Token}
-use Rattle.ob0_scan.specs.ReusedLexemes.{kind_without_value, kinds}
-use Rattle.ob0_tree.specs.Lexeme.{Terminal, Name, Number, EndOfText, mapped_terminal}
-use Rattle.ob0_tree.specs.Places.{indexed_terminal, indexed_terminals_from}
+use Rattle.ob0_scan.specs.ReusedLexemes.{kind_without_value, token_kinds_without_values}
+use Rattle.ob0_tree.specs.Terminals.{Terminal, Name, Number, EndOfText, mapped_terminal}
+use Rattle.ob0_tree.specs.TokenIndexLeaves.{indexed_terminal, indexed_terminals_from}
 use Rattle.ob0_parse_descent.proofs.Unique.{head_of}
 use Rattle.ob0_parse.specs.KeptTreeTokens.{indexed_terminals_of_kinds}
 
@@ -18,7 +18,7 @@ by_kind i (kind.ReservedWord word) = refl
 by_kind i (kind.Integer value) = refl
 by_kind i (kind.Symbol symbol) = refl
 
-pub terminals_of_tokens : (i : ℕ) (ts : List Token) → indexed_terminals_from i ts ≡ indexed_terminals_of_kinds i (kinds ts) ++ (EndOfText ∷ [])
+pub terminals_of_tokens : (i : ℕ) (ts : List Token) → indexed_terminals_from i ts ≡ indexed_terminals_of_kinds i (token_kinds_without_values ts) ++ (EndOfText ∷ [])
 terminals_of_tokens i [] = refl
 terminals_of_tokens i (t ∷ ts) =
     ap (λ x. x ∷ indexed_terminals_from (i + 1) ts) (by_kind i t.kind)

@@ -8,8 +8,8 @@ use Rattle.ob0_scan.specs.declared.lexeme.ReservedWord.{ReservedWord}
 use Rattle.ob0_scan.specs.declared.lexeme.ReservedWord.TheVariants as reserved
 use Rattle.ob0_scan.specs.declared.lexeme.Symbol.{Symbol}
 use Rattle.ob0_scan.specs.declared.lexeme.Symbol.TheVariants as symbol
-use Rattle.ob0_tree.specs.Lexeme.{Terminal, EndOfText}
-use Rattle.ob0_tree.specs.Places.{indexed_terminal}
+use Rattle.ob0_tree.specs.Terminals.{Terminal, EndOfText}
+use Rattle.ob0_tree.specs.TokenIndexLeaves.{indexed_terminal}
 use Rattle.ob0_parse_descent.specs.Descent.{DescentEnd, Done, Expects, TooDeepAt, TextDescentEndsWith}
 use Rattle.ob0_parse_descent.specs.declared.refusal.ExpectedSyntax.TheVariants as expected
 

@@ -3,10 +3,10 @@
 -- Rule: docs/LANGUAGE.md, Syntax faults 1.
 use Rattle.std.specs.Prelude.{◌≡◌, ℕ, ◌+◌, ◌≤◌, List, [], ◌∷◌, ◌++◌, take, length}
 use Rattle.ob0_scan.specs.TextWithTokens.{TextWithTokens}
-use Rattle.ob0_tree.specs.Lexeme.{Terminal, EndOfText}
+use Rattle.ob0_tree.specs.Terminals.{Terminal, EndOfText}
 use Rattle.ob0_tree.specs.Tree.{Tree, module_text, spell, nesting}
 use Rattle.ob0_tree.specs.Module.{max_nesting, terminals_of_text}
-use Rattle.ob0_tree.specs.Places.{indexed_terminals}
+use Rattle.ob0_tree.specs.TokenIndexLeaves.{indexed_terminals}
 use Rattle.ob0_parse_descent.specs.Descent.{Expects, TooDeepAt, TextDescentEndsWith}
 use Rattle.ob0_parse_descent.specs.declared.refusal.ParseRefusal.{ParseRefusal}
 use Rattle.ob0_parse_descent.specs.declared.refusal.ParseRefusal.TheVariants.{Syntax, TooDeep, Memory}

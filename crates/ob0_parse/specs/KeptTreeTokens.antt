@@ -7,21 +7,21 @@ use Rattle.std.specs.Prelude.{◌≡◌, ℕ, ◌+◌, ◌<◌, ◌≤◌, Bool,
 use Rattle.ob0_scan.specs.declared.lexeme.TokenKind.{TokenKind}
 use Rattle.ob0_scan.specs.declared.lexeme.Token.{Token}
 use Rattle.ob0_scan.specs.declared.tokens.CommonPrefixAndSuffix.{CommonPrefixAndSuffix}
-use Rattle.ob0_scan.specs.ReusedLexemes.{kinds}
-use Rattle.ob0_scan.specs.SameKinds.{PrefixAndSuffixHaveSameKinds}
+use Rattle.ob0_scan.specs.ReusedLexemes.{token_kinds_without_values}
+use Rattle.ob0_scan.specs.SamePrefixAndSuffix.{PrefixAndSuffixHaveSameKinds}
 use Rattle.ob0_tree.specs.declared.tree.Procedure.{Procedure}
 use Rattle.ob0_tree.specs.declared.tree.Statement.{Statement}
-use Rattle.ob0_tree.specs.Lexeme.{Terminal}
+use Rattle.ob0_tree.specs.Terminals.{Terminal}
 use Rattle.ob0_tree.specs.Module.{max_nesting}
-use Rattle.ob0_tree.specs.Places.{indexed_terminal}
+use Rattle.ob0_tree.specs.TokenIndexLeaves.{indexed_terminal}
 use Rattle.ob0_tree.specs.Tree.{procedure, body, Sort, item, maybe, Tree, spell, nesting}
 use Rattle.ob0_tree.specs.View.{items_of, procedure_of, body_of}
-use Rattle.ob0_parse_descent.specs.TokenRanks.{level, NextTokenEndsConstruct}
-use Rattle.ob0_parse_descent.specs.ParserPromises.{rest, IsReadTree}
-use Rattle.ob0_parse.specs.declared.kept.ReusableConstruct.{ReusableConstruct}
-use Rattle.ob0_parse.specs.declared.kept.ReusableConstruct.TheVariants as construct
-use Rattle.ob0_parse.specs.declared.kept.KeptTree.{KeptTree}
-use Rattle.ob0_parse.specs.declared.kept.KeptTrees.{KeptTrees}
+use Rattle.ob0_parse_descent.specs.TokenRanks.{max_continuing_rank, NextTokenEndsConstruct}
+use Rattle.ob0_parse_descent.specs.ParserPromises.{remaining_terminals, IsReadTree}
+use Rattle.ob0_parse.specs.declared.kept_trees.ReusableConstruct.{ReusableConstruct}
+use Rattle.ob0_parse.specs.declared.kept_trees.ReusableConstruct.TheVariants as construct
+use Rattle.ob0_parse.specs.declared.kept_trees.KeptTree.{KeptTree}
+use Rattle.ob0_parse.specs.declared.kept_trees.KeptTrees.{KeptTrees}
 
 -- Returns tokens as they are spelled by a tree whose leaves are token indexes, given the kinds of
 -- the tokens. The first token has the index `i`.
@@ -42,26 +42,26 @@ tree_of_construct (construct.Body statements) = body_of (Some statements)
 -- States that `at..next` is a range of one or more tokens of `ts`, that these tokens have the kinds
 -- that the tree `t` spells, and that `t` isn't nested too deeply. The leaves of `t` are token
 -- indexes in a text in which the first token of `t` has the index `from`.
-pub record HasTokensAt {s : Sort} (ts : List Token) (from at next : ℕ) (t : Tree ℕ s) : Type 0 where
-  pub spelled : spell t ≡ indexed_terminals_of_kinds from (slice_range (kinds ts) at next)
+pub record ShiftedTreeMatchesTokens {s : Sort} (ts : List Token) (from at next : ℕ) (t : Tree ℕ s) : Type 0 where
+  pub spelled : spell t ≡ indexed_terminals_of_kinds from (slice_range (token_kinds_without_values ts) at next)
   pub shallow : nesting t ≤ max_nesting
   pub forward : at < next
   pub within : next ≤ length ts
 
 -- States that the tokens `at..next` have the kinds that the tree spells, and that the tree isn't
 -- nested too deeply. The leaves of the tree are the indexes of these tokens.
-abbrev pub IsTreeInPlace : {s : Sort} → List Token → ℕ → ℕ → Tree ℕ s → Type 0
-IsTreeInPlace ts at next t = HasTokensAt ts at at next t
+abbrev pub TreeMatchesTokens : {s : Sort} → List Token → ℕ → ℕ → Tree ℕ s → Type 0
+TreeMatchesTokens ts at next t = ShiftedTreeMatchesTokens ts at at next t
 
 -- States that the tokens `k.at..k.next` of `ts` have the kinds that the kept tree `k` spells. The
 -- leaves of the tree may still be the indexes of these tokens in an earlier text.
-abbrev pub IsKeptTreeInPlace : List Token → KeptTree → Type 0
-IsKeptTreeInPlace ts k = HasTokensAt ts k.from k.at k.next (tree_of_construct k.construct)
+abbrev pub KeptTreeMatchesTokens : List Token → KeptTree → Type 0
+KeptTreeMatchesTokens ts k = ShiftedTreeMatchesTokens ts k.from k.at k.next (tree_of_construct k.construct)
 
 -- States about every kept tree in `k` that the tokens of `ts` in the tree's range have the kinds
--- that the tree spells (`IsKeptTreeInPlace`).
-pub record AreKeptTreesInPlace (ts : List Token) (k : KeptTrees) : Type 0 where
-  pub trees : All (IsKeptTreeInPlace ts) k.trees.items
+-- that the tree spells (`KeptTreeMatchesTokens`).
+pub record KeptTreesMatchTokens (ts : List Token) (k : KeptTrees) : Type 0 where
+  pub trees : All (KeptTreeMatchesTokens ts) k.trees.items
 
 -- States that the tokens `at..next` of `ts` are the tokens of the procedures `ps`, one after
 -- another, and that no procedure is nested too deeply. The leaves of the procedures are the indexes
@@ -69,7 +69,7 @@ pub record AreKeptTreesInPlace (ts : List Token) (k : KeptTrees) : Type 0 where
 pub record TokensContainProcedures (ts : List Token) (ps : List Procedure) : Type 0 where
   pub at : ℕ
   pub next : ℕ
-  pub spelled : rest ts at ≡ spell (items_of procedure_of ps) ++ rest ts next
+  pub spelled : remaining_terminals ts at ≡ spell (items_of procedure_of ps) ++ remaining_terminals ts next
   pub shallow : nesting (items_of procedure_of ps) ≤ max_nesting
   pub within : next ≤ length ts
 
@@ -81,22 +81,22 @@ pub record ModuleEndsWithParts
     : Type 0 where
   pub procedures : TokensContainProcedures ts ps
   pub next : ℕ
-  pub spelled : rest ts procedures.next ≡ spell (body_of statements) ++ rest ts next
+  pub spelled : remaining_terminals ts procedures.next ≡ spell (body_of statements) ++ remaining_terminals ts next
   pub shallow : nesting (body_of statements) ≤ max_nesting
   pub within : next ≤ length ts
   pub closed : next + 1 ≡ closing
 
 -- States that `b` can replace the kept tree `a` after a change of the text, if `there` is true. So
 -- if `a` belongs to the tokens of the old text, `b` belongs to the tokens of the new text
--- (`IsKeptTreeInPlace`). This must hold for any two texts that share the tokens described by
+-- (`KeptTreeMatchesTokens`). This must hold for any two texts that share the tokens described by
 -- `same`.
 abbrev pub RelocatesTree : CommonPrefixAndSuffix → KeptTree → KeptTree → Bool → Type 0
 RelocatesTree same a b there =
-    there ≡ true → (old new : List Token) → PrefixAndSuffixHaveSameKinds same old new → IsKeptTreeInPlace old a → IsKeptTreeInPlace new b
+    there ≡ true → (old new : List Token) → PrefixAndSuffixHaveSameKinds same old new → KeptTreeMatchesTokens old a → KeptTreeMatchesTokens new b
 
 -- States that the token with the index `next` can't continue a tree of the construct.
 abbrev pub TokenEndsTree : List Token → ReusableConstruct → ℕ → Type 0
-TokenEndsTree ts c next = NextTokenEndsConstruct (level (sort_of c)) (rest ts next)
+TokenEndsTree ts c next = NextTokenEndsConstruct (max_continuing_rank (sort_of c)) (remaining_terminals ts next)
 
 -- States that the construct `x.0` has the tokens `at..x.1` of `ts`, as if the parser had read it.
 abbrev pub IsReadConstructAt : List Token → ℕ → ReusableConstruct × ℕ → Type 0

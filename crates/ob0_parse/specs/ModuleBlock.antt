@@ -8,7 +8,7 @@ use Rattle.ob0_tree.specs.Module.{max_nesting}
 use Rattle.ob0_tree.specs.Tree.{procedure, items, block, module_text, Tree, declares, forms_block, forms_module}
 use Rattle.ob0_tree.specs.View.{constant_section_of, type_section_of, variable_section_of, items_of, procedure_of, body_of}
 use Rattle.ob0_parse_descent.specs.ParserPromises.{nonterminal, text_end, IsReadTree, FailsToRead}
-use Rattle.ob0_parse.specs.declared.parse_module_block.ModuleBlockWithoutProcedures.{ModuleBlockWithoutProcedures}
+use Rattle.ob0_parse.specs.declared.module_block.ModuleBlockWithoutProcedures.{ModuleBlockWithoutProcedures}
 use Rattle.ob0_parse_descent.specs.declared.refusal.ParseRefusal.{ParseRefusal}
 
 -- Returns the tree of a block with the procedures `ps`, and with the sections and body in `parts`.

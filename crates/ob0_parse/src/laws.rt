@@ -5,7 +5,7 @@
 ghost use Rattle.std.specs.Prelude.{ℕ, List};
 ghost use Rattle.ob0_scan.specs.TextWithTokens.{TextWithTokens};
 ghost use Rattle.ob0_tree.specs.Module.{IsModuleWithTree};
-ghost use Rattle.ob0_tree.specs.Places.{indexed_terminals};
+ghost use Rattle.ob0_tree.specs.TokenIndexLeaves.{indexed_terminals};
 ghost use Rattle.ob0_tree.specs.Tree.{Tree, module_text};
 ghost use Rattle.ob0_parse_descent.specs.Descent.{TextDescentEndsWith, Done, DescentEndIsUnique};
 ghost use Rattle.ob0_parse.specs.DescentExamples.{DeepExampleDescentsStopAtLevel101, ExampleDescentsStopWhereExpected};

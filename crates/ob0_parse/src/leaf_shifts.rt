@@ -8,10 +8,10 @@ ghost use Rattle.ob0_tree.specs.declared.tree.CompoundExpression.{back-CompoundE
 ghost use Rattle.ob0_parse.specs.ShiftedTrees.{tree_with_shifted_leaves, shifted_leaf};
 
 use ob0_tree::{
-    Addend, Assignment, Block, Call, Comparison, CompoundExpression, Constant, Designator, Elsif,
-    Expression, Factor, FieldGroup, If, Multiplier, Names, OptionalFieldGroup, ParameterSection,
-    Procedure, Repeat, Selector, SimpleExpression, Statement, Term, TypeDeclaration,
-    VariableDeclaration, While, WrittenType,
+    Addend, Assignment, Block, Call, Comparison, CompoundExpression, ConstantDeclaration,
+    Designator, Elsif, Expression, Factor, FieldGroup, If, Multiplier, Names, OptionalFieldGroup,
+    ParameterSection, Procedure, Repeat, Selector, SimpleExpression, Statement, Term,
+    TypeDeclaration, VariableDeclaration, While, WrittenType,
 };
 
 /// A shift of token indexes by a change of the text: the token with the index `from` in the old
@@ -368,7 +368,10 @@ fn shift_indexes_in_parameter_sections(listed: &mut Vec<ParameterSection>, by: T
 }
 
 /// Applies the shift `by` to each token index in a CONST section, if there is one.
-fn shift_indexes_in_constant_section(declared: &mut Option<Vec<Constant>>, by: TokenIndexShift)
+fn shift_indexes_in_constant_section(
+    declared: &mut Option<Vec<ConstantDeclaration>>,
+    by: TokenIndexShift,
+)
     ensures { constant_section_of declared.new ≡ tree_with_shifted_leaves by (constant_section_of declared.old) }
 {
     if let Some(listed) = declared {
@@ -377,7 +380,10 @@ fn shift_indexes_in_constant_section(declared: &mut Option<Vec<Constant>>, by: T
 }
 
 /// Applies the shift `by` to each token index in a list of constant declarations.
-fn shift_indexes_in_constant_declarations(listed: &mut Vec<Constant>, by: TokenIndexShift)
+fn shift_indexes_in_constant_declarations(
+    listed: &mut Vec<ConstantDeclaration>,
+    by: TokenIndexShift,
+)
     ensures { constant_declarations_of_vec listed.new ≡ tree_with_shifted_leaves by (constant_declarations_of_vec listed.old) }
 {
     for i in 0..listed.len() {
@@ -386,7 +392,7 @@ fn shift_indexes_in_constant_declarations(listed: &mut Vec<Constant>, by: TokenI
 }
 
 /// Applies the shift `by` to each token index in the declaration of a constant.
-fn shift_indexes_in_constant_declaration(c: &mut Constant, by: TokenIndexShift)
+fn shift_indexes_in_constant_declaration(c: &mut ConstantDeclaration, by: TokenIndexShift)
     ensures { constant_of c.new ≡ tree_with_shifted_leaves by (constant_of c.old) }
 {
     c.name = by.shifted_leaf(c.name);

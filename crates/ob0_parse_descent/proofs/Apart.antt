@@ -5,7 +5,7 @@ use Rattle.ob0_scan.specs.declared.lexeme.TokenKind.{TokenKind}
 use Rattle.ob0_scan.specs.declared.lexeme.TokenKind.TheVariants as kind
 use Rattle.ob0_scan.specs.declared.lexeme.ReservedWord.TheVariants as reserved
 use Rattle.ob0_scan.specs.declared.lexeme.Symbol.TheVariants as symbol
-use Rattle.ob0_tree.specs.Lexeme.{Terminal, Name, Number, WordOrSymbol}
+use Rattle.ob0_tree.specs.Terminals.{Terminal, Name, Number, WordOrSymbol}
 
 pub name_not_mark : {N : Type 0} {n : N} {k : TokenKind} {x y : List (Terminal N)} → Name n ∷ x ≡ WordOrSymbol k ∷ y → ⊥
 name_not_mark e = cc

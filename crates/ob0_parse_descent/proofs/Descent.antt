@@ -2,11 +2,11 @@
 use Rattle.std.proofs.Common.{◌≡◌, ℕ, suc, ◌+◌, ◌<◌, Bool, true, false, Option, Some, None, List, [], ◌∷◌, ◌++◌, length, refl, sym, ◌∙◌, ap, subst, arith, eqb-true, eq-eqb, if◌then◌else◌}
 use Rattle.ob0_scan.specs.declared.lexeme.TokenKind.{TokenKind}
 use Rattle.ob0_scan.specs.declared.lexeme.Token.{Token}
-use Rattle.ob0_tree.specs.Lexeme.{Terminal, Name, Number, WordOrSymbol}
+use Rattle.ob0_tree.specs.Terminals.{Terminal, Name, Number, WordOrSymbol}
 use Rattle.ob0_tree.specs.Tree.{GrammarItem, item, items, maybe, Sort}
-use Rattle.ob0_parse_descent.specs.TokenRanks.{rank, item_start_rank, NextTokenHasRank}
+use Rattle.ob0_parse_descent.specs.TokenRanks.{terminal_rank, item_start_rank, NextTokenHasRank}
 use Rattle.ob0_parse_descent.specs.Descent.{ProductionPart, token, name, number, nonterminal, parts, missing, too_deep, nested_construct_choice, is_item_next, chosen_production, MatchesPart, DescentEnd, Expects, Descends, done, taken, other, made, absent, deep}
-use Rattle.ob0_parse_descent.specs.ParserPromises.{rest, DescentsHaveSameEnd}
+use Rattle.ob0_parse_descent.specs.ParserPromises.{remaining_terminals, DescentsHaveSameEnd}
 use Rattle.ob0_parse_descent.specs.declared.refusal.ExpectedSyntax.{ExpectedSyntax}
 
 -- ---- there is only one stop
@@ -74,38 +74,38 @@ by p q = record { stops_as_following = λ o more r. p.stops_as_following o more 
 
 -- Proves that the descent reads a part that is one token.
 
-read_part : {p : ProductionPart} {x : Terminal ℕ} {ts : List Token} {at next : ℕ} → MatchesPart p x → rest ts at ≡ x ∷ rest ts next → next ≡ at + 1 → DescentsHaveSameEnd (p ∷ []) [] ts at next
+read_part : {p : ProductionPart} {x : Terminal ℕ} {ts : List Token} {at next : ℕ} → MatchesPart p x → remaining_terminals ts at ≡ x ∷ remaining_terminals ts next → next ≡ at + 1 → DescentsHaveSameEnd (p ∷ []) [] ts at next
 read_part {p = p} {ts = ts} {at = at} {next = next} is here following = record {
   stops_as_following = λ o ps r.
-      subst (λ w. Descends (p ∷ ps) at w o) (sym here) (taken is (subst (λ j. Descends ps j (rest ts next) o) following r));
+      subst (λ w. Descends (p ∷ ps) at w o) (sym here) (taken is (subst (λ j. Descends ps j (remaining_terminals ts next) o) following r));
 }
 
-pub read_token : {k : TokenKind} {ts : List Token} {at next : ℕ} → rest ts at ≡ WordOrSymbol k ∷ rest ts next → next ≡ at + 1 → DescentsHaveSameEnd (token k ∷ []) [] ts at next
+pub read_token : {k : TokenKind} {ts : List Token} {at next : ℕ} → remaining_terminals ts at ≡ WordOrSymbol k ∷ remaining_terminals ts next → next ≡ at + 1 → DescentsHaveSameEnd (token k ∷ []) [] ts at next
 read_token here following = read_part refl here following
 
-pub read_name : {n : ℕ} {ts : List Token} {at next : ℕ} → rest ts at ≡ Name n ∷ rest ts next → next ≡ at + 1 → DescentsHaveSameEnd (name ∷ []) [] ts at next
+pub read_name : {n : ℕ} {ts : List Token} {at next : ℕ} → remaining_terminals ts at ≡ Name n ∷ remaining_terminals ts next → next ≡ at + 1 → DescentsHaveSameEnd (name ∷ []) [] ts at next
 read_name {n = n} here following = read_part (n, refl) here following
 
-pub read_number : {n : ℕ} {ts : List Token} {at next : ℕ} → rest ts at ≡ Number n ∷ rest ts next → next ≡ at + 1 → DescentsHaveSameEnd (number ∷ []) [] ts at next
+pub read_number : {n : ℕ} {ts : List Token} {at next : ℕ} → remaining_terminals ts at ≡ Number n ∷ remaining_terminals ts next → next ≡ at + 1 → DescentsHaveSameEnd (number ∷ []) [] ts at next
 read_number {n = n} here following = read_part (n, refl) here following
 
 -- If a parser function has read this reserved word or symbol, the descent reads it.
-pub read_mark : {k : TokenKind} {ts : List Token} {at next : ℕ} → (rest ts at ≡ WordOrSymbol k ∷ rest ts next) × (at < length ts) × (next ≡ at + 1) → DescentsHaveSameEnd (token k ∷ []) [] ts at next
+pub read_mark : {k : TokenKind} {ts : List Token} {at next : ℕ} → (remaining_terminals ts at ≡ WordOrSymbol k ∷ remaining_terminals ts next) × (at < length ts) × (next ≡ at + 1) → DescentsHaveSameEnd (token k ∷ []) [] ts at next
 read_mark h = read_token h.0 h.2
 
 -- The descent reads a construct as the parts of the production that is chosen here.
-pub read_made : {s : Sort} {room : ℕ} {ts : List Token} {at : ℕ} {qs : List ProductionPart} → chosen_production s room (rest ts at) ≡ parts qs → DescentsHaveSameEnd (nonterminal s room ∷ []) qs ts at at
+pub read_made : {s : Sort} {room : ℕ} {ts : List Token} {at : ℕ} {qs : List ProductionPart} → chosen_production s room (remaining_terminals ts at) ≡ parts qs → DescentsHaveSameEnd (nonterminal s room ∷ []) qs ts at at
 read_made {qs = qs} c = record { stops_as_following = λ o more r. made qs c r }
 
 -- The descent reads a construct whose production begins with this token as the parts after that
 -- token.
-pub read_led : {s : Sort} {room : ℕ} {k : TokenKind} {ts : List Token} {at : ℕ} (qs : List ProductionPart) → chosen_production s room (WordOrSymbol k ∷ rest ts (at + 1)) ≡ parts (token k ∷ qs) → rest ts at ≡ WordOrSymbol k ∷ rest ts (at + 1) → DescentsHaveSameEnd (nonterminal s room ∷ []) qs ts at (at + 1)
+pub read_led : {s : Sort} {room : ℕ} {k : TokenKind} {ts : List Token} {at : ℕ} (qs : List ProductionPart) → chosen_production s room (WordOrSymbol k ∷ remaining_terminals ts (at + 1)) ≡ parts (token k ∷ qs) → remaining_terminals ts at ≡ WordOrSymbol k ∷ remaining_terminals ts (at + 1) → DescentsHaveSameEnd (nonterminal s room ∷ []) qs ts at (at + 1)
 read_led {s = s} {room = room} {k = k} qs c here =
     by (read_made (ap (λ w. chosen_production s room w) here ∙ c)) (both (read_token here refl) as_is)
 
 -- The descent reads a construct that counts for nesting as the parts after its first token, with
 -- one level less.
-pub read_opened : {s : Sort} {room : ℕ} {k : TokenKind} {ts : List Token} {at : ℕ} (inner : ℕ) (f : ℕ → List ProductionPart) → chosen_production s room (WordOrSymbol k ∷ rest ts (at + 1)) ≡ nested_construct_choice room (λ n. token k ∷ f n) → room ≡ inner + 1 → rest ts at ≡ WordOrSymbol k ∷ rest ts (at + 1) → DescentsHaveSameEnd (nonterminal s room ∷ []) (f inner) ts at (at + 1)
+pub read_opened : {s : Sort} {room : ℕ} {k : TokenKind} {ts : List Token} {at : ℕ} (inner : ℕ) (f : ℕ → List ProductionPart) → chosen_production s room (WordOrSymbol k ∷ remaining_terminals ts (at + 1)) ≡ nested_construct_choice room (λ n. token k ∷ f n) → room ≡ inner + 1 → remaining_terminals ts at ≡ WordOrSymbol k ∷ remaining_terminals ts (at + 1) → DescentsHaveSameEnd (nonterminal s room ∷ []) (f inner) ts at (at + 1)
 read_opened {k = k} inner f c d here =
     let one : inner + 1 ≡ suc inner = omega arith in
     read_led (f inner) (c ∙ ap (λ n. nested_construct_choice n (λ m. token k ∷ f m)) (d ∙ one)) here
@@ -114,24 +114,24 @@ read_opened {k = k} inner f c d here =
 
 pub next_item : (i : GrammarItem) (w : List (Terminal ℕ)) → NextTokenHasRank (item_start_rank i) w → is_item_next i w ≡ true
 next_item i [] s = absurd s
-next_item i (x ∷ w) s = eq-eqb (rank x) (item_start_rank i) s
+next_item i (x ∷ w) s = eq-eqb (terminal_rank x) (item_start_rank i) s
 
 pub no_next : (i : GrammarItem) (w : List (Terminal ℕ)) → ¬ NextTokenHasRank (item_start_rank i) w → (b : Bool) → is_item_next i w ≡ b → is_item_next i w ≡ false
 no_next i w lacks false e = e
 no_next i [] lacks true e = refl
-no_next i (x ∷ w) lacks true e = absurd (lacks (eqb-true (rank x) (item_start_rank i) e))
+no_next i (x ∷ w) lacks true e = absurd (lacks (eqb-true (terminal_rank x) (item_start_rank i) e))
 
-pub read_more : {i : GrammarItem} {room : ℕ} {ts : List Token} {at : ℕ} → NextTokenHasRank (item_start_rank i) (rest ts at) → DescentsHaveSameEnd (nonterminal (items i) room ∷ []) (nonterminal (item i) room ∷ nonterminal (items i) room ∷ []) ts at at
-read_more {i = i} {room = room} {ts = ts} {at = at} s = read_made (ap (λ b. if b then parts (nonterminal (item i) room ∷ nonterminal (items i) room ∷ []) else parts []) (next_item i (rest ts at) s))
+pub read_more : {i : GrammarItem} {room : ℕ} {ts : List Token} {at : ℕ} → NextTokenHasRank (item_start_rank i) (remaining_terminals ts at) → DescentsHaveSameEnd (nonterminal (items i) room ∷ []) (nonterminal (item i) room ∷ nonterminal (items i) room ∷ []) ts at at
+read_more {i = i} {room = room} {ts = ts} {at = at} s = read_made (ap (λ b. if b then parts (nonterminal (item i) room ∷ nonterminal (items i) room ∷ []) else parts []) (next_item i (remaining_terminals ts at) s))
 
-pub read_end : {i : GrammarItem} {room : ℕ} {ts : List Token} {at : ℕ} → ¬ NextTokenHasRank (item_start_rank i) (rest ts at) → DescentsHaveSameEnd (nonterminal (items i) room ∷ []) [] ts at at
-read_end {i = i} {room = room} {ts = ts} {at = at} lacks = read_made (ap (λ b. if b then parts (nonterminal (item i) room ∷ nonterminal (items i) room ∷ []) else parts []) (no_next i (rest ts at) lacks _ refl))
+pub read_end : {i : GrammarItem} {room : ℕ} {ts : List Token} {at : ℕ} → ¬ NextTokenHasRank (item_start_rank i) (remaining_terminals ts at) → DescentsHaveSameEnd (nonterminal (items i) room ∷ []) [] ts at at
+read_end {i = i} {room = room} {ts = ts} {at = at} lacks = read_made (ap (λ b. if b then parts (nonterminal (item i) room ∷ nonterminal (items i) room ∷ []) else parts []) (no_next i (remaining_terminals ts at) lacks _ refl))
 
-pub read_one : {i : GrammarItem} {room : ℕ} {ts : List Token} {at : ℕ} → NextTokenHasRank (item_start_rank i) (rest ts at) → DescentsHaveSameEnd (nonterminal (maybe i) room ∷ []) (nonterminal (item i) room ∷ []) ts at at
-read_one {i = i} {room = room} {ts = ts} {at = at} s = read_made (ap (λ b. if b then parts (nonterminal (item i) room ∷ []) else parts []) (next_item i (rest ts at) s))
+pub read_one : {i : GrammarItem} {room : ℕ} {ts : List Token} {at : ℕ} → NextTokenHasRank (item_start_rank i) (remaining_terminals ts at) → DescentsHaveSameEnd (nonterminal (maybe i) room ∷ []) (nonterminal (item i) room ∷ []) ts at at
+read_one {i = i} {room = room} {ts = ts} {at = at} s = read_made (ap (λ b. if b then parts (nonterminal (item i) room ∷ []) else parts []) (next_item i (remaining_terminals ts at) s))
 
-pub read_none : {i : GrammarItem} {room : ℕ} {ts : List Token} {at : ℕ} → ¬ NextTokenHasRank (item_start_rank i) (rest ts at) → DescentsHaveSameEnd (nonterminal (maybe i) room ∷ []) [] ts at at
-read_none {i = i} {room = room} {ts = ts} {at = at} lacks = read_made (ap (λ b. if b then parts (nonterminal (item i) room ∷ []) else parts []) (no_next i (rest ts at) lacks _ refl))
+pub read_none : {i : GrammarItem} {room : ℕ} {ts : List Token} {at : ℕ} → ¬ NextTokenHasRank (item_start_rank i) (remaining_terminals ts at) → DescentsHaveSameEnd (nonterminal (maybe i) room ∷ []) [] ts at at
+read_none {i = i} {room = room} {ts = ts} {at = at} lacks = read_made (ap (λ b. if b then parts (nonterminal (item i) room ∷ []) else parts []) (no_next i (remaining_terminals ts at) lacks _ refl))
 
 -- If the descent reads a construct, it reads the parts of the construct's production there.
 pub unmade : {s : Sort} {room : ℕ} {qs ps : List ProductionPart} {i : ℕ} {tokens : List (Terminal ℕ)} {o : DescentEnd} → chosen_production s room tokens ≡ parts qs → Descends (nonterminal s room ∷ ps) i tokens o → Descends (qs ++ ps) i tokens o
@@ -141,7 +141,7 @@ unmade {ps = ps} {i = i} {tokens = tokens} {o = o} c (made rs d r) = subst (λ l
 unmade c (absent d) = absurd (parts_missing (sym c ∙ d))
 unmade c (deep d) = absurd (parts_deep (sym c ∙ d))
 
-pub read_back : {s : Sort} {room : ℕ} {qs rs : List ProductionPart} {ts : List Token} {at next : ℕ} → chosen_production s room (rest ts at) ≡ parts qs → DescentsHaveSameEnd (nonterminal s room ∷ []) rs ts at next → DescentsHaveSameEnd qs rs ts at next
+pub read_back : {s : Sort} {room : ℕ} {qs rs : List ProductionPart} {ts : List Token} {at next : ℕ} → chosen_production s room (remaining_terminals ts at) ≡ parts qs → DescentsHaveSameEnd (nonterminal s room ∷ []) rs ts at next → DescentsHaveSameEnd qs rs ts at next
 read_back c p = record { stops_as_following = λ o more r. unmade c (p.stops_as_following o more r) }
 
 pub past_name : {n i : ℕ} {ps : List ProductionPart} {xs w : List (Terminal ℕ)} {o : DescentEnd} → xs ≡ Name n ∷ w → Descends (name ∷ ps) i xs o → Descends ps (i + 1) w o

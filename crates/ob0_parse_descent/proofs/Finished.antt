@@ -5,9 +5,9 @@ use Rattle.ob0_scan.specs.declared.lexeme.TokenKind.TheVariants as kind
 use Rattle.ob0_scan.specs.declared.lexeme.ReservedWord.TheVariants as reserved
 use Rattle.ob0_scan.specs.declared.lexeme.Symbol.TheVariants as symbol
 use Rattle.ob0_tree.specs.declared.tree.Sign.TheVariants as signs
-use Rattle.ob0_tree.specs.Lexeme.{Terminal, Name, Number, WordOrSymbol}
+use Rattle.ob0_tree.specs.Terminals.{Terminal, Name, Number, WordOrSymbol}
 use Rattle.ob0_tree.specs.Tree.{GrammarItem, arguments, argument_after_comma, section_after_semicolon, Sort, item, items, maybe, expression, statement, fields, section, Tree, none, one, end, more, compares, relates, sum, adds, product, multiplies, designator, integer, parenthesised, negation, field, index, empty, assigns, calls, branches, while_loop, repeat_loop, no_arguments, some_arguments, comma_then_argument, runs, semicolon_then_statement, elsif_branch, else_branch, listed, comma_then_name, named_type, array_type, record_type, no_fields, some_fields, semicolon_then_fields, no_formals, some_formals, value_section, variable_section, semicolon_then_section, declares_constant, declares_const_section, declares_type, declares_type_section, declares_variable, declares_var_section, declares_procedure, declares, begins, forms_block, forms_module, spell, nesting}
-use Rattle.ob0_parse_descent.specs.TokenRanks.{rank, item_start_rank, item_level, level, NextTokenEndsConstruct, NextTokenHasRank}
+use Rattle.ob0_parse_descent.specs.TokenRanks.{terminal_rank, item_start_rank, item_max_continuing_rank, max_continuing_rank, NextTokenEndsConstruct, NextTokenHasRank}
 use Rattle.ob0_parse_descent.specs.Descent.{ProductionPart, token, name, number, nonterminal, parts, symbol_part, is_item_next, is_expression_next, is_parameter_section_next, is_assignment_next, chosen_production, DescentEnd, Descends, taken, made}
 use Rattle.ob0_parse_descent.proofs.Unique.{starts_item, stops_less, stops_items, stops_maybe, stops_else, stops_branches, stops_closed, below, unsigned_term}
 use Rattle.ob0_parse_descent.proofs.Refusals.{no_end}
@@ -54,7 +54,7 @@ left_out i w s = no_next i w (λ p. no_end (item_start_rank i) w p s) _ refl
 
 no_statement : (room : ℕ) (z : List (Terminal ℕ)) → NextTokenEndsConstruct 8 z → chosen_production statement room z ≡ parts []
 no_statement room [] s = refl
-no_statement room (x ∷ z) s = chosen_empty room x z (λ e. omega (arith, e, s)) (λ e. let r : rank x ≡ 8 = ap rank e in omega (arith, r, s)) (λ e. let r : rank x ≡ 8 = ap rank e in omega (arith, r, s)) (λ e. let r : rank x ≡ 8 = ap rank e in omega (arith, r, s))
+no_statement room (x ∷ z) s = chosen_empty room x z (λ e. omega (arith, e, s)) (λ e. let r : terminal_rank x ≡ 8 = ap terminal_rank e in omega (arith, r, s)) (λ e. let r : terminal_rank x ≡ 8 = ap terminal_rank e in omega (arith, r, s)) (λ e. let r : terminal_rank x ≡ 8 = ap terminal_rank e in omega (arith, r, s))
 
 no_field : (room : ℕ) (z : List (Terminal ℕ)) → NextTokenEndsConstruct 7 z → chosen_production fields room z ≡ parts []
 no_field room [] s = refl
@@ -62,17 +62,17 @@ no_field room (x ∷ z) s = chosen_no_fields room x z (λ e. omega (arith, e, s)
 
 call_next : (a : Tree ℕ (maybe arguments)) (z : List (Terminal ℕ)) → NextTokenEndsConstruct 8 z → is_assignment_next (spell a ++ z) ≡ false
 call_next none [] s = refl
-call_next none (x ∷ z) s = unassigned x z (λ e. let r : rank x ≡ 8 = ap rank e in omega (arith, r, s)) (λ p. omega (arith, p, s))
+call_next none (x ∷ z) s = unassigned x z (λ e. let r : terminal_rank x ≡ 8 = ap terminal_rank e in omega (arith, r, s)) (λ p. omega (arith, p, s))
 call_next (one no_arguments) z s = refl
 call_next (one (some_arguments e es)) z s = refl
 
-pub finishes : {e : ℕ} {o : DescentEnd} {s : Sort} (t : Tree ℕ s) (room : ℕ) (ps : List ProductionPart) (z : List (Terminal ℕ)) → nesting t ≤ room → NextTokenEndsConstruct (level s) z → Finishes e o ps z → Finishes e o (nonterminal s room ∷ ps) (spell t ++ z)
+pub finishes : {e : ℕ} {o : DescentEnd} {s : Sort} (t : Tree ℕ s) (room : ℕ) (ps : List ProductionPart) (z : List (Terminal ℕ)) → nesting t ≤ room → NextTokenEndsConstruct (max_continuing_rank s) z → Finishes e o ps z → Finishes e o (nonterminal s room ∷ ps) (spell t ++ z)
 finishes (none {i = i}) room ps z n s r = prod {qs = []} (ap (λ b. if b then parts (nonterminal (item i) room ∷ []) else parts []) (left_out i z s)) r
-finishes (one {i = i} t) room ps z n s r = prod (some i room _ (starts_item t z)) (finishes t room ps z n (stops_less z (item_level i) (item_start_rank i) (omega (arith, below i)) s) r)
+finishes (one {i = i} t) room ps z n s r = prod (some i room _ (starts_item t z)) (finishes t room ps z n (stops_less z (item_max_continuing_rank i) (item_start_rank i) (omega (arith, below i)) s) r)
 finishes (end {i = i}) room ps z n s r = prod {qs = []} (ap (λ b. if b then parts (nonterminal (item i) room ∷ nonterminal (items i) room ∷ []) else parts []) (left_out i z s)) r
 finishes (more {i = i} t ts) room ps z n s r =
     prod (further i room _ (subst (λ w. NextTokenHasRank (item_start_rank i) w) (sym (append_assoc (spell t) (spell ts) z)) (starts_item t (spell ts ++ z))))
-    (assoc (spell t) (spell ts) z (finishes t room _ _ (omega arith) (stops_items ts z (item_level i) (below i) s) (finishes ts room ps z (omega arith) s r)))
+    (assoc (spell t) (spell ts) z (finishes t room _ _ (omega arith) (stops_items ts z (item_max_continuing_rank i) (below i) s) (finishes ts room ps z (omega arith) s r)))
 finishes (compares a c) room ps z n s r = prod refl (assoc (spell a) (spell c) z (finishes a room _ _ (omega arith) (stops_maybe c z 3 (omega arith) s) (finishes c room ps z (omega arith) s r)))
 finishes (relates o a) room ps z n s r = prod refl (tok (finishes a room ps z n s r))
 finishes (sum None a c) room ps z n s r =

@@ -5,14 +5,14 @@ use Rattle.ob0_scan.specs.declared.lexeme.TokenKind.TheVariants as kind
 use Rattle.ob0_scan.specs.declared.lexeme.ReservedWord.TheVariants as reserved
 use Rattle.ob0_scan.specs.declared.lexeme.Symbol.TheVariants as symbol
 use Rattle.ob0_scan.specs.declared.lexeme.Token.{Token}
-use Rattle.ob0_tree.specs.Lexeme.{Terminal, Name, Number, WordOrSymbol, EndOfText}
+use Rattle.ob0_tree.specs.Terminals.{Terminal, Name, Number, WordOrSymbol, EndOfText}
 use Rattle.ob0_parse_descent.specs.declared.refusal.ExpectedSyntax.{ExpectedSyntax}
 use Rattle.ob0_parse_descent.specs.declared.refusal.ParseRefusal.{ParseRefusal}
 use Rattle.ob0_parse_descent.specs.declared.refusal.ParseRefusal.TheVariants.{Syntax}
 use Rattle.ob0_tree.specs.Tree.{Sort, Tree, spell}
-use Rattle.ob0_parse_descent.specs.TokenRanks.{rank, kind_rank, level, NextTokenHasRank, NextTokenEndsConstruct}
+use Rattle.ob0_parse_descent.specs.TokenRanks.{terminal_rank, kind_rank, max_continuing_rank, NextTokenHasRank, NextTokenEndsConstruct}
 use Rattle.ob0_parse_descent.proofs.Unique.{same}
-use Rattle.ob0_parse_descent.specs.ParserPromises.{rest, ProductionPart, token, name, BeginsWithParts, DescentEndsWith, FailsToRead, IsTokenOtherThan, IsNotIdentifier}
+use Rattle.ob0_parse_descent.specs.ParserPromises.{remaining_terminals, ProductionPart, token, name, BeginsWithParts, DescentEndsWith, FailsToRead, IsTokenOtherThan, IsNotIdentifier}
 use Rattle.ob0_parse_descent.specs.Descent.{MatchesPart, syntax_expected_for_part, syntax_expected_for_kind, Expects, Descends, other}
 use Rattle.ob0_parse_descent.specs.declared.refusal.ExpectedSyntax.TheVariants as expected
 use Rattle.ob0_parse_descent.proofs.Refusals.{at_once, fails_by, in_name, in_token}
@@ -76,35 +76,35 @@ leads (kind.Symbol symbol.RightParen) j e = cc
 leads (kind.Symbol symbol.LeftBracket) j e = cc
 leads (kind.Symbol symbol.RightBracket) j e = cc
 
-led : (x : Terminal ℕ) (j : TokenKind) → leader (rank x) ≡ Some j → x ≡ WordOrSymbol j
+led : (x : Terminal ℕ) (j : TokenKind) → leader (terminal_rank x) ≡ Some j → x ≡ WordOrSymbol j
 led (Name n) j e = cc
 led (Number n) j e = cc
 led (WordOrSymbol k) j e = ap WordOrSymbol (leads k j e)
 led EndOfText j e = cc
 
 -- If the only token with an item's rank isn't here, no such item begins here.
-pub no_item : {k : TokenKind} {ts : List Token} {at : ℕ} (r : ℕ) → leader r ≡ Some k → IsTokenOtherThan (WordOrSymbol k) ts at → ¬ NextTokenHasRank r (rest ts at)
+pub no_item : {k : TokenKind} {ts : List Token} {at : ℕ} (r : ℕ) → leader r ≡ Some k → IsTokenOtherThan (WordOrSymbol k) ts at → ¬ NextTokenHasRank r (remaining_terminals ts at)
 no_item {k = k} {ts = ts} {at = at} r is o s =
-    let t : rank o.fault ≡ r = subst (λ y. NextTokenHasRank r y) o.here s in
+    let t : terminal_rank o.fault ≡ r = subst (λ y. NextTokenHasRank r y) o.here s in
     o.differs (led o.fault k (ap leader t ∙ is))
 
-pub no_named_item : {ts : List Token} {at : ℕ} → IsNotIdentifier ts at → ¬ NextTokenHasRank 7 (rest ts at)
+pub no_named_item : {ts : List Token} {at : ℕ} → IsNotIdentifier ts at → ¬ NextTokenHasRank 7 (remaining_terminals ts at)
 no_named_item {ts = ts} {at = at} o s = o.ranked (subst (λ y. NextTokenHasRank 7 y) o.here s)
 
 -- If parts can't begin with the next token, and the descent over them stops there, they are refused
 -- at that token.
-pub fails_here : {ps : List ProductionPart} {ts : List Token} {at : ℕ} {e : ExpectedSyntax} (x : Terminal ℕ) → at ≤ length ts → rest ts at ≡ x ∷ rest ts (at + 1) → DescentEndsWith ps ts at (Expects at e) → ((u : List (Terminal ℕ)) → BeginsWithParts ps (x ∷ u) → ⊥) → FailsToRead ps ts at (Syntax at e)
+pub fails_here : {ps : List ProductionPart} {ts : List Token} {at : ℕ} {e : ExpectedSyntax} (x : Terminal ℕ) → at ≤ length ts → remaining_terminals ts at ≡ x ∷ remaining_terminals ts (at + 1) → DescentEndsWith ps ts at (Expects at e) → ((u : List (Terminal ℕ)) → BeginsWithParts ps (x ∷ u) → ⊥) → FailsToRead ps ts at (Syntax at e)
 fails_here x l here reads never = record { why = (l, at_once here never); reads = reads }
 
 -- If the next token isn't this part, the descent stops there and expects the part.
-pub stops_here : {p : ProductionPart} {x : Terminal ℕ} {e : ExpectedSyntax} (ts : List Token) (at : ℕ) → rest ts at ≡ x ∷ rest ts (at + 1) → ¬ MatchesPart p x → syntax_expected_for_part p ≡ Some e → DescentEndsWith (p ∷ []) ts at (Expects at e)
+pub stops_here : {p : ProductionPart} {x : Terminal ℕ} {e : ExpectedSyntax} (ts : List Token) (at : ℕ) → remaining_terminals ts at ≡ x ∷ remaining_terminals ts (at + 1) → ¬ MatchesPart p x → syntax_expected_for_part p ≡ Some e → DescentEndsWith (p ∷ []) ts at (Expects at e)
 stops_here {p = p} {e = e} ts at here differs is more = subst (λ w. Descends (p ∷ more) at w (Expects at e)) (sym here) (other differs is)
 
 pub fails_token : {k : TokenKind} {ts : List Token} {at : ℕ} {x : ExpectedSyntax} → syntax_expected_for_kind k ≡ Some x → IsTokenOtherThan (WordOrSymbol k) ts at → FailsToRead (token k ∷ []) ts at (Syntax at x)
 fails_token is o = fails_here o.fault o.within o.here (stops_here _ _ o.here o.differs is) (λ u b. o.differs (cc (b.1)))
 
 pub fails_name : {ts : List Token} {at : ℕ} → IsNotIdentifier ts at → FailsToRead (name ∷ []) ts at (Syntax at expected.Identifier)
-fails_name o = fails_here o.fault o.within o.here (stops_here _ _ o.here (λ p. o.ranked (ap rank p.1)) refl) (λ u b. let is : o.fault ≡ Name b.0 = cc (b.2) in o.ranked (ap rank is))
+fails_name o = fails_here o.fault o.within o.here (stops_here _ _ o.here (λ p. o.ranked (ap terminal_rank p.1)) refl) (λ u b. let is : o.fault ≡ Name b.0 = cc (b.2) in o.ranked (ap terminal_rank is))
 
 some_none : {e : ParseRefusal} → ◌≡◌ {A = Option ParseRefusal} (Some e) None → ⊥
 some_none q = cc
@@ -123,7 +123,7 @@ fails_in_token {k = k} {ps = ps} {ts = ts} {at = at} {e = e} q = go (syntax_expe
 pub fails_in_name : {ps : List ProductionPart} {ts : List Token} {at : ℕ} {e : ParseRefusal} → IsNotIdentifier ts at × (e ≡ Syntax at expected.Identifier) → FailsToRead (name ∷ ps) ts at e
 fails_in_name {ps = ps} {ts = ts} {at = at} q = subst (λ e. FailsToRead (name ∷ ps) ts at e) (sym q.1) (fails_by (λ o r more. r (ps ++ more)) (λ after r. in_name r) (fails_name q.0))
 
-positive : (x : Terminal ℕ) → 0 < rank x
+positive : (x : Terminal ℕ) → 0 < terminal_rank x
 positive (Name n) = omega arith
 positive (Number n) = omega arith
 positive EndOfText = omega arith
@@ -176,5 +176,5 @@ pub stops_zero : (x : List (Terminal ℕ)) → NextTokenEndsConstruct 0 x
 stops_zero [] = tt
 stops_zero (c ∷ x) = positive c
 
-pub only_zero : {s : Sort} (t u : Tree ℕ s) (z w : List (Terminal ℕ)) → level s ≡ 0 → NextTokenEndsConstruct (level s) z → spell u ++ z ≡ spell t ++ w → (u ≡ t) × (z ≡ w)
+pub only_zero : {s : Sort} (t u : Tree ℕ s) (z w : List (Terminal ℕ)) → max_continuing_rank s ≡ 0 → NextTokenEndsConstruct (max_continuing_rank s) z → spell u ++ z ≡ spell t ++ w → (u ≡ t) × (z ≡ w)
 only_zero t u z w is p e = same u t z w p (subst (λ n. NextTokenEndsConstruct n w) (sym is) (stops_zero w)) e

@@ -4,7 +4,7 @@ use Rattle.ob0_scan.specs.declared.lexeme.Token.{Token}
 use Rattle.ob0_tree.specs.Tree.{GrammarItem, Sort, item, items, Tree}
 use Rattle.ob0_tree.specs.View.{items_of}
 use Rattle.ob0_parse_descent.specs.TokenRanks.{item_start_rank, NextTokenHasRank}
-use Rattle.ob0_parse_descent.specs.ParserPromises.{rest, ProductionPart, nonterminal, IsReadTree, FailsToRead, ItemBeginsButCantBeRead, IsReadList}
+use Rattle.ob0_parse_descent.specs.ParserPromises.{remaining_terminals, ProductionPart, nonterminal, IsReadTree, FailsToRead, ItemBeginsButCantBeRead, IsReadList}
 use Rattle.ob0_parse_descent.specs.declared.refusal.ParseRefusal.{ParseRefusal}
 use Rattle.ob0_parse_descent.proofs.Refusals.{fails_pass}
 use Rattle.ob0_parse_descent.proofs.Items.{Taking, taking_none, taking_more, taking_done, taking_fails}
@@ -31,7 +31,7 @@ listing_more view further xs x {room} {ts} {at} {m} {n} p q = record {
   tail = taking_more further p.others x room ts p.middle m n p.tail q;
 }
 
-pub listing_done : {A : Type 0} {s : Sort} {i : GrammarItem} {view : A → Tree ℕ s} {further : A → Tree ℕ (item i)} {xs : List A} {room : ℕ} {ts : List Token} {at next : ℕ} → Listing view further xs room ts at next → ¬ NextTokenHasRank (item_start_rank i) (rest ts next) → IsReadList view further xs room ts at next
+pub listing_done : {A : Type 0} {s : Sort} {i : GrammarItem} {view : A → Tree ℕ s} {further : A → Tree ℕ (item i)} {xs : List A} {room : ℕ} {ts : List Token} {at next : ℕ} → Listing view further xs room ts at next → ¬ NextTokenHasRank (item_start_rank i) (remaining_terminals ts next) → IsReadList view further xs room ts at next
 listing_done {further = further} p absent = record { first = p.first; others = p.others; is = p.is; middle = p.middle; head = p.head; tail = taking_done (items_of further p.others) p.tail absent }
 
 -- If a further element is refused, the whole list is refused.

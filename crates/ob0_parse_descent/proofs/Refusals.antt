@@ -2,10 +2,10 @@
 use Rattle.std.proofs.Common.{◌≡◌, ℕ, ◌+◌, List, [], ◌∷◌, ◌++◌, refl, sym, ◌∙◌, ap, subst, arith, append_assoc}
 use Rattle.ob0_scan.specs.declared.lexeme.TokenKind.{TokenKind}
 use Rattle.ob0_scan.specs.declared.lexeme.Token.{Token}
-use Rattle.ob0_tree.specs.Lexeme.{Terminal, Name, WordOrSymbol}
+use Rattle.ob0_tree.specs.Terminals.{Terminal, Name, WordOrSymbol}
 use Rattle.ob0_tree.specs.Tree.{GrammarItem, Sort, item, maybe, Tree, none, one, spell}
-use Rattle.ob0_parse_descent.specs.TokenRanks.{item_start_rank, item_level, NextTokenEndsConstruct, NextTokenHasRank}
-use Rattle.ob0_parse_descent.specs.ParserPromises.{rest, ProductionPart, token, name, nonterminal, BeginsWithParts, HaveSameFirstToken, CantBeginWithParts, IsReadTree, IsRightRefusalOfParts, DescentEndsWith, DescentEndsAsRefusalSays, DescentsHaveSameEnd, FailsToRead, ItemBeginsButCantBeRead}
+use Rattle.ob0_parse_descent.specs.TokenRanks.{item_start_rank, item_max_continuing_rank, NextTokenEndsConstruct, NextTokenHasRank}
+use Rattle.ob0_parse_descent.specs.ParserPromises.{remaining_terminals, ProductionPart, token, name, nonterminal, BeginsWithParts, HaveSameFirstToken, CantBeginWithParts, IsReadTree, IsRightRefusalOfParts, DescentEndsWith, DescentEndsAsRefusalSays, DescentsHaveSameEnd, FailsToRead, ItemBeginsButCantBeRead}
 use Rattle.ob0_parse_descent.specs.Descent.{DescentEnd, Expects, TooDeepAt}
 use Rattle.ob0_parse_descent.proofs.Descent.{read_token, read_name, read_one}
 use Rattle.ob0_parse_descent.specs.declared.refusal.ParseRefusal.{ParseRefusal}
@@ -70,14 +70,14 @@ pass_name {n = n} {ps = ps} e r = record {
       r.cant_begin unseen (subst (λ z. BeginsWithParts ps z) (sym following) b.3);
 }
 
-pub pass_node : {s : Sort} {room : ℕ} {ps : List ProductionPart} {ts : List Token} {at next : ℕ} {after : List (Terminal ℕ)} (t : Tree ℕ s) → IsReadTree t room ts at next → CantBeginWithParts ps (rest ts next) after → CantBeginWithParts (nonterminal s room ∷ ps) (rest ts at) after
+pub pass_node : {s : Sort} {room : ℕ} {ps : List ProductionPart} {ts : List Token} {at next : ℕ} {after : List (Terminal ℕ)} (t : Tree ℕ s) → IsReadTree t room ts at next → CantBeginWithParts ps (remaining_terminals ts next) after → CantBeginWithParts (nonterminal s room ∷ ps) (remaining_terminals ts at) after
 pass_node {s = s} {ps = ps} {ts = ts} {next = next} {after = after} t p r = record {
   passed = spell t ++ r.passed;
   fault = r.fault;
   here = p.spelled ∙ (ap (λ y. spell t ++ y) r.here ∙ sym (append_assoc (spell t) r.passed (r.fault ∷ after)));
   cant_begin = λ unseen b.
       let w : List (Terminal ℕ) = r.passed ++ (r.fault ∷ unseen) in
-      let alike = p.only b.0 b.1 w (refused_head ps (rest ts next) after unseen r) b.4 (sym b.2 ∙ append_assoc (spell t) r.passed (r.fault ∷ unseen)) in
+      let alike = p.only b.0 b.1 w (refused_head ps (remaining_terminals ts next) after unseen r) b.4 (sym b.2 ∙ append_assoc (spell t) r.passed (r.fault ∷ unseen)) in
       r.cant_begin unseen (subst (λ y. BeginsWithParts ps y) alike.1 b.5);
 }
 
@@ -91,7 +91,7 @@ in_token r = select (λ w h b. (b.0, b.1, tt)) r
 pub in_name : {ps : List ProductionPart} {xs after : List (Terminal ℕ)} → CantBeginWithParts (name ∷ []) xs after → CantBeginWithParts (name ∷ ps) xs after
 in_name r = select (λ w h b. (b.0, b.1, b.2, tt)) r
 
-why_by : {ps qs : List ProductionPart} (ts : List Token) (a b : ℕ) (e : ParseRefusal) → ((after : List (Terminal ℕ)) → CantBeginWithParts ps (rest ts a) after → CantBeginWithParts qs (rest ts b) after) → FailsToRead ps ts a e → IsRightRefusalOfParts qs ts b e
+why_by : {ps qs : List ProductionPart} (ts : List Token) (a b : ℕ) (e : ParseRefusal) → ((after : List (Terminal ℕ)) → CantBeginWithParts ps (remaining_terminals ts a) after → CantBeginWithParts qs (remaining_terminals ts b) after) → FailsToRead ps ts a e → IsRightRefusalOfParts qs ts b e
 why_by ts a b (Syntax i expected) f r = (r.why.0, f _ r.why.1)
 why_by ts a b (TooDeep i) f r = (r.why.0, f _ r.why.1)
 why_by ts a b Memory f r = tt
@@ -101,12 +101,12 @@ stops_by ps qs ts a b (Syntax i expected) g r = g (Expects i expected) r
 stops_by ps qs ts a b (TooDeep i) g r = g (TooDeepAt i) r
 stops_by ps qs ts a b Memory g r = tt
 
-pub fails_by : {ps qs : List ProductionPart} {ts : List Token} {a b : ℕ} {e : ParseRefusal} → ((o : DescentEnd) → DescentEndsWith ps ts a o → DescentEndsWith qs ts b o) → ((after : List (Terminal ℕ)) → CantBeginWithParts ps (rest ts a) after → CantBeginWithParts qs (rest ts b) after) → FailsToRead ps ts a e → FailsToRead qs ts b e
+pub fails_by : {ps qs : List ProductionPart} {ts : List Token} {a b : ℕ} {e : ParseRefusal} → ((o : DescentEnd) → DescentEndsWith ps ts a o → DescentEndsWith qs ts b o) → ((after : List (Terminal ℕ)) → CantBeginWithParts ps (remaining_terminals ts a) after → CantBeginWithParts qs (remaining_terminals ts b) after) → FailsToRead ps ts a e → FailsToRead qs ts b e
 fails_by {ps = ps} {qs = qs} {ts = ts} {a = a} {b = b} {e = e} g f r = record { why = why_by ts a b e f r; reads = stops_by ps qs ts a b e g r.reads }
 
 -- Proves that the results of parser functions are refused in the same way.
 
-pub fails_weaken : {ps qs : List ProductionPart} {ts : List Token} {at : ℕ} {e : ParseRefusal} → DescentsHaveSameEnd ps qs ts at at → ((w : List (Terminal ℕ)) → HaveSameFirstToken (rest ts at) w → BeginsWithParts ps w → BeginsWithParts qs w) → FailsToRead qs ts at e → FailsToRead ps ts at e
+pub fails_weaken : {ps qs : List ProductionPart} {ts : List Token} {at : ℕ} {e : ParseRefusal} → DescentsHaveSameEnd ps qs ts at at → ((w : List (Terminal ℕ)) → HaveSameFirstToken (remaining_terminals ts at) w → BeginsWithParts ps w → BeginsWithParts qs w) → FailsToRead qs ts at e → FailsToRead ps ts at e
 fails_weaken g f q = fails_by (λ o r more. g.stops_as_following o more (r more)) (λ after r. select f r) q
 
 pub fails_in : {s : Sort} {room : ℕ} {ps : List ProductionPart} {ts : List Token} {at : ℕ} {e : ParseRefusal} → FailsToRead (nonterminal s room ∷ []) ts at e → FailsToRead (nonterminal s room ∷ ps) ts at e
@@ -115,10 +115,10 @@ fails_in {ps = ps} q = fails_by (λ o r more. r (ps ++ more)) (λ after r. in_no
 pub fails_pass : {s : Sort} {room : ℕ} {ps : List ProductionPart} {ts : List Token} {at next : ℕ} {e : ParseRefusal} (t : Tree ℕ s) → IsReadTree t room ts at next → FailsToRead ps ts next e → FailsToRead (nonterminal s room ∷ ps) ts at e
 fails_pass {ps = ps} t p q = fails_by (λ o r more. p.reads.stops_as_following o (ps ++ more) (r more)) (λ after r. pass_node t p r) q
 
-pub fails_pass_token : {k : TokenKind} {ps : List ProductionPart} {ts : List Token} {at next : ℕ} {e : ParseRefusal} → rest ts at ≡ WordOrSymbol k ∷ rest ts next → next ≡ at + 1 → FailsToRead ps ts next e → FailsToRead (token k ∷ ps) ts at e
+pub fails_pass_token : {k : TokenKind} {ps : List ProductionPart} {ts : List Token} {at next : ℕ} {e : ParseRefusal} → remaining_terminals ts at ≡ WordOrSymbol k ∷ remaining_terminals ts next → next ≡ at + 1 → FailsToRead ps ts next e → FailsToRead (token k ∷ ps) ts at e
 fails_pass_token {ps = ps} h n q = fails_by (λ o r more. (read_token h n).stops_as_following o (ps ++ more) (r more)) (λ after r. pass_token h r) q
 
-pub fails_pass_name : {i : ℕ} {ps : List ProductionPart} {ts : List Token} {at next : ℕ} {e : ParseRefusal} → rest ts at ≡ Name i ∷ rest ts next → next ≡ at + 1 → FailsToRead ps ts next e → FailsToRead (name ∷ ps) ts at e
+pub fails_pass_name : {i : ℕ} {ps : List ProductionPart} {ts : List Token} {at next : ℕ} {e : ParseRefusal} → remaining_terminals ts at ≡ Name i ∷ remaining_terminals ts next → next ≡ at + 1 → FailsToRead ps ts next e → FailsToRead (name ∷ ps) ts at e
 fails_pass_name {ps = ps} h n q = fails_by (λ o r more. (read_name h n).stops_as_following o (ps ++ more) (r more)) (λ after r. pass_name h r) q
 
 following : {ps qs : List ProductionPart} (x : Terminal ℕ) {xs z after : List (Terminal ℕ)} → xs ≡ x ∷ z → ((w : List (Terminal ℕ)) → BeginsWithParts ps (x ∷ w) → BeginsWithParts qs w) → CantBeginWithParts qs z after → CantBeginWithParts ps xs after
@@ -131,7 +131,7 @@ following x e f r = record {
 
 -- If the first token is read and determines the parts after it, a refusal of these parts is a
 -- refusal of the whole.
-pub fails_following : {ps qs : List ProductionPart} {x : Terminal ℕ} {ts : List Token} {at next : ℕ} {e : ParseRefusal} → DescentsHaveSameEnd ps qs ts at next → rest ts at ≡ x ∷ rest ts next → ((w : List (Terminal ℕ)) → BeginsWithParts ps (x ∷ w) → BeginsWithParts qs w) → FailsToRead qs ts next e → FailsToRead ps ts at e
+pub fails_following : {ps qs : List ProductionPart} {x : Terminal ℕ} {ts : List Token} {at next : ℕ} {e : ParseRefusal} → DescentsHaveSameEnd ps qs ts at next → remaining_terminals ts at ≡ x ∷ remaining_terminals ts next → ((w : List (Terminal ℕ)) → BeginsWithParts ps (x ∷ w) → BeginsWithParts qs w) → FailsToRead qs ts next e → FailsToRead ps ts at e
 fails_following {x = x} g h f q = fails_by (λ o r more. g.stops_as_following o more (r more)) (λ after r. following x h f r) q
 
 -- If the next token begins an optional item, the parts that begin with the optional item begin with
@@ -139,11 +139,11 @@ fails_following {x = x} g h f q = fails_by (λ o r more. g.stops_as_following o 
 maybe_only : {i : GrammarItem} (room : ℕ) (ps : List ProductionPart) (w : List (Terminal ℕ)) → NextTokenHasRank (item_start_rank i) w → BeginsWithParts (nonterminal (maybe i) room ∷ ps) w → BeginsWithParts (nonterminal (item i) room ∷ []) w
 maybe_only {i = i} room ps w h (none, z, e, n, p, b) = absurd (no_end (item_start_rank i) w h (subst (λ y. NextTokenEndsConstruct (item_start_rank i) y) (sym e) p))
 maybe_only {i = i} room ps w h (one t, z, e, n, p, b) =
-    (t, z, e, n, stops_less z (item_level i) (item_start_rank i) (omega (arith, below i)) p, tt)
+    (t, z, e, n, stops_less z (item_max_continuing_rank i) (item_start_rank i) (omega (arith, below i)) p, tt)
 
 pub fails_maybe : {i : GrammarItem} {room : ℕ} {ps : List ProductionPart} {ts : List Token} {at : ℕ} {e : ParseRefusal} → ItemBeginsButCantBeRead i room ts at e → FailsToRead (nonterminal (maybe i) room ∷ ps) ts at e
 fails_maybe {i = i} {room = room} {ps = ps} {ts = ts} {at = at} q =
-    fails_by (λ o r more. (read_one q.is_here).stops_as_following o (ps ++ more) (r (ps ++ more))) (λ after r. select (λ w a b. maybe_only room ps w (starts_alike (rest ts at) w (item_start_rank i) a q.is_here) b) r) q.fails
+    fails_by (λ o r more. (read_one q.is_here).stops_as_following o (ps ++ more) (r (ps ++ more))) (λ after r. select (λ w a b. maybe_only room ps w (starts_alike (remaining_terminals ts at) w (item_start_rank i) a q.is_here) b) r) q.fails
 
 following_alike : {ps qs : List ProductionPart} (x : Terminal ℕ) {xs z after : List (Terminal ℕ)} → xs ≡ x ∷ z → ((w : List (Terminal ℕ)) → HaveSameFirstToken z w → BeginsWithParts ps (x ∷ w) → BeginsWithParts qs w) → CantBeginWithParts qs z after → CantBeginWithParts ps xs after
 following_alike {qs = qs} x {xs} {z} {after} e f r = record {
@@ -155,7 +155,7 @@ following_alike {qs = qs} x {xs} {z} {after} e f r = record {
 
 -- If the first token and the next one determine the parts after the first token, a refusal of these
 -- parts is a refusal of the whole.
-pub fails_following_alike : {ps qs : List ProductionPart} {x : Terminal ℕ} {ts : List Token} {at next : ℕ} {e : ParseRefusal} → DescentsHaveSameEnd ps qs ts at next → rest ts at ≡ x ∷ rest ts next → ((w : List (Terminal ℕ)) → HaveSameFirstToken (rest ts next) w → BeginsWithParts ps (x ∷ w) → BeginsWithParts qs w) → FailsToRead qs ts next e → FailsToRead ps ts at e
+pub fails_following_alike : {ps qs : List ProductionPart} {x : Terminal ℕ} {ts : List Token} {at next : ℕ} {e : ParseRefusal} → DescentsHaveSameEnd ps qs ts at next → remaining_terminals ts at ≡ x ∷ remaining_terminals ts next → ((w : List (Terminal ℕ)) → HaveSameFirstToken (remaining_terminals ts next) w → BeginsWithParts ps (x ∷ w) → BeginsWithParts qs w) → FailsToRead qs ts next e → FailsToRead ps ts at e
 fails_following_alike {x = x} g h f q = fails_by (λ o r more. g.stops_as_following o more (r more)) (λ after r. following_alike x h f r) q
 
 -- If two constructs are refused, they are refused together with the parts after them.

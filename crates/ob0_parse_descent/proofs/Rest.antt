@@ -1,9 +1,9 @@
 -- Proves what the remaining tokens are, one token at a time.
 use Rattle.std.proofs.Common.{◌≡◌, ℕ, zero, suc, ◌+◌, ◌<◌, List, [], ◌∷◌, length, get_or, drop, refl, arith, add-one, add-zero}
 use Rattle.ob0_scan.specs.declared.lexeme.Token.{Token}
-use Rattle.ob0_tree.specs.Lexeme.{EndOfText}
-use Rattle.ob0_tree.specs.Places.{indexed_terminal, indexed_terminals_from}
-use Rattle.ob0_parse_descent.specs.ParserPromises.{rest}
+use Rattle.ob0_tree.specs.Terminals.{EndOfText}
+use Rattle.ob0_tree.specs.TokenIndexLeaves.{indexed_terminal, indexed_terminals_from}
+use Rattle.ob0_parse_descent.specs.ParserPromises.{remaining_terminals}
 
 drop-lexemes : (ts : List Token) (i j : ℕ) (d : Token) → i < length ts → drop i (indexed_terminals_from j ts) ≡ indexed_terminal (j + i) (get_or ts i d).kind ∷ drop (suc i) (indexed_terminals_from j ts)
 drop-lexemes [] i j d l = absurd (omega arith)
@@ -17,10 +17,10 @@ drop-end : (ts : List Token) (j : ℕ) → drop (length ts) (indexed_terminals_f
 drop-end [] j = refl
 drop-end (t ∷ ts) j = drop-end ts (j + 1)
 
-pub rest_more : (ts : List Token) (i : ℕ) (d : Token) → i < length ts → rest ts i ≡ indexed_terminal i (get_or ts i d).kind ∷ rest ts (i + 1)
-unfolding rest
+pub rest_more : (ts : List Token) (i : ℕ) (d : Token) → i < length ts → remaining_terminals ts i ≡ indexed_terminal i (get_or ts i d).kind ∷ remaining_terminals ts (i + 1)
+unfolding remaining_terminals
 rest_more ts i d l = rw add-one (let h = drop-lexemes ts i 0 d l in let e : 0 + i ≡ i = omega arith in rw e at h)
 
-pub rest_end : (ts : List Token) (i : ℕ) → i ≡ length ts → rest ts i ≡ EndOfText ∷ rest ts (i + 1)
-unfolding rest
+pub rest_end : (ts : List Token) (i : ℕ) → i ≡ length ts → remaining_terminals ts i ≡ EndOfText ∷ remaining_terminals ts (i + 1)
+unfolding remaining_terminals
 rest_end ts i e = rw (e, add-one) (drop-end ts 0)

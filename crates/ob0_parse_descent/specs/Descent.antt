@@ -10,10 +10,10 @@ use Rattle.ob0_scan.specs.declared.lexeme.ReservedWord.{ReservedWord}
 use Rattle.ob0_scan.specs.declared.lexeme.ReservedWord.TheVariants as reserved
 use Rattle.ob0_scan.specs.declared.lexeme.Symbol.{Symbol}
 use Rattle.ob0_scan.specs.declared.lexeme.Symbol.TheVariants as symbol
-use Rattle.ob0_tree.specs.Lexeme.{Terminal, Name, Number, WordOrSymbol, EndOfText}
+use Rattle.ob0_tree.specs.Terminals.{Terminal, Name, Number, WordOrSymbol, EndOfText}
 use Rattle.ob0_tree.specs.Module.{max_nesting}
 use Rattle.ob0_tree.specs.Tree.{GrammarItem, selector, multiplier, addend, comparison, arguments, argument_after_comma, statement_after_semicolon, elsif_part, else_part, name_after_comma, fields_after_semicolon, formals, section_after_semicolon, constant, constants, type_definition, type_definitions, variable, variables, procedure, body, Sort, item, items, maybe, expression, simple, term, factor, statement, sequence, names, written_type, fields, section, declarations, block, module_text}
-use Rattle.ob0_parse_descent.specs.TokenRanks.{rank, item_start_rank, may_begin_expression}
+use Rattle.ob0_parse_descent.specs.TokenRanks.{terminal_rank, item_start_rank, may_begin_expression}
 use Rattle.ob0_parse_descent.specs.declared.refusal.ExpectedSyntax.{ExpectedSyntax}
 use Rattle.ob0_parse_descent.specs.declared.refusal.ExpectedSyntax.TheVariants as expected
 
@@ -54,7 +54,7 @@ nested_construct_choice (suc room) inside = parts (inside room)
 -- Returns whether the next token begins the item `i`. If no token is left, the result is false.
 abbrev pub is_item_next : GrammarItem → List (Terminal ℕ) → Bool
 is_item_next i [] = false
-is_item_next i (x ∷ tokens) = rank x == item_start_rank i
+is_item_next i (x ∷ tokens) = terminal_rank x == item_start_rank i
 
 -- Returns whether the next token begins an expression.
 abbrev pub is_expression_next : List (Terminal ℕ) → Bool

@@ -8,18 +8,18 @@ use Rattle.ob0_scan.specs.declared.lexeme.TokenKind.{TokenKind}
 use Rattle.ob0_scan.specs.declared.lexeme.TokenKind.TheVariants as kind
 use Rattle.ob0_scan.specs.declared.lexeme.Symbol.TheVariants as symbol
 use Rattle.ob0_scan.specs.declared.lexeme.Token.{Token}
-use Rattle.ob0_tree.specs.Lexeme.{Terminal, Name, Number, WordOrSymbol, EndOfText, sign_tokens}
+use Rattle.ob0_tree.specs.Terminals.{Terminal, Name, Number, WordOrSymbol, EndOfText, sign_tokens}
 use Rattle.ob0_tree.specs.declared.tree.Sign.{Sign}
 use Rattle.ob0_tree.specs.declared.tree.Designator.{Designator}
 use Rattle.ob0_tree.specs.declared.tree.Names.{Names}
 use Rattle.ob0_tree.specs.declared.tree.WrittenType.{WrittenType}
 use Rattle.ob0_scan.specs.declared.lexeme.ReservedWord.TheVariants as reserved
 use Rattle.ob0_tree.specs.Tree.{GrammarItem, Sort, item, items, selector, factor, names, written_type, Tree, designator, some_fields, spell, nesting}
-use Rattle.ob0_tree.specs.Places.{indexed_terminal, indexed_terminals}
+use Rattle.ob0_tree.specs.TokenIndexLeaves.{indexed_terminal, indexed_terminals}
 use Rattle.ob0_tree.specs.View.{items_of, selector_of, names_of, type_of}
 pub use Rattle.ob0_parse_descent.specs.Descent.{ProductionPart, token, name, number, nonterminal, text_end}
 use Rattle.ob0_parse_descent.specs.Descent.{DescentEnd, Expects, TooDeepAt, Descends, syntax_expected_for_kind, is_parameter_section_next}
-use Rattle.ob0_parse_descent.specs.TokenRanks.{rank, kind_rank, item_start_rank, level, NextTokenEndsConstruct, NextTokenHasRank}
+use Rattle.ob0_parse_descent.specs.TokenRanks.{terminal_rank, kind_rank, item_start_rank, max_continuing_rank, NextTokenEndsConstruct, NextTokenHasRank}
 use Rattle.ob0_parse_descent.specs.declared.refusal.ExpectedSyntax.TheVariants as expected
 use Rattle.ob0_parse_descent.specs.declared.refusal.ParseRefusal.{ParseRefusal}
 use Rattle.ob0_parse_descent.specs.declared.refusal.ParseRefusal.TheVariants.{Syntax, TooDeep, Memory}
@@ -32,8 +32,8 @@ terminal_or_end i (Some k) = indexed_terminal i k
 
 -- Returns the tokens with the index `i` and higher, as they are spelled by a tree whose leaves are
 -- token indexes. The end of the text follows the last token and counts as a token.
-unfoldable pub rest : List Token → ℕ → List (Terminal ℕ)
-rest ts i = drop i (indexed_terminals ts)
+unfoldable pub remaining_terminals : List Token → ℕ → List (Terminal ℕ)
+remaining_terminals ts i = drop i (indexed_terminals ts)
 
 -- States that the tokens `w` begin with the parts in the list, in order. At each part that is a
 -- construct, some tree of the construct spells the next tokens. That tree has at most `room` levels
@@ -48,7 +48,7 @@ BeginsWithParts (nonterminal s room ∷ ps) w =
     × (z : List (Terminal ℕ))
     × (w ≡ spell t ++ z)
     × (nesting t ≤ room)
-    × NextTokenEndsConstruct (level s) z
+    × NextTokenEndsConstruct (max_continuing_rank s) z
     × BeginsWithParts ps z
 BeginsWithParts (text_end ∷ ps) w = (z : List (Terminal ℕ)) × (w ≡ EndOfText ∷ z) × BeginsWithParts ps z
 
@@ -74,8 +74,8 @@ pub record HaveSameFirstToken (xs w : List (Terminal ℕ)) : Type 0 where
 -- also holds if further parts `more` follow in both lists.
 pub record DescentsHaveSameEnd (ps following : List ProductionPart) (ts : List Token) (at next : ℕ) : Type 0 where
   pub stops_as_following : (o : DescentEnd) (more : List ProductionPart)
-      → Descends (following ++ more) next (rest ts next) o
-      → Descends (ps ++ more) at (rest ts at) o
+      → Descends (following ++ more) next (remaining_terminals ts next) o
+      → Descends (ps ++ more) at (remaining_terminals ts at) o
 
 -- States that the tree `t` spells the tokens `at..next`, that the descent reads `t` there, and that
 -- `t` has at most `room` levels of nesting. The field `only` states that `t` is the only such tree.
@@ -83,11 +83,11 @@ pub record DescentsHaveSameEnd (ps following : List ProductionPart) (ts : List T
 -- of the same sort spells the beginning of this list, and the token after `u` can't continue `u`
 -- (`NextTokenEndsConstruct`), then `u` is `t`.
 pub record IsReadTree {s : Sort} (t : Tree ℕ s) (room : ℕ) (ts : List Token) (at next : ℕ) : Type 0 where
-  pub spelled : rest ts at ≡ spell t ++ rest ts next
+  pub spelled : remaining_terminals ts at ≡ spell t ++ remaining_terminals ts next
   pub shallow : nesting t ≤ room
   pub only : (u : Tree ℕ s) (z w : List (Terminal ℕ))
-      → HaveSameFirstToken (rest ts next) w
-      → NextTokenEndsConstruct (level s) z
+      → HaveSameFirstToken (remaining_terminals ts next) w
+      → NextTokenEndsConstruct (max_continuing_rank s) z
       → spell u ++ z ≡ spell t ++ w
       → (u ≡ t) × (z ≡ w)
   pub reads : DescentsHaveSameEnd (nonterminal s room ∷ []) [] ts at next
@@ -99,14 +99,14 @@ pub record IsReadTree {s : Sort} (t : Tree ℕ s) (room : ℕ) (ts : List Token)
 -- begin with the parts. The end of the text counts as a token. For a failed allocation it states
 -- nothing.
 abbrev pub IsRightRefusalOfParts : List ProductionPart → List Token → ℕ → ParseRefusal → Type 0
-IsRightRefusalOfParts parts ts at (Syntax i expected) = (i ≤ length ts) × CantBeginWithParts parts (rest ts at) (rest ts (i + 1))
-IsRightRefusalOfParts parts ts at (TooDeep i) = (i ≤ length ts) × CantBeginWithParts parts (rest ts at) (rest ts (i + 1))
+IsRightRefusalOfParts parts ts at (Syntax i expected) = (i ≤ length ts) × CantBeginWithParts parts (remaining_terminals ts at) (remaining_terminals ts (i + 1))
+IsRightRefusalOfParts parts ts at (TooDeep i) = (i ≤ length ts) × CantBeginWithParts parts (remaining_terminals ts at) (remaining_terminals ts (i + 1))
 IsRightRefusalOfParts parts ts at Memory = Unit {0}
 
 -- States that the descent over the parts `parts`, starting at the token `at`, has the end `o`,
 -- whatever parts follow `parts`.
 abbrev pub DescentEndsWith : List ProductionPart → List Token → ℕ → DescentEnd → Type 0
-DescentEndsWith parts ts at o = (more : List ProductionPart) → Descends (parts ++ more) at (rest ts at) o
+DescentEndsWith parts ts at o = (more : List ProductionPart) → Descends (parts ++ more) at (remaining_terminals ts at) o
 
 -- States that the descent over the parts `parts`, starting at the token `at`, stops at the token
 -- and for the reason that the refusal gives. For a failed allocation it states nothing.
@@ -140,7 +140,7 @@ Reads {s = s} view room ts at (Err e) = FailsToRead (nonterminal s room ∷ []) 
 -- States that the token at the index `at`, which may be the end of the text, isn't `x`.
 pub record IsTokenOtherThan (x : Terminal ℕ) (ts : List Token) (at : ℕ) : Type 0 where
   pub fault : Terminal ℕ
-  pub here : rest ts at ≡ fault ∷ rest ts (at + 1)
+  pub here : remaining_terminals ts at ≡ fault ∷ remaining_terminals ts (at + 1)
   pub differs : fault ≢ x
   pub within : at ≤ length ts
 
@@ -148,19 +148,19 @@ pub record IsTokenOtherThan (x : Terminal ℕ) (ts : List Token) (at : ℕ) : Ty
 -- is the rank of identifiers).
 pub record IsNotIdentifier (ts : List Token) (at : ℕ) : Type 0 where
   pub fault : Terminal ℕ
-  pub here : rest ts at ≡ fault ∷ rest ts (at + 1)
-  pub ranked : rank fault ≢ 7
+  pub here : remaining_terminals ts at ≡ fault ∷ remaining_terminals ts (at + 1)
+  pub ranked : terminal_rank fault ≢ 7
   pub within : at ≤ length ts
 
 -- States that the Bool is true exactly if the token at the index `at` is the reserved word or
 -- symbol `k`.
 abbrev pub TellsIfTokenAt : TokenKind → List Token → ℕ → Bool → Type 0
-TellsIfTokenAt k ts at true = (rest ts at ≡ WordOrSymbol k ∷ rest ts (at + 1)) × (at < length ts)
+TellsIfTokenAt k ts at true = (remaining_terminals ts at ≡ WordOrSymbol k ∷ remaining_terminals ts (at + 1)) × (at < length ts)
 TellsIfTokenAt k ts at false = IsTokenOtherThan (WordOrSymbol k) ts at
 
 -- States that the Bool is true exactly if the token at the index `at` is an identifier.
 abbrev pub TellsIfIdentifierAt : List Token → ℕ → Bool → Type 0
-TellsIfIdentifierAt ts at true = (rest ts at ≡ Name at ∷ rest ts (at + 1)) × (at < length ts)
+TellsIfIdentifierAt ts at true = (remaining_terminals ts at ≡ Name at ∷ remaining_terminals ts (at + 1)) × (at < length ts)
 TellsIfIdentifierAt ts at false = IsNotIdentifier ts at
 
 -- States that the result of reading the reserved word or symbol `k` at the index `at` is right. If
@@ -168,7 +168,7 @@ TellsIfIdentifierAt ts at false = IsNotIdentifier ts at
 -- another token is at `at`, and the refusal says that `k` is expected.
 abbrev pub ReadsToken : TokenKind → List Token → ℕ → Result ℕ ParseRefusal → Type 0
 ReadsToken k ts at (Ok next) =
-    (rest ts at ≡ WordOrSymbol k ∷ rest ts next) × (at < length ts) × (next ≡ at + 1)
+    (remaining_terminals ts at ≡ WordOrSymbol k ∷ remaining_terminals ts next) × (at < length ts) × (next ≡ at + 1)
 ReadsToken k ts at (Err e) =
     IsTokenOtherThan (WordOrSymbol k) ts at × (Some e ≡ option_map (Syntax at) (syntax_expected_for_kind k))
 
@@ -177,27 +177,27 @@ ReadsToken k ts at (Err e) =
 -- another token is at `at`, and the refusal says that an identifier is expected.
 abbrev pub ReadsIdentifier : List Token → ℕ → Result (ℕ × ℕ) ParseRefusal → Type 0
 ReadsIdentifier ts at (Ok x) =
-    (rest ts at ≡ Name at ∷ rest ts x.1) × (at < length ts) × (x.0 ≡ at) × (x.1 ≡ at + 1)
+    (remaining_terminals ts at ≡ Name at ∷ remaining_terminals ts x.1) × (at < length ts) × (x.0 ≡ at) × (x.1 ≡ at + 1)
 ReadsIdentifier ts at (Err e) = IsNotIdentifier ts at × (e ≡ Syntax at expected.Identifier)
 
 -- States that the result of opening a nesting level at the token `at` is right, given the number
 -- `room` of levels left. If the result is a number, it is `room` minus 1. If the result is a
 -- refusal, it is `TooDeep` at `at`, and `room` is 0.
-abbrev pub OpensLevel : ℕ → ℕ → Result ℕ ParseRefusal → Type 0
-OpensLevel at room (Ok inner) = room ≡ inner + 1
-OpensLevel at room (Err e) = (room ≡ 0) × (e ≡ TooDeep at)
+abbrev pub OpensNestingLevel : ℕ → ℕ → Result ℕ ParseRefusal → Type 0
+OpensNestingLevel at room (Ok inner) = room ≡ inner + 1
+OpensNestingLevel at room (Err e) = (room ≡ 0) × (e ≡ TooDeep at)
 
 -- States that the token at the index `at` is the whole factor `f`, and that the next token, if
 -- there is one, has a rank above `level` (see `NextTokenEndsConstruct`).
 pub record IsSingleTokenFactor (level : ℕ) (f : Tree ℕ factor) (ts : List Token) (at : ℕ) : Type 0 where
   pub taken : (room : ℕ) → IsReadTree f room ts at (at + 1)
-  pub stops : NextTokenEndsConstruct level (rest ts (at + 1))
+  pub stops : NextTokenEndsConstruct level (remaining_terminals ts (at + 1))
 
 -- States that the token at the index `at` begins the item `i`, but that the item can't be read, for
 -- the reason that the refusal `e` gives.
 pub record ItemBeginsButCantBeRead
     (i : GrammarItem) (room : ℕ) (ts : List Token) (at : ℕ) (e : ParseRefusal) : Type 0 where
-  pub is_here : NextTokenHasRank (item_start_rank i) (rest ts at)
+  pub is_here : NextTokenHasRank (item_start_rank i) (remaining_terminals ts at)
   pub fails : FailsToRead (nonterminal (item i) room ∷ []) ts at e
 
 -- States that the result of parsing an optional item at the token `at` is right. The tree of a
@@ -211,7 +211,7 @@ abbrev pub ReadsItem : {A : Type 0} {i : GrammarItem}
     → ℕ
     → Result (Option (A × ℕ)) ParseRefusal
     → Type 0
-ReadsItem {i = i} view room ts at (Ok None) = ¬ NextTokenHasRank (item_start_rank i) (rest ts at)
+ReadsItem {i = i} view room ts at (Ok None) = ¬ NextTokenHasRank (item_start_rank i) (remaining_terminals ts at)
 ReadsItem view room ts at (Ok (Some x)) = IsReadTree (view x.0) room ts at x.1 × (at < x.1)
 ReadsItem {i = i} view room ts at (Err e) = ItemBeginsButCantBeRead i room ts at e
 
@@ -223,10 +223,10 @@ pub record BeginsWithoutSign (w : List (Terminal ℕ)) : Type 0 where
 -- States that `sign` is the sign at the token `at`, and that `next` is the index of the token after
 -- the sign. If there is no sign, `sign` is None and `next` is `at`.
 pub record IsSignAt (ts : List Token) (at : ℕ) (sign : Option Sign) (next : ℕ) : Type 0 where
-  pub spelled : rest ts at ≡ sign_tokens sign ++ rest ts next
+  pub spelled : remaining_terminals ts at ≡ sign_tokens sign ++ remaining_terminals ts next
   pub forward : at ≤ next
   pub within : next ≤ length ts
-  pub unsigned : IfNone sign (BeginsWithoutSign (rest ts at))
+  pub unsigned : IfNone sign (BeginsWithoutSign (remaining_terminals ts at))
   pub next_index : next ≡ at + length (sign_tokens {N = ℕ} sign)
 
 -- States that the result of parsing a designator (a name with its selectors) at the token `at` is
@@ -236,7 +236,7 @@ pub record IsSignAt (ts : List Token) (at : ℕ) (sign : Option Sign) (next : �
 abbrev pub ReadsDesignator : ℕ → List Token → ℕ → Result (Designator × ℕ) ParseRefusal → Type 0
 ReadsDesignator room ts at (Ok x) =
     IsReadTree (designator x.0.name (items_of selector_of x.0.selectors.items)) room ts at x.1
-    × ¬ NextTokenHasRank 1 (rest ts x.1)
+    × ¬ NextTokenHasRank 1 (remaining_terminals ts x.1)
 ReadsDesignator room ts at (Err e) = FailsToRead (name ∷ nonterminal (items selector) room ∷ []) ts at e
 
 -- States that the operator found for a token of the kind `k` is right. `mark` returns the kind of
@@ -289,7 +289,7 @@ ReadsTypedNames room ts at (Err e) =
 
 -- States that the Bool is true exactly if a section of formal parameters may begin at the index
 -- `at`.
-abbrev pub TellsIfParameterSectionMayBegin : List Token → ℕ → Bool → Type 0
-TellsIfParameterSectionMayBegin ts at true =
-    IsTokenOtherThan (WordOrSymbol (kind.Symbol symbol.RightParen)) ts at × (is_parameter_section_next (rest ts at) ≡ true)
-TellsIfParameterSectionMayBegin ts at false = IsNotIdentifier ts at × IsTokenOtherThan (WordOrSymbol (kind.ReservedWord reserved.Var)) ts at
+abbrev pub TellsIfParameterSectionStartsAt : List Token → ℕ → Bool → Type 0
+TellsIfParameterSectionStartsAt ts at true =
+    IsTokenOtherThan (WordOrSymbol (kind.Symbol symbol.RightParen)) ts at × (is_parameter_section_next (remaining_terminals ts at) ≡ true)
+TellsIfParameterSectionStartsAt ts at false = IsNotIdentifier ts at × IsTokenOtherThan (WordOrSymbol (kind.ReservedWord reserved.Var)) ts at

@@ -1,4 +1,4 @@
--- Defines at which token a construct ends. Each token has a rank. For each construct `level` gives
+-- Defines at which token a construct ends. Each token has a rank. For each construct `max_continuing_rank` gives
 -- the highest rank of a token that can continue the construct once it is complete. The construct
 -- ends before a token with a higher rank. A token begins an item exactly if the token has the rank
 -- of the item.
@@ -8,7 +8,7 @@ use Rattle.ob0_scan.specs.declared.lexeme.TokenKind.{TokenKind}
 use Rattle.ob0_scan.specs.declared.lexeme.TokenKind.TheVariants as kind
 use Rattle.ob0_scan.specs.declared.lexeme.ReservedWord.TheVariants as reserved
 use Rattle.ob0_scan.specs.declared.lexeme.Symbol.TheVariants as symbol
-use Rattle.ob0_tree.specs.Lexeme.{Terminal, Name, Number, WordOrSymbol, EndOfText}
+use Rattle.ob0_tree.specs.Terminals.{Terminal, Name, Number, WordOrSymbol, EndOfText}
 use Rattle.ob0_tree.specs.Tree.{GrammarItem, selector, multiplier, addend, comparison, arguments, argument_after_comma, statement_after_semicolon, elsif_part, else_part, name_after_comma, fields_after_semicolon, formals, section_after_semicolon, constant, constants, type_definition, type_definitions, variable, variables, procedure, body, Sort, item, items, maybe, expression, simple, term, factor, statement, sequence, names, written_type, fields, section, declarations, block, module_text}
 
 -- Returns the rank of a kind of token. The higher the rank, the more constructs end before the
@@ -48,11 +48,11 @@ kind_rank _ = 17
 
 -- Returns the rank of a token. A construct ends before a token whose rank is higher than the ranks
 -- of all tokens that can continue the construct.
-abbrev pub rank : {N : Type 0} → Terminal N → ℕ
-rank (Name n) = 7
-rank (Number n) = 17
-rank (WordOrSymbol k) = kind_rank k
-rank EndOfText = 17
+abbrev pub terminal_rank : {N : Type 0} → Terminal N → ℕ
+terminal_rank (Name n) = 7
+terminal_rank (Number n) = 17
+terminal_rank (WordOrSymbol k) = kind_rank k
+terminal_rank EndOfText = 17
 
 -- Returns the rank of the tokens that begin an item.
 abbrev pub item_start_rank : GrammarItem → ℕ
@@ -80,59 +80,59 @@ item_start_rank body = 16
 
 -- Returns the highest rank of a token that can continue a single item. Returns 0 if no token can
 -- continue the item.
-abbrev pub item_level : GrammarItem → ℕ
-item_level selector = 0
-item_level multiplier = 1
-item_level addend = 2
-item_level comparison = 3
-item_level arguments = 0
-item_level argument_after_comma = 4
-item_level statement_after_semicolon = 8
-item_level elsif_part = 9
-item_level else_part = 9
-item_level name_after_comma = 0
-item_level fields_after_semicolon = 7
-item_level formals = 0
-item_level section_after_semicolon = 0
-item_level constant = 0
-item_level constants = 7
-item_level type_definition = 0
-item_level type_definitions = 7
-item_level variable = 0
-item_level variables = 7
-item_level procedure = 0
-item_level body = 9
+abbrev pub item_max_continuing_rank : GrammarItem → ℕ
+item_max_continuing_rank selector = 0
+item_max_continuing_rank multiplier = 1
+item_max_continuing_rank addend = 2
+item_max_continuing_rank comparison = 3
+item_max_continuing_rank arguments = 0
+item_max_continuing_rank argument_after_comma = 4
+item_max_continuing_rank statement_after_semicolon = 8
+item_max_continuing_rank elsif_part = 9
+item_max_continuing_rank else_part = 9
+item_max_continuing_rank name_after_comma = 0
+item_max_continuing_rank fields_after_semicolon = 7
+item_max_continuing_rank formals = 0
+item_max_continuing_rank section_after_semicolon = 0
+item_max_continuing_rank constant = 0
+item_max_continuing_rank constants = 7
+item_max_continuing_rank type_definition = 0
+item_max_continuing_rank type_definitions = 7
+item_max_continuing_rank variable = 0
+item_max_continuing_rank variables = 7
+item_max_continuing_rank procedure = 0
+item_max_continuing_rank body = 9
 
 -- Returns the highest rank of a token that can continue a construct. Returns 0 if no token can
 -- continue the construct.
-abbrev pub level : Sort → ℕ
-level (item i) = item_level i
-level (items i) = item_start_rank i
-level (maybe i) = item_start_rank i
-level expression = 4
-level simple = 3
-level term = 2
-level factor = 1
-level statement = 8
-level sequence = 9
-level names = 5
-level written_type = 0
-level fields = 7
-level section = 0
-level declarations = 15
-level block = 16
-level module_text = 0
+abbrev pub max_continuing_rank : Sort → ℕ
+max_continuing_rank (item i) = item_max_continuing_rank i
+max_continuing_rank (items i) = item_start_rank i
+max_continuing_rank (maybe i) = item_start_rank i
+max_continuing_rank expression = 4
+max_continuing_rank simple = 3
+max_continuing_rank term = 2
+max_continuing_rank factor = 1
+max_continuing_rank statement = 8
+max_continuing_rank sequence = 9
+max_continuing_rank names = 5
+max_continuing_rank written_type = 0
+max_continuing_rank fields = 7
+max_continuing_rank section = 0
+max_continuing_rank declarations = 15
+max_continuing_rank block = 16
+max_continuing_rank module_text = 0
 
 -- States that the next token can't continue a construct, or that no token is left. `n` is the
 -- highest rank of a token that can continue the construct.
 abbrev pub NextTokenEndsConstruct : {N : Type 0} → ℕ → List (Terminal N) → Type 0
 NextTokenEndsConstruct n [] = Unit {0}
-NextTokenEndsConstruct n (x ∷ xs) = n < rank x
+NextTokenEndsConstruct n (x ∷ xs) = n < terminal_rank x
 
 -- States that there is a next token and that its rank is `n`.
 abbrev pub NextTokenHasRank : {N : Type 0} → ℕ → List (Terminal N) → Type 0
 NextTokenHasRank n [] = ⊥
-NextTokenHasRank n (x ∷ xs) = rank x ≡ n
+NextTokenHasRank n (x ∷ xs) = terminal_rank x ≡ n
 
 -- Returns whether an expression may begin with a token of this kind. At the end of the text (None)
 -- the result is false.

@@ -2,13 +2,13 @@
 
 ghost use Rattle.std.specs.Prelude.{◌≤◌, length};
 ghost use Rattle.ob0_tree.specs.View.{parameter_section_of, parameter_section_after_semicolon_of, formals_of, constant_of, constant_section_of, constant_declarations_of_vec, type_declaration_of, type_section_of, type_declarations_of_vec, variable_of, variable_section_of, variable_declarations_of_vec, body_of, block_of, procedure_of, procedures_of_vec};
-ghost use Rattle.ob0_parse_descent.specs.ParserPromises.{Reads, ReadsList, ReadsItem, ReadsTypedNames, TellsIfParameterSectionMayBegin};
+ghost use Rattle.ob0_parse_descent.specs.ParserPromises.{Reads, ReadsList, ReadsItem, ReadsTypedNames, TellsIfParameterSectionStartsAt};
 
 use crate::list_growth::push_with_doubling;
 use crate::parser::{ConstructResult, ItemResult, Parser, levels_left_inside};
 use ob0_scan::{ReservedWord, Symbol};
 use ob0_tree::{
-    Block, Constant, Names, ParameterSection, Procedure, Statement, TypeDeclaration,
+    Block, ConstantDeclaration, Names, ParameterSection, Procedure, Statement, TypeDeclaration,
     VariableDeclaration, WrittenType,
 };
 
@@ -54,9 +54,9 @@ impl<'t> Parser<'t> {
     }
 
     /// Returns whether a section of formal parameters may begin at the token `at`.
-    fn parameter_section_may_begin(&self, at: usize) -> bool
+    fn has_parameter_section_start_at(&self, at: usize) -> bool
         requires { at ≤ length self.now.tokens.now }
-        ensures { TellsIfParameterSectionMayBegin self.now.tokens.now at result }
+        ensures { TellsIfParameterSectionStartsAt self.now.tokens.now at result }
     {
         if self.has_identifier_at(at) {
             return true;
@@ -109,7 +109,7 @@ impl<'t> Parser<'t> {
         if !self.has_symbol_at(at, Symbol::LeftParen) {
             return Ok((None, at));
         }
-        if !self.parameter_section_may_begin(at + 1) {
+        if !self.has_parameter_section_start_at(at + 1) {
             let end = self.expect_symbol(at + 1, Symbol::RightParen)?;
             return Ok((Some(Vec::new(self.alloc)), end));
         }
@@ -124,7 +124,7 @@ impl<'t> Parser<'t> {
         &self,
         at: usize,
         room: u32,
-    ) -> ConstructResult<Option<Vec<Constant>>>
+    ) -> ConstructResult<Option<Vec<ConstantDeclaration>>>
         requires { at ≤ length self.now.tokens.now }
         ensures { Reads constant_section_of room self.now.tokens.now at result }
     {
@@ -136,7 +136,11 @@ impl<'t> Parser<'t> {
     }
 
     /// Parses the declarations of a CONST section, `{ident "=" expression ";"}`.
-    fn parse_constant_declarations(&self, at: usize, room: u32) -> ConstructResult<Vec<Constant>>
+    fn parse_constant_declarations(
+        &self,
+        at: usize,
+        room: u32,
+    ) -> ConstructResult<Vec<ConstantDeclaration>>
         requires { at ≤ length self.now.tokens.now }
         ensures { Reads constant_declarations_of_vec room self.now.tokens.now at result }
     {
@@ -151,7 +155,7 @@ impl<'t> Parser<'t> {
 
     /// Parses the declaration of a constant, `ident "=" expression ";"`. Returns None if the token
     /// at `at` isn't an identifier.
-    fn parse_constant_declaration(&self, at: usize, room: u32) -> ItemResult<Constant>
+    fn parse_constant_declaration(&self, at: usize, room: u32) -> ItemResult<ConstantDeclaration>
         requires { at ≤ length self.now.tokens.now }
         ensures { ReadsItem constant_of room self.now.tokens.now at result }
     {
@@ -161,7 +165,7 @@ impl<'t> Parser<'t> {
         let start = self.expect_symbol(at + 1, Symbol::Equal)?;
         let (value, next) = self.parse_expression(start, room)?;
         let end = self.expect_symbol(next, Symbol::Semicolon)?;
-        Ok(Some((Constant { name: at, value }, end)))
+        Ok(Some((ConstantDeclaration { name: at, value }, end)))
     }
 
     /// Parses an optional TYPE section, `[TYPE {ident "=" type ";"}]`. The list is None if the

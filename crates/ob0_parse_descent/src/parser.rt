@@ -5,11 +5,11 @@
 ghost use Rattle.std.specs.Prelude.{true, ◌≡◌, ◌+◌, ◌<◌, ◌≤◌, ◌∷◌, length, IfSome, IfNone, IfOk, IfErr};
 ghost use Rattle.ob0_scan.specs.declared.lexeme.TokenKind.TheVariants as kind;
 ghost use Rattle.ob0_scan.specs.declared.lexeme.Symbol.TheVariants as symbol;
-ghost use Rattle.ob0_tree.specs.Lexeme.{add_operator_token_kind, multiply_operator_token_kind, relation_token_kind};
+ghost use Rattle.ob0_tree.specs.Terminals.{add_operator_token_kind, multiply_operator_token_kind, relation_token_kind};
 ghost use Rattle.ob0_tree.specs.Tree.{comma_then_name, compares, none};
 ghost use Rattle.ob0_tree.specs.View.{names_of, expression_of, comparison_of, simple_expression_of, addend_of, term_of, multiplier_of, factor_of, selector_of};
 ghost use Rattle.ob0_parse_descent.specs.TokenRanks.{binding_rank};
-ghost use Rattle.ob0_parse_descent.specs.ParserPromises.{terminal_or_end, rest, Reads, ReadsItem, ReadsToken, ReadsIdentifier, TellsIfTokenAt, TellsIfIdentifierAt, IsSignAt, ReadsDesignator, IsOperatorOfKind, IsSingleTokenFactor, OpensLevel};
+ghost use Rattle.ob0_parse_descent.specs.ParserPromises.{terminal_or_end, remaining_terminals, Reads, ReadsItem, ReadsToken, ReadsIdentifier, TellsIfTokenAt, TellsIfIdentifierAt, IsSignAt, ReadsDesignator, IsOperatorOfKind, IsSingleTokenFactor, OpensNestingLevel};
 ghost use Rattle.ob0_parse_descent.specs.declared.refusal.ExpectedSyntax.TheVariants as expected;
 ghost use Rattle.ob0_parse_descent.specs.declared.refusal.ParseRefusal.TheVariants.{Syntax};
 
@@ -60,8 +60,8 @@ impl<'t> Parser<'t> {
     /// (the number of tokens).
     pub fn kind(&self, at: usize) -> Option<TokenKind>
         requires { at ≤ length self.now.tokens.now }
-        ensures here { rest self.now.tokens.now at
-            ≡ terminal_or_end at result ∷ rest self.now.tokens.now (at + 1) }
+        ensures here { remaining_terminals self.now.tokens.now at
+            ≡ terminal_or_end at result ∷ remaining_terminals self.now.tokens.now (at + 1) }
         ensures within { IfSome result (λ _. at < length self.now.tokens.now) }
         ensures end { IfNone result (at ≡ length self.now.tokens.now) }
     {
@@ -570,7 +570,7 @@ pub fn syntax_error<T>(token: usize, expected: ExpectedSyntax) -> Result<T, Pars
 /// Returns `room` minus 1: the number of nesting levels left inside the construct that the token at
 /// `at` opens. If `room` is 0, returns `TooDeep`.
 pub(crate) fn levels_left_inside(at: usize, room: u32) -> Result<u32, ParseRefusal>
-    ensures { OpensLevel at room result }
+    ensures { OpensNestingLevel at room result }
 {
     if room == 0 {
         Err(ParseRefusal::TooDeep { token: at })

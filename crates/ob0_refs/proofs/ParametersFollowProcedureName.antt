@@ -4,9 +4,9 @@ use Rattle.std.proofs.lemmas.List.Elements.{All-append, All-cons, All-nil, All-w
 use Rattle.ob0_tree.specs.declared.tree.Role.{Role}
 use Rattle.ob0_tree.specs.declared.tree.Role.TheVariants as role
 use Rattle.ob0_tree.specs.ParsedModule.{ParsedModule, tree_of}
-use Rattle.ob0_tree.specs.Places.{token_text_at}
+use Rattle.ob0_tree.specs.TokenIndexLeaves.{token_text_at}
 use Rattle.ob0_tree.specs.Tree.{Sort, Tree, block, declares, declares_procedure, end, forms_block, identifiers, forms_module, item, items, module_text, more, procedure}
-use Rattle.ob0_language_names.specs.BlockParts.{formal_names, formal_sections, module_block}
+use Rattle.ob0_language_names.specs.BlockParts.{formal_parameter_names, formal_parameter_sections, module_block}
 use Rattle.ob0_scope_table.specs.Resolution.{declaring_names}
 use Rattle.ob0_scope_table.proofs.Declared.{formals_declared}
 use Rattle.ob0_scope_table.proofs.Plain.{declaring_names-append}
@@ -32,7 +32,7 @@ among_before all ys h s =
     }
 
 abbrev declaring : {s : Sort} → Tree ℕ s → List ℕ
-declaring t = declaring_names (identifiers role.Declaring t)
+declaring t = declaring_names (identifiers role.DeclaringName t)
 
 abbrev AreAmong : List ℕ → List (ℕ × List ℕ) → Type 0
 AreAmong all hs = All (IsAmong all) hs
@@ -49,31 +49,31 @@ all_before xs ys hs h =
 mutual
   block_among : (b : Tree ℕ block) → AreAmong (declaring b) (block_headings b)
   block_among (forms_block (declares cs ts vs ps) statements) =
-      let C : List (Role × ℕ) = identifiers role.Declaring cs in
-      let T : List (Role × ℕ) = identifiers role.Declaring ts in
-      let V : List (Role × ℕ) = identifiers role.Declaring vs in
-      let P : List (Role × ℕ) = identifiers role.Declaring ps in
-      all_before (C ++ (T ++ (V ++ P))) (identifiers role.Declaring statements) (procedure_list_headings ps)
+      let C : List (Role × ℕ) = identifiers role.DeclaringName cs in
+      let T : List (Role × ℕ) = identifiers role.DeclaringName ts in
+      let V : List (Role × ℕ) = identifiers role.DeclaringName vs in
+      let P : List (Role × ℕ) = identifiers role.DeclaringName ps in
+      all_before (C ++ (T ++ (V ++ P))) (identifiers role.DeclaringName statements) (procedure_list_headings ps)
       (all_after C (T ++ (V ++ P)) (procedure_list_headings ps) (all_after T (V ++ P) (procedure_list_headings ps) (all_after V P (procedure_list_headings ps) (procedures_among ps))))
 
   procedures_among : (ps : Tree ℕ (items procedure)) → AreAmong (declaring ps) (procedure_list_headings ps)
   procedures_among end = All-nil (IsAmong [])
   procedures_among (more p rest) =
       All-append (IsAmong (declaring (more p rest))) (procedure_headings p) (procedure_list_headings rest)
-      (all_before (identifiers role.Declaring p) (identifiers role.Declaring rest) (procedure_headings p) (procedure_among p))
-      (all_after (identifiers role.Declaring p) (identifiers role.Declaring rest) (procedure_list_headings rest) (procedures_among rest))
+      (all_before (identifiers role.DeclaringName p) (identifiers role.DeclaringName rest) (procedure_headings p) (procedure_among p))
+      (all_after (identifiers role.DeclaringName p) (identifiers role.DeclaringName rest) (procedure_list_headings rest) (procedures_among rest))
 
   procedure_among : (p : Tree ℕ (item procedure)) → AreAmong (declaring p) (procedure_headings p)
   procedure_among (declares_procedure x fs b closing) =
-      let F : List (Role × ℕ) = identifiers role.Declaring fs in
-      let B : List (Role × ℕ) = identifiers role.Declaring b in
+      let F : List (Role × ℕ) = identifiers role.DeclaringName fs in
+      let B : List (Role × ℕ) = identifiers role.DeclaringName b in
       let last : List (Role × ℕ) = (role.ClosingName, closing) ∷ [] in
-      All-cons (IsAmong (declaring (declares_procedure x fs b closing))) (x, formal_names (formal_sections fs)) (block_headings b)
+      All-cons (IsAmong (declaring (declares_procedure x fs b closing))) (x, formal_parameter_names (formal_parameter_sections fs)) (block_headings b)
       (record { before = []; after = declaring_names (B ++ last); is = ap (λ ys. x ∷ ys) (declaring_names-append F (B ++ last) ∙ (λ i. formals_declared fs i ++ declaring_names (B ++ last))) })
-      (all_after ((role.Declaring, x) ∷ []) (F ++ (B ++ last)) (block_headings b) (all_after F (B ++ last) (block_headings b) (all_before B last (block_headings b) (block_among b))))
+      (all_after ((role.DeclaringName, x) ∷ []) (F ++ (B ++ last)) (block_headings b) (all_after F (B ++ last) (block_headings b) (all_before B last (block_headings b) (block_among b))))
 
 module_among : (t : Tree ℕ module_text) → AreAmong (declaring t) (block_headings (module_block t))
-module_among (forms_module x b closing) = all_before (identifiers role.Declaring b) ((role.ModuleName, closing) ∷ []) (block_headings b) (block_among b)
+module_among (forms_module x b closing) = all_before (identifiers role.DeclaringName b) ((role.ModuleName, closing) ∷ []) (block_headings b) (block_among b)
 
 -- ---- the identifiers after a heading
 

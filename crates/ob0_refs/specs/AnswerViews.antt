@@ -3,8 +3,8 @@
 -- Rule: none; used in contracts about the program's answers.
 use Rattle.std.specs.Prelude.{string_bytes}
 use Rattle.ob0_scan.specs.declared.lexeme.Span.{Span}
-use Rattle.ob0_refs.specs.declared.answers.NameConflict as capture_answer
-use Rattle.ob0_refs.specs.declared.answers.Hover as answer
+use Rattle.ob0_refs.specs.declared.answer_types.NameConflict as capture_answer
+use Rattle.ob0_refs.specs.declared.answer_types.Hover as answer
 use Rattle.ob0_refs.specs.NameHovers.{HoverTextWithSpan}
 
 -- returns the `HoverTextWithSpan` with the span and text of a `Hover`

@@ -6,13 +6,13 @@ use Rattle.ob0_tree.specs.ParsedModule.{ParsedModule, named_tree_of, tree_of}
 use Rattle.ob0_tree.specs.Tree.{occurrences}
 use Rattle.ob0_language_names.specs.Names.{Name}
 use Rattle.ob0_language_names.specs.Occurrences.{NameConflict, at_declaration, at_occurrence, first_name_conflict}
-use Rattle.ob0_scope_table.specs.Resolution.{span_at}
+use Rattle.ob0_scope_table.specs.Resolution.{token_span}
 use Rattle.ob0_refs.specs.Places.{declaring_identifier_span}
 
 -- Returns the span of the looked-up name with this number, counted from 0 in text order. Returns
 -- None if there is no such name.
 abbrev pub occurrence_span : ParsedModule → ℕ → Option Span
-occurrence_span m k = option_map (span_at m.source) (slice_get (occurrences (tree_of m)) k)
+occurrence_span m k = option_map (token_span m.source) (slice_get (occurrences (tree_of m)) k)
 
 -- returns the span, or an empty span at the text's start if there is none
 abbrev pub span_or_text_start : Option Span → Span

@@ -4,13 +4,13 @@
 use Rattle.std.specs.Prelude.{ℕ, ◌+◌, ◌-◌, Bool, true, false, List, [], ◌∷◌, drop, map, nat_lt, if◌then◌else◌, Option, Some, None, option_and_then}
 use Rattle.ob0_tree.specs.declared.tree.Role.TheVariants as role
 use Rattle.ob0_tree.specs.ParsedModule.{ParsedModule, tree_of}
-use Rattle.ob0_tree.specs.Places.{token_text_at}
+use Rattle.ob0_tree.specs.TokenIndexLeaves.{token_text_at}
 use Rattle.ob0_tree.specs.Tree.{identifiers}
 use Rattle.ob0_language_names.specs.Names.{Name}
 use Rattle.ob0_language_names.specs.Scopes.{predeclared_count}
 use Rattle.ob0_scope_table.specs.Resolution.{declaring_names}
 use Rattle.ob0_scope.specs.declared.bound_names.BoundName as named
-use Rattle.ob0_refs.specs.Hovers.{HoverParameter, constant_text, type_declaration_text, predeclared_text, procedure_text, type_text, variable_text}
+use Rattle.ob0_refs.specs.Hovers.{HoverParameter, constant_text, type_declaration_text, predeclared_name_text, procedure_text, type_text, variable_text}
 use Rattle.ob0_language_types.specs.Expressions.{Object, a_constant, a_procedure, a_standard_procedure, a_type, a_variable}
 use Rattle.ob0_language_types.specs.WellTyped.{FormalParameter, ParameterMode, Signature, by_place, by_value}
 use Rattle.ob0_language_values.specs.Values.{Shape, Value, elements, members, number, truth}
@@ -50,13 +50,13 @@ hover_text_of_object name following (a_type s) = Some (type_declaration_text nam
 hover_text_of_object name following (a_variable s) = Some (variable_text name (type_text s))
 hover_text_of_object name following (a_procedure fs) =
     Some (procedure_text name (hover_parameters_of_signature following fs))
-hover_text_of_object name following (a_standard_procedure s) = Some (predeclared_text name)
+hover_text_of_object name following (a_standard_procedure s) = Some (predeclared_name_text name)
 
 -- returns the names that the text declares after the declaration with this ordinal, in text order
-abbrev pub names_declared_after : ParsedModule → ℕ → List Name
-names_declared_after m ordinal =
+abbrev pub names_declared_after_declaration : ParsedModule → ℕ → List Name
+names_declared_after_declaration m ordinal =
     map (token_text_at m.source)
-    (drop (ordinal + 1 - predeclared_count) (declaring_names (identifiers role.Declaring (tree_of m))))
+    (drop (ordinal + 1 - predeclared_count) (declaring_names (identifiers role.DeclaringName (tree_of m))))
 
 -- Returns the hover text of a name that the text declares, given the constant, type, variable or
 -- procedure that it is declared as (`object`). Returns None if `object` is None or a constant
@@ -66,7 +66,7 @@ abbrev pub hover_text_of_declaration : ParsedModule
     → Option (Object Shape Signature)
     → Option (List ℕ)
 hover_text_of_declaration m n object =
-    option_and_then (hover_text_of_object (token_text_at m.source n.token) (names_declared_after m n.ordinal)) object
+    option_and_then (hover_text_of_object (token_text_at m.source n.token) (names_declared_after_declaration m n.ordinal)) object
 
 -- Returns the hover text of a name, given the constant, type, variable or procedure that it is
 -- declared as (`object`). A name with an ordinal from 0 to 6 is predeclared, and `object` isn't
@@ -74,5 +74,5 @@ hover_text_of_declaration m n object =
 abbrev pub hover_text_of_name : ParsedModule → named.BoundName → Option (Object Shape Signature) → Option (List ℕ)
 hover_text_of_name m n object =
     if nat_lt n.ordinal predeclared_count
-    then Some (predeclared_text (token_text_at m.source n.token))
+    then Some (predeclared_name_text (token_text_at m.source n.token))
     else hover_text_of_declaration m n object

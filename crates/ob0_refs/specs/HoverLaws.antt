@@ -5,11 +5,11 @@ use Rattle.std.specs.Prelude.{◌≡◌, ℕ, List, [], ◌++◌, ◌∷◌, Som
 use Rattle.std.specs.List.{All}
 use Rattle.ob0_tree.specs.declared.tree.Role.TheVariants as role
 use Rattle.ob0_tree.specs.ParsedModule.{ParsedModule, tree_of}
-use Rattle.ob0_tree.specs.Places.{token_text_at}
+use Rattle.ob0_tree.specs.TokenIndexLeaves.{token_text_at}
 use Rattle.ob0_tree.specs.Tree.{Tree, block, declares, declares_procedure, end, forms_block, identifiers, item, items, more, procedure}
-use Rattle.ob0_language_names.specs.BlockParts.{formal_names, formal_sections, module_block}
+use Rattle.ob0_language_names.specs.BlockParts.{formal_parameter_names, formal_parameter_sections, module_block}
 use Rattle.ob0_scope_table.specs.Resolution.{declaring_names, declaration_token}
-use Rattle.ob0_refs.specs.DeclarationTexts.{names_declared_after}
+use Rattle.ob0_refs.specs.DeclarationTexts.{names_declared_after_declaration}
 
 -- Returns the heading of each procedure, in text order. Here a heading is a pair: the token of the
 -- procedure's name, and the tokens of its parameters' names.
@@ -27,15 +27,15 @@ abbrev mutual
   -- returns the heading of this procedure, followed by the heading of each procedure in its block
   pub procedure_headings : Tree ℕ (item procedure) → List (ℕ × List ℕ)
   procedure_headings (declares_procedure x fs b closing) =
-      (x, formal_names (formal_sections fs)) ∷ block_headings b
+      (x, formal_parameter_names (formal_parameter_sections fs)) ∷ block_headings b
 
 -- States that the first names declared after a procedure's name are the names of its parameters, in
 -- order. `heading` has the token of the procedure's name and the tokens of the parameters' names.
 pub record DeclaresParametersAfterName (m : ParsedModule) (heading : ℕ × List ℕ) : Type 0 where
   pub ordinal : ℕ
-  pub declares : declaration_token (declaring_names (identifiers role.Declaring (tree_of m))) ordinal
+  pub declares : declaration_token (declaring_names (identifiers role.DeclaringName (tree_of m))) ordinal
       ≡ Some heading.0
-  pub following : take (length heading.1) (names_declared_after m ordinal) ≡ map (token_text_at m.source) heading.1
+  pub following : take (length heading.1) (names_declared_after_declaration m ordinal) ≡ map (token_text_at m.source) heading.1
 
 -- States that the first names declared after each procedure's name are the names of the procedure's
 -- parameters, in order.

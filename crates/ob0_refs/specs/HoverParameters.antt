@@ -2,7 +2,7 @@
 -- Rule: none; used in contracts about the program's `Parameter`.
 use Rattle.std.specs.Prelude.{string_bytes}
 use Rattle.ob0_refs.specs.Hovers as hovers
-use Rattle.ob0_refs.specs.declared.hovers.Parameter.{Parameter}
+use Rattle.ob0_refs.specs.declared.hover_texts.Parameter.{Parameter}
 
 -- returns the `HoverParameter` with the name, the type text and the mode (`by_place`) of a
 -- `Parameter`

@@ -69,15 +69,15 @@ further_parameters_text [] = []
 further_parameters_text (p ∷ ps) = codes "; " ++ (parameter_text p ++ further_parameters_text ps)
 
 -- returns the texts of all parameters, with `; ` between them
-abbrev pub parameters_text : List HoverParameter → List ℕ
-parameters_text [] = []
-parameters_text (p ∷ ps) = parameter_text p ++ further_parameters_text ps
+abbrev pub parameter_list_text : List HoverParameter → List ℕ
+parameter_list_text [] = []
+parameter_list_text (p ∷ ps) = parameter_text p ++ further_parameters_text ps
 
 -- returns the hover text of a procedure: `PROCEDURE p(a: T; VAR b: T)`
 abbrev pub procedure_text : List ℕ → List HoverParameter → List ℕ
 procedure_text name ps =
-    codes "PROCEDURE " ++ (name ++ (codes "(" ++ (parameters_text ps ++ codes ")")))
+    codes "PROCEDURE " ++ (name ++ (codes "(" ++ (parameter_list_text ps ++ codes ")")))
 
 -- returns the hover text of a predeclared name: `predeclared N`
-abbrev pub predeclared_text : List ℕ → List ℕ
-predeclared_text name = codes "predeclared " ++ name
+abbrev pub predeclared_name_text : List ℕ → List ℕ
+predeclared_name_text name = codes "predeclared " ++ name

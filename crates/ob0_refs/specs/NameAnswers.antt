@@ -3,11 +3,11 @@
 use Rattle.std.specs.Prelude.{ℕ, nat_lt, if◌then◌else◌}
 use Rattle.ob0_tree.specs.ParsedModule.{ParsedModule}
 use Rattle.ob0_language_names.specs.Scopes.{predeclared_count}
-use Rattle.ob0_scope_table.specs.Resolution.{span_at}
+use Rattle.ob0_scope_table.specs.Resolution.{token_span}
 use Rattle.ob0_scope.specs.declared.bound_names.BoundName as named
-use Rattle.ob0_refs.specs.declared.answers.At as answer
-use Rattle.ob0_refs.specs.declared.answers.Of as of
-use Rattle.ob0_refs.specs.declared.answers.Of.TheVariants as answer_of
+use Rattle.ob0_refs.specs.declared.answer_types.At as answer
+use Rattle.ob0_refs.specs.declared.answer_types.Of as of
+use Rattle.ob0_refs.specs.declared.answer_types.Of.TheVariants as answer_of
 
 -- Returns Predeclared for the ordinals 0 to 6. For any other ordinal, returns the declaration of
 -- the text that has this ordinal.
@@ -17,4 +17,4 @@ referent_of_ordinal ordinal = if nat_lt ordinal predeclared_count then answer_of
 -- returns the answer about a name: the name's span, and the declaration that it refers to, or
 -- Predeclared
 abbrev pub answer_about_name : ParsedModule → named.BoundName → answer.At
-answer_about_name m n = record { span = span_at m.source n.token; of = referent_of_ordinal n.ordinal }
+answer_about_name m n = record { span = token_span m.source n.token; of = referent_of_ordinal n.ordinal }

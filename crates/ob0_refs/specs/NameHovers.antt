@@ -3,7 +3,7 @@
 use Rattle.std.specs.Prelude.{ℕ, List, Option, option_map}
 use Rattle.ob0_scan.specs.declared.lexeme.Span.{Span}
 use Rattle.ob0_tree.specs.ParsedModule.{ParsedModule, named_tree_of}
-use Rattle.ob0_scope_table.specs.Resolution.{span_at}
+use Rattle.ob0_scope_table.specs.Resolution.{token_span}
 use Rattle.ob0_scope.specs.declared.bound_names.BoundName as named
 use Rattle.ob0_language_types.specs.Bindings.{declared_object}
 use Rattle.ob0_refs.specs.DeclarationTexts.{hover_text_of_name}
@@ -16,5 +16,5 @@ pub record HoverTextWithSpan : Type 0 where
 -- returns the hover text of a name with the name's span, or None if the name has no hover text
 abbrev pub hover_of_name : ParsedModule → named.BoundName → Option HoverTextWithSpan
 hover_of_name m n =
-    option_map (λ text. record { span = span_at m.source n.token; text = text })
+    option_map (λ text. record { span = token_span m.source n.token; text = text })
     (hover_text_of_name m n (declared_object (named_tree_of m) n.ordinal))

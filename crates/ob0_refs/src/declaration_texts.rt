@@ -7,20 +7,20 @@
 
 ghost use Rattle.std.specs.Prelude.{◌≡◌, ◌+◌, ◌-◌, [], IfOk, Some, drop, map, option_map, string_bytes};
 ghost use Rattle.ob0_tree.specs.ParsedModule.{tree_of};
-ghost use Rattle.ob0_tree.specs.Places.{token_text_at};
+ghost use Rattle.ob0_tree.specs.TokenIndexLeaves.{token_text_at};
 ghost use Rattle.ob0_tree.specs.Tree.{identifiers};
 ghost use Rattle.ob0_tree.specs.declared.tree.Role.TheVariants as role;
 ghost use Rattle.ob0_scope_table.specs.Resolution.{declaring_names};
 ghost use Rattle.ob0_refs.specs.DeclarationViews.{declared_object_view, signature_view};
-ghost use Rattle.ob0_refs.specs.DeclarationTexts.{hover_text_of_declaration, hover_text_of_name, names_declared_after, hover_parameter_of_formal, hover_parameters_of_signature};
+ghost use Rattle.ob0_refs.specs.DeclarationTexts.{hover_text_of_declaration, hover_text_of_name, names_declared_after_declaration, hover_parameter_of_formal, hover_parameters_of_signature};
 ghost use Rattle.ob0_refs.specs.Hovers.{field_text, type_declaration_text, procedure_text, type_text, variable_text};
 ghost use Rattle.ob0_refs.specs.HoverParameters.{parameter_view};
 ghost use Rattle.ob0_types_table.specs.DeclarationTables.{declared_object_in, shapes_of};
-ghost use Rattle.ob0_types_table.specs.DeclarationTableView.{formal_view, type_shape};
+ghost use Rattle.ob0_types_table.specs.DeclarationTableView.{formal_parameter_view, type_shape};
 ghost use Rattle.ob0_language_names.specs.Scopes.{predeclared_count};
 
-use crate::hovers::{
-    Parameter, constant_text, predeclared_text, procedure_text, type_declaration_text,
+use crate::hover_texts::{
+    Parameter, constant_text, predeclared_name_text, procedure_text, type_declaration_text,
     variable_text,
 };
 use crate::type_texts::type_text;
@@ -43,7 +43,7 @@ pub(crate) fn name_hover_text(
         ≡ hover_text_of_name names.now.module_read name (declared_object_in known.now name.ordinal)) }
 {
     if name.ordinal < PREDECLARED_COUNT {
-        let text = predeclared_text(alloc, token_text_at(names.tokens(), name.token))?;
+        let text = predeclared_name_text(alloc, token_text_at(names.tokens(), name.token))?;
         return Ok(Some(text));
     }
     match known.object(name.ordinal) {
@@ -74,7 +74,7 @@ fn object_hover_text(
             let line = procedure_hover_text(alloc, known, names, name, formals)?;
             Ok(Some(line))
         }
-        Object::StandardProcedure(_) => Ok(Some(predeclared_text(alloc, text)?)),
+        Object::StandardProcedure(_) => Ok(Some(predeclared_name_text(alloc, text)?)),
     }
 }
 
@@ -133,10 +133,10 @@ fn procedure_hover_text(
 ) -> Result<String, AllocError>
     ensures { IfOk result (λ text. string_bytes text
         ≡ procedure_text (token_text_at names.now.module_read.source name.token)
-        (hover_parameters_of_signature (names_declared_after names.now.module_read name.ordinal)
+        (hover_parameters_of_signature (names_declared_after_declaration names.now.module_read name.ordinal)
         (signature_view known.now formals.now))) }
 {
-    let following = declaring_tokens_after(names, name.ordinal);
+    let following = declaring_tokens_after_declaration(names, name.ordinal);
     let parameters = hover_parameters_of_signature(
         alloc,
         known,
@@ -153,10 +153,10 @@ fn procedure_hover_text(
 
 /// Returns the token indexes of the declaring identifiers that come after the declaration with this
 /// ordinal, in text order.
-fn declaring_tokens_after<'r>(names: &'r Resolved<'_>, ordinal: usize) -> &'r [usize]
+fn declaring_tokens_after_declaration<'r>(names: &'r Resolved<'_>, ordinal: usize) -> &'r [usize]
     ensures { result.now
         ≡ drop (ordinal + 1 - predeclared_count)
-        (declaring_names (identifiers role.Declaring (tree_of names.now.module_read))) }
+        (declaring_names (identifiers role.DeclaringName (tree_of names.now.module_read))) }
 {
     // The contract of this call states the invariant of the module, which the proof uses.
     let _module = names.module();
@@ -204,7 +204,7 @@ fn hover_parameter_of_formal<'s>(
     formal: FormalParameter,
 ) -> Result<Parameter<'s>, AllocError>
     ensures { IfOk result
-        (λ p. parameter_view p ≡ hover_parameter_of_formal name.now (formal_view (shapes_of known.now) formal)) }
+        (λ p. parameter_view p ≡ hover_parameter_of_formal name.now (formal_parameter_view (shapes_of known.now) formal)) }
 {
     Ok(Parameter {
         by_place: formal.by_place,

@@ -3,20 +3,20 @@
 //! Requests on documents).
 #![tactic(auto)]
 
-mod answers;
+mod answer_types;
+mod answers_at_places;
 mod conflict_spans;
 mod declaration_spans;
 mod declaration_texts;
 pub mod hover_laws;
-mod hovers;
+mod hover_texts;
+mod hovers_at_places;
 pub mod laws;
-mod names;
+mod name_answers;
 mod new_name_conflicts;
-mod place_hovers;
-mod questions;
 mod type_texts;
 
-pub use answers::{At, Hover, NameConflict, Of};
+pub use answer_types::{At, Hover, NameConflict, Of};
+pub use answers_at_places::{at, definition, references, renamable_span};
+pub use hovers_at_places::hover;
 pub use new_name_conflicts::captures;
-pub use place_hovers::hover;
-pub use questions::{at, definition, references, renamable_span};

@@ -6,7 +6,7 @@ ghost use Rattle.ob0_language_names.specs.Occurrences.{IsFreeName};
 ghost use Rattle.ob0_refs.specs.AnswerViews.{span_of_conflict};
 ghost use Rattle.ob0_refs.specs.ConflictSpans.{first_conflict_span};
 
-use crate::answers::NameConflict;
+use crate::answer_types::NameConflict;
 use crate::conflict_spans::conflict_span;
 use ob0_scope::captures as first_capture;
 use ob0_scope_table::Resolved;

@@ -9,7 +9,7 @@ ghost use Rattle.ob0_types_table.specs.DeclarationTables.{shapes_of};
 ghost use Rattle.ob0_types_table.specs.DeclarationTableView.{type_shape};
 ghost use Rattle.ob0_language_values.specs.Values.{array_shape};
 
-use crate::hovers::{array_text_from_element_text, record_text};
+use crate::hover_texts::{array_text_from_element_text, record_text};
 use ob0_types_table::{ArrayShape, DeclarationTable, TypeId, TypeWithParts};
 use std::alloc::{AllocError, Global};
 

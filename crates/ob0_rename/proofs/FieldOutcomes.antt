@@ -14,19 +14,19 @@ use Rattle.ob0_text.specs.declared.position_types.Unit as counting
 use Rattle.ob0_text.specs.declared.refusals.EditRefusal.{EditRefusal}
 use Rattle.ob0_text.specs.declared.refusals.EditRefusal.TheVariants as refusal
 use Rattle.ob0_tree.specs.ParsedModule.{named_tree_of, tree_of}
-use Rattle.ob0_tree.specs.Places as place
+use Rattle.ob0_tree.specs.TokenIndexLeaves as place
 use Rattle.ob0_tree.specs.Tree.{mapped_tree}
 use Rattle.ob0_language_names.specs.Names.{Name, same_name}
 use Rattle.ob0_scope_table.specs.Resolution.{Resolution}
 use Rattle.ob0_types.specs.CheckedModules.{IsWellTyped}
-use Rattle.ob0_edits_tokens.specs.WordReplacements.{is_in_list, words_of}
+use Rattle.ob0_edits_tokens.specs.WordReplacements.{is_in_list, words_of_text}
 use Rattle.ob0_edits_tokens.specs.WordsOfTrees.{RenamedTreeSpellsRenamedWords, integer_value_at, renamed_word_text}
 use Rattle.ob0_edits_tokens.specs.Replacements.{AreIdentifierIndexes, MayReplaceIdentifier, text_after_replacement}
 use Rattle.ob0_edits_tokens.specs.Written.{name_word}
-use Rattle.ob0_language_field_laws.specs.FieldLaws.{FreeFieldRenamingKeepsTypingAndRuns}
-use Rattle.ob0_types_fields.specs.declared.field_name.FieldName.{FieldName}
-use Rattle.ob0_types_fields.specs.Identifiers.{DuplicateFieldNameHasDeclaringToken, RenamingChangesFieldTokens, field_declaring_token, field_identifiers, field_tokens, tokens_of_field}
-use Rattle.ob0_language_fields.specs.Renaming.{IsFreeFieldName, module_with_renamed_field}
+use Rattle.ob0_language_field_laws.specs.FieldLaws.{RenamingFieldToFreeNameKeepsTypingAndRuns}
+use Rattle.ob0_types_fields.specs.declared.field_identifier.FieldIdentifier.{FieldIdentifier}
+use Rattle.ob0_types_fields.specs.FieldIdentifiers.{DuplicateFieldNameHasDeclaringToken, RenamingChangesFieldTokens, field_declaring_token, field_identifiers, field_tokens_in_module, tokens_of_field}
+use Rattle.ob0_language_fields.specs.SingleFieldRenaming.{IsFreeFieldName, module_with_renamed_field}
 use Rattle.ob0_rename.specs.Answers.{RenameAnswers, AnswersRenamingOfField, IsRenameRefusal, IsFirstRefusalForField, FailsOnlyForMemory}
 use Rattle.ob0_rename.specs.Renaming.{TargetsField, Renaming, field_tokens_to_rename, token_range}
 use Rattle.ob0_rename.proofs.Outcomes.{Edited, whole, written}
@@ -39,7 +39,7 @@ among-any k [] = refl
 among-any k (p ∷ ps) = ap (λ b. (k == p) || b) (among-any k ps)
 
 -- Each token of a field has the field's name.
-written-so : (source : TextWithTokens) (k : ℕ) (f : Name) (i : ℕ) (xs : List FieldName) → list_any (λ token. i == token) (tokens_of_field source k f xs) ≡ true → place.token_text_at source i ≡ f
+written-so : (source : TextWithTokens) (k : ℕ) (f : Name) (i : ℕ) (xs : List FieldIdentifier) → list_any (λ token. i == token) (tokens_of_field source k f xs) ≡ true → place.token_text_at source i ≡ f
 written-so source k f i [] e = absurd (cc)
 written-so source k f i (x ∷ xs) e = one (x.owner == k) (same_name (place.token_text_at source x.token) f) refl (written-so source k f i xs) e
   where
@@ -55,23 +55,23 @@ written-so source k f i (x ∷ xs) e = one (x.owner == k) (same_name (place.toke
     one false c same later e = later e
 
 pub field_there : (r : Resolution) (k : ℕ) (f new : Name) → IsWellTyped r → RenamingChangesFieldTokens
-    → mapped_tree (renamed_word_text (words_of r.module_read.source) (field_tokens_to_rename r k f new) new) (integer_value_at (words_of r.module_read.source)) (tree_of r.module_read) ≡ module_with_renamed_field (named_tree_of r.module_read) k f new
+    → mapped_tree (renamed_word_text (words_of_text r.module_read.source) (field_tokens_to_rename r k f new) new) (integer_value_at (words_of_text r.module_read.source)) (tree_of r.module_read) ≡ module_with_renamed_field (named_tree_of r.module_read) k f new
 field_there r k f new well by_tokens = one (same_name new f) refl
   where
     s : TextWithTokens
     s = r.module_read.source
 
-    kept : (i : ℕ) → new ≡ f → (b : Bool) → list_any (λ token. i == token) (field_tokens r k f) ≡ b → place.token_text_at s i ≡ (if b then new else place.token_text_at s i)
+    kept : (i : ℕ) → new ≡ f → (b : Bool) → list_any (λ token. i == token) (field_tokens_in_module r k f) ≡ b → place.token_text_at s i ≡ (if b then new else place.token_text_at s i)
     kept i own true e = written-so s k f i (field_identifiers r) e ∙ sym own
     kept i own false e = refl
 
     one : (b : Bool) → same_name new f ≡ b
-        → mapped_tree (renamed_word_text (words_of s) (if b then [] else field_tokens r k f) new) (integer_value_at (words_of s)) (tree_of r.module_read) ≡ module_with_renamed_field (named_tree_of r.module_read) k f new
+        → mapped_tree (renamed_word_text (words_of_text s) (if b then [] else field_tokens_in_module r k f) new) (integer_value_at (words_of_text s)) (tree_of r.module_read) ≡ module_with_renamed_field (named_tree_of r.module_read) k f new
     one true own =
-        (λ j. mapped_tree (λ i. (text_same s i ∙ kept i ((bytes_eq-Decides new f).0 own) (list_any (λ token. i == token) (field_tokens r k f)) refl) j) (λ i. number_same s i j) (tree_of r.module_read))
+        (λ j. mapped_tree (λ i. (text_same s i ∙ kept i ((bytes_eq-Decides new f).0 own) (list_any (λ token. i == token) (field_tokens_in_module r k f)) refl) j) (λ i. number_same s i j) (tree_of r.module_read))
         ∙ sym (by_tokens r k f new well.resolved well.well_typed)
     one false other =
-        (λ j. mapped_tree (λ i. if among-any i (field_tokens r k f) j then new else text_same s i j) (λ i. number_same s i j) (tree_of r.module_read))
+        (λ j. mapped_tree (λ i. if among-any i (field_tokens_in_module r k f) j then new else text_same s i j) (λ i. number_same s i j) (tree_of r.module_read))
         ∙ sym (by_tokens r k f new well.resolved well.well_typed)
 
 -- ---- another field with the new name
@@ -94,7 +94,7 @@ module _ (unit : counting.Unit) (text : List ℕ) (place : Position) (new : Name
       let found = other_some (same_name new f) (field_declaring_token r.module_read k new) token other in
       subst (IsFirstRefusalForField (requested_field r) k f) (sym is) (id, has_declaring r.module_read k f new ∙ found.0, ap (option_map (token_range (requested_field r))) found.1)
 
-  pub field_answered : (r : Resolution) → IsWellTyped r → IsIdentifier new → IsFreeFieldName (named_tree_of r.module_read) k f new → FreeFieldRenamingKeepsTypingAndRuns → RenamingChangesFieldTokens → RenamedTreeSpellsRenamedWords
+  pub field_answered : (r : Resolution) → IsWellTyped r → IsIdentifier new → IsFreeFieldName (named_tree_of r.module_read) k f new → RenamingFieldToFreeNameKeepsTypingAndRuns → RenamingChangesFieldTokens → RenamedTreeSpellsRenamedWords
       → ((name : List ℕ) → IsIdentifier name → MayReplaceIdentifier name (name_word name ∷ [])) → AreIdentifierIndexes r.module_read.source.tokens 0 (field_tokens_to_rename r k f new)
       → (result : Result (Vec Edit Global) EditRefusal) → Edited unit text new r.module_read.source (field_tokens_to_rename r k f new) result → AnswersRenamingOfField (requested_field r) k f result
   field_answered r well id free keeps by_tokens spells may_replace names (Ok edits) made =
@@ -120,7 +120,7 @@ module _ (unit : counting.Unit) (text : List ℕ) (place : Position) (new : Name
   own_field_answered r scan own (Err why) made =
       elim made.refusals [
         | inl e ↦
-            let none : field_tokens_to_rename r k f new ≡ [] = ap (λ b. if b then [] else field_tokens r k f) ((bytes_eq-Decides new f).1 own) in
+            let none : field_tokens_to_rename r k f new ≡ [] = ap (λ b. if b then [] else field_tokens_in_module r k f) ((bytes_eq-Decides new f).1 own) in
             absurd (too_long_never r scan (field_tokens_to_rename r k f new) none (made.too_long (ap Err e)))
         | inr e ↦ e
       ]

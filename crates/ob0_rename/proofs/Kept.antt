@@ -6,7 +6,7 @@ use Rattle.ob0_tree.specs.Tree.{Sort, Tree, block, constant, constants, declares
 use Rattle.ob0_language_names.specs.ConsistentNames.{are_distinct, names_declared_in_block, block_has_consistent_names, has_consistent_names, formals_have_distinct_fields, procedure_has_consistent_names, procedure_list_has_consistent_names, types_have_distinct_fields, variables_have_distinct_fields}
 use Rattle.ob0_language_names.specs.MappedNames.{map_names}
 use Rattle.ob0_language_names.specs.Names.{Name, naming_by_spelling, same_name}
-use Rattle.ob0_language_names.specs.BlockParts.{constant_names, formal_names, formal_sections, names_after_first, module_block, declared_type_names, names_in_list, procedure_name, section_constants, parameter_section_names, section_types, section_variables, variable_names}
+use Rattle.ob0_language_names.specs.BlockParts.{constant_names, formal_parameter_names, formal_parameter_sections, names_after_first, module_block, declared_type_names, names_in_list, procedure_name, section_constants, parameter_section_names, section_types, section_variables, variable_names}
 use Rattle.ob0_language_names.specs.Scopes.{Labelling, Scope, ordinal_after_names, ordinal_after_procedure, declare_names, declare_procedure_names, first_procedure_ordinal, first_type_ordinal, first_variable_ordinal, ordinal_in_scope, predeclared_scope, scope_before_procedures, relabel_block, relabel_constant_section, relabel_constants, relabel_formals, relabel_names_after_first, relabel_names, relabel_procedure, relabel_procedure_list, relabel_parameter_section, relabel_parameter_section_list, relabel_type_section, relabel_types, relabel_uses, relabel_variable_section, relabel_variables, renamed, scope_before_types, scope_before_variables, body_scope}
 use Rattle.ob0_language_names.proofs.DistinctNames.{new_name}
 use Rattle.ob0_language_names.proofs.SameNames.{map_names-id}
@@ -94,16 +94,16 @@ module _ (d : ℕ) (new : Name) where
   section-kept scope k (value_section ns t) s h = λ i. value_section (listed-kept k ns h i) (uses-kept scope t s i)
   section-kept scope k (variable_section ns t) s h = λ i. variable_section (listed-kept k ns h i) (uses-kept scope t s i)
 
-  sections-kept : (scope : Scope Name) (k : ℕ) (fs : Tree Name (items section_after_semicolon)) → InScope scope → AreSo k (formal_names fs) → relabel_parameter_section_list naming_by_spelling ren scope k fs ≡ fs
+  sections-kept : (scope : Scope Name) (k : ℕ) (fs : Tree Name (items section_after_semicolon)) → InScope scope → AreSo k (formal_parameter_names fs) → relabel_parameter_section_list naming_by_spelling ren scope k fs ≡ fs
   sections-kept scope k end s h = refl
   sections-kept scope k (more (semicolon_then_section f) fs) s h =
-      let parts = so-append k (parameter_section_names f) (formal_names fs) h in
+      let parts = so-append k (parameter_section_names f) (formal_parameter_names fs) h in
       λ i. more (semicolon_then_section (section-kept scope k f s parts.0 i))
       (sections-kept (declare_names k (parameter_section_names f) scope) (ordinal_after_names k (parameter_section_names f)) fs (in_scope-names k (parameter_section_names f) scope parts.0 s) parts.1 i)
 
-  formals-kept : (scope : Scope Name) (k : ℕ) (fs : Tree Name (maybe formals)) → InScope scope → AreSo k (formal_names (formal_sections fs)) → relabel_formals naming_by_spelling ren scope k fs ≡ fs
+  formals-kept : (scope : Scope Name) (k : ℕ) (fs : Tree Name (maybe formals)) → InScope scope → AreSo k (formal_parameter_names (formal_parameter_sections fs)) → relabel_formals naming_by_spelling ren scope k fs ≡ fs
   formals-kept scope k (one (some_formals f fs)) s h =
-      let parts = so-append k (parameter_section_names f) (formal_names fs) h in
+      let parts = so-append k (parameter_section_names f) (formal_parameter_names fs) h in
       λ i. one (some_formals (section-kept scope k f s parts.0 i)
       (sections-kept (declare_names k (parameter_section_names f) scope) (ordinal_after_names k (parameter_section_names f)) fs (in_scope-names k (parameter_section_names f) scope parts.0 s) parts.1 i))
   formals-kept scope k _ s h = refl
@@ -144,10 +144,10 @@ module _ (d : ℕ) (new : Name) where
     procedure-kept : (scope : Scope Name) (k : ℕ) (p : Tree Name (item procedure)) → InScope scope → AreSo k (names_in_procedure p) → procedure_has_consistent_names p ≡ true
         → (relabel_procedure naming_by_spelling ren scope k p ≡ p) × IsSo k (procedure_name p)
     procedure-kept scope k (declares_procedure x fs b closing) s h once =
-        let own = formal_names (formal_sections fs) in
+        let own = formal_parameter_names (formal_parameter_sections fs) in
         let parts = so-append (suc k) own (names_in b) h.1 in
-        let onces = and_parts (same_name x closing) (formals_have_distinct_fields (formal_sections fs) && block_has_consistent_names own b) once in
-        let onces₁ = and_parts (formals_have_distinct_fields (formal_sections fs)) (block_has_consistent_names own b) onces.1 in
+        let onces = and_parts (same_name x closing) (formals_have_distinct_fields (formal_parameter_sections fs) && block_has_consistent_names own b) once in
+        let onces₁ = and_parts (formals_have_distinct_fields (formal_parameter_sections fs)) (block_has_consistent_names own b) onces.1 in
         let closed : x ≡ closing = (bytes_eq-Decides x closing).0 onces.0 in
         let s₁ = in_scope-names (suc k) own ((x, k) ∷ scope) parts.0 (h.0, s) in
         let inside = block-kept (declare_names (suc k) own ((x, k) ∷ scope)) (ordinal_after_names (suc k) own) own b s₁ parts.1 onces₁.1 in

@@ -16,31 +16,31 @@ use Rattle.ob0_tree.specs.Tree.{Tree, module_text, occurrences}
 use Rattle.ob0_language_names.specs.ConsistentNames.{has_consistent_names}
 use Rattle.ob0_language_names.specs.Names.{Name}
 use Rattle.ob0_language_names.specs.Occurrences.{IsFreeName, at_declaration, at_occurrence, bindings, first_name_conflict, first_binding_difference, is_duplicate_name}
-use Rattle.ob0_scope.specs.Renames.{namesake, other_declaration_in_conflict, conflict_of}
+use Rattle.ob0_scope.specs.Renames.{namesake_ordinal, other_declaration_in_conflict, conflict_of}
 use Rattle.ob0_scope_table.specs.Resolution.{IsResolution, Resolution}
 use Rattle.ob0_language_names.specs.Scopes.{renamed}
 use Rattle.ob0_scope.specs.declared.name_conflicts.FirstConflict as reported
 use Rattle.ob0_scope.specs.declared.name_conflicts.FirstConflict.TheVariants as reports
-use Rattle.ob0_tree.specs.Places.{token_text_at}
+use Rattle.ob0_tree.specs.TokenIndexLeaves.{token_text_at}
 use Rattle.ob0_types.specs.CheckedModules.{IsWellTyped}
 use Rattle.ob0_types.specs.IdentifierMeanings as resolved_identifier_at
 use Rattle.ob0_types.specs.declared.identifier_meanings.IdentifierWithMeaning.{IdentifierWithMeaning}
 use Rattle.ob0_types.specs.declared.identifier_meanings.IdentifierMeaning.{IdentifierMeaning}
 use Rattle.ob0_types.specs.declared.identifier_meanings.IdentifierMeaning.TheVariants.{Name as name_of, Field}
 use Rattle.ob0_language_types.specs.WellTyped.{WellTyped}
-use Rattle.ob0_language_runs.specs.EditLaws.{FreeRenamingKeepsTypingAndRuns, HaveSameRuns}
-use Rattle.ob0_edits_tokens.specs.WordReplacements.{changes_at_indexes, changed_words, words_of}
+use Rattle.ob0_language_runs.specs.EditLaws.{RenamingToFreeNameKeepsTypingAndRuns, HaveSameRuns}
+use Rattle.ob0_edits_tokens.specs.WordReplacements.{changes_at_indexes, changed_words, words_of_text}
 use Rattle.ob0_edits_tokens.specs.WordsOfTrees.{RenamedTreeSpellsRenamedWords}
-use Rattle.ob0_edits_tokens.specs.Replacements.{AreIdentifierIndexes, EditsGiveWords, MayReplaceIdentifier, replacement_at_token, range_and_text, text_after_replacement}
+use Rattle.ob0_edits_tokens.specs.Replacements.{AreIdentifierIndexes, EditedTextHasWords, MayReplaceIdentifier, replacement_at_token, range_and_text, text_after_replacement}
 use Rattle.ob0_edits_tokens.specs.Written.{name_word}
-use Rattle.ob0_scope.specs.NamesAtPlaces.{name_at_offset, tokens_bound_to}
+use Rattle.ob0_scope.specs.NamesAtPlaces.{name_at_offset, tokens_bound_to_declaration}
 use Rattle.ob0_scope.specs.declared.bound_names.BoundName as named
-use Rattle.ob0_types_fields.specs.declared.field_name.FieldName.{FieldName}
-use Rattle.ob0_types_fields.specs.Identifiers.{field_at}
+use Rattle.ob0_types_fields.specs.declared.field_identifier.FieldIdentifier.{FieldIdentifier}
+use Rattle.ob0_types_fields.specs.FieldIdentifiers.{module_field_at_offset}
 use Rattle.ob0_scope.proofs.Written.{renamed_there}
 use Rattle.ob0_tree.specs.Module.{IsModuleWithTree}
 use Rattle.ob0_rename.specs.Answers.{RenameAnswers, AnswersRenamingOfDeclaration, IsRenameRefusal, IsFirstRefusalForDeclaration, FailsOnlyForMemory, AcceptsPresentName, WritesNewName}
-use Rattle.ob0_rename.specs.Renaming.{TargetsField, TargetsDeclaration, Renaming, RenameTarget, target_of_ordinal, declaration, record_field, renaming_target, rename_target_at, target_of_name_or_field, module_of, nothing, declaring_token, is_declared_as, predeclared, token_range, tokens_to_rename}
+use Rattle.ob0_rename.specs.Renaming.{TargetsField, TargetsDeclaration, Renaming, RenameTarget, target_of_ordinal, declaration, record_field, renaming_target, rename_target_at, target_of_name_or_field, module_of_renaming, nothing, declaring_token, declaration_has_name, predeclared, token_range, tokens_to_rename}
 use Rattle.ob0_rename.proofs.Owned.{other_is_declared}
 use Rattle.ob0_rename.proofs.Rewritten.{of_renamed}
 use Rattle.ob0_rename.proofs.Occurring.{occurrence_is_there}
@@ -49,7 +49,7 @@ use Rattle.ob0_rename.proofs.Occurring.{occurrence_is_there}
 pub record Edited (unit : counting.Unit) (text : List ℕ) (new : Name) (s : TextWithTokens) (places : List ℕ) (result : Result (Vec Edit Global) EditRefusal) : Type 0 where
   pub edits : IfOk result (λ edits. map range_and_text edits.items ≡ map (replacement_at_token unit text s.tokens new) places)
   pub short : IfOk result (λ edits. length (text_after_replacement s places new) ≤ max_text_length)
-  pub leaves : (ws : List Word) → MayReplaceIdentifier new ws → IfOk result (λ edits. EditsGiveWords unit text edits.items (changed_words (changes_at_indexes places ws) 0 (words_of s)))
+  pub leaves : (ws : List Word) → MayReplaceIdentifier new ws → IfOk result (λ edits. EditedTextHasWords unit text edits.items (changed_words (changes_at_indexes places ws) 0 (words_of_text s)))
   pub too_long : IsErrOf result refusal.TooLong → max_text_length < length (text_after_replacement s places new)
   pub refusals : IfErr result (λ why. (why ≡ refusal.TooLong) ⊎ (why ≡ refusal.Memory))
 
@@ -66,7 +66,7 @@ module _ (unit : counting.Unit) (text : List ℕ) (place : Position) (new : Name
   requested r = record { unit = unit; text = text; names = r; place = place; new = new }
 
   pub captured : (r : Resolution) → IsResolution r → IsIdentifier new → (capture : reported.FirstConflict) (why : EditRefusal)
-      → Some (conflict_of capture) ≡ first_name_conflict (named_tree_of r.module_read) d new → other_declaration_in_conflict (Some capture) ≡ namesake (named_tree_of r.module_read) d new
+      → Some (conflict_of capture) ≡ first_name_conflict (named_tree_of r.module_read) d new → other_declaration_in_conflict (Some capture) ≡ namesake_ordinal (named_tree_of r.module_read) d new
       → ((other token : ℕ) → capture ≡ reports.Duplicate other → declaring_token r.module_read other ≡ Some token → why ≡ refusal.Duplicate (token_range (requested r) token))
       → ((k token : ℕ) → capture ≡ reports.Occurrence k → slice_get (occurrences (tree_of r.module_read)) k ≡ Some token → why ≡ refusal.Captures (token_range (requested r) token))
       → IsFirstRefusalForDeclaration (requested r) d why
@@ -85,7 +85,7 @@ module _ (unit : counting.Unit) (text : List ℕ) (place : Position) (new : Name
   -- Edits at some places leave a text of a tree that has the new name there. The tree must be
   -- well-typed and run like the module.
   pub written : (r : Resolution) (tree : Tree Name module_text) (places : List ℕ) → IsIdentifier new → ((name : List ℕ) → IsIdentifier name → MayReplaceIdentifier name (name_word name ∷ []))
-      → ((after : TextWithTokens) → IsScan after → words_of after ≡ changed_words (changes_at_indexes places (name_word new ∷ [])) 0 (words_of r.module_read.source) → IsModuleWithTree after tree)
+      → ((after : TextWithTokens) → IsScan after → words_of_text after ≡ changed_words (changes_at_indexes places (name_word new ∷ [])) 0 (words_of_text r.module_read.source) → IsModuleWithTree after tree)
       → WellTyped tree × HaveSameRuns tree (named_tree_of r.module_read)
       → (edits : Vec Edit Global) → Edited unit text new r.module_read.source places (Ok edits) → WritesNewName (requested r) places tree edits.items
   written r tree places id resolved_identifier_at leaves kept edits made =
@@ -101,7 +101,7 @@ module _ (unit : counting.Unit) (text : List ℕ) (place : Position) (new : Name
         same_runs = kept.1;
       }
 
-  pub answered : (r : Resolution) → IsWellTyped r → IsIdentifier new → IsFreeName (named_tree_of r.module_read) d new → FreeRenamingKeepsTypingAndRuns → RenamedTreeSpellsRenamedWords
+  pub answered : (r : Resolution) → IsWellTyped r → IsIdentifier new → IsFreeName (named_tree_of r.module_read) d new → RenamingToFreeNameKeepsTypingAndRuns → RenamedTreeSpellsRenamedWords
       → ((name : List ℕ) → IsIdentifier name → MayReplaceIdentifier name (name_word name ∷ [])) → AreIdentifierIndexes r.module_read.source.tokens 0 (tokens_to_rename r.module_read d new)
       → (result : Result (Vec Edit Global) EditRefusal) → Edited unit text new r.module_read.source (tokens_to_rename r.module_read d new) result → AnswersRenamingOfDeclaration (requested r) d result
   answered r well id free keeps spells resolved_identifier_at names (Ok edits) made =
@@ -125,13 +125,13 @@ unfolding text_from_place_with_cuts
 whole text = refl
 
 -- Renaming a declaration to its present name doesn't make the text too long.
-pub own_answered : (unit : counting.Unit) (text : List ℕ) (new : Name) (d : ℕ) (m : ParsedModule) → IsScan m.source → is_declared_as m d new ≡ true
+pub own_answered : (unit : counting.Unit) (text : List ℕ) (new : Name) (d : ℕ) (m : ParsedModule) → IsScan m.source → declaration_has_name m d new ≡ true
     → (result : Result (Vec Edit Global) EditRefusal) → Edited unit text new m.source (tokens_to_rename m d new) result → IfErr result (λ why. why ≡ refusal.Memory)
 own_answered unit text new d m scan own (Ok edits) made = tt
 own_answered unit text new d m scan own (Err why) made =
     elim made.refusals [
       | inl e ↦
-          let none : tokens_to_rename m d new ≡ [] = own_places (tokens_bound_to m d true) (is_declared_as m d new) own in
+          let none : tokens_to_rename m d new ≡ [] = own_places (tokens_bound_to_declaration m d true) (declaration_has_name m d new) own in
           let long = subst (λ places. max_text_length < length (text_after_replacement m.source places new)) none (made.too_long (ap Err e)) in
           absurd (omega (arith, long, whole m.source.text, scan.short))
       | inr e ↦ e
@@ -167,10 +167,10 @@ abbrev pub target_in : TextWithTokens → Option IdentifierWithMeaning → Renam
 target_in source None = nothing
 target_in source (Some x) = target_of source x.token x.means
 
-pub target_there : (r : Resolution) (offset : ℕ) (found : Option IdentifierWithMeaning) → found ≡ resolved_identifier_at.identifier_meaning_at r offset → rename_target_at r offset ≡ target_in r.module_read.source found
-target_there r offset found is = one (name_at_offset r.module_read offset) (field_at r offset) ∙ ap (target_in r.module_read.source) (sym is)
+pub target_there : (r : Resolution) (offset : ℕ) (found : Option IdentifierWithMeaning) → found ≡ resolved_identifier_at.identifier_meaning_at_offset r offset → rename_target_at r offset ≡ target_in r.module_read.source found
+target_there r offset found is = one (name_at_offset r.module_read offset) (module_field_at_offset r offset) ∙ ap (target_in r.module_read.source) (sym is)
   where
-    one : (n : Option named.BoundName) (f : Option FieldName) → target_of_name_or_field r.module_read.source n f ≡ target_in r.module_read.source (resolved_identifier_at.meaning_of_name_or_field n f)
+    one : (n : Option named.BoundName) (f : Option FieldIdentifier) → target_of_name_or_field r.module_read.source n f ≡ target_in r.module_read.source (resolved_identifier_at.meaning_of_name_or_field n f)
     one (Some n) f = refl
     one None None = refl
     one None (Some x) = refl
@@ -191,9 +191,9 @@ is_predeclared ordinal low = one (nat_lt ordinal 7) refl
 
 -- ---- renaming to the present name
 
-pub takes_declaration : (a : Renaming) (d : ℕ) (result : Result (Vec Edit Global) EditRefusal) → TargetsDeclaration a d → (is_declared_as (module_of a) d a.new ≡ true → FailsOnlyForMemory result) → AcceptsPresentName a result
+pub takes_declaration : (a : Renaming) (d : ℕ) (result : Result (Vec Edit Global) EditRefusal) → TargetsDeclaration a d → (declaration_has_name (module_of_renaming a) d a.new ≡ true → FailsOnlyForMemory result) → AcceptsPresentName a result
 takes_declaration a d result means own = (
-  (λ e other is. let both : declaration d ≡ declaration e = sym means ∙ other in let same : d ≡ e = cc in own (subst (λ (x : ℕ). is_declared_as (module_of a) x a.new ≡ true) (sym same) is)),
+  (λ e other is. let both : declaration d ≡ declaration e = sym means ∙ other in let same : d ≡ e = cc in own (subst (λ (x : ℕ). declaration_has_name (module_of_renaming a) x a.new ≡ true) (sym same) is)),
   (λ k f other is. let both : declaration d ≡ record_field k f = sym means ∙ other in absurd (cc)),
 )
 

@@ -5,18 +5,18 @@ use Rattle.std.proofs.lemmas.List.{length-map, map-append}
 use Rattle.std.proofs.lemmas.Option.{slice_get-get_or}
 use Rattle.std.proofs.lemmas.Slice.Eq.{bytes_eq-Decides}
 use Rattle.ob0_tree.specs.ParsedModule.{ParsedModule, named_tree_of, tree_of}
-use Rattle.ob0_tree.specs.Places.{token_text_at, token_value_at}
+use Rattle.ob0_tree.specs.TokenIndexLeaves.{token_text_at, token_value_at}
 use Rattle.ob0_tree.specs.Tree.{Tree, identifiers, mapped_tree, block, declares, declares_procedure, end, forms_block, item, items, more, one, procedure}
 use Rattle.ob0_tree.specs.declared.tree.Role.TheVariants as role
 use Rattle.ob0_language_names.specs.ConsistentNames.{has_consistent_names}
 use Rattle.ob0_language_names.specs.Names.{Name, same_name}
 use Rattle.ob0_language_names.specs.Occurrences.{IsFreeName}
-use Rattle.ob0_language_names.specs.BlockParts.{constant_names, formal_names, formal_sections, module_block, declared_type_names, section_constants, section_types, section_variables, variable_names}
+use Rattle.ob0_language_names.specs.BlockParts.{constant_names, formal_parameter_names, formal_parameter_sections, module_block, declared_type_names, section_constants, section_types, section_variables, variable_names}
 use Rattle.ob0_language_types.proofs.Literals.{some_inverse}
-use Rattle.ob0_scope.specs.Renames.{namesake}
+use Rattle.ob0_scope.specs.Renames.{namesake_ordinal}
 use Rattle.ob0_scope_table.specs.Resolution.{declaring_names}
 use Rattle.ob0_language_names.specs.Scopes.{ordinal_after_block, renamed}
-use Rattle.ob0_rename.specs.Renaming.{declaring_token, is_declared_as}
+use Rattle.ob0_rename.specs.Renaming.{declaring_token, declaration_has_name}
 use Rattle.ob0_scope_table.proofs.Declared.{after_count, after_names_in, module_declared, names_in, names_in_procedure, names_in_procedures}
 use Rattle.ob0_scope.proofs.Searched.{constant_section-with, formals-with, map-append₄, type_section-with, variable_section-with}
 use Rattle.ob0_rename.proofs.Kept.{AreSo, same_module, so_where}
@@ -37,12 +37,12 @@ module _ {N M : Type 0} (f : N → M) (g : ℕ → ℕ) where
 
     procedure_with : (p : Tree N (item procedure)) → names_in_procedure (mapped_tree f g p) ≡ map f (names_in_procedure p)
     procedure_with (declares_procedure x fs b closing) =
-        ap (λ xs. f x ∷ xs) ((λ i. formals-with f g fs i ++ block_with b i) ∙ sym (map-append f (formal_names (formal_sections fs)) (names_in b)))
+        ap (λ xs. f x ∷ xs) ((λ i. formals-with f g fs i ++ block_with b i) ∙ sym (map-append f (formal_parameter_names (formal_parameter_sections fs)) (names_in b)))
 
 -- the tokens of the declared names, and these names
 
 abbrev pub declaring_tokens : ParsedModule → List ℕ
-declaring_tokens m = declaring_names (identifiers role.Declaring (tree_of m))
+declaring_tokens m = declaring_names (identifiers role.DeclaringName (tree_of m))
 
 module _ (m : ParsedModule) where
   names_there : names_in (module_block (named_tree_of m)) ≡ map (token_text_at m.source) (declaring_tokens m)
@@ -61,7 +61,7 @@ module _ (m : ParsedModule) where
       pub there : slice_get (declaring_tokens m) (d - 7) ≡ Some token
       pub written : token_text_at m.source token ≡ new
 
-    pub declared_by : is_declared_as m d new ≡ true → (token : ℕ) × IsDeclaredBy token
+    pub declared_by : declaration_has_name m d new ≡ true → (token : ℕ) × IsDeclaredBy token
     declared_by e = one (declaring_token m d) refl e
       where
         one : (o : Option ℕ) → declaring_token m d ≡ o → (elim o [ Some token ↦ same_name (token_text_at m.source token) new | None ↦ false ]) ≡ true → (token : ℕ) × IsDeclaredBy token
@@ -73,7 +73,7 @@ module _ (m : ParsedModule) where
     slice_get_map (x ∷ xs) zero = refl
     slice_get_map (x ∷ xs) (suc j) = slice_get_map xs j
 
-    all_so : is_declared_as m d new ≡ true → AreSo d new 7 (names_in (module_block (named_tree_of m)))
+    all_so : declaration_has_name m d new ≡ true → AreSo d new 7 (names_in (module_block (named_tree_of m)))
     all_so e =
         let found = declared_by e in
         let by : IsDeclaredBy found.0 = found.1 in
@@ -84,14 +84,14 @@ module _ (m : ParsedModule) where
         some_inverse (sym here ∙ (ap (λ xs. slice_get xs j) names_there ∙ got)))
 
     -- Renaming a declaration to its own name leaves the module unchanged.
-    pub own_module : is_declared_as m d new ≡ true → has_consistent_names (named_tree_of m) ≡ true → renamed (named_tree_of m) d new ≡ named_tree_of m
+    pub own_module : declaration_has_name m d new ≡ true → has_consistent_names (named_tree_of m) ≡ true → renamed (named_tree_of m) d new ≡ named_tree_of m
     own_module e once = let found = declared_by e in same_module d new (named_tree_of m) found.1.ordinal (all_so e) once
 
-    pub own_free : is_declared_as m d new ≡ true → has_consistent_names (named_tree_of m) ≡ true → IsFreeName (named_tree_of m) d new
+    pub own_free : declaration_has_name m d new ≡ true → has_consistent_names (named_tree_of m) ≡ true → IsFreeName (named_tree_of m) d new
     own_free e once = let found = declared_by e in own_name_free d new (named_tree_of m) found.1.ordinal (all_so e) once
 
     -- Another declaration of a block has a declaring token.
-    pub other_is_declared : (other : ℕ) → namesake (named_tree_of m) d new ≡ Some other → (token : ℕ) × (declaring_token m other ≡ Some token)
+    pub other_is_declared : (other : ℕ) → namesake_ordinal (named_tree_of m) d new ≡ Some other → (token : ℕ) × (declaring_token m other ≡ Some token)
     other_is_declared other e =
         let ds = declaring_tokens m in
         let within = subst (OneWithin 7 (ordinal_after_block 7 (module_block (named_tree_of m)))) e (namesake_within (named_tree_of m) d new) in

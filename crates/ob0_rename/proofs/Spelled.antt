@@ -3,8 +3,8 @@ use Rattle.std.proofs.Common.{◌≡◌, ℕ, zero, suc, ◌-◌, ◌<◌, List,
 use Rattle.std.specs.Prelude.{IfSome}
 use Rattle.std.proofs.lemmas.List.{length-map}
 use Rattle.ob0_scan.specs.LexemeClasses.{IsLexemeOfKind, IsIdentifier}
-use Rattle.ob0_scan.specs.Lexed.{AreLeadingLexemes, Lexeme}
-use Rattle.ob0_scan.specs.TextWithTokens.{IsScan, Word, word_of_token, words_of_lexeme, words_of_lexemes}
+use Rattle.ob0_scan.specs.TextLexemes.{AreLeadingLexemes, Lexeme}
+use Rattle.ob0_scan.specs.TextWithTokens.{IsScan, Word, word_of_token, words_of_one_lexeme, words_of_lexemes}
 use Rattle.ob0_scan.specs.declared.lexeme.LexemeKind.{LexemeKind}
 use Rattle.ob0_scan.specs.declared.lexeme.LexemeKind.TheVariants as lexeme
 use Rattle.ob0_scan.specs.declared.lexeme.Token.{Token}
@@ -13,19 +13,19 @@ use Rattle.ob0_scan.proofs.Spans.{scan_words}
 use Rattle.ob0_tree.proofs.Leaves.{leaves_are_identifiers}
 use Rattle.ob0_tree.specs.IdentifierIndexes as order
 use Rattle.ob0_tree.specs.IdentifierIndexes.{AreIdentifierTokens, names_without_roles}
-use Rattle.ob0_tree.specs.ParsedModule.{IsParsed, ParsedModule, tree_of}
-use Rattle.ob0_tree.specs.Places as place
+use Rattle.ob0_tree.specs.ParsedModule.{TreeMatchesText, ParsedModule, tree_of}
+use Rattle.ob0_tree.specs.TokenIndexLeaves as place
 use Rattle.ob0_tree.specs.Tree.{identifiers}
 use Rattle.ob0_tree.specs.declared.tree.Role.{Role}
 use Rattle.ob0_tree.specs.declared.tree.Role.TheVariants as role
 use Rattle.ob0_language_names.specs.Names.{Name}
 use Rattle.ob0_scope_table.specs.Resolution.{declaring_names}
-use Rattle.ob0_edits_tokens.specs.WordReplacements.{words_of}
-use Rattle.ob0_edits_tokens.specs.WordsOfTrees.{word_text_at, word_at}
+use Rattle.ob0_edits_tokens.specs.WordReplacements.{words_of_text}
+use Rattle.ob0_edits_tokens.specs.WordsOfTrees.{word_text_at, word_at_or_empty}
 use Rattle.ob0_edits_tokens.proofs.WordsOfTrees.{word_kind}
 use Rattle.ob0_types.specs.IdentifierMeanings.{MeansField}
 use Rattle.ob0_types.specs.declared.identifier_meanings.IdentifierWithMeaning.{IdentifierWithMeaning}
-use Rattle.ob0_rename.specs.Renaming.{is_declared_as}
+use Rattle.ob0_rename.specs.Renaming.{declaration_has_name}
 use Rattle.ob0_rename.proofs.Owned.{IsDeclaredBy, declared_by, declaring_tokens}
 use Rattle.ob0_rename.proofs.Rewritten.{text_same}
 
@@ -39,12 +39,12 @@ words_named : (ls : List Lexeme) (after : List ℕ) → AreLeadingLexemes ls aft
 words_named [] after are = tt
 words_named (l ∷ ls) after are = one l.kind are.0.belongs (words_named ls after are.1)
   where
-    one : (kind : LexemeKind) → IsLexemeOfKind kind l.text → EachNamed (words_of_lexemes ls) → EachNamed (words_of_lexeme l kind ++ words_of_lexemes ls)
-    one lexeme.Space belongs later = later
+    one : (kind : LexemeKind) → IsLexemeOfKind kind l.text → EachNamed (words_of_lexemes ls) → EachNamed (words_of_one_lexeme l kind ++ words_of_lexemes ls)
+    one lexeme.WhiteSpace belongs later = later
     one lexeme.Comment belongs later = later
     one (lexeme.Token kind) belongs later = ((λ e. subst (λ k. IsLexemeOfKind (lexeme.Token k) l.text) e belongs), later)
 
-named_word : (ws : List Word) (k : ℕ) → EachNamed ws → k < length ws → (word_at ws k).kind ≡ token.Identifier → IsIdentifier (word_text_at ws k)
+named_word : (ws : List Word) (k : ℕ) → EachNamed ws → k < length ws → (word_at_or_empty ws k).kind ≡ token.Identifier → IsIdentifier (word_text_at ws k)
 named_word [] k each low e = absurd (omega (arith, low))
 named_word (w ∷ ws) zero each low e = each.0 e
 named_word (w ∷ ws) (suc k) each low e = named_word ws k each.1 (omega (arith, low)) e
@@ -53,7 +53,7 @@ named_word (w ∷ ws) (suc k) each low e = named_word ws k each.1 (omega (arith,
 
 declaring_are_identifiers : (ts : List Token) (xs : List (Role × ℕ)) → AreIdentifierTokens ts (names_without_roles xs) → AreIdentifierTokens ts (declaring_names xs)
 declaring_are_identifiers ts [] h = tt
-declaring_are_identifiers ts ((role.Declaring, n) ∷ xs) h = (h.0, declaring_are_identifiers ts xs h.1)
+declaring_are_identifiers ts ((role.DeclaringName, n) ∷ xs) h = (h.0, declaring_are_identifiers ts xs h.1)
 declaring_are_identifiers ts ((_, n) ∷ xs) h = declaring_are_identifiers ts xs h.1
 
 one_is_identifier : (ts : List Token) (places : List ℕ) (j k : ℕ) → AreIdentifierTokens ts places → slice_get places j ≡ Some k → order.IsIdentifierToken ts k
@@ -64,15 +64,15 @@ one_is_identifier ts (p ∷ ps) (suc j) k h e = one_is_identifier ts ps j k h.1 
 -- The text of an identifier token is an identifier.
 pub spelled_at : (m : ParsedModule) (k : ℕ) → IsScan m.source → order.IsIdentifierToken m.source.tokens k → IsIdentifier (place.token_text_at m.source k)
 spelled_at m k scan is_there =
-    let each : EachNamed (words_of m.source) = subst EachNamed (sym (scan_words m.source scan)) (words_named scan.lexemes [] scan.lexed.each) in
-    let low : k < length (words_of m.source) = omega (arith, is_there.0, length-map m.source.tokens (word_of_token m.source.text)) in
-    subst IsIdentifier (text_same m.source k) (named_word (words_of m.source) k each low (word_kind m.source k ∙ is_there.1 _))
+    let each : EachNamed (words_of_text m.source) = subst EachNamed (sym (scan_words m.source scan)) (words_named scan.lexemes [] scan.lexed.each) in
+    let low : k < length (words_of_text m.source) = omega (arith, is_there.0, length-map m.source.tokens (word_of_token m.source.text)) in
+    subst IsIdentifier (text_same m.source k) (named_word (words_of_text m.source) k each low (word_kind m.source k ∙ is_there.1 _))
 
-pub own_identifier : (m : ParsedModule) (d : ℕ) (new : Name) → IsParsed m → IsScan m.source → is_declared_as m d new ≡ true → IsIdentifier new
+pub own_identifier : (m : ParsedModule) (d : ℕ) (new : Name) → TreeMatchesText m → IsScan m.source → declaration_has_name m d new ≡ true → IsIdentifier new
 own_identifier m d new is scan e =
     let found = declared_by m d new e in
     let by : IsDeclaredBy m d new found.0 = found.1 in
-    let is_there = one_is_identifier m.source.tokens (declaring_tokens m) (d - 7) found.0 (declaring_are_identifiers m.source.tokens (identifiers role.Declaring (tree_of m)) (leaves_are_identifiers m is)) by.there in
+    let is_there = one_is_identifier m.source.tokens (declaring_tokens m) (d - 7) found.0 (declaring_are_identifiers m.source.tokens (identifiers role.DeclaringName (tree_of m)) (leaves_are_identifiers m is)) by.there in
     subst IsIdentifier by.written (spelled_at m found.0 scan is_there)
 
 -- The text of a field's identifier at a place is an identifier.

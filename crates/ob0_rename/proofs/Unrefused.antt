@@ -11,8 +11,8 @@ use Rattle.ob0_tree.specs.Tree.{Tree, block, declares, declares_procedure, end, 
 use Rattle.ob0_language_names.specs.ConsistentNames.{are_distinct, names_declared_in_block, block_has_consistent_names, has_consistent_names, formals_have_distinct_fields, is_among, procedure_has_consistent_names, procedure_list_has_consistent_names, types_have_distinct_fields, variables_have_distinct_fields}
 use Rattle.ob0_language_names.specs.Names.{Name, same_name}
 use Rattle.ob0_language_names.specs.Occurrences.{IsFreeName, bindings, scopes_in_block, scopes_in_procedure, scopes_in_procedure_list, declares_ordinal, another_declaration_has_name}
-use Rattle.ob0_language_names.specs.BlockParts.{constant_names, formal_names, formal_sections, module_block, declared_type_names, procedure_name, section_constants, section_types, section_variables, variable_names}
-use Rattle.ob0_scope.specs.Renames.{namesake, namesake_in_scopes, other_declaration_with_name}
+use Rattle.ob0_language_names.specs.BlockParts.{constant_names, formal_parameter_names, formal_parameter_sections, module_block, declared_type_names, procedure_name, section_constants, section_types, section_variables, variable_names}
+use Rattle.ob0_scope.specs.Renames.{namesake_ordinal, namesake_in_scopes, other_declaration_with_name}
 use Rattle.ob0_language_names.specs.Scopes.{Scope, ordinal_after_block, ordinal_after_names, ordinal_after_procedure, ordinal_after_procedure_list, body_scope, declare_names, declare_procedure_names, first_procedure_ordinal, first_type_ordinal, first_variable_ordinal, scope_before_procedures, scope_before_types, scope_before_variables}
 use Rattle.ob0_language_names.proofs.DistinctNames.{distinct-onto, labels_in, onto, onto-append, own_name}
 use Rattle.ob0_language_names.proofs.Ordinals.{le-ordinal_after_block, le-ordinal_after_names, le-ordinal_after_procedure, le-ordinal_after_procedure_list}
@@ -114,10 +114,10 @@ module _ (d : ℕ) (new : Name) where
 
     procedure_clear : (k : ℕ) (p : Tree Name (item procedure)) → AreSo d new k (names_in_procedure p) → procedure_has_consistent_names p ≡ true → list_any (Clashes d new) (scopes_in_procedure (suc k) p) ≡ false
     procedure_clear k (declares_procedure x fs b closing) h once =
-        let own = formal_names (formal_sections fs) in
+        let own = formal_parameter_names (formal_parameter_sections fs) in
         let parts = so-append d new (suc k) own (names_in b) h.1 in
-        let onces = and_parts (same_name x closing) (formals_have_distinct_fields (formal_sections fs) && block_has_consistent_names own b) once in
-        let onces₁ = and_parts (formals_have_distinct_fields (formal_sections fs)) (block_has_consistent_names own b) onces.1 in
+        let onces = and_parts (same_name x closing) (formals_have_distinct_fields (formal_parameter_sections fs) && block_has_consistent_names own b) once in
+        let onces₁ = and_parts (formals_have_distinct_fields (formal_parameter_sections fs)) (block_has_consistent_names own b) onces.1 in
         block_clear (suc k) own b (in_scope-names d new (suc k) own [] parts.0 tt) parts.1 onces₁.1
 
   pub own_name_free : (t : Tree Name module_text) → 7 ≤ d → AreSo d new 7 (names_in (module_block t)) → has_consistent_names t ≡ true → IsFreeName t d new
@@ -183,7 +183,7 @@ mutual
 
   procedure_within : (low high k : ℕ) (p : Tree Name (item procedure)) → low ≤ k → ordinal_after_procedure k p ≤ high → AllWithin low high (scopes_in_procedure k p)
   procedure_within low high k (declares_procedure x fs b closing) l h =
-      let own = formal_names (formal_sections fs) in
+      let own = formal_parameter_names (formal_parameter_sections fs) in
       block_within low high (ordinal_after_names k own) (declare_names k own []) b (le_trans l (le-ordinal_after_names k own)) h
       (within-names low high k own [] l (le_trans (le-ordinal_after_block (ordinal_after_names k own) b) h) tt)
 
@@ -204,6 +204,6 @@ named_within low high d new (s ∷ ss) w = one (declares_ordinal s d) (other_dec
     one true None here later = later
     one false found here later = later
 
-pub namesake_within : (t : Tree Name module_text) (d : ℕ) (new : Name) → OneWithin 7 (ordinal_after_block 7 (module_block t)) (namesake t d new)
+pub namesake_within : (t : Tree Name module_text) (d : ℕ) (new : Name) → OneWithin 7 (ordinal_after_block 7 (module_block t)) (namesake_ordinal t d new)
 namesake_within (forms_module x b closing) d new =
     named_within 7 (ordinal_after_block 7 b) d new (scopes_in_block 7 [] b) (block_within 7 (ordinal_after_block 7 b) 7 [] b (le_refl 7) (le_refl (ordinal_after_block 7 b)) tt)

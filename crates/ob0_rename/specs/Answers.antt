@@ -18,8 +18,8 @@ use Rattle.ob0_language_names.specs.Scopes.{renamed}
 use Rattle.ob0_language_types.specs.WellTyped.{WellTyped}
 use Rattle.ob0_language_runs.specs.EditLaws.{HaveSameRuns}
 use Rattle.ob0_edits_tokens.specs.Replacements.{replacement_at_token, range_and_text}
-use Rattle.ob0_language_fields.specs.Renaming.{IsFreeFieldName, module_with_renamed_field, is_duplicate_field_name}
-use Rattle.ob0_rename.specs.Renaming.{TargetsDeclaration, TargetsField, Renaming, field_tokens_to_rename, is_declared_as, renaming_target, module_of, nothing, occurrence_range, conflicting_field_range, conflicting_declaration_range, predeclared, text_after_renaming, tokens_to_rename, named_tree_of_renaming}
+use Rattle.ob0_language_fields.specs.SingleFieldRenaming.{IsFreeFieldName, module_with_renamed_field, is_duplicate_field_name}
+use Rattle.ob0_rename.specs.Renaming.{TargetsDeclaration, TargetsField, Renaming, field_tokens_to_rename, declaration_has_name, renaming_target, module_of_renaming, nothing, occurrence_range, conflicting_field_range, conflicting_declaration_range, predeclared, text_after_renaming, tokens_to_rename, named_tree_of_renaming}
 
 -- States that the edits write the new name at the tokens with the indexes `tokens` and change
 -- nothing else. Applied together, the edits give a text with the tree `tree` and with at most
@@ -29,7 +29,7 @@ pub record WritesNewName (r : Renaming) (tokens : List ℕ) (tree : Tree Name mo
     (edits : List Edit) : Type 0 where
   pub short : length (text_after_renaming r tokens) ≤ max_text_length
   pub changes : map range_and_text edits
-      ≡ map (replacement_at_token r.unit r.text (module_of r).source.tokens r.new) tokens
+      ≡ map (replacement_at_token r.unit r.text (module_of_renaming r).source.tokens r.new) tokens
   pub after : TextWithTokens
   pub scan : IsScan after
   pub made : patched_text (width_of r.unit) r.text edits ≡ Some (chars after.text)
@@ -46,7 +46,7 @@ pub record WritesNewName (r : Renaming) (tokens : List ℕ) (tree : Tree Name mo
 pub record RenamesDeclaration (r : Renaming) (d : ℕ) (edits : List Edit) : Type 0 where
   pub identifier : IsIdentifier r.new
   pub free : IsFreeName (named_tree_of_renaming r) d r.new
-  pub writes : WritesNewName r (tokens_to_rename (module_of r) d r.new)
+  pub writes : WritesNewName r (tokens_to_rename (module_of_renaming r) d r.new)
       (renamed (named_tree_of_renaming r) d r.new) edits
 
 -- States that the given refusal is the first one that applies to the new name of the declaration
@@ -67,7 +67,7 @@ IsFirstRefusalForDeclaration r d (refusal.Captures range) =
 IsFirstRefusalForDeclaration r d refusal.TooLong =
     IsIdentifier r.new
     × IsFreeName (named_tree_of_renaming r) d r.new
-    × (max_text_length < length (text_after_renaming r (tokens_to_rename (module_of r) d r.new)))
+    × (max_text_length < length (text_after_renaming r (tokens_to_rename (module_of_renaming r) d r.new)))
 IsFirstRefusalForDeclaration r d refusal.TooDeep = ⊥
 IsFirstRefusalForDeclaration r d refusal.Shadowed = ⊥
 IsFirstRefusalForDeclaration r d refusal.CommentInside = ⊥
@@ -156,7 +156,7 @@ RenameAnswers r (Err why) = (why ≡ refusal.Memory) ⊎ IsRenameRefusal r why
 -- States that the renaming's place is on a field or on a declared name that isn't predeclared, and
 -- that the new name is an identifier. The contract of `rename` allows `Memory` only in
 -- this case.
-pub record MayRunOutOfMemory (r : Renaming) : Type 0 where
+pub record RenamingCanFailForMemory (r : Renaming) : Type 0 where
   pub identifier : IsIdentifier r.new
   pub some : ¬ (renaming_target r ≡ nothing)
   pub declared : ¬ (renaming_target r ≡ predeclared)
@@ -173,6 +173,6 @@ abbrev pub AcceptsPresentName : Renaming → Result (Vec Edit Global) EditRefusa
 AcceptsPresentName r result =
     ((d : ℕ)
     → TargetsDeclaration r d
-    → is_declared_as (module_of r) d r.new ≡ true
+    → declaration_has_name (module_of_renaming r) d r.new ≡ true
     → FailsOnlyForMemory result)
     × ((k : ℕ) (f : Name) → TargetsField r k f → r.new ≡ f → FailsOnlyForMemory result)

@@ -9,19 +9,19 @@ use Rattle.ob0_text.specs.declared.position_types.Position.{Position}
 use Rattle.ob0_text.specs.declared.position_types.Range.{Range}
 use Rattle.ob0_text.specs.declared.position_types.Unit as counting
 use Rattle.ob0_tree.specs.ParsedModule as read
-use Rattle.ob0_tree.specs.Places.{token_text_at}
+use Rattle.ob0_tree.specs.TokenIndexLeaves.{token_text_at}
 use Rattle.ob0_tree.specs.Tree.{Tree, identifiers, module_text, occurrences}
 use Rattle.ob0_tree.specs.declared.tree.Role.TheVariants as role
 use Rattle.ob0_language_names.specs.Names.{Name, same_name}
 use Rattle.ob0_language_names.specs.Scopes.{predeclared_count}
-use Rattle.ob0_scope.specs.Renames.{namesake}
-use Rattle.ob0_scope_table.specs.Resolution.{Resolution, declaring_names, span_at, declaration_token}
+use Rattle.ob0_scope.specs.Renames.{namesake_ordinal}
+use Rattle.ob0_scope_table.specs.Resolution.{Resolution, declaring_names, token_span, declaration_token}
 use Rattle.ob0_edits_tokens.specs.Replacements.{text_after_replacement}
 use Rattle.ob0_edits_tokens.specs.Ranges.{range_of}
-use Rattle.ob0_scope.specs.NamesAtPlaces.{name_at_offset, tokens_bound_to}
+use Rattle.ob0_scope.specs.NamesAtPlaces.{name_at_offset, tokens_bound_to_declaration}
 use Rattle.ob0_scope.specs.declared.bound_names.BoundName as named
-use Rattle.ob0_types_fields.specs.declared.field_name.FieldName.{FieldName}
-use Rattle.ob0_types_fields.specs.Identifiers.{field_declaring_token, field_at, field_tokens}
+use Rattle.ob0_types_fields.specs.declared.field_identifier.FieldIdentifier.{FieldIdentifier}
+use Rattle.ob0_types_fields.specs.FieldIdentifiers.{field_declaring_token, module_field_at_offset, field_tokens_in_module}
 
 -- A requested renaming. `text` is the text as characters, and `unit` is the unit of its positions.
 -- `names` is the text's module with its names bound to declarations. The old name is at `place`,
@@ -35,17 +35,17 @@ pub record Renaming : Type 0 where
 
 -- Returns the renaming to `new` of the name at a place in a text. `names` is the text's module with
 -- its names bound to declarations.
-abbrev pub renaming_of : counting.Unit → List ℕ → Resolution → Position → List ℕ → Renaming
-renaming_of unit text names place new =
+abbrev pub renaming_at_place : counting.Unit → List ℕ → Resolution → Position → List ℕ → Renaming
+renaming_at_place unit text names place new =
     record { unit = unit; text = text; names = names; place = place; new = new }
 
 -- Returns the parsed module of the renaming's text.
-abbrev pub module_of : Renaming → read.ParsedModule
-module_of r = r.names.module_read
+abbrev pub module_of_renaming : Renaming → read.ParsedModule
+module_of_renaming r = r.names.module_read
 
 -- Returns the tree of the renaming's module, in which each name is a text.
 abbrev pub named_tree_of_renaming : Renaming → Tree Name module_text
-named_tree_of_renaming r = read.named_tree_of (module_of r)
+named_tree_of_renaming r = read.named_tree_of (module_of_renaming r)
 
 -- ---- the target: the declaration or field at a place
 
@@ -67,13 +67,13 @@ target_of_ordinal ordinal = if nat_lt ordinal predeclared_count then predeclared
 
 -- Returns the target for an identifier that declares or selects a field: that field. If there is no
 -- such identifier (None), returns `nothing`.
-abbrev pub target_of_optional_field : TextWithTokens → Option FieldName → RenameTarget
+abbrev pub target_of_optional_field : TextWithTokens → Option FieldIdentifier → RenameTarget
 target_of_optional_field source None = nothing
 target_of_optional_field source (Some x) = record_field x.owner (token_text_at source x.token)
 
 -- Returns the target for the name. If there is no name (None), returns the target for the field.
 -- The name and the field were looked up at the same place.
-abbrev pub target_of_name_or_field : TextWithTokens → Option named.BoundName → Option FieldName → RenameTarget
+abbrev pub target_of_name_or_field : TextWithTokens → Option named.BoundName → Option FieldIdentifier → RenameTarget
 target_of_name_or_field source (Some n) f = target_of_ordinal n.ordinal
 target_of_name_or_field source None f = target_of_optional_field source f
 
@@ -81,7 +81,7 @@ target_of_name_or_field source None f = target_of_optional_field source f
 -- otherwise the field at the offset. Returns `nothing` if the offset is on neither.
 abbrev pub rename_target_at : Resolution → ℕ → RenameTarget
 rename_target_at names offset =
-    target_of_name_or_field names.module_read.source (name_at_offset names.module_read offset) (field_at names offset)
+    target_of_name_or_field names.module_read.source (name_at_offset names.module_read offset) (module_field_at_offset names offset)
 
 -- Returns the target of the renaming: what the identifier at the position `r.place` refers to, or
 -- `nothing`.
@@ -102,12 +102,12 @@ TargetsField r k f = renaming_target r ≡ record_field k f
 -- name. Returns None if there is no such token, as for a predeclared name.
 abbrev pub declaring_token : read.ParsedModule → ℕ → Option ℕ
 declaring_token m ordinal =
-    declaration_token (declaring_names (identifiers role.Declaring (read.tree_of m))) ordinal
+    declaration_token (declaring_names (identifiers role.DeclaringName (read.tree_of m))) ordinal
 
 -- Returns whether the declaration with the ordinal `d` has the name `new`. For a predeclared name
 -- the result is false.
-abbrev pub is_declared_as : read.ParsedModule → ℕ → Name → Bool
-is_declared_as m d new =
+abbrev pub declaration_has_name : read.ParsedModule → ℕ → Name → Bool
+declaration_has_name m d new =
     elim (declaring_token m d)
     [ Some token ↦ same_name (token_text_at m.source token) new | None ↦ false ]
 
@@ -115,23 +115,23 @@ is_declared_as m d new =
 -- declared, used or repeated as a closing name, in text order. The list is empty if the declaration
 -- already has the name `new`.
 abbrev pub tokens_to_rename : read.ParsedModule → ℕ → Name → List ℕ
-tokens_to_rename m d new = if is_declared_as m d new then [] else tokens_bound_to m d true
+tokens_to_rename m d new = if declaration_has_name m d new then [] else tokens_bound_to_declaration m d true
 
 -- Returns the indexes of the tokens that declare or select the field `f` of the record with the
 -- ordinal `k`. The list is empty if `new` is equal to `f`.
 abbrev pub field_tokens_to_rename : Resolution → ℕ → Name → Name → List ℕ
-field_tokens_to_rename names k f new = if same_name new f then [] else field_tokens names k f
+field_tokens_to_rename names k f new = if same_name new f then [] else field_tokens_in_module names k f
 
 -- Returns the text, in bytes, after the new name is written in place of the tokens with the indexes
 -- `tokens`.
 abbrev pub text_after_renaming : Renaming → List ℕ → List ℕ
-text_after_renaming r tokens = text_after_replacement (module_of r).source tokens r.new
+text_after_renaming r tokens = text_after_replacement (module_of_renaming r).source tokens r.new
 
 -- ---- conflicts of the new name
 
 -- Returns the range of the token with the index `token`.
 abbrev pub token_range : Renaming → ℕ → Range
-token_range r token = range_of (width_of r.unit) r.text (span_at (module_of r).source token)
+token_range r token = range_of (width_of r.unit) r.text (token_span (module_of_renaming r).source token)
 
 -- Returns the range of the identifier that already declares the new name in the block of the
 -- declaration with the ordinal `d`. Returns None if no other declaration of that block has the new
@@ -139,15 +139,15 @@ token_range r token = range_of (width_of r.unit) r.text (span_at (module_of r).s
 abbrev pub conflicting_declaration_range : Renaming → ℕ → Option Range
 conflicting_declaration_range r d =
     option_map (token_range r)
-    (option_and_then (declaring_token (module_of r)) (namesake (named_tree_of_renaming r) d r.new))
+    (option_and_then (declaring_token (module_of_renaming r)) (namesake_ordinal (named_tree_of_renaming r) d r.new))
 
 -- Returns the range of the identifier that declares a field with the new name in the record with
 -- the ordinal `k`. Returns None if the record has no such field.
 abbrev pub conflicting_field_range : Renaming → ℕ → Option Range
-conflicting_field_range r k = option_map (token_range r) (field_declaring_token (module_of r) k r.new)
+conflicting_field_range r k = option_map (token_range r) (field_declaring_token (module_of_renaming r) k r.new)
 
 -- Returns the range of the occurrence with the number `k`, counted from 0 in text order. Returns
 -- None if the text has no occurrence with that number.
 abbrev pub occurrence_range : Renaming → ℕ → Option Range
 occurrence_range r k =
-    option_map (token_range r) (slice_get (occurrences (read.tree_of (module_of r))) k)
+    option_map (token_range r) (slice_get (occurrences (read.tree_of (module_of_renaming r))) k)

@@ -7,12 +7,12 @@ ghost use Rattle.ob0_text.specs.Units.{width_of};
 ghost use Rattle.ob0_text.specs.declared.position_types.Position as positions;
 ghost use Rattle.ob0_tree.specs.ParsedModule.{tree_of};
 ghost use Rattle.ob0_tree.specs.Tree.{occurrences};
-ghost use Rattle.ob0_scope_table.specs.Resolution.{span_at};
+ghost use Rattle.ob0_scope_table.specs.Resolution.{token_span};
 ghost use Rattle.ob0_scope.specs.declared.name_conflicts.FirstConflict.TheVariants.{Duplicate, Occurrence};
 ghost use Rattle.ob0_text.specs.declared.refusals.EditRefusal.TheVariants as refused;
 ghost use Rattle.ob0_edits_tokens.specs.Ranges.{range_of};
-ghost use Rattle.ob0_rename.specs.Answers.{RenameAnswers, AnswersRenamingOfDeclaration, MayRunOutOfMemory, FailsOnlyForMemory, AcceptsPresentName};
-ghost use Rattle.ob0_rename.specs.Renaming.{declaring_token, is_declared_as, renaming_of};
+ghost use Rattle.ob0_rename.specs.Answers.{RenameAnswers, AnswersRenamingOfDeclaration, RenamingCanFailForMemory, FailsOnlyForMemory, AcceptsPresentName};
+ghost use Rattle.ob0_rename.specs.Renaming.{declaring_token, declaration_has_name, renaming_at_place};
 
 use crate::field_edits::rename_field;
 use crate::identifier_tokens::{resolved_identifier_at, token_range, tokens_to_rename};
@@ -20,7 +20,7 @@ use ob0_edits_tokens::laws::{
     identifier_may_replace_identifier, renamed_tree_spells_renamed_words,
 };
 use ob0_edits_tokens::replacement_edits;
-use ob0_language_runs::laws::free_renaming_keeps_typing_and_runs;
+use ob0_language_runs::laws::renaming_to_free_name_keeps_typing_and_runs;
 use ob0_scan::is_identifier;
 use ob0_scope::{FirstConflict, captures};
 use ob0_scope_table::{PREDECLARED_COUNT, Resolved};
@@ -48,10 +48,10 @@ pub fn rename<T: TextStore>(
     new: &str,
 ) -> Result<Vec<Edit>, EditRefusal>
     requires { T.content store.now ≡ chars well_typed.now.module_read.source.text }
-    ensures answers { RenameAnswers (renaming_of (T.unit_of store.now) (T.content store.now) well_typed.now place new.now) result }
+    ensures answers { RenameAnswers (renaming_at_place (T.unit_of store.now) (T.content store.now) well_typed.now place new.now) result }
     ensures memory { result ≡ Err refused.Memory
-        → MayRunOutOfMemory (renaming_of (T.unit_of store.now) (T.content store.now) well_typed.now place new.now) }
-    ensures own_name { AcceptsPresentName (renaming_of (T.unit_of store.now) (T.content store.now) well_typed.now place new.now) result }
+        → RenamingCanFailForMemory (renaming_at_place (T.unit_of store.now) (T.content store.now) well_typed.now place new.now) }
+    ensures own_name { AcceptsPresentName (renaming_at_place (T.unit_of store.now) (T.content store.now) well_typed.now place new.now) result }
 {
     let offset = store.offset(place);
     match resolved_identifier_at(well_typed, offset) {
@@ -83,14 +83,14 @@ fn rename_declaration<T: TextStore>(
 ) -> Result<Vec<Edit>, EditRefusal>
     requires { T.content store.now ≡ chars well_typed.now.module_read.source.text }
     ensures answers { (place : positions.Position)
-        → AnswersRenamingOfDeclaration (renaming_of (T.unit_of store.now) (T.content store.now) well_typed.now place new.now) declaration result }
+        → AnswersRenamingOfDeclaration (renaming_at_place (T.unit_of store.now) (T.content store.now) well_typed.now place new.now) declaration result }
     ensures memory { result ≡ Err refused.Memory → IsIdentifier new.now }
-    ensures own_name { is_declared_as well_typed.now.module_read declaration new.now ≡ true
+    ensures own_name { declaration_has_name well_typed.now.module_read declaration new.now ≡ true
         → FailsOnlyForMemory result }
 {
     identifier_may_replace_identifier();
     renamed_tree_spells_renamed_words();
-    free_renaming_keeps_typing_and_runs();
+    renaming_to_free_name_keeps_typing_and_runs();
     let names = well_typed.resolved();
     // The proof needs the contract of this call.
     let _text = names.tokens().text();
@@ -118,11 +118,11 @@ fn refusal_of_conflict<T: TextStore>(
     ensures duplicate { (other token : ℕ) → capture ≡ Duplicate other
         → declaring_token names.now.module_read other ≡ Some token
         → result ≡ refused.Duplicate (range_of (width_of (T.unit_of store.now))
-        (T.content store.now) (span_at names.now.module_read.source token)) }
+        (T.content store.now) (token_span names.now.module_read.source token)) }
     ensures occurrence { (k token : ℕ) → capture ≡ Occurrence k
         → slice_get (occurrences (tree_of names.now.module_read)) k ≡ Some token
         → result ≡ refused.Captures (range_of (width_of (T.unit_of store.now))
-        (T.content store.now) (span_at names.now.module_read.source token)) }
+        (T.content store.now) (token_span names.now.module_read.source token)) }
 {
     // The proof needs the contract of this call.
     let _module = names.module();

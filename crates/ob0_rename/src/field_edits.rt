@@ -5,10 +5,10 @@ ghost use Rattle.std.specs.Str.{chars};
 ghost use Rattle.ob0_scan.specs.LexemeClasses.{IsIdentifier};
 ghost use Rattle.ob0_text.specs.declared.position_types.Position as positions;
 ghost use Rattle.ob0_text.specs.declared.refusals.EditRefusal.TheVariants as refused;
-ghost use Rattle.ob0_tree.specs.Places.{token_text_at};
+ghost use Rattle.ob0_tree.specs.TokenIndexLeaves.{token_text_at};
 ghost use Rattle.ob0_language_names.specs.Names.{same_name};
 ghost use Rattle.ob0_edits_tokens.specs.Replacements.{AreIdentifierIndexes};
-ghost use Rattle.ob0_types_fields.specs.Identifiers.{field_declaring_token};
+ghost use Rattle.ob0_types_fields.specs.FieldIdentifiers.{field_declaring_token};
 ghost use Rattle.ob0_rename.specs.Answers.{AnswersRenamingOfField, FailsOnlyForMemory};
 ghost use Rattle.ob0_rename.specs.Renaming.{field_tokens_to_rename};
 
@@ -17,11 +17,11 @@ use ob0_edits_tokens::laws::{
     identifier_may_replace_identifier, renamed_tree_spells_renamed_words,
 };
 use ob0_edits_tokens::replacement_edits;
-use ob0_language_field_laws::laws::free_field_renaming_keeps_typing_and_runs;
+use ob0_language_field_laws::laws::renaming_field_to_free_name_keeps_typing_and_runs;
 use ob0_scan::is_identifier;
 use ob0_text::{Edit, EditRefusal, TextStore};
 use ob0_tree::token_text_at;
-use ob0_types::{WellTyped, field_declaring_token, field_tokens};
+use ob0_types::{WellTyped, field_declaring_token, field_tokens_in_module};
 use ob0_types_fields::laws::{
     duplicate_field_name_has_declaring_token, renaming_changes_field_tokens,
 };
@@ -56,7 +56,7 @@ pub(crate) fn rename_field<T: TextStore>(
 {
     identifier_may_replace_identifier();
     renamed_tree_spells_renamed_words();
-    free_field_renaming_keeps_typing_and_runs();
+    renaming_field_to_free_name_keeps_typing_and_runs();
     renaming_changes_field_tokens();
     duplicate_field_name_has_declaring_token();
     let names = well_typed.resolved();
@@ -114,5 +114,5 @@ fn field_tokens_to_rename(
     if new == old {
         return Ok(Vec::new(alloc));
     }
-    field_tokens(alloc, well_typed, owner, old)
+    field_tokens_in_module(alloc, well_typed, owner, old)
 }

@@ -3,20 +3,20 @@
 
 ghost use Rattle.std.specs.Prelude.{◌≡◌, ℕ, IfOk, IfSome, Some};
 ghost use Rattle.ob0_scan.specs.LexemeClasses.{IsIdentifier};
-ghost use Rattle.ob0_scope_table.specs.Resolution.{span_at};
+ghost use Rattle.ob0_scope_table.specs.Resolution.{token_span};
 ghost use Rattle.ob0_text.specs.Units.{width_of};
-ghost use Rattle.ob0_tree.specs.Places.{token_text_at};
+ghost use Rattle.ob0_tree.specs.TokenIndexLeaves.{token_text_at};
 ghost use Rattle.ob0_edits_tokens.specs.Ranges.{range_of};
 ghost use Rattle.ob0_edits_tokens.specs.Replacements.{AreIdentifierIndexes};
-ghost use Rattle.ob0_types.specs.IdentifierMeanings.{MeansField, identifier_meaning_at};
-ghost use Rattle.ob0_rename.specs.Renaming.{is_declared_as, tokens_to_rename};
+ghost use Rattle.ob0_types.specs.IdentifierMeanings.{MeansField, identifier_meaning_at_offset};
+ghost use Rattle.ob0_rename.specs.Renaming.{declaration_has_name, tokens_to_rename};
 
 use ob0_edits_tokens::range_of;
 use ob0_scan::{Span, Tokens};
 use ob0_scope::tokens_changed_by_rename;
 use ob0_scope_table::{Resolved, has_spelling, token_span};
 use ob0_text::{Range, TextStore};
-use ob0_types::{IdentifierWithMeaning, WellTyped, identifier_meaning_at};
+use ob0_types::{IdentifierWithMeaning, WellTyped, identifier_meaning_at_offset};
 use std::alloc::{AllocError, Global};
 
 /// Returns the identifier at a byte offset with its meaning: a declared name or a field. Returns
@@ -26,13 +26,13 @@ pub(crate) fn resolved_identifier_at(
     well_typed: &WellTyped<'_>,
     offset: usize,
 ) -> Option<IdentifierWithMeaning>
-    ensures found { result ≡ identifier_meaning_at well_typed.now offset }
+    ensures found { result ≡ identifier_meaning_at_offset well_typed.now offset }
     ensures spelled { IfSome result (λ x. MeansField x.means
         → IsIdentifier (token_text_at well_typed.now.module_read.source x.token)) }
 {
     // The proof needs the contract of this call.
     let _text = well_typed.resolved().tokens().text();
-    identifier_meaning_at(well_typed, offset)
+    identifier_meaning_at_offset(well_typed, offset)
 }
 
 /// Returns the indexes of the tokens at which a renaming of a declaration writes `new`, in text
@@ -49,7 +49,7 @@ pub(crate) fn tokens_to_rename(
     ensures names { IfOk result
         (λ found. AreIdentifierIndexes names.now.module_read.source.tokens 0 found.items) }
 {
-    if is_declared_as(names, declaration, new) {
+    if declaration_has_name(names, declaration, new) {
         return Ok(Vec::new(alloc));
     }
     tokens_changed_by_rename(alloc, names, declaration)
@@ -57,8 +57,8 @@ pub(crate) fn tokens_to_rename(
 
 /// Returns whether the declaration with the ordinal `declaration` has the name `name`. For a
 /// predeclared name the result is false, because no token declares it.
-fn is_declared_as(names: &Resolved, declaration: usize, name: &str) -> bool
-    ensures { result ≡ is_declared_as names.now.module_read declaration name.now }
+fn declaration_has_name(names: &Resolved, declaration: usize, name: &str) -> bool
+    ensures { result ≡ declaration_has_name names.now.module_read declaration name.now }
 {
     // The proof needs the contract of this call.
     let _module = names.module();
@@ -75,7 +75,7 @@ pub(crate) fn token_range<T: TextStore>(store: &T, tokens: &Tokens, token: Optio
         → token ≡ Some index
         → result
         ≡ range_of (width_of (T.unit_of store.now)) (T.content store.now)
-        (span_at tokens.now index) }
+        (token_span tokens.now index) }
 {
     match token {
         Some(index) => range_of(store, token_span(tokens, index)),

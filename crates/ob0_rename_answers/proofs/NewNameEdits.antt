@@ -18,9 +18,9 @@ use Rattle.ob0_text.specs.declared.refusals.EditRefusal.TheVariants as refusal
 use Rattle.ob0_text.specs.Patches.{text_from_place_with_cuts}
 use Rattle.ob0_text.specs.Units.{width_of}
 use Rattle.ob0_tree_values.proofs.TreeValues.{vec_of}
-use Rattle.ob0_edits_tokens.specs.WordReplacements.{changes_at_indexes, changed_words, words_of}
+use Rattle.ob0_edits_tokens.specs.WordReplacements.{changes_at_indexes, changed_words, words_of_text}
 use Rattle.ob0_edits_tokens.specs.Ranges.{range_of}
-use Rattle.ob0_edits_tokens.specs.Replacements.{AreIdentifierIndexes, EditsGiveWords, MayReplaceIdentifier, replacement_cut, replacement_at_token, range_and_text, span_at, text_after_replacement}
+use Rattle.ob0_edits_tokens.specs.Replacements.{AreIdentifierIndexes, EditedTextHasWords, MayReplaceIdentifier, replacement_cut, replacement_at_token, range_and_text, token_span_or_empty, text_after_replacement}
 use Rattle.ob0_edits_tokens.specs.Written.{name_word}
 use Rattle.ob0_edits_tokens.proofs.Made.{leaves_words}
 use Rattle.ob0_rename.proofs.Outcomes.{Edited}
@@ -38,21 +38,21 @@ module _ (unit : Unit) (content text : List ℕ) (tokens : List Token) (new : Li
   unfolding text_from_place_with_cuts
   name_edits at [] short = ([], refl)
   name_edits at (p ∷ ps) short =
-      let back : List ℕ = text_from_place_with_cuts text (span_at tokens p).end (map (replacement_cut tokens new) ps) in
-      let all = length-append (take ((span_at tokens p).start - at) (drop at text)) (new ++ back) in
+      let back : List ℕ = text_from_place_with_cuts text (token_span_or_empty tokens p).end (map (replacement_cut tokens new) ps) in
+      let all = length-append (take ((token_span_or_empty tokens p).start - at) (drop at text)) (new ++ back) in
       let rest = length-append new back in
-      let more = name_edits (span_at tokens p).end ps (omega (arith, all, rest, short)) in
-      let here : Edit = record { range = range_of (width_of unit) content (span_at tokens p); text = string_of new u (omega (arith, all, rest, short)) } in
+      let more = name_edits (token_span_or_empty tokens p).end ps (omega (arith, all, rest, short)) in
+      let here : Edit = record { range = range_of (width_of unit) content (token_span_or_empty tokens p); text = string_of new u (omega (arith, all, rest, short)) } in
       (here ∷ more.0, ap (λ xs. replacement_at_token unit content tokens new p ∷ xs) more.1)
 
 few_places : (text : List ℕ) (tokens : List Token) (new : List ℕ) → 0 < length new → (at : ℕ) (places : List ℕ) → length places ≤ length (text_from_place_with_cuts text at (map (replacement_cut tokens new) places))
 unfolding text_from_place_with_cuts
 few_places text tokens new some at [] = omega arith
 few_places text tokens new some at (p ∷ ps) =
-    let back : List ℕ = text_from_place_with_cuts text (span_at tokens p).end (map (replacement_cut tokens new) ps) in
-    let all = length-append (take ((span_at tokens p).start - at) (drop at text)) (new ++ back) in
+    let back : List ℕ = text_from_place_with_cuts text (token_span_or_empty tokens p).end (map (replacement_cut tokens new) ps) in
+    let all = length-append (take ((token_span_or_empty tokens p).start - at) (drop at text)) (new ++ back) in
     let rest = length-append new back in
-    let more = few_places text tokens new some (span_at tokens p).end ps in
+    let more = few_places text tokens new some (token_span_or_empty tokens p).end ps in
     omega (arith, all, rest, some, more)
 
 -- ---- the edits, or the refusal
@@ -96,7 +96,7 @@ module _ (unit : Unit) (text new : List ℕ) (s : TextWithTokens) (scan : IsScan
         edited = record {
           edits = e;
           short = short;
-          leaves = λ ws h. subst (λ (t : List ℕ). EditsGiveWords unit t edits (changed_words (changes_at_indexes places ws) 0 (words_of s))) (sym held) (leaves_words s scan new u unit ws h places names edits same short);
+          leaves = λ ws h. subst (λ (t : List ℕ). EditedTextHasWords unit t edits (changed_words (changes_at_indexes places ws) 0 (words_of_text s))) (sym held) (leaves_words s scan new u unit ws h places names edits same short);
           too_long = λ h. absurd (not_too_long given h);
           refusals = tt;
         };

@@ -17,29 +17,29 @@ use Rattle.ob0_tree.specs.Tree.{Tree, module_text}
 use Rattle.ob0_language_names.specs.Names.{Name, same_name}
 use Rattle.ob0_language_names.specs.Occurrences.{IsFreeName, bindings, first_binding_difference}
 use Rattle.ob0_language_names.specs.Scopes.{renamed}
-use Rattle.ob0_language_fields.specs.Renaming.{IsFreeFieldName}
-use Rattle.ob0_language_field_laws.specs.FieldLaws.{FreeFieldRenamingKeepsTypingAndRuns}
-use Rattle.ob0_language_runs.specs.EditLaws.{FreeRenamingKeepsTypingAndRuns}
-use Rattle.ob0_scope.specs.NamesAtPlaces.{tokens_bound_to}
-use Rattle.ob0_scope.specs.Renames.{namesake}
+use Rattle.ob0_language_fields.specs.SingleFieldRenaming.{IsFreeFieldName}
+use Rattle.ob0_language_field_laws.specs.FieldLaws.{RenamingFieldToFreeNameKeepsTypingAndRuns}
+use Rattle.ob0_language_runs.specs.EditLaws.{RenamingToFreeNameKeepsTypingAndRuns}
+use Rattle.ob0_scope.specs.NamesAtPlaces.{tokens_bound_to_declaration}
+use Rattle.ob0_scope.specs.Renames.{namesake_ordinal}
 use Rattle.ob0_scope.specs.declared.name_conflicts.FirstConflict.TheVariants as reports
 use Rattle.ob0_scope.proofs.Captured.{captured_later, captured_there, free_where_none}
 use Rattle.ob0_scope.proofs.Written.{bound_are_identifiers, bound_ascend}
 use Rattle.ob0_scope_table.specs.Resolution.{Resolution}
-use Rattle.ob0_types_fields.specs.Identifiers.{DuplicateFieldNameHasDeclaringToken, RenamingChangesFieldTokens, field_declaring_token, field_identifiers, field_tokens}
-use Rattle.ob0_types_fields.proofs.FieldNameList.{fields_are_identifiers, fields_ascend, kept_are_identifiers, kept_ascend}
+use Rattle.ob0_types_fields.specs.FieldIdentifiers.{DuplicateFieldNameHasDeclaringToken, RenamingChangesFieldTokens, field_declaring_token, field_identifiers, field_tokens_in_module}
+use Rattle.ob0_types_fields.proofs.FieldIdentifierList.{fields_are_identifiers, fields_ascend, kept_are_identifiers, kept_ascend}
 use Rattle.ob0_edits_tokens.specs.WordsOfTrees.{RenamedTreeSpellsRenamedWords}
 use Rattle.ob0_edits_tokens.specs.Replacements.{AreIdentifierIndexes, MayReplaceIdentifier}
 use Rattle.ob0_edits_tokens.specs.Written.{name_word}
 use Rattle.ob0_rename.specs.Answers.{RenameAnswers}
-use Rattle.ob0_rename.specs.Renaming.{TargetsField, TargetsDeclaration, Renaming, RenameTarget, declaration, declaring_token, record_field, field_tokens_to_rename, is_declared_as, renaming_target, nothing, conflicting_declaration_range, predeclared, renaming_of, token_range, tokens_to_rename}
+use Rattle.ob0_rename.specs.Renaming.{TargetsField, TargetsDeclaration, Renaming, RenameTarget, declaration, declaring_token, record_field, field_tokens_to_rename, declaration_has_name, renaming_target, nothing, conflicting_declaration_range, predeclared, renaming_at_place, token_range, tokens_to_rename}
 use Rattle.ob0_rename.proofs.FieldOutcomes.{duplicated, field_answered, field_answered_there, other_none}
 use Rattle.ob0_rename.proofs.Named.{are_names}
 use Rattle.ob0_rename.proofs.Occurring.{occurrence_is_there}
 use Rattle.ob0_rename.proofs.Outcomes.{answered, answered_there}
 use Rattle.ob0_rename.proofs.Owned.{other_is_declared}
 use Rattle.ob0_analysis.specs.AnalysisAnswers.{IsResolvedWellTypedModule}
-use Rattle.ob0_analysis.specs.Texts.{utf8}
+use Rattle.ob0_analysis.specs.TextBytes.{utf8}
 use Rattle.ob0_edits.specs.Renamings.{IsOptionalRenameResult}
 use Rattle.ob0_edits.proofs.Renamings.{new_name_found, settled}
 use Rattle.ob0_world_rules.specs.Asks.{rename}
@@ -76,10 +76,10 @@ names_or_none : (tokens : List Token) (places : List ℕ) (own : Bool) → AreId
 names_or_none tokens places true h = tt
 names_or_none tokens places false h = h
 
-module _ (keeps : FreeRenamingKeepsTypingAndRuns) (field_keeps : FreeFieldRenamingKeepsTypingAndRuns) (by_tokens : RenamingChangesFieldTokens) (by_token : DuplicateFieldNameHasDeclaringToken) (spells : RenamedTreeSpellsRenamedWords) (identified : NamesReplaceNames) where
+module _ (keeps : RenamingToFreeNameKeepsTypingAndRuns) (field_keeps : RenamingFieldToFreeNameKeepsTypingAndRuns) (by_tokens : RenamingChangesFieldTokens) (by_token : DuplicateFieldNameHasDeclaringToken) (spells : RenamedTreeSpellsRenamedWords) (identified : NamesReplaceNames) where
   module _ (unit : Unit) (text : List ℕ) (place : Position) (new : List ℕ) (names : Resolution) (read : IsResolvedWellTypedModule (utf8 text) names) (none : (given : List Replacement) → IsAnswerForText unit text (rename place new) given → ⊥) where
     abbrev asked : Renaming
-    asked = renaming_of unit text names place new
+    asked = renaming_at_place unit text names place new
 
     abbrev m : ParsedModule
     m = names.module_read
@@ -107,8 +107,8 @@ module _ (keeps : FreeRenamingKeepsTypingAndRuns) (field_keeps : FreeFieldRenami
     module _ (d : ℕ) (means : TargetsDeclaration asked d) where
       declaration_names : AreIdentifierIndexes source.tokens 0 (tokens_to_rename m d new)
       declaration_names =
-          names_or_none source.tokens (tokens_bound_to m d true) (is_declared_as m d new)
-          (are_names source.tokens 0 (tokens_bound_to m d true) (length source.tokens) (bound_ascend names d true read.well_typed.resolved) (bound_are_identifiers names d true read.well_typed.resolved))
+          names_or_none source.tokens (tokens_bound_to_declaration m d true) (declaration_has_name m d new)
+          (are_names source.tokens 0 (tokens_bound_to_declaration m d true) (length source.tokens) (bound_ascend names d true read.well_typed.resolved) (bound_are_identifiers names d true read.well_typed.resolved))
 
       free : IsIdentifier new → IsFreeName tree d new → ⊥
       free id is_free =
@@ -116,7 +116,7 @@ module _ (keeps : FreeRenamingKeepsTypingAndRuns) (field_keeps : FreeFieldRenami
           outcome unit text new source read.scan.scan held id (identified new id) (tokens_to_rename m d new) declaration_names in
           finish made.result made.settles (answered_there asked d means made.result (answered unit text place new d names read.well_typed id is_free keeps spells identified declaration_names made.result made.edited))
 
-      duplicate : IsIdentifier new → (other : ℕ) → namesake tree d new ≡ Some other → ⊥
+      duplicate : IsIdentifier new → (other : ℕ) → namesake_ordinal tree d new ≡ Some other → ⊥
       duplicate id other e =
           let is_there = other_is_declared m d new other e in
           let range : conflicting_declaration_range asked d ≡ Some (token_range asked is_there.0) =
@@ -124,7 +124,7 @@ module _ (keeps : FreeRenamingKeepsTypingAndRuns) (field_keeps : FreeFieldRenami
           finish (Err (refusal.Duplicate (token_range asked is_there.0))) (duplicate_other (token_range asked is_there.0))
           (answered_there asked d means (Err (refusal.Duplicate (token_range asked is_there.0))) (inr (id, sym (captured_there tree d new other (sym e)), range)))
 
-      captured_or_free : IsIdentifier new → None ≡ namesake tree d new → (o : Option ℕ) → first_binding_difference (bindings (renamed tree d new)) (bindings tree) ≡ o → ⊥
+      captured_or_free : IsIdentifier new → None ≡ namesake_ordinal tree d new → (o : Option ℕ) → first_binding_difference (bindings (renamed tree d new)) (bindings tree) ≡ o → ⊥
       captured_or_free id e None f =
           free id ((free_where_none tree d new None (captured_later tree d new None e (sym (ap (option_map reports.Occurrence) f)))).0 refl)
       captured_or_free id e (Some k) f =
@@ -133,20 +133,20 @@ module _ (keeps : FreeRenamingKeepsTypingAndRuns) (field_keeps : FreeFieldRenami
           finish (Err (refusal.Captures (token_range asked is_there.0))) (captures_other (token_range asked is_there.0))
           (answered_there asked d means (Err (refusal.Captures (token_range asked is_there.0))) (inr (id, (k, sym first, ap (option_map (token_range asked)) is_there.1))))
 
-      by_namesake : IsIdentifier new → (o : Option ℕ) → namesake tree d new ≡ o → ⊥
+      by_namesake : IsIdentifier new → (o : Option ℕ) → namesake_ordinal tree d new ≡ o → ⊥
       by_namesake id None e = captured_or_free id (sym e) (first_binding_difference (bindings (renamed tree d new)) (bindings tree)) refl
       by_namesake id (Some other) e = duplicate id other e
 
       declared : ⊥
-      declared = finish (Err refusal.BadName) bad_name_other (answered_there asked d means (Err refusal.BadName) (inr (λ id. by_namesake id (namesake tree d new) refl)))
+      declared = finish (Err refusal.BadName) bad_name_other (answered_there asked d means (Err refusal.BadName) (inr (λ id. by_namesake id (namesake_ordinal tree d new) refl)))
 
     -- ---- a field
 
     module _ (k : ℕ) (f : Name) (means : TargetsField asked k f) where
       field_names : AreIdentifierIndexes source.tokens 0 (field_tokens_to_rename names k f new)
       field_names =
-          names_or_none source.tokens (field_tokens names k f) (same_name new f)
-          (are_names source.tokens 0 (field_tokens names k f) (length source.tokens) (kept_ascend source k f (field_identifiers names) 0 (length source.tokens) (fields_ascend names read.well_typed.resolved.parsed))
+          names_or_none source.tokens (field_tokens_in_module names k f) (same_name new f)
+          (are_names source.tokens 0 (field_tokens_in_module names k f) (length source.tokens) (kept_ascend source k f (field_identifiers names) 0 (length source.tokens) (fields_ascend names read.well_typed.resolved.parsed))
           (kept_are_identifiers source k f source.tokens (field_identifiers names) (fields_are_identifiers names read.well_typed.resolved.parsed)))
 
       field_free : IsIdentifier new → IsFreeFieldName tree k f new → ⊥
@@ -176,10 +176,10 @@ module _ (keeps : FreeRenamingKeepsTypingAndRuns) (field_keeps : FreeFieldRenami
     by_target (declaration d) e = declared d e
     by_target (record_field k f) e = named_field k f e
 
-pub renaming_always_has_answer : FreeRenamingKeepsTypingAndRuns → FreeFieldRenamingKeepsTypingAndRuns → RenamingChangesFieldTokens → DuplicateFieldNameHasDeclaringToken → RenamedTreeSpellsRenamedWords → NamesReplaceNames → WellTypedTextsCanBeResolved → (position : Position) (name : List ℕ) → AlwaysHasAnswer (rename position name)
+pub renaming_always_has_answer : RenamingToFreeNameKeepsTypingAndRuns → RenamingFieldToFreeNameKeepsTypingAndRuns → RenamingChangesFieldTokens → DuplicateFieldNameHasDeclaringToken → RenamedTreeSpellsRenamedWords → NamesReplaceNames → WellTypedTextsCanBeResolved → (position : Position) (name : List ℕ) → AlwaysHasAnswer (rename position name)
 renaming_always_has_answer keeps field_keeps by_tokens by_token spells identified each position name unit text none = none [] (inr (inr unfit, refl))
   where
     unfit : WellTypedText text → ⊥
     unfit h =
         let names : Resolution = (each text h).0 in
-        by_target keeps field_keeps by_tokens by_token spells identified unit text position name names (each text h).1 none (renaming_target (renaming_of unit text names position name)) refl
+        by_target keeps field_keeps by_tokens by_token spells identified unit text position name names (each text h).1 none (renaming_target (renaming_at_place unit text names position name)) refl

@@ -6,8 +6,8 @@ ghost use Rattle.ob0_rename_answers.specs.RenameAnswers.{RenamingAlwaysHasAnswer
 use ob0_edits_tokens::laws::{
     identifier_may_replace_identifier, renamed_tree_spells_renamed_words,
 };
-use ob0_language_field_laws::laws::free_field_renaming_keeps_typing_and_runs;
-use ob0_language_runs::laws::free_renaming_keeps_typing_and_runs;
+use ob0_language_field_laws::laws::renaming_field_to_free_name_keeps_typing_and_runs;
+use ob0_language_runs::laws::renaming_to_free_name_keeps_typing_and_runs;
 use ob0_types_fields::laws::{
     duplicate_field_name_has_declaring_token, renaming_changes_field_tokens,
 };
@@ -18,8 +18,8 @@ use ob0_types_fields::laws::{
 pub fn renaming_always_has_answer()
     ensures { RenamingAlwaysHasAnswer }
 {
-    free_renaming_keeps_typing_and_runs();
-    free_field_renaming_keeps_typing_and_runs();
+    renaming_to_free_name_keeps_typing_and_runs();
+    renaming_field_to_free_name_keeps_typing_and_runs();
     renaming_changes_field_tokens();
     duplicate_field_name_has_declaring_token();
     renamed_tree_spells_renamed_words();

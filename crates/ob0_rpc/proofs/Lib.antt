@@ -1,3 +1,3 @@
-pub mod Appending
+pub mod AppendedJson
 mod Lists
 mod Whole

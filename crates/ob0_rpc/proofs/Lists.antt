@@ -4,7 +4,7 @@ use Rattle.std.proofs.lemmas.List.{append_assoc, append-nil}
 use Rattle.serde_json.specs.View.{view, items_view}
 use Rattle.serde_json.specs.declared.value.Value.{Value}
 use Rattle.ob0_text.specs.OpenDocuments.{TextChange}
-use Rattle.ob0_rpc.specs.Notifications.{content_change, content_changes_of_items}
+use Rattle.ob0_rpc.specs.Notifications.{content_change_from_json, content_changes_of_items}
 
 abbrev pub Values : Type 0
 Values = List Value
@@ -17,12 +17,12 @@ regroup done change None = refl
 regroup done change (Some ts) = ap Some (sym (append_assoc done (change ∷ []) ts))
 
 pub changes_more : (all : Option Changes) (done : Changes) (xs rest : Values) (v : Value) (change : TextChange) → xs ≡ v ∷ rest
-    → all ≡ option_map (λ ts. done ++ ts) (content_changes_of_items (items_view xs)) → content_change (view v) ≡ Some change
+    → all ≡ option_map (λ ts. done ++ ts) (content_changes_of_items (items_view xs)) → content_change_from_json (view v) ≡ Some change
     → all ≡ option_map (λ ts. (done ++ change ∷ []) ++ ts) (content_changes_of_items (items_view rest))
 changes_more all done xs rest v change begins e is = e ∙ rw (begins, is) (regroup done change (content_changes_of_items (items_view rest)))
 
 pub changes_none : (all : Option Changes) (done : Changes) (xs rest : Values) (v : Value) → xs ≡ v ∷ rest
-    → all ≡ option_map (λ ts. done ++ ts) (content_changes_of_items (items_view xs)) → content_change (view v) ≡ None
+    → all ≡ option_map (λ ts. done ++ ts) (content_changes_of_items (items_view xs)) → content_change_from_json (view v) ≡ None
     → all ≡ None
 changes_none all done xs rest v begins e is = e ∙ rw (begins, is) refl
 

@@ -4,9 +4,9 @@ use Rattle.std.proofs.Common.{◌≡◌, ◌≤◌, ℤ, pos, negsuc, List, fals
 use Rattle.serde_json.specs.Data.{Data, depth}
 use Rattle.serde_json.specs.Written.{has_float}
 use Rattle.ob0_rpc.specs.MessageViews.{json_of_id}
-use Rattle.ob0_rpc.specs.Shapes.{result_message, notification_message, whole_number_value}
-use Rattle.ob0_rpc.specs.declared.incoming.Id.{Id}
-use Rattle.ob0_rpc.specs.declared.incoming.Id.TheVariants.{Signed, Unsigned, Text}
+use Rattle.ob0_rpc.specs.JsonShapes.{result_message, notification_message, whole_number_value}
+use Rattle.ob0_rpc.specs.declared.incoming_messages.Id.{Id}
+use Rattle.ob0_rpc.specs.declared.incoming_messages.Id.TheVariants.{Signed, Unsigned, Text}
 
 whole_is_plain : (z : ℤ) → has_float (whole_number_value z) ≡ false
 whole_is_plain (pos n) = refl

@@ -1,8 +1,8 @@
 -- Defines the JSON-RPC error that reports an `RpcFault`: an error code and a text.
 -- Rule: docs/PROTOCOL.md, Order of checks, and errors; JSON-RPC 2.0, error object.
 use Rattle.std.specs.Prelude.{◌-◌, ℕ, ℤ, negsuc, List, codes}
-use Rattle.ob0_rpc.specs.declared.incoming.RpcFault.{RpcFault}
-use Rattle.ob0_rpc.specs.declared.incoming.RpcFault.TheVariants.{NotJson, NotAMessage, UnknownMethod, BadParams, Memory}
+use Rattle.ob0_rpc.specs.declared.incoming_messages.RpcFault.{RpcFault}
+use Rattle.ob0_rpc.specs.declared.incoming_messages.RpcFault.TheVariants.{NotJson, NotAMessage, UnknownMethod, BadParams, Memory}
 
 -- Returns the number -n, for n of at least 1.
 abbrev pub negative_of : ℕ → ℤ

@@ -1,9 +1,9 @@
-pub mod Appending
+pub mod AppendedJson
 pub mod Requests
 pub mod Faults
 pub mod Members
 pub mod Messages
 pub mod Notifications
 pub mod MessageViews
-pub mod Shapes
+pub mod JsonShapes
 pub mod WrittenMessages

@@ -53,32 +53,32 @@ abbrev pub document_text : Data → Option (List ℕ)
 document_text params = option_map chars (option_and_then as_str (document_member (codes "text") params))
 
 -- Returns the position with this line and this character, or None if either is None.
-abbrev pub position_with : Option ℕ → Option ℕ → Option Position
-position_with (Some line) (Some character) = Some (record { line = line; character = character })
-position_with (Some line) None = None
-position_with None character = None
+abbrev pub position_from_parts : Option ℕ → Option ℕ → Option Position
+position_from_parts (Some line) (Some character) = Some (record { line = line; character = character })
+position_from_parts (Some line) None = None
+position_from_parts None character = None
 
 -- Reads a value {"character":c,"line":l} as a position. Returns None if one of the two members
 -- can't be read.
-abbrev pub json_position : Data → Option Position
-json_position d = position_with (unsigned_member (codes "line") d) (unsigned_member (codes "character") d)
+abbrev pub position_from_json : Data → Option Position
+position_from_json d = position_from_parts (unsigned_member (codes "line") d) (unsigned_member (codes "character") d)
 
 -- Returns the position in the member with this name, or None if the member is absent or isn't a
 -- position.
 abbrev pub position_member : List ℕ → Data → Option Position
-position_member name d = option_and_then json_position (get name d)
+position_member name d = option_and_then position_from_json (get name d)
 
 -- Returns the range with this start and this end, or None if either is None.
-abbrev pub range_with : Option Position → Option Position → Option Range
-range_with (Some start) (Some end) = Some (record { start = start; end = end })
-range_with (Some start) None = None
-range_with None end = None
+abbrev pub range_from_parts : Option Position → Option Position → Option Range
+range_from_parts (Some start) (Some end) = Some (record { start = start; end = end })
+range_from_parts (Some start) None = None
+range_from_parts None end = None
 
 -- Reads a value {"end":P,"start":P} as a range. Returns None if one of the two members can't be
 -- read.
-abbrev pub json_range : Data → Option Range
-json_range d = range_with (position_member (codes "start") d) (position_member (codes "end") d)
+abbrev pub range_from_json : Data → Option Range
+range_from_json d = range_from_parts (position_member (codes "start") d) (position_member (codes "end") d)
 
 -- Returns the range in the member with this name, or None if the member is absent or isn't a range.
 abbrev pub range_member : List ℕ → Data → Option Range
-range_member name d = option_and_then json_range (get name d)
+range_member name d = option_and_then range_from_json (get name d)

@@ -8,16 +8,16 @@ use Rattle.serde_json.specs.Find.{of_integer}
 use Rattle.serde_json.specs.View.{view}
 use Rattle.ob0_text.specs.OpenDocuments.{text_change_of}
 use Rattle.ob0_rpc.specs.Requests.{DocumentPlace, ClientRequest, initialize, shutdown, hover, definition, references, prepare_rename, rename, code_action, formatting}
-use Rattle.ob0_rpc.specs.Messages.{ReadsContent, MessageMeaning, not_a_message, response, request, notice, meaning_of_message}
+use Rattle.ob0_rpc.specs.Messages.{IsJsonOfContent, MessageMeaning, not_a_message, response, request, notice, meaning_of_message}
 use Rattle.ob0_rpc.specs.Notifications.{NotificationMeaning, exits, opens, changes, closes, unreadable, other, notification_by_method}
 use Rattle.ob0_rpc.specs.declared.requests.ClientRequest as called
 use Rattle.ob0_rpc.specs.declared.requests.DocumentPosition.{DocumentPosition}
-use Rattle.ob0_rpc.specs.declared.incoming.Id.{Id}
-use Rattle.ob0_rpc.specs.declared.incoming.Id.TheVariants.{Signed, Unsigned, Text}
-use Rattle.ob0_rpc.specs.declared.incoming.Incoming.{Incoming}
-use Rattle.ob0_rpc.specs.declared.incoming.Incoming.TheVariants.{Request, Notice, Ignored}
-use Rattle.ob0_rpc.specs.declared.incoming.RpcFault.{RpcFault}
-use Rattle.ob0_rpc.specs.declared.incoming.RpcFault.TheVariants.{NotJson, NotAMessage, UnknownMethod, BadParams, Memory}
+use Rattle.ob0_rpc.specs.declared.incoming_messages.Id.{Id}
+use Rattle.ob0_rpc.specs.declared.incoming_messages.Id.TheVariants.{Signed, Unsigned, Text}
+use Rattle.ob0_rpc.specs.declared.incoming_messages.Incoming.{Incoming}
+use Rattle.ob0_rpc.specs.declared.incoming_messages.Incoming.TheVariants.{Request, Notice, Ignored}
+use Rattle.ob0_rpc.specs.declared.incoming_messages.RpcFault.{RpcFault}
+use Rattle.ob0_rpc.specs.declared.incoming_messages.RpcFault.TheVariants.{NotJson, NotAMessage, UnknownMethod, BadParams, Memory}
 use Rattle.ob0_rpc.specs.declared.notifications.ClientNotification as noted
 
 -- Returns the JSON value of an id.
@@ -53,9 +53,9 @@ InterpretsMessage d (Err BadParams) = ⊥
 -- result is `NotJson` if the content isn't JSON. Otherwise `InterpretsMessage` must hold for the content's
 -- JSON value and the result. `Memory` is always allowed.
 abbrev pub ReadsMessage : List ℕ → Result Incoming RpcFault → Type 0
-ReadsMessage content (Err NotJson) = ReadsContent content None
+ReadsMessage content (Err NotJson) = IsJsonOfContent content None
 ReadsMessage content (Err Memory) = Unit {0}
-ReadsMessage content r = (d : Data) × ReadsContent content (Some d) × InterpretsMessage d r
+ReadsMessage content r = (d : Data) × IsJsonOfContent content (Some d) × InterpretsMessage d r
 
 -- Translates the code's `DocumentPosition` into a `DocumentPlace`. The uri becomes bytes of UTF-8.
 abbrev pub document_place_view : DocumentPosition → DocumentPlace

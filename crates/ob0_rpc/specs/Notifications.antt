@@ -7,7 +7,7 @@ use Rattle.serde_json.specs.Data.{Data, Items, no_items, item}
 use Rattle.serde_json.specs.Find.{get, as_array}
 use Rattle.ob0_text.specs.OpenDocuments.{TextChange}
 use Rattle.ob0_text.specs.declared.position_types.Range.{Range}
-use Rattle.ob0_rpc.specs.Members.{is_absent_or_null, text_member, document_uri, document_version, document_text, json_range}
+use Rattle.ob0_rpc.specs.Members.{is_absent_or_null, text_member, document_uri, document_version, document_text, range_from_json}
 
 -- The meaning of a notification that the client sends.
 pub data NotificationMeaning : Type 0 where
@@ -26,19 +26,19 @@ pub data NotificationMeaning : Type 0 where
 -- absent or null: the change then replaces the whole text. Returns None if the range can't be read.
 abbrev pub range_of_change : Option Data → Option (Option Range)
 range_of_change found =
-    if is_absent_or_null found then Some None else option_map Some (option_and_then json_range found)
+    if is_absent_or_null found then Some None else option_map Some (option_and_then range_from_json found)
 
 -- Returns the change with this range and this text, or None if either is None.
-abbrev pub text_change_with : Option (Option Range) → Option (List ℕ) → Option TextChange
-text_change_with (Some range) (Some text) = Some (record { range = range; text = chars text })
-text_change_with (Some range) None = None
-text_change_with None text = None
+abbrev pub text_change_from_parts : Option (Option Range) → Option (List ℕ) → Option TextChange
+text_change_from_parts (Some range) (Some text) = Some (record { range = range; text = chars text })
+text_change_from_parts (Some range) None = None
+text_change_from_parts None text = None
 
 -- Reads an item of the list `contentChanges` as a change of a range or of the whole text. Returns
 -- None if the item can't be read.
-abbrev pub content_change : Data → Option TextChange
-content_change entry =
-    text_change_with (range_of_change (get (codes "range") entry)) (text_member (codes "text") entry)
+abbrev pub content_change_from_json : Data → Option TextChange
+content_change_from_json entry =
+    text_change_from_parts (range_of_change (get (codes "range") entry)) (text_member (codes "text") entry)
 
 -- Returns the changes that the items of the list `contentChanges` describe, in order. Returns None
 -- if an item can't be read.
@@ -46,7 +46,7 @@ abbrev pub content_changes_of_items : Items → Option (List TextChange)
 content_changes_of_items no_items = Some []
 content_changes_of_items (item entry later) =
     option_and_then (λ change. option_map (λ changes. change ∷ changes) (content_changes_of_items later))
-    (content_change entry)
+    (content_change_from_json entry)
 
 -- Returns the changes in the list `contentChanges` of params, in order. Returns None if the list or
 -- one of its items can't be read.

@@ -10,9 +10,9 @@ use Rattle.ob0_text.specs.declared.edits.Indent.{Indent}
 use Rattle.ob0_text.specs.declared.edits.Indent.TheVariants.{Tab, Spaces}
 use Rattle.ob0_text.specs.Indents.{indent_spaces_for_tab_size}
 use Rattle.ob0_rpc.specs.Members.{is_absent_or_null, text_member, bool_member, unsigned_member, document_uri, position_member, range_member}
-use Rattle.ob0_rpc.specs.declared.clients.ClientFeatures.{ClientFeatures}
-use Rattle.ob0_rpc.specs.declared.incoming.RpcFault.{RpcFault}
-use Rattle.ob0_rpc.specs.declared.incoming.RpcFault.TheVariants.{UnknownMethod, BadParams}
+use Rattle.ob0_rpc.specs.declared.client_capabilities.ClientFeatures.{ClientFeatures}
+use Rattle.ob0_rpc.specs.declared.incoming_messages.RpcFault.{RpcFault}
+use Rattle.ob0_rpc.specs.declared.incoming_messages.RpcFault.TheVariants.{UnknownMethod, BadParams}
 
 -- A position in the document with this uri.
 pub record DocumentPlace : Type 0 where
@@ -98,39 +98,39 @@ initialize_request_of params =
 -- ---- requests about a document
 
 -- Returns this uri and this position as a `DocumentPlace`, or None if either is None.
-abbrev pub document_place_with : Option (List ℕ) → Option Position → Option DocumentPlace
-document_place_with (Some uri) (Some position) = Some (record { uri = uri; position = position })
-document_place_with (Some uri) None = None
-document_place_with None position = None
+abbrev pub document_place_from_parts : Option (List ℕ) → Option Position → Option DocumentPlace
+document_place_from_parts (Some uri) (Some position) = Some (record { uri = uri; position = position })
+document_place_from_parts (Some uri) None = None
+document_place_from_parts None position = None
 
 -- Returns the document's uri and the position that params contain, or None if either can't be read.
 abbrev pub document_place_of : Data → Option DocumentPlace
-document_place_of params = document_place_with (document_uri params) (position_member (codes "position") params)
+document_place_of params = document_place_from_parts (document_uri params) (position_member (codes "position") params)
 
 -- Returns the request for references at this position, with this value of `includeDeclaration`.
 -- Returns None if either is None.
-abbrev pub references_request_with : Option DocumentPlace → Option Bool → Option ClientRequest
-references_request_with (Some at) (Some include) = Some (references at include)
-references_request_with (Some at) None = None
-references_request_with None include = None
+abbrev pub references_request_from_parts : Option DocumentPlace → Option Bool → Option ClientRequest
+references_request_from_parts (Some at) (Some include) = Some (references at include)
+references_request_from_parts (Some at) None = None
+references_request_from_parts None include = None
 
 -- Returns the request `textDocument/references` with these params, or None if the params can't be
 -- read.
 abbrev pub references_request_of : Data → Option ClientRequest
 references_request_of params =
-    references_request_with (document_place_of params)
+    references_request_from_parts (document_place_of params)
     (option_and_then (bool_member (codes "includeDeclaration")) (get (codes "context") params))
 
 -- Returns the request to rename at this position, with this new name. Returns None if either is
 -- None.
-abbrev pub rename_request_with : Option DocumentPlace → Option (List ℕ) → Option ClientRequest
-rename_request_with (Some at) (Some name) = Some (rename at name)
-rename_request_with (Some at) None = None
-rename_request_with None name = None
+abbrev pub rename_request_from_parts : Option DocumentPlace → Option (List ℕ) → Option ClientRequest
+rename_request_from_parts (Some at) (Some name) = Some (rename at name)
+rename_request_from_parts (Some at) None = None
+rename_request_from_parts None name = None
 
 -- Returns the request `textDocument/rename` with these params, or None if the params can't be read.
 abbrev pub rename_request_of : Data → Option ClientRequest
-rename_request_of params = rename_request_with (document_place_of params) (text_member (codes "newName") params)
+rename_request_of params = rename_request_from_parts (document_place_of params) (text_member (codes "newName") params)
 
 -- Returns the items of a list as texts, or None if an item isn't a text.
 abbrev pub texts_of_items : Items → Option (List (List ℕ))
@@ -153,74 +153,74 @@ requested_action_kinds context = if is_some (as_object context) then texts_of_op
 
 -- Returns the request for code actions in this document and this range, of these kinds. Returns
 -- None if one of the three is None.
-abbrev pub code_action_request_with : Option (List ℕ)
+abbrev pub code_action_request_from_parts : Option (List ℕ)
     → Option Range
     → Option (Option (List (List ℕ)))
     → Option ClientRequest
-code_action_request_with (Some uri) (Some range) (Some only) = Some (code_action uri range only)
-code_action_request_with (Some uri) (Some range) None = None
-code_action_request_with (Some uri) None only = None
-code_action_request_with None range only = None
+code_action_request_from_parts (Some uri) (Some range) (Some only) = Some (code_action uri range only)
+code_action_request_from_parts (Some uri) (Some range) None = None
+code_action_request_from_parts (Some uri) None only = None
+code_action_request_from_parts None range only = None
 
 -- Returns the request `textDocument/codeAction` with these params, or None if the params can't be
 -- read.
 abbrev pub code_action_request_of : Data → Option ClientRequest
 code_action_request_of params =
-    code_action_request_with (document_uri params) (range_member (codes "range") params)
+    code_action_request_from_parts (document_uri params) (range_member (codes "range") params)
     (option_and_then requested_action_kinds (get (codes "context") params))
 
 -- Returns the indentation for these values of `tabSize` and `insertSpaces`, or None if either is
 -- None. If `insertSpaces` is true, one level of indentation is `indent_spaces_for_tab_size size` spaces,
 -- otherwise one tab.
-abbrev pub indent_with : Option ℕ → Option Bool → Option Indent
-indent_with (Some size) (Some spaces) = Some (if spaces then Spaces (indent_spaces_for_tab_size size) else Tab)
-indent_with (Some size) None = None
-indent_with None spaces = None
+abbrev pub indent_from_parts : Option ℕ → Option Bool → Option Indent
+indent_from_parts (Some size) (Some spaces) = Some (if spaces then Spaces (indent_spaces_for_tab_size size) else Tab)
+indent_from_parts (Some size) None = None
+indent_from_parts None spaces = None
 
 -- Returns the indentation that formatting options request, or None if the options can't be read.
 abbrev pub requested_indent : Data → Option Indent
 requested_indent options =
-    indent_with (unsigned_member (codes "tabSize") options) (bool_member (codes "insertSpaces") options)
+    indent_from_parts (unsigned_member (codes "tabSize") options) (bool_member (codes "insertSpaces") options)
 
 -- Returns the request to format the document with this uri, with this indentation. Returns None if
 -- either is None.
-abbrev pub formatting_request_with : Option (List ℕ) → Option Indent → Option ClientRequest
-formatting_request_with (Some uri) (Some indent) = Some (formatting uri indent)
-formatting_request_with (Some uri) None = None
-formatting_request_with None indent = None
+abbrev pub formatting_request_from_parts : Option (List ℕ) → Option Indent → Option ClientRequest
+formatting_request_from_parts (Some uri) (Some indent) = Some (formatting uri indent)
+formatting_request_from_parts (Some uri) None = None
+formatting_request_from_parts None indent = None
 
 -- Returns the request `textDocument/formatting` with these params, or None if the params can't be
 -- read.
 abbrev pub formatting_request_of : Data → Option ClientRequest
 formatting_request_of params =
-    formatting_request_with (document_uri params) (option_and_then requested_indent (get (codes "options") params))
+    formatting_request_from_parts (document_uri params) (option_and_then requested_indent (get (codes "options") params))
 
 -- ---- requests by their methods
 
 -- Returns this request as the result `Ok`. For None, returns the fault `BadParams`.
-abbrev pub or_bad_params : Option ClientRequest → Result ClientRequest RpcFault
-or_bad_params (Some ask) = Ok ask
-or_bad_params None = Err BadParams
+abbrev pub request_or_bad_params : Option ClientRequest → Result ClientRequest RpcFault
+request_or_bad_params (Some ask) = Ok ask
+request_or_bad_params None = Err BadParams
 
 -- Returns the request about a document with this method and these params. Returns `UnknownMethod`
 -- if the method is unknown, and `BadParams` if the params can't be read.
 abbrev pub document_request_by_method : List ℕ → Data → Result ClientRequest RpcFault
 document_request_by_method method params =
-    if bytes_eq method (codes "textDocument/hover") then or_bad_params (option_map hover (document_place_of params))
+    if bytes_eq method (codes "textDocument/hover") then request_or_bad_params (option_map hover (document_place_of params))
     else if bytes_eq method (codes "textDocument/definition")
-    then or_bad_params (option_map definition (document_place_of params))
-    else if bytes_eq method (codes "textDocument/references") then or_bad_params (references_request_of params)
+    then request_or_bad_params (option_map definition (document_place_of params))
+    else if bytes_eq method (codes "textDocument/references") then request_or_bad_params (references_request_of params)
     else if bytes_eq method (codes "textDocument/prepareRename")
-    then or_bad_params (option_map prepare_rename (document_place_of params))
-    else if bytes_eq method (codes "textDocument/rename") then or_bad_params (rename_request_of params)
-    else if bytes_eq method (codes "textDocument/codeAction") then or_bad_params (code_action_request_of params)
-    else if bytes_eq method (codes "textDocument/formatting") then or_bad_params (formatting_request_of params)
+    then request_or_bad_params (option_map prepare_rename (document_place_of params))
+    else if bytes_eq method (codes "textDocument/rename") then request_or_bad_params (rename_request_of params)
+    else if bytes_eq method (codes "textDocument/codeAction") then request_or_bad_params (code_action_request_of params)
+    else if bytes_eq method (codes "textDocument/formatting") then request_or_bad_params (formatting_request_of params)
     else Err UnknownMethod
 
 -- Returns the request with this method and these params. Returns `UnknownMethod` if the method is
 -- unknown, and `BadParams` if the params can't be read. `shutdown` accepts any params.
 abbrev pub request_by_method : List ℕ → Data → Result ClientRequest RpcFault
 request_by_method method params =
-    if bytes_eq method (codes "initialize") then or_bad_params (initialize_request_of params)
+    if bytes_eq method (codes "initialize") then request_or_bad_params (initialize_request_of params)
     else if bytes_eq method (codes "shutdown") then Ok shutdown
     else document_request_by_method method params

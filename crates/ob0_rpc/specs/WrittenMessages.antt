@@ -3,12 +3,12 @@
 use Rattle.std.specs.Prelude.{◌≡◌, ◌≤◌, ℕ, List, Some}
 use Rattle.serde_json.specs.Data.{Data, depth}
 use Rattle.serde_json.specs.Written.{compact_text}
-use Rattle.ob0_rpc.specs.Messages.{ReadsContent}
+use Rattle.ob0_rpc.specs.Messages.{IsJsonOfContent}
 
 -- States that these bytes are the message's compact text, and that they read back as the message.
 pub record Writes (message : Data) (bytes : List ℕ) : Type 0 where
   pub text : bytes ≡ compact_text message
-  pub reads : ReadsContent bytes (Some message)
+  pub reads : IsJsonOfContent bytes (Some message)
 
 -- States that a message can contain this value. The value is nested at most 126 deep, because a
 -- message may be nested 127 deep and adds one level.

@@ -9,7 +9,7 @@ ghost use Rattle.std.specs.Prelude.{◌≡◌, IfOk, codes, option_and_then, opt
 ghost use Rattle.ob0_text.specs.OpenDocuments.{text_change_of};
 ghost use Rattle.serde_json.specs.Find.{get, as_array};
 ghost use Rattle.serde_json.specs.View.{view, items_view};
-ghost use Rattle.ob0_rpc.specs.Notifications.{content_changes_of_params as changes_in, content_change, range_of_change};
+ghost use Rattle.ob0_rpc.specs.Notifications.{content_changes_of_params as changes_in, content_change_from_json, range_of_change};
 
 use crate::members::{into_member, into_text_member, is_absent_or_null, read_json_range};
 use ob0_text::{Change, Range};
@@ -61,7 +61,7 @@ fn into_list_items(value: Value) -> Option<Vec<Value>>
 /// Reads an item of the list `contentChanges` as a change of a range or of the whole text. Returns
 /// None if the item can't be read.
 fn read_content_change(entry: Value) -> Option<Change>
-    ensures { option_map text_change_of result ≡ content_change (view entry) }
+    ensures { option_map text_change_of result ≡ content_change_from_json (view entry) }
 {
     let range = read_change_range(entry.get("range"))?;
     let text = into_text_member(entry, "text")?;

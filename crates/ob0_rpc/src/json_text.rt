@@ -11,7 +11,7 @@ ghost use Rattle.json.specs.Print.{escape, escape_byte, escape_letter};
 ghost use Rattle.serde_json.specs.Data.{Data, array, boolean, null, number, string, unsigned};
 ghost use Rattle.serde_json.specs.Find.{of_integer};
 ghost use Rattle.serde_json.specs.View.{items_of};
-ghost use Rattle.ob0_rpc.specs.Appending.{AppendsValue, AppendsEachValue, AppendsListItem, json_or_null};
+ghost use Rattle.ob0_rpc.specs.AppendedJson.{AppendsValue, AppendsEachValue, AppendsListItem, json_or_null};
 
 use std::alloc::AllocError;
 
@@ -96,13 +96,13 @@ impl<'a, W: WriteJson> WriteJson for &'a [W] {
 
     fn write(&self, out: &mut Vec<u8>) -> Result<(), AllocError> {
         begin_list(out)?;
-        write_list_items(out, *self)?;
+        write_all_list_items(out, *self)?;
         end_list(out)
     }
 }
 
 /// Writes the items of a list with commas between them, without brackets.
-fn write_list_items<W: WriteJson>(out: &mut Vec<u8>, values: &[W]) -> Result<(), AllocError>
+fn write_all_list_items<W: WriteJson>(out: &mut Vec<u8>, values: &[W]) -> Result<(), AllocError>
     ensures { OnOk result
         (AppendsEachValue false (map W.value values.now) out.old.items out.new.items) }
 {
@@ -199,7 +199,7 @@ pub(crate) fn write_escaped_text(out: &mut Vec<u8>, text: &[u8]) -> Result<(), A
     if needs_no_escape(text) {
         return write_verbatim(out, text);
     }
-    write_escaped_bytes(out, text)
+    write_each_byte_escaped(out, text)
 }
 
 /// Returns whether the text can be written unchanged because no byte needs an escape.
@@ -215,7 +215,7 @@ fn needs_no_escape(text: &[u8]) -> bool
 }
 
 /// Writes the bytes of a text one by one, each as an escape if it needs one.
-fn write_escaped_bytes(out: &mut Vec<u8>, text: &[u8]) -> Result<(), AllocError>
+fn write_each_byte_escaped(out: &mut Vec<u8>, text: &[u8]) -> Result<(), AllocError>
     ensures { OnOk result (out.new.items ≡ out.old.items ++ escape text.now) }
 {
     for byte in text {

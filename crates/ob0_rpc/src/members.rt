@@ -3,7 +3,7 @@ ghost use Rattle.std.specs.Prelude.{◌≡◌, option_map, string_bytes};
 ghost use Rattle.std.specs.Str.{chars};
 ghost use Rattle.serde_json.specs.Find.{as_str, get};
 ghost use Rattle.serde_json.specs.View.{view};
-ghost use Rattle.ob0_rpc.specs.Members.{is_absent_or_null as absent, text_member, bool_member, unsigned_member, document_uri, document_version, document_text, json_position, position_member, json_range, range_member};
+ghost use Rattle.ob0_rpc.specs.Members.{is_absent_or_null as absent, text_member, bool_member, unsigned_member, document_uri, document_version, document_text, position_from_json, position_member, range_from_json, range_member};
 
 use ob0_text::{Position, Range};
 use serde_json::Value;
@@ -104,7 +104,7 @@ fn into_json_string(value: Value) -> Option<String>
 /// Reads a value as a position: a line and a character, both whole numbers from 0 to 2^64-1.
 /// Returns None if either can't be read.
 pub fn read_json_position(value: &Value) -> Option<Position>
-    ensures { result ≡ json_position (view value.now) }
+    ensures { result ≡ position_from_json (view value.now) }
 {
     let line = unsigned_of_member(value, "line")?;
     let character = unsigned_of_member(value, "character")?;
@@ -121,7 +121,7 @@ pub fn position_of_member(value: &Value, name: &str) -> Option<Position>
 /// Reads a value as a range: a start and an end. The end may lie before the start. Returns None if
 /// either can't be read.
 pub fn read_json_range(value: &Value) -> Option<Range>
-    ensures { result ≡ json_range (view value.now) }
+    ensures { result ≡ range_from_json (view value.now) }
 {
     let start = position_of_member(value, "start")?;
     let end = position_of_member(value, "end")?;

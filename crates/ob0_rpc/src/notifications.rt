@@ -6,7 +6,7 @@ ghost use Rattle.ob0_rpc.specs.Notifications.{open_or_unreadable, change_or_unre
 ghost use Rattle.ob0_rpc.specs.MessageViews.{ReadsNotification, notification_view};
 
 use crate::changes::read_changes;
-use crate::incoming::RpcFault;
+use crate::incoming_messages::RpcFault;
 use crate::members::{document_uri_in_params, document_version_in_params, into_document_text};
 use ob0_text::Change;
 use serde_json::Value;

@@ -2,7 +2,7 @@
 //! member's name unchanged, so no character of the name may need an escape.
 ghost use Rattle.std.specs.Prelude.{◌≡◌, ◌++◌, [], ◌∷◌, OnOk};
 ghost use Rattle.serde_json.specs.Data.{member, no_members, object};
-ghost use Rattle.ob0_rpc.specs.Appending.{AppendsMember};
+ghost use Rattle.ob0_rpc.specs.AppendedJson.{AppendsMember};
 
 use crate::json_text::{WriteJson, write_verbatim};
 use std::alloc::AllocError;

@@ -7,8 +7,8 @@
 
 ghost use Rattle.std.specs.Prelude.{◌≡◌, ◌++◌, ◌∷◌, [], ◌+◌, ◌<◌, ◌≤◌, ◌^◌, OnOk, codes, decimal, drop, length};
 ghost use Rattle.serde_json.specs.Written.{compact_text};
-ghost use Rattle.ob0_rpc.specs.Appending.{AppendsValue, ReadsBack};
-ghost use Rattle.ob0_rpc.specs.Shapes.{edit_value, position_value, range_value};
+ghost use Rattle.ob0_rpc.specs.AppendedJson.{AppendsValue, ReadsBack};
+ghost use Rattle.ob0_rpc.specs.JsonShapes.{edit_value, position_value, range_value};
 
 use crate::json_text::{WriteJson, write_escaped_text, write_verbatim};
 use crate::objects::{end_object, write_first_member, write_next_member};
@@ -45,13 +45,13 @@ impl WriteJson for Edit {
     fn write(&self, out: &mut Vec<u8>) -> Result<(), AllocError> {
         write_verbatim(out, b"{\"newText\":\"")?;
         write_escaped_text(out, self.text.as_str().as_bytes())?;
-        write_edit_after_new_text(out, self.range.start, self.range.end)
+        write_range_and_end_of_edit(out, self.range.start, self.range.end)
     }
 }
 
 /// Writes the part of an edit that follows its new text: the closing quote of the new text, the
 /// member `range`, and the closing brace of the edit.
-fn write_edit_after_new_text(
+fn write_range_and_end_of_edit(
     out: &mut Vec<u8>,
     start: Position,
     end: Position,

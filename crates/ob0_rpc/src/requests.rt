@@ -4,12 +4,12 @@ ghost use Rattle.serde_json.specs.Find.{get};
 ghost use Rattle.serde_json.specs.View.{view, items_view};
 ghost use Rattle.ob0_text.specs.Indents.{indent_spaces_for_tab_size};
 ghost use Rattle.ob0_rpc.specs.Requests as asks;
-ghost use Rattle.ob0_rpc.specs.Requests.{document_place_of, request_by_method, references_request_of, rename_request_of, code_action_request_of, formatting_request_of, document_request_by_method, texts_of_optional_list, requested_action_kinds, texts_of_items as texts_in, requested_indent as indent_in, or_bad_params, initialize_request_of};
+ghost use Rattle.ob0_rpc.specs.Requests.{document_place_of, request_by_method, references_request_of, rename_request_of, code_action_request_of, formatting_request_of, document_request_by_method, texts_of_optional_list, requested_action_kinds, texts_of_items as texts_in, requested_indent as indent_in, request_or_bad_params, initialize_request_of};
 ghost use Rattle.ob0_rpc.specs.Members.{bool_member};
 ghost use Rattle.ob0_rpc.specs.MessageViews.{ReadsClientRequest, document_place_view, action_kinds_view};
 
-use crate::clients::{ClientFeatures, client_features};
-use crate::incoming::RpcFault;
+use crate::client_capabilities::{ClientFeatures, client_features};
+use crate::incoming_messages::RpcFault;
 use crate::members::{
     bool_of_member, document_uri_in_params, position_of_member, range_of_member, text_of_member,
     unsigned_of_member,
@@ -98,7 +98,7 @@ fn read_document_request(
 
 /// Reads the params of `initialize`. If they aren't an object, the fault is `BadParams`.
 fn read_initialize(params: &Value) -> Result<ClientRequest, RpcFault>
-    ensures { ReadsClientRequest (or_bad_params (initialize_request_of (view params.now))) result }
+    ensures { ReadsClientRequest (request_or_bad_params (initialize_request_of (view params.now))) result }
 {
     if params.is_object() {
         Ok(ClientRequest::Initialize(client_features(params)))
@@ -109,7 +109,7 @@ fn read_initialize(params: &Value) -> Result<ClientRequest, RpcFault>
 
 /// Reads the params of `textDocument/hover`. If they can't be read, the fault is `BadParams`.
 fn read_hover(alloc: Global, params: &Value) -> Result<ClientRequest, RpcFault>
-    ensures { ReadsClientRequest (or_bad_params (option_map asks.hover (document_place_of (view params.now)))) result }
+    ensures { ReadsClientRequest (request_or_bad_params (option_map asks.hover (document_place_of (view params.now)))) result }
 {
     let Some(place) = read_document_position(alloc, params)? else {
         return Err(RpcFault::BadParams);
@@ -119,7 +119,7 @@ fn read_hover(alloc: Global, params: &Value) -> Result<ClientRequest, RpcFault>
 
 /// Reads the params of `textDocument/definition`. If they can't be read, the fault is `BadParams`.
 fn read_definition(alloc: Global, params: &Value) -> Result<ClientRequest, RpcFault>
-    ensures { ReadsClientRequest (or_bad_params (option_map asks.definition (document_place_of (view params.now)))) result }
+    ensures { ReadsClientRequest (request_or_bad_params (option_map asks.definition (document_place_of (view params.now)))) result }
 {
     let Some(place) = read_document_position(alloc, params)? else {
         return Err(RpcFault::BadParams);
@@ -130,7 +130,7 @@ fn read_definition(alloc: Global, params: &Value) -> Result<ClientRequest, RpcFa
 /// Reads the params of `textDocument/prepareRename`. If they can't be read, the fault is
 /// `BadParams`.
 fn read_prepare_rename(alloc: Global, params: &Value) -> Result<ClientRequest, RpcFault>
-    ensures { ReadsClientRequest (or_bad_params (option_map asks.prepare_rename (document_place_of (view params.now)))) result }
+    ensures { ReadsClientRequest (request_or_bad_params (option_map asks.prepare_rename (document_place_of (view params.now)))) result }
 {
     let Some(place) = read_document_position(alloc, params)? else {
         return Err(RpcFault::BadParams);
@@ -140,7 +140,7 @@ fn read_prepare_rename(alloc: Global, params: &Value) -> Result<ClientRequest, R
 
 /// Reads the params of `textDocument/references`. If they can't be read, the fault is `BadParams`.
 fn read_references(alloc: Global, params: &Value) -> Result<ClientRequest, RpcFault>
-    ensures { ReadsClientRequest (or_bad_params (references_request_of (view params.now))) result }
+    ensures { ReadsClientRequest (request_or_bad_params (references_request_of (view params.now))) result }
 {
     let Some(place) = read_document_position(alloc, params)? else {
         return Err(RpcFault::BadParams);
@@ -156,7 +156,7 @@ fn read_references(alloc: Global, params: &Value) -> Result<ClientRequest, RpcFa
 
 /// Reads the params of `textDocument/rename`. If they can't be read, the fault is `BadParams`.
 fn read_rename(alloc: Global, params: &Value) -> Result<ClientRequest, RpcFault>
-    ensures { ReadsClientRequest (or_bad_params (rename_request_of (view params.now))) result }
+    ensures { ReadsClientRequest (request_or_bad_params (rename_request_of (view params.now))) result }
 {
     let Some(place) = read_document_position(alloc, params)? else {
         return Err(RpcFault::BadParams);
@@ -170,7 +170,7 @@ fn read_rename(alloc: Global, params: &Value) -> Result<ClientRequest, RpcFault>
 
 /// Reads the params of `textDocument/codeAction`. If they can't be read, the fault is `BadParams`.
 fn read_code_action(alloc: Global, params: &Value) -> Result<ClientRequest, RpcFault>
-    ensures { ReadsClientRequest (or_bad_params (code_action_request_of (view params.now))) result }
+    ensures { ReadsClientRequest (request_or_bad_params (code_action_request_of (view params.now))) result }
 {
     let Some(uri) = document_uri_in_params(params) else {
         return Err(RpcFault::BadParams);
@@ -187,7 +187,7 @@ fn read_code_action(alloc: Global, params: &Value) -> Result<ClientRequest, RpcF
 
 /// Reads the params of `textDocument/formatting`. If they can't be read, the fault is `BadParams`.
 fn read_formatting(alloc: Global, params: &Value) -> Result<ClientRequest, RpcFault>
-    ensures { ReadsClientRequest (or_bad_params (formatting_request_of (view params.now))) result }
+    ensures { ReadsClientRequest (request_or_bad_params (formatting_request_of (view params.now))) result }
 {
     let Some(uri) = document_uri_in_params(params) else {
         return Err(RpcFault::BadParams);

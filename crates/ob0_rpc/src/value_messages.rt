@@ -4,11 +4,11 @@ ghost use Rattle.std.specs.Prelude.{◌≡◌, ◌≤◌, false, IfOk};
 ghost use Rattle.serde_json.specs.Data.{depth};
 ghost use Rattle.serde_json.specs.View.{view};
 ghost use Rattle.serde_json.specs.Written.{has_float};
-ghost use Rattle.ob0_rpc.specs.Shapes.{result_message, notification_message};
+ghost use Rattle.ob0_rpc.specs.JsonShapes.{result_message, notification_message};
 ghost use Rattle.ob0_rpc.specs.MessageViews.{json_of_id};
 ghost use Rattle.ob0_rpc.specs.WrittenMessages.{FitsInMessage, Writes};
 
-use crate::incoming::Id;
+use crate::incoming_messages::Id;
 use serde_json::{Value, json};
 use std::alloc::{AllocError, Global};
 

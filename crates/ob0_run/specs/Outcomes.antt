@@ -10,7 +10,7 @@ use Rattle.ob0_run_machine.specs.declared.program_runs.End.{End}
 use Rattle.ob0_run_machine.specs.declared.program_runs.Outcome.{Outcome}
 use Rattle.ob0_run_cells.specs.LoweringLaws as cells
 use Rattle.ob0_run_cells.specs.LoweredStatements.{printed_item_of}
-use Rattle.ob0_run_cells.specs.Lowering.{end_of}
+use Rattle.ob0_run_cells.specs.LoweredExpressions.{end_of}
 
 -- converts an item that the machine returns to an item of a module's output
 abbrev pub item_of : Item → PrintedItem

@@ -5,7 +5,7 @@ use Rattle.ob0_tree.specs.Tree.{Tree, module_text}
 use Rattle.ob0_language_names.specs.Names.{Name}
 use Rattle.ob0_language_runs.specs.Runs.{run}
 use Rattle.ob0_run_machine.specs.Execution as machine
-use Rattle.ob0_run_machine.specs.View.{program_of}
+use Rattle.ob0_run_machine.specs.LoweredCodeViews.{program_of}
 use Rattle.ob0_run_cells.specs.LoweringLaws.{run_of}
 use Rattle.ob0_run_lowering.specs.declared.programs.Program.{Program}
 

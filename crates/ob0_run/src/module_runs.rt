@@ -12,7 +12,7 @@ ghost use Rattle.ob0_tree.specs.Tree.{Tree, module_text};
 ghost use Rattle.ob0_language_names.specs.Names.{Name, naming_by_label};
 ghost use Rattle.ob0_language_names.specs.Scopes.{numbered};
 ghost use Rattle.ob0_language_runs.specs.Runs.{run};
-ghost use Rattle.ob0_run_machine.specs.View.{program_of};
+ghost use Rattle.ob0_run_machine.specs.LoweredCodeViews.{program_of};
 ghost use Rattle.ob0_run_cells.specs.Activations.{ProgramMeansModule};
 ghost use Rattle.ob0_run.specs.Outcomes.{run_of};
 ghost use Rattle.ob0_run.specs.Programs.{ProgramRunsAsModule};

@@ -10,7 +10,7 @@ use Rattle.ob0_language_values.specs.Values.{Outcome, Value, add, add_operator_s
 use Rattle.ob0_run_machine.specs.Evaluation as machine
 use Rattle.ob0_run_machine.specs.LoweredSyntax as lowered
 use Rattle.ob0_run_cells.specs.Cells.{cells_of_store}
-use Rattle.ob0_run_cells.specs.Lowering.{OutcomeByMoment, Moment, NumberStartsChain, NumberMeans, RestOfChain, Slot, outcome_of_remaining_addends, outcome_of_remaining_multipliers, value_of_factor, value_of_simple_expression, value_of_term}
+use Rattle.ob0_run_cells.specs.LoweredExpressions.{OutcomeByMoment, Moment, NumberStartsChain, NumberHasOutcome, RestOfChain, Slot, outcome_of_remaining_addends, outcome_of_remaining_multipliers, value_of_factor, value_of_simple_expression, value_of_term}
 use Rattle.ob0_run_cells.proofs.LoweredOutcomes.{Operates, gives-then, grouped-then, checked_number-same, outcome-then, plus-same, followed_by}
 
 pub each-then : {A B : Type 0} (o : Outcome A) (f g : A → Outcome B) → ((a : A) → f a ≡ g a) → (o >>= f) ≡ (o >>= g)
@@ -24,27 +24,27 @@ unsettled o is_settled step next never =
     grouped-then o step next ∙ each-then o (λ x. step x >>= next) (λ x. elim (is_settled x) [ true ↦ succeeds_with x | false ↦ step x ] >>= next) (λ x. ap (λ b. elim b [ true ↦ succeeds_with x | false ↦ step x ] >>= next) (sym (never x)))
 
 module _ {N : Type 0} (checked : TypeMeanings N) (slots : N → Slot) where
-  pub operation-means : (o : lowered.Operator) (op : Value → Value → Outcome Value) → Operates o op → (m n : lowered.Number) (v w : OutcomeByMoment N Value) → NumberMeans checked slots m v → NumberMeans checked slots n w
-      → NumberMeans checked slots (lowered.operation o m n) (λ z. v z >>= (λ x. w z >>= op x))
+  pub operation-means : (o : lowered.Operator) (op : Value → Value → Outcome Value) → Operates o op → (m n : lowered.Number) (v w : OutcomeByMoment N Value) → NumberHasOutcome checked slots m v → NumberHasOutcome checked slots n w
+      → NumberHasOutcome checked slots (lowered.operation o m n) (λ z. v z >>= (λ x. w z >>= op x))
   operation-means o op operates m n v w hm hn z shown =
-      outcome-then number number (machine.number z.levels (cells_of_store z.store) m) (v z) (λ a. followed_by (machine.number z.levels (cells_of_store z.store) n) (machine.apply_operator o a)) (λ x. w z >>= op x) (hm z shown)
-      (λ a. outcome-then number number (machine.number z.levels (cells_of_store z.store) n) (w z) (machine.apply_operator o a) (op (number a)) (hn z shown) (operates a))
+      outcome-then number number (machine.number_value z.levels (cells_of_store z.store) m) (v z) (λ a. followed_by (machine.number_value z.levels (cells_of_store z.store) n) (machine.apply_operator o a)) (λ x. w z >>= op x) (hm z shown)
+      (λ a. outcome-then number number (machine.number_value z.levels (cells_of_store z.store) n) (w z) (machine.apply_operator o a) (op (number a)) (hn z shown) (operates a))
 
-  pub plus-means : (n : lowered.Number) (v : OutcomeByMoment N Value) → NumberMeans checked slots n v → NumberMeans checked slots (lowered.operation lowered.sum n (lowered.literal (pos 0))) (λ z. v z >>= apply_sign (Some sign.Plus))
-  plus-means n v hn z shown = outcome-then number number (machine.number z.levels (cells_of_store z.store) n) (v z) (λ a. machine.apply_operator lowered.sum a (pos 0)) (apply_sign (Some sign.Plus)) (hn z shown) plus-same
+  pub plus-means : (n : lowered.Number) (v : OutcomeByMoment N Value) → NumberHasOutcome checked slots n v → NumberHasOutcome checked slots (lowered.operation lowered.sum n (lowered.literal (pos 0))) (λ z. v z >>= apply_sign (Some sign.Plus))
+  plus-means n v hn z shown = outcome-then number number (machine.number_value z.levels (cells_of_store z.store) n) (v z) (λ a. machine.apply_operator lowered.sum a (pos 0)) (apply_sign (Some sign.Plus)) (hn z shown) plus-same
 
-  pub negative-means : (n : lowered.Number) (v : OutcomeByMoment N Value) → NumberMeans checked slots n v → NumberMeans checked slots (lowered.negative n) (λ z. v z >>= apply_sign (Some sign.Minus))
-  negative-means n v hn z shown = outcome-then number number (machine.number z.levels (cells_of_store z.store) n) (v z) (λ a. machine.checked_number (neg_ℤ a)) (apply_sign (Some sign.Minus)) (hn z shown) (λ a. checked_number-same (neg_ℤ a))
+  pub negative-means : (n : lowered.Number) (v : OutcomeByMoment N Value) → NumberHasOutcome checked slots n v → NumberHasOutcome checked slots (lowered.negative n) (λ z. v z >>= apply_sign (Some sign.Minus))
+  negative-means n v hn z shown = outcome-then number number (machine.number_value z.levels (cells_of_store z.store) n) (v z) (λ a. machine.checked_number (neg_ℤ a)) (apply_sign (Some sign.Minus)) (hn z shown) (λ a. checked_number-same (neg_ℤ a))
 
   -- where nothing is left
-  pub number-whole : (n : lowered.Number) (rest : RestOfChain N Value) (whole : OutcomeByMoment N Value) → ((z : Moment N) (v : Value) → rest z v ≡ succeeds_with v) → NumberStartsChain checked slots n rest whole → NumberMeans checked slots n whole
+  pub number-whole : (n : lowered.Number) (rest : RestOfChain N Value) (whole : OutcomeByMoment N Value) → ((z : Moment N) (v : Value) → rest z v ≡ succeeds_with v) → NumberStartsChain checked slots n rest whole → NumberHasOutcome checked slots n whole
   number-whole n rest whole ends_here h z shown =
       let (v, hv, ev) = h in
       let same : v z ≡ whole z = sym (gives-then (v z)) ∙ (each-then (v z) succeeds_with (rest z) (λ x. sym (ends_here z x)) ∙ ev z shown) in
       hv z shown ∙ same
 
   pub addend-leads : (o : AddOperator) (op : lowered.Operator) → Operates op (add o) → ((x : Value) → add_operator_short_circuits o x ≡ false) → (m n : lowered.Number) (e : Tree N term) (rest : Tree N (items addend)) (whole : OutcomeByMoment N Value)
-      → NumberMeans checked slots n (value_of_term e) → NumberStartsChain checked slots m (outcome_of_remaining_addends (more (adds o e) rest)) whole → NumberStartsChain checked slots (lowered.operation op m n) (outcome_of_remaining_addends rest) whole
+      → NumberHasOutcome checked slots n (value_of_term e) → NumberStartsChain checked slots m (outcome_of_remaining_addends (more (adds o e) rest)) whole → NumberStartsChain checked slots (lowered.operation op m n) (outcome_of_remaining_addends rest) whole
   unfolding evaluate
   addend-leads o op operates never m n e rest whole hn h =
       let (v, hv, ev) = h in (
@@ -54,7 +54,7 @@ module _ {N : Type 0} (checked : TypeMeanings N) (slots : N → Slot) where
       )
 
   pub multiplier-leads : (o : MultiplyOperator) (op : lowered.Operator) → Operates op (multiply o) → ((x : Value) → multiply_operator_short_circuits o x ≡ false) → (m n : lowered.Number) (f : Tree N factor) (rest : Tree N (items multiplier)) (whole : OutcomeByMoment N Value)
-      → NumberMeans checked slots n (value_of_factor f) → NumberStartsChain checked slots m (outcome_of_remaining_multipliers (more (multiplies o f) rest)) whole → NumberStartsChain checked slots (lowered.operation op m n) (outcome_of_remaining_multipliers rest) whole
+      → NumberHasOutcome checked slots n (value_of_factor f) → NumberStartsChain checked slots m (outcome_of_remaining_multipliers (more (multiplies o f) rest)) whole → NumberStartsChain checked slots (lowered.operation op m n) (outcome_of_remaining_multipliers rest) whole
   unfolding evaluate
   multiplier-leads o op operates never m n f rest whole hn h =
       let (v, hv, ev) = h in (
@@ -63,15 +63,15 @@ module _ {N : Type 0} (checked : TypeMeanings N) (slots : N → Slot) where
         λ z shown. unsettled (v z) (multiply_operator_short_circuits o) (λ x. value_of_factor f z >>= multiply o x) (outcome_of_remaining_multipliers rest z) never ∙ ev z shown,
       )
 
-  pub product-begins : (f : Tree N factor) (rest : Tree N (items multiplier)) (n : lowered.Number) → NumberMeans checked slots n (value_of_factor f) → NumberStartsChain checked slots n (outcome_of_remaining_multipliers rest) (value_of_term (product f rest))
+  pub product-begins : (f : Tree N factor) (rest : Tree N (items multiplier)) (n : lowered.Number) → NumberHasOutcome checked slots n (value_of_factor f) → NumberStartsChain checked slots n (outcome_of_remaining_multipliers rest) (value_of_term (product f rest))
   unfolding evaluate
   product-begins f rest n hn = (value_of_factor f, hn, λ z shown. refl)
 
-  pub sum-begins : (e : Tree N term) (rest : Tree N (items addend)) (n : lowered.Number) → NumberMeans checked slots n (value_of_term e) → NumberStartsChain checked slots n (outcome_of_remaining_addends rest) (value_of_simple_expression (sum None e rest))
+  pub sum-begins : (e : Tree N term) (rest : Tree N (items addend)) (n : lowered.Number) → NumberHasOutcome checked slots n (value_of_term e) → NumberStartsChain checked slots n (outcome_of_remaining_addends rest) (value_of_simple_expression (sum None e rest))
   unfolding evaluate
   sum-begins e rest n hn = (value_of_term e, hn, λ z shown. refl)
 
-  pub plus-begins : (e : Tree N term) (rest : Tree N (items addend)) (n : lowered.Number) → NumberMeans checked slots n (value_of_term e)
+  pub plus-begins : (e : Tree N term) (rest : Tree N (items addend)) (n : lowered.Number) → NumberHasOutcome checked slots n (value_of_term e)
       → NumberStartsChain checked slots (lowered.operation lowered.sum n (lowered.literal (pos 0))) (outcome_of_remaining_addends rest) (value_of_simple_expression (sum (Some sign.Plus) e rest))
   unfolding evaluate
   plus-begins e rest n hn = (
@@ -80,7 +80,7 @@ module _ {N : Type 0} (checked : TypeMeanings N) (slots : N → Slot) where
     λ z shown. grouped-then (value_of_term e z) (apply_sign (Some sign.Plus)) (outcome_of_remaining_addends rest z),
   )
 
-  pub minus-begins : (e : Tree N term) (rest : Tree N (items addend)) (n : lowered.Number) → NumberMeans checked slots n (value_of_term e) → NumberStartsChain checked slots (lowered.negative n) (outcome_of_remaining_addends rest) (value_of_simple_expression (sum (Some sign.Minus) e rest))
+  pub minus-begins : (e : Tree N term) (rest : Tree N (items addend)) (n : lowered.Number) → NumberHasOutcome checked slots n (value_of_term e) → NumberStartsChain checked slots (lowered.negative n) (outcome_of_remaining_addends rest) (value_of_simple_expression (sum (Some sign.Minus) e rest))
   unfolding evaluate
   minus-begins e rest n hn = (
     (λ z. value_of_term e z >>= apply_sign (Some sign.Minus)),
@@ -88,6 +88,6 @@ module _ {N : Type 0} (checked : TypeMeanings N) (slots : N → Slot) where
     λ z shown. grouped-then (value_of_term e z) (apply_sign (Some sign.Minus)) (outcome_of_remaining_addends rest z),
   )
 
-  pub integer-means : (n : ℕ) → NumberMeans checked slots (lowered.literal (pos n)) (value_of_factor (integer n))
+  pub integer-means : (n : ℕ) → NumberHasOutcome checked slots (lowered.literal (pos n)) (value_of_factor (integer n))
   unfolding evaluate
   integer-means n z shown = refl

@@ -7,12 +7,12 @@ use Rattle.ob0_tree.specs.declared.tree.Relation.TheVariants as relation
 use Rattle.ob0_tree.specs.declared.tree.Sign.TheVariants as sign
 use Rattle.ob0_tree.specs.declared.tree.AddOperator.TheVariants as add_operator
 use Rattle.ob0_tree.specs.declared.tree.MultiplyOperator.TheVariants as multiply_operator
-use Rattle.ob0_language_values.specs.Values.{End, Outcome, Overflow, Place, Shape, Value, add, checked_division, division_outcome, ends_run_with, fits_in_32_bits, succeeds_with, checked_number, multiply, number, or_stuck, quotient, apply_relation, remainder, apply_sign, truth, ◌>>=◌}
+use Rattle.ob0_language_values.specs.Values.{End, Outcome, Overflow, Place, Shape, Value, add, checked_division, division_outcome, ends_run_with, fits_in_32_bits, succeeds_with, checked_number, multiply, number, result_or_stuck, quotient, apply_relation, remainder, apply_sign, truth, ◌>>=◌}
 use Rattle.ob0_language_runs.specs.TypeAgreement.{PlaceHasType, StoreTyping}
 use Rattle.ob0_run_machine.specs.Evaluation as machine
 use Rattle.ob0_run_machine.specs.LoweredSyntax as lowered
 use Rattle.ob0_run_cells.specs.Cells.{address}
-use Rattle.ob0_run_cells.specs.Lowering.{PlaceOutcomeHasType, outcome_of, relation_of}
+use Rattle.ob0_run_cells.specs.LoweredExpressions.{PlaceOutcomeHasType, outcome_of, relation_of}
 
 abbrev pub followed_by : {A B : Type 0} → machine.StepResult A → (A → machine.StepResult B) → machine.StepResult B
 followed_by = machine.◌>>=◌
@@ -25,7 +25,7 @@ pub gives-then : {A : Type 0} (o : Outcome A) → (o >>= succeeds_with) ≡ o
 gives-then (succeeds_with a) = refl
 gives-then (ends_run_with e) = refl
 
-pub stuck-then : {A B C : Type 0} (o : Option A) (f : A → Option B) (k : B → Outcome C) → (or_stuck (option_and_then f o) >>= k) ≡ (or_stuck o >>= (λ a. or_stuck (f a) >>= k))
+pub stuck-then : {A B C : Type 0} (o : Option A) (f : A → Option B) (k : B → Outcome C) → (result_or_stuck (option_and_then f o) >>= k) ≡ (result_or_stuck o >>= (λ a. result_or_stuck (f a) >>= k))
 stuck-then None f k = refl
 stuck-then (Some a) f k = refl
 

@@ -4,16 +4,16 @@ use Rattle.std.proofs.Math.Nat.{add_assoc, add_comm, add-zero, add-mod-mod, mod-
 use Rattle.std.proofs.lemmas.Option.{get_or_from_slice_get}
 use Rattle.ob0_tree.specs.Tree.{Tree, designator, end, expression, field, index, items, more, selector}
 use Rattle.ob0_language_types.specs.Expressions.{Meanings, Object, a_constant, a_variable, designated_place, element_step, evaluate, evaluate_selectors, object_place, object_value}
-use Rattle.ob0_language_types.specs.Typing.{shape_of_field}
+use Rattle.ob0_language_types.specs.Typing.{named_field_shape}
 use Rattle.ob0_language_types.specs.WellTyped.{ParameterMode, TypeMeanings}
-use Rattle.ob0_language_values.specs.Values.{FieldShapes, Index, Outcome, Place, Shape, Step, Store, Value, Values, array_shape, at_field, at_index, value_at_path, boolean_shape, count_values, elements, ends_run_with, succeeds_with, integer_shape, number, or_stuck, value_at_step, read_place, record_shape, truth, ◌>>=◌}
+use Rattle.ob0_language_values.specs.Values.{FieldShapes, Index, Outcome, Place, Shape, PathStep, Store, Value, Values, array_shape, at_field, at_index, value_at_path, boolean_shape, count_values, elements, ends_run_with, succeeds_with, integer_shape, number, result_or_stuck, value_at_step, read_place, record_shape, truth, ◌>>=◌}
 use Rattle.ob0_language_runs.specs.TypeAgreement.{HasShape, RunObjectAgreesWithCheckedObject, PlaceHasType, StoreHasTypes, StoreTyping, shape_at_step, shape_at_path}
 use Rattle.ob0_language_runs.proofs.Sound.{is_elements}
 use Rattle.ob0_run_machine.specs.Evaluation as machine
 use Rattle.ob0_run_machine.specs.Evaluation.{Levels}
 use Rattle.ob0_run_machine.specs.LoweredSyntax as lowered
 use Rattle.ob0_run_cells.specs.Cells.{address, cells_of_store, field_offset, offset, size, store_cell_count, step_offset, truth_cell}
-use Rattle.ob0_run_cells.specs.Lowering.{OutcomeByMoment, PlaceOutcomeHasType, Moment, NumberMeans, PlaceStartsChain, PlaceMeans, IsMomentOfModule, Slot, TruthMeans, PlaceHoldsValue, extended_place, in_activation, by_reference, in_module_activation, outcome_of, place_at_offset, place_of_designator, outcome_of_remaining_selectors, slot_address, slot_place, value_of_expression, value_of_factor}
+use Rattle.ob0_run_cells.specs.LoweredExpressions.{OutcomeByMoment, PlaceOutcomeHasType, Moment, NumberHasOutcome, PlaceStartsChain, PlaceHasOutcome, IsMomentOfModule, Slot, TruthHasOutcome, PlaceHoldsValue, extended_place, in_activation, by_reference, in_module_activation, outcome_of, place_at_offset, place_of_designator, outcome_of_remaining_selectors, slot_address, slot_place, value_of_expression, value_of_factor}
 use Rattle.ob0_run_cells.proofs.LoweredNumbers.{each-then}
 use Rattle.ob0_run_cells.proofs.LoweredOutcomes.{Led, addresses, add_offset-same, given-same, gives-then, grouped-then, led-then, same, stuck-then, followed_by}
 use Rattle.ob0_run_cells.proofs.Places.{numbers_are_cells, parts_have_addresses, place-lies, places_are_slices, truths_are_cells}
@@ -34,14 +34,14 @@ and-then-twice : {A B C : Type 0} (o : Option A) (f : A → Option C) (g : B →
 and-then-twice None f g h each = refl
 and-then-twice (Some a) f g h each = each a
 
-pub value_at_path-append : (path others : List Step) (v : Value) → value_at_path (path ++ others) v ≡ option_and_then (value_at_path others) (value_at_path path v)
+pub value_at_path-append : (path others : List PathStep) (v : Value) → value_at_path (path ++ others) v ≡ option_and_then (value_at_path others) (value_at_path path v)
 value_at_path-append [] others v = refl
 value_at_path-append (s ∷ path) others v = and-then-twice (value_at_step v s) (value_at_path (path ++ others)) (value_at_path others) (value_at_path path) (λ u. value_at_path-append path others u)
 
-pub read-extended_place : (store : Store) (p : Place) (steps : List Step) → read_place store (extended_place p steps) ≡ option_and_then (value_at_path steps) (read_place store p)
+pub read-extended_place : (store : Store) (p : Place) (steps : List PathStep) → read_place store (extended_place p steps) ≡ option_and_then (value_at_path steps) (read_place store p)
 read-extended_place store p steps = and-then-twice (slice_get store p.variable) (value_at_path (p.path ++ steps)) (value_at_path steps) (value_at_path p.path) (λ v. value_at_path-append p.path steps v)
 
-pub extended_place-extended_place : (p : Place) (s : Step) (steps : List Step) → extended_place (extended_place p (s ∷ [])) steps ≡ extended_place p (s ∷ steps)
+pub extended_place-extended_place : (p : Place) (s : PathStep) (steps : List PathStep) → extended_place (extended_place p (s ∷ [])) steps ≡ extended_place p (s ∷ steps)
 extended_place-extended_place p s steps = ap (λ path. record { variable = p.variable; path = path }) (append_assoc p.path (s ∷ []) steps)
 
 then-some : {A : Type 0} (o : Option A) → option_and_then Some o ≡ o
@@ -49,15 +49,15 @@ then-some None = refl
 then-some (Some a) = refl
 
 -- selectors that are left, one step further
-pub left-extended_place : {N : Type 0} (z : Moment N) (p : Place) (s : Step) (rest : Tree N (items selector))
-    → outcome_of_remaining_selectors rest z (extended_place p (s ∷ [])) ≡ (or_stuck (read_place z.store p) >>= (λ u. or_stuck (value_at_step u s) >>= (λ w. evaluate_selectors z.active z.store w rest >>= (λ steps. succeeds_with (extended_place p (s ∷ steps))))))
+pub left-extended_place : {N : Type 0} (z : Moment N) (p : Place) (s : PathStep) (rest : Tree N (items selector))
+    → outcome_of_remaining_selectors rest z (extended_place p (s ∷ [])) ≡ (result_or_stuck (read_place z.store p) >>= (λ u. result_or_stuck (value_at_step u s) >>= (λ w. evaluate_selectors z.active z.store w rest >>= (λ steps. succeeds_with (extended_place p (s ∷ steps))))))
 left-extended_place z p s rest =
-    ap (λ o. or_stuck o >>= (λ w. evaluate_selectors z.active z.store w rest >>= (λ steps. succeeds_with (extended_place (extended_place p (s ∷ [])) steps)))) (read-extended_place z.store p (s ∷ []))
+    ap (λ o. result_or_stuck o >>= (λ w. evaluate_selectors z.active z.store w rest >>= (λ steps. succeeds_with (extended_place (extended_place p (s ∷ [])) steps)))) (read-extended_place z.store p (s ∷ []))
     ∙ (stuck-then (read_place z.store p) (value_at_path (s ∷ [])) (λ w. evaluate_selectors z.active z.store w rest >>= (λ steps. succeeds_with (extended_place (extended_place p (s ∷ [])) steps)))
-    ∙ (λ i. or_stuck (read_place z.store p) >>= (λ u. or_stuck (then-some (value_at_step u s) i) >>= (λ w. evaluate_selectors z.active z.store w rest >>= (λ steps. succeeds_with (extended_place-extended_place p s steps i))))))
+    ∙ (λ i. result_or_stuck (read_place z.store p) >>= (λ u. result_or_stuck (then-some (value_at_step u s) i) >>= (λ w. evaluate_selectors z.active z.store w rest >>= (λ steps. succeeds_with (extended_place-extended_place p s steps i))))))
 
 -- the steps that a selector and the others make are those of the others after it
-pub step-first : (o : Outcome Value) (others : Value → Outcome (List Step)) (s : Step) (p : Place)
+pub step-first : (o : Outcome Value) (others : Value → Outcome (List PathStep)) (s : PathStep) (p : Place)
     → ((o >>= (λ w. others w >>= (λ steps. succeeds_with (s ∷ steps)))) >>= (λ steps. succeeds_with (extended_place p steps))) ≡ (o >>= (λ w. others w >>= (λ steps. succeeds_with (extended_place p (s ∷ steps)))))
 step-first (succeeds_with w) others s p = grouped-then (others w) (λ steps. succeeds_with (s ∷ steps)) (λ steps. succeeds_with (extended_place p steps))
 step-first (ends_run_with e) others s p = refl
@@ -68,7 +68,7 @@ each-place typing s (ends_run_with e) f g h each = refl
 
 -- addresses of slots
 
-pub slot-found : (ls : Levels) (cells : List ℤ) (slot : Slot) → slot_address ls slot < 2 ^ 64 → machine.address ls cells (slot_place slot) ≡ machine.gives (slot_address ls slot)
+pub slot-found : (ls : Levels) (cells : List ℤ) (slot : Slot) → slot_address ls slot < 2 ^ 64 → machine.place_address ls cells (slot_place slot) ≡ machine.gives (slot_address ls slot)
 slot-found ls cells (in_module_activation at) h = refl
 slot-found ls cells (in_activation zero at) h = ap machine.gives (add_offset-same (machine.innermost_level ls).base at h)
 slot-found ls cells (in_activation (suc up) at) h = ap machine.gives (add_offset-same (machine.level_at ls (suc up)).base at h)
@@ -97,12 +97,12 @@ extended_place-element (machine.gives a) (machine.gives (pos j)) n s at k = chos
 extended_place-element _ _ n s at k = refl
 
 -- the address of a place with an added offset is larger by this offset
-pub value_at_step-address : (ls : Levels) (cells : List ℤ) (q : lowered.Place) (k : ℕ) → machine.address ls cells (place_at_offset q k) ≡ followed_by (machine.address ls cells q) (λ a. machine.gives (machine.add_offset a k))
+pub value_at_step-address : (ls : Levels) (cells : List ℤ) (q : lowered.Place) (k : ℕ) → machine.place_address ls cells (place_at_offset q k) ≡ followed_by (machine.place_address ls cells q) (λ a. machine.gives (machine.add_offset a k))
 value_at_step-address ls cells (lowered.in_module at) k = refl
 value_at_step-address ls cells (lowered.in_own_activation at) k = ap machine.gives (add_offset-twice (machine.innermost_level ls).base at k)
 value_at_step-address ls cells (lowered.outside up at) k = ap machine.gives (add_offset-twice (machine.level_at ls up).base at k)
 value_at_step-address ls cells (lowered.passed up i at) k = ap machine.gives (add_offset-twice (slot_address ls (by_reference up i)) at k)
-value_at_step-address ls cells (lowered.element q i n s at) k = extended_place-element (machine.address ls cells q) (machine.number ls cells i) n s at k
+value_at_step-address ls cells (lowered.element q i n s at) k = extended_place-element (machine.place_address ls cells q) (machine.number_value ls cells i) n s at k
 
 -- an element without an offset
 from-start : (a : ℕ) (y : machine.StepResult ℤ) (n s : ℕ) → followed_by y (machine.element_address (machine.add_offset a 0) n s) ≡ followed_by y (machine.element_address a n s)
@@ -110,20 +110,20 @@ from-start a (machine.gives (pos j)) n s = ap (λ b. if nat_lt j n then machine.
 from-start a _ n s = refl
 
 pub element-address : (ls : Levels) (cells : List ℤ) (q : lowered.Place) (i : lowered.Number) (n s : ℕ)
-    → machine.address ls cells (lowered.element q i n s 0) ≡ followed_by (machine.address ls cells q) (λ a. followed_by (machine.number ls cells i) (machine.element_address a n s))
-element-address ls cells q i n s = go (machine.address ls cells q)
+    → machine.place_address ls cells (lowered.element q i n s 0) ≡ followed_by (machine.place_address ls cells q) (λ a. followed_by (machine.number_value ls cells i) (machine.element_address a n s))
+element-address ls cells q i n s = go (machine.place_address ls cells q)
   where
-    go : (x : machine.StepResult ℕ) → followed_by x (λ a. followed_by (machine.number ls cells i) (machine.element_address (machine.add_offset a 0) n s)) ≡ followed_by x (λ a. followed_by (machine.number ls cells i) (machine.element_address a n s))
-    go (machine.gives a) = from-start a (machine.number ls cells i) n s
+    go : (x : machine.StepResult ℕ) → followed_by x (λ a. followed_by (machine.number_value ls cells i) (machine.element_address (machine.add_offset a 0) n s)) ≡ followed_by x (λ a. followed_by (machine.number_value ls cells i) (machine.element_address a n s))
+    go (machine.gives a) = from-start a (machine.number_value ls cells i) n s
     go (machine.ends e) = refl
 
 -- one step further, at a moment
 
-pub step-alone : (s t : Shape) (step : Step) → shape_at_step s step ≡ Some t → offset (step ∷ []) s ≡ step_offset s step
+pub step-alone : (s t : Shape) (step : PathStep) → shape_at_step s step ≡ Some t → offset (step ∷ []) s ≡ step_offset s step
 step-alone s t step e =
     let h : unwrap_or (option_map (offset []) (shape_at_step s step)) 0 ≡ 0 = ap (λ o. unwrap_or (option_map (offset []) o) 0) e in omega (arith, h)
 
-pub step-led : (typing : StoreTyping) (store : Store) → StoreHasTypes typing store → store_cell_count typing < 2 ^ 64 → (p : Place) (s t : Shape) (step : Step) → PlaceHasType typing p s → shape_at_step s step ≡ Some t
+pub step-led : (typing : StoreTyping) (store : Store) → StoreHasTypes typing store → store_cell_count typing < 2 ^ 64 → (p : Place) (s t : Shape) (step : PathStep) → PlaceHasType typing p s → shape_at_step s step ≡ Some t
     → Led typing t (machine.gives (machine.add_offset (address typing p) (step_offset s step))) (succeeds_with (extended_place p (step ∷ [])))
 step-led typing store fits few p s t step fit e =
     let (is, there) = parts_have_addresses typing p (step ∷ []) s t fit (ap (option_and_then (shape_at_path [])) e) in
@@ -136,12 +136,12 @@ step-led typing store fits few p s t step fit e =
 -- an element, by an index that was evaluated
 pub index-led : (typing : StoreTyping) (store : Store) → StoreHasTypes typing store → store_cell_count typing < 2 ^ 64 → (p : Place) (k n : ℕ) (t : Shape) → PlaceHasType typing p (array_shape k n t)
     → (o : machine.StepResult ℤ) (w : Outcome Value) → outcome_of number o ≡ w
-    → Led typing t (followed_by o (machine.element_address (address typing p) n (size t))) (w >>= (λ x. or_stuck (read_place store p) >>= (λ u. element_step u x >>= (λ s. succeeds_with (extended_place p (s ∷ []))))))
+    → Led typing t (followed_by o (machine.element_address (address typing p) n (size t))) (w >>= (λ x. result_or_stuck (read_place store p) >>= (λ u. element_step u x >>= (λ s. succeeds_with (extended_place p (s ∷ []))))))
 index-led typing store fits few p k n t fit o w e =
     let (u, eu, hu, write, made, keeps, lies) = place-lies typing store p (array_shape k n t) fits fit in
     let (vs, es) = is_elements u k n t hu in
     let counted : count_values vs ≡ n = (subst (λ u. HasShape u (array_shape k n t)) es hu).0 in
-    subst₂ (λ w r. Led typing t (followed_by o (machine.element_address (address typing p) n (size t))) (w >>= (λ x. or_stuck r >>= (λ u. element_step u x >>= (λ s. succeeds_with (extended_place p (s ∷ []))))))) e (sym (eu ∙ ap Some es)) (go vs counted o)
+    subst₂ (λ w r. Led typing t (followed_by o (machine.element_address (address typing p) n (size t))) (w >>= (λ x. result_or_stuck r >>= (λ u. element_step u x >>= (λ s. succeeds_with (extended_place p (s ∷ []))))))) e (sym (eu ∙ ap Some es)) (go vs counted o)
   where
     chosen : (i : ℕ) (b : Bool) → nat_lt i n ≡ b → Led typing t (if b then machine.gives (machine.add_offset (address typing p) (i * size t)) else machine.ends machine.Index) ((if b then succeeds_with (at_index i) else ends_run_with Index) >>= (λ s. succeeds_with (extended_place p (s ∷ []))))
     chosen i true below = step-led typing store fits few p (array_shape k n t) t (at_index i) fit (ap (λ b. if b then Some t else None) below)
@@ -156,27 +156,27 @@ index-led typing store fits few p k n t fit o w e =
 -- a designator in an expression evaluates to what its place holds
 
 pub value-there : {N : Type 0} (active : Meanings N Place (List ParameterMode)) (store : Store) (x : N) (path : Tree N (items selector)) (p : Place) → active.object_for x ≡ Some (a_variable p)
-    → (object_value store (active.object_for x) >>= (λ v. evaluate_selectors active store v path >>= (λ steps. or_stuck (value_at_path steps v))))
-    ≡ ((object_place (active.object_for x) >>= (λ p. or_stuck (read_place store p) >>= (λ v. evaluate_selectors active store v path >>= (λ steps. succeeds_with (extended_place p steps))))) >>= (λ p. or_stuck (read_place store p)))
+    → (object_value store (active.object_for x) >>= (λ v. evaluate_selectors active store v path >>= (λ steps. result_or_stuck (value_at_path steps v))))
+    ≡ ((object_place (active.object_for x) >>= (λ p. result_or_stuck (read_place store p) >>= (λ v. evaluate_selectors active store v path >>= (λ steps. succeeds_with (extended_place p steps))))) >>= (λ p. result_or_stuck (read_place store p)))
 value-there {N} active store x path p e =
-    subst (λ o. (object_value {P = List ParameterMode} store o >>= (λ v. evaluate_selectors active store v path >>= (λ steps. or_stuck (value_at_path steps v))))
-    ≡ ((object_place o >>= (λ p. or_stuck (read_place store p) >>= (λ v. evaluate_selectors active store v path >>= (λ steps. succeeds_with (extended_place p steps))))) >>= (λ p. or_stuck (read_place store p)))) (sym e)
+    subst (λ o. (object_value {P = List ParameterMode} store o >>= (λ v. evaluate_selectors active store v path >>= (λ steps. result_or_stuck (value_at_path steps v))))
+    ≡ ((object_place o >>= (λ p. result_or_stuck (read_place store p) >>= (λ v. evaluate_selectors active store v path >>= (λ steps. succeeds_with (extended_place p steps))))) >>= (λ p. result_or_stuck (read_place store p)))) (sym e)
     (go (read_place store p) refl)
   where
     go : (o : Option Value) → read_place store p ≡ o
-        → (or_stuck o >>= (λ v. evaluate_selectors active store v path >>= (λ steps. or_stuck (value_at_path steps v)))) ≡ ((or_stuck o >>= (λ v. evaluate_selectors active store v path >>= (λ steps. succeeds_with (extended_place p steps)))) >>= (λ p. or_stuck (read_place store p)))
+        → (result_or_stuck o >>= (λ v. evaluate_selectors active store v path >>= (λ steps. result_or_stuck (value_at_path steps v)))) ≡ ((result_or_stuck o >>= (λ v. evaluate_selectors active store v path >>= (λ steps. succeeds_with (extended_place p steps)))) >>= (λ p. result_or_stuck (read_place store p)))
     go None h = refl
     go (Some v) h =
-        each-then (evaluate_selectors active store v path) (λ steps. or_stuck (value_at_path steps v)) (λ steps. or_stuck (read_place store (extended_place p steps))) (λ steps. ap or_stuck (sym (read-extended_place store p steps ∙ ap (option_and_then (value_at_path steps)) h)))
-        ∙ sym (grouped-then (evaluate_selectors active store v path) (λ steps. succeeds_with (extended_place p steps)) (λ p. or_stuck (read_place store p)))
+        each-then (evaluate_selectors active store v path) (λ steps. result_or_stuck (value_at_path steps v)) (λ steps. result_or_stuck (read_place store (extended_place p steps))) (λ steps. ap result_or_stuck (sym (read-extended_place store p steps ∙ ap (option_and_then (value_at_path steps)) h)))
+        ∙ sym (grouped-then (evaluate_selectors active store v path) (λ steps. succeeds_with (extended_place p steps)) (λ p. result_or_stuck (read_place store p)))
 
 pub number-there : (typing : StoreTyping) (store : Store) → StoreHasTypes typing store → (o : machine.StepResult ℕ) (w : Outcome Place) → Led typing integer_shape o w
-    → outcome_of number (followed_by o (λ a. machine.gives (machine.cell_at (cells_of_store store) a))) ≡ (w >>= (λ p. or_stuck (read_place store p)))
+    → outcome_of number (followed_by o (λ a. machine.gives (machine.cell_at (cells_of_store store) a))) ≡ (w >>= (λ p. result_or_stuck (read_place store p)))
 number-there typing store fits (machine.gives a) (succeeds_with p) h =
     let (found, writes) = numbers_are_cells typing store p fits h.is_place in
     let (n, read, cell) = found in
     let e : a ≡ address typing p = given-same a (address typing p) h.is_same in
-    ap (λ n. succeeds_with (number n)) (get_or_from_slice_get (cells_of_store store) a n (pos 0) (ap (slice_get (cells_of_store store)) e ∙ cell)) ∙ sym (ap or_stuck read)
+    ap (λ n. succeeds_with (number n)) (get_or_from_slice_get (cells_of_store store) a n (pos 0) (ap (slice_get (cells_of_store store)) e ∙ cell)) ∙ sym (ap result_or_stuck read)
 number-there typing store fits (machine.ends x) (ends_run_with y) h = ap (λ w. w >>= (λ a. ends_run_with y)) (h.is_same)
 number-there typing store fits _ _ h = let e = h.is_same in absurd (cc)
 
@@ -185,32 +185,32 @@ is_cell_true-cell true = refl
 is_cell_true-cell false = refl
 
 pub truth-there : (typing : StoreTyping) (store : Store) → StoreHasTypes typing store → (o : machine.StepResult ℕ) (w : Outcome Place) → Led typing boolean_shape o w
-    → outcome_of truth (followed_by o (λ a. machine.gives (machine.is_cell_true (machine.cell_at (cells_of_store store) a)))) ≡ (w >>= (λ p. or_stuck (read_place store p)))
+    → outcome_of truth (followed_by o (λ a. machine.gives (machine.is_cell_true (machine.cell_at (cells_of_store store) a)))) ≡ (w >>= (λ p. result_or_stuck (read_place store p)))
 truth-there typing store fits (machine.gives a) (succeeds_with p) h =
     let (found, writes) = truths_are_cells typing store p fits h.is_place in
     let (b, read, cell) = found in
     let e : a ≡ address typing p = given-same a (address typing p) h.is_same in
-    ap (λ n. succeeds_with (truth (machine.is_cell_true n))) (get_or_from_slice_get (cells_of_store store) a (truth_cell b) (pos 0) (ap (slice_get (cells_of_store store)) e ∙ cell)) ∙ (ap (λ b. succeeds_with (truth b)) (is_cell_true-cell b) ∙ sym (ap or_stuck read))
+    ap (λ n. succeeds_with (truth (machine.is_cell_true n))) (get_or_from_slice_get (cells_of_store store) a (truth_cell b) (pos 0) (ap (slice_get (cells_of_store store)) e ∙ cell)) ∙ (ap (λ b. succeeds_with (truth b)) (is_cell_true-cell b) ∙ sym (ap result_or_stuck read))
 truth-there typing store fits (machine.ends x) (ends_run_with y) h = ap (λ w. w >>= (λ a. ends_run_with y)) (h.is_same)
 truth-there typing store fits _ _ h = let e = h.is_same in absurd (cc)
 
 -- an index and the selectors after it, from a place that holds something
 pub index-left : {N : Type 0} (z : Moment N) (p : Place) (e : Tree N expression) (rest : Tree N (items selector)) (u : Value) → read_place z.store p ≡ Some u
-    → ((value_of_expression e z >>= (λ x. or_stuck (read_place z.store p) >>= (λ u. element_step u x >>= (λ s. succeeds_with (extended_place p (s ∷ [])))))) >>= outcome_of_remaining_selectors rest z) ≡ outcome_of_remaining_selectors (more (index e) rest) z p
+    → ((value_of_expression e z >>= (λ x. result_or_stuck (read_place z.store p) >>= (λ u. element_step u x >>= (λ s. succeeds_with (extended_place p (s ∷ [])))))) >>= outcome_of_remaining_selectors rest z) ≡ outcome_of_remaining_selectors (more (index e) rest) z p
 unfolding evaluate
 index-left z p e rest u eu =
-    ap (λ o. (value_of_expression e z >>= (λ x. or_stuck o >>= (λ u. element_step u x >>= (λ s. succeeds_with (extended_place p (s ∷ [])))))) >>= outcome_of_remaining_selectors rest z) eu
+    ap (λ o. (value_of_expression e z >>= (λ x. result_or_stuck o >>= (λ u. element_step u x >>= (λ s. succeeds_with (extended_place p (s ∷ [])))))) >>= outcome_of_remaining_selectors rest z) eu
     ∙ (grouped-then (value_of_expression e z) (λ x. element_step u x >>= (λ s. succeeds_with (extended_place p (s ∷ [])))) (outcome_of_remaining_selectors rest z)
-    ∙ (each-then (value_of_expression e z) (λ x. (element_step u x >>= (λ s. succeeds_with (extended_place p (s ∷ [])))) >>= outcome_of_remaining_selectors rest z) (λ x. (element_step u x >>= (λ s. or_stuck (value_at_step u s) >>= (λ w. evaluate_selectors z.active z.store w rest >>= (λ steps. succeeds_with (s ∷ steps))))) >>= (λ steps. succeeds_with (extended_place p steps)))
+    ∙ (each-then (value_of_expression e z) (λ x. (element_step u x >>= (λ s. succeeds_with (extended_place p (s ∷ [])))) >>= outcome_of_remaining_selectors rest z) (λ x. (element_step u x >>= (λ s. result_or_stuck (value_at_step u s) >>= (λ w. evaluate_selectors z.active z.store w rest >>= (λ steps. succeeds_with (s ∷ steps))))) >>= (λ steps. succeeds_with (extended_place p steps)))
     (λ x. grouped-then (element_step u x) (λ s. succeeds_with (extended_place p (s ∷ []))) (outcome_of_remaining_selectors rest z)
-    ∙ (each-then (element_step u x) (λ s. outcome_of_remaining_selectors rest z (extended_place p (s ∷ []))) (λ s. (or_stuck (value_at_step u s) >>= (λ w. evaluate_selectors z.active z.store w rest >>= (λ steps. succeeds_with (s ∷ steps)))) >>= (λ steps. succeeds_with (extended_place p steps)))
-    (λ s. left-extended_place z p s rest ∙ (ap (λ o. or_stuck o >>= (λ u. or_stuck (value_at_step u s) >>= (λ w. evaluate_selectors z.active z.store w rest >>= (λ steps. succeeds_with (extended_place p (s ∷ steps)))))) eu ∙ sym (step-first (or_stuck (value_at_step u s)) (λ w. evaluate_selectors z.active z.store w rest) s p)))
-    ∙ sym (grouped-then (element_step u x) (λ s. or_stuck (value_at_step u s) >>= (λ w. evaluate_selectors z.active z.store w rest >>= (λ steps. succeeds_with (s ∷ steps)))) (λ steps. succeeds_with (extended_place p steps)))))
-    ∙ (sym (grouped-then (value_of_expression e z) (λ x. element_step u x >>= (λ s. or_stuck (value_at_step u s) >>= (λ w. evaluate_selectors z.active z.store w rest >>= (λ steps. succeeds_with (s ∷ steps))))) (λ steps. succeeds_with (extended_place p steps)))
-    ∙ sym (ap (λ o. or_stuck o >>= (λ u. (value_of_expression e z >>= (λ x. element_step u x >>= (λ s. or_stuck (value_at_step u s) >>= (λ w. evaluate_selectors z.active z.store w rest >>= (λ steps. succeeds_with (s ∷ steps)))))) >>= (λ steps. succeeds_with (extended_place p steps)))) eu))))
+    ∙ (each-then (element_step u x) (λ s. outcome_of_remaining_selectors rest z (extended_place p (s ∷ []))) (λ s. (result_or_stuck (value_at_step u s) >>= (λ w. evaluate_selectors z.active z.store w rest >>= (λ steps. succeeds_with (s ∷ steps)))) >>= (λ steps. succeeds_with (extended_place p steps)))
+    (λ s. left-extended_place z p s rest ∙ (ap (λ o. result_or_stuck o >>= (λ u. result_or_stuck (value_at_step u s) >>= (λ w. evaluate_selectors z.active z.store w rest >>= (λ steps. succeeds_with (extended_place p (s ∷ steps)))))) eu ∙ sym (step-first (result_or_stuck (value_at_step u s)) (λ w. evaluate_selectors z.active z.store w rest) s p)))
+    ∙ sym (grouped-then (element_step u x) (λ s. result_or_stuck (value_at_step u s) >>= (λ w. evaluate_selectors z.active z.store w rest >>= (λ steps. succeeds_with (s ∷ steps)))) (λ steps. succeeds_with (extended_place p steps)))))
+    ∙ (sym (grouped-then (value_of_expression e z) (λ x. element_step u x >>= (λ s. result_or_stuck (value_at_step u s) >>= (λ w. evaluate_selectors z.active z.store w rest >>= (λ steps. succeeds_with (s ∷ steps))))) (λ steps. succeeds_with (extended_place p steps)))
+    ∙ sym (ap (λ o. result_or_stuck o >>= (λ u. (value_of_expression e z >>= (λ x. element_step u x >>= (λ s. result_or_stuck (value_at_step u s) >>= (λ w. evaluate_selectors z.active z.store w rest >>= (λ steps. succeeds_with (s ∷ steps)))))) >>= (λ steps. succeeds_with (extended_place p steps)))) eu))))
 
 module _ {N : Type 0} (checked : TypeMeanings N) (slots : N → Slot) where
-  pub led-at : (q : lowered.Place) (s : Shape) (v : OutcomeByMoment N Place) → PlaceMeans checked slots q s v → (z : Moment N) → IsMomentOfModule checked slots z → Led z.typing s (machine.address z.levels (cells_of_store z.store) q) (v z)
+  pub led-at : (q : lowered.Place) (s : Shape) (v : OutcomeByMoment N Place) → PlaceHasOutcome checked slots q s v → (z : Moment N) → IsMomentOfModule checked slots z → Led z.typing s (machine.place_address z.levels (cells_of_store z.store) q) (v z)
   led-at q s v h z shown = record { is_same = (h z shown).0; is_place = (h z shown).1 }
 
   pub variable-leads : (x : N) (s : Shape) (path : Tree N (items selector)) → checked.object_for x ≡ Some (a_variable s) → PlaceStartsChain checked slots (slot_place (slots x)) s path (place_of_designator x path)
@@ -229,72 +229,72 @@ module _ {N : Type 0} (checked : TypeMeanings N) (slots : N → Slot) where
   )
 
   pub field-leads : (q : lowered.Place) (k : ℕ) (fs : FieldShapes) (x : N) (t : Shape) (rest : Tree N (items selector)) (whole : OutcomeByMoment N Place)
-      → PlaceStartsChain checked slots q (record_shape k fs) (more (field x) rest) whole → shape_of_field fs (checked.written x) ≡ Some t → PlaceStartsChain checked slots (place_at_offset q (field_offset fs (checked.written x))) t rest whole
+      → PlaceStartsChain checked slots q (record_shape k fs) (more (field x) rest) whole → named_field_shape fs (checked.written x) ≡ Some t → PlaceStartsChain checked slots (place_at_offset q (field_offset fs (checked.written x))) t rest whole
   unfolding evaluate
   field-leads q k fs x t rest whole h e =
       let (v, hv, ev) = h in (
         (λ z. v z >>= (λ p. succeeds_with (extended_place p (at_field (checked.written x) ∷ [])))),
-        (λ z shown. let l = led-then z.typing (record_shape k fs) t (machine.address z.levels (cells_of_store z.store) q) (v z) (λ a. machine.gives (machine.add_offset a (field_offset fs (checked.written x)))) (λ p. succeeds_with (extended_place p (at_field (checked.written x) ∷ [])))
+        (λ z shown. let l = led-then z.typing (record_shape k fs) t (machine.place_address z.levels (cells_of_store z.store) q) (v z) (λ a. machine.gives (machine.add_offset a (field_offset fs (checked.written x)))) (λ p. succeeds_with (extended_place p (at_field (checked.written x) ∷ [])))
             (led-at q (record_shape k fs) v hv z shown) (λ p fit. step-led z.typing z.store shown.store_fits shown.store_is_addressable p (record_shape k fs) t (at_field (checked.written x)) fit e) in
             (ap (outcome_of same) (value_at_step-address z.levels (cells_of_store z.store) q (field_offset fs (checked.written x))) ∙ l.is_same, l.is_place)),
         λ z shown. grouped-then (v z) (λ p. succeeds_with (extended_place p (at_field (checked.written x) ∷ []))) (outcome_of_remaining_selectors rest z)
             ∙ (each-then (v z) (λ p. outcome_of_remaining_selectors rest z (extended_place p (at_field (checked.written x) ∷ []))) (outcome_of_remaining_selectors (more (field x) rest) z)
             (λ p. left-extended_place z p (at_field (checked.written x)) rest
-            ∙ subst (λ y. (or_stuck (read_place z.store p) >>= (λ u. or_stuck (value_at_step u (at_field (checked.written x))) >>= (λ w. evaluate_selectors z.active z.store w rest >>= (λ steps. succeeds_with (extended_place p (at_field (checked.written x) ∷ steps))))))
-            ≡ (or_stuck (read_place z.store p) >>= (λ u. (or_stuck (value_at_step u (at_field y)) >>= (λ w. evaluate_selectors z.active z.store w rest >>= (λ steps. succeeds_with (at_field y ∷ steps)))) >>= (λ steps. succeeds_with (extended_place p steps))))) (shown.names_fit.1 x)
-            (sym (λ i. or_stuck (read_place z.store p) >>= (λ u. step-first (or_stuck (value_at_step u (at_field (checked.written x)))) (λ w. evaluate_selectors z.active z.store w rest) (at_field (checked.written x)) p i)))) ∙ ev z shown),
+            ∙ subst (λ y. (result_or_stuck (read_place z.store p) >>= (λ u. result_or_stuck (value_at_step u (at_field (checked.written x))) >>= (λ w. evaluate_selectors z.active z.store w rest >>= (λ steps. succeeds_with (extended_place p (at_field (checked.written x) ∷ steps))))))
+            ≡ (result_or_stuck (read_place z.store p) >>= (λ u. (result_or_stuck (value_at_step u (at_field y)) >>= (λ w. evaluate_selectors z.active z.store w rest >>= (λ steps. succeeds_with (at_field y ∷ steps)))) >>= (λ steps. succeeds_with (extended_place p steps))))) (shown.names_fit.1 x)
+            (sym (λ i. result_or_stuck (read_place z.store p) >>= (λ u. step-first (result_or_stuck (value_at_step u (at_field (checked.written x)))) (λ w. evaluate_selectors z.active z.store w rest) (at_field (checked.written x)) p i)))) ∙ ev z shown),
       )
 
   pub index-leads : (q : lowered.Place) (k n : ℕ) (t : Shape) (e : Tree N expression) (i : lowered.Number) (rest : Tree N (items selector)) (whole : OutcomeByMoment N Place)
-      → PlaceStartsChain checked slots q (array_shape k n t) (more (index e) rest) whole → NumberMeans checked slots i (value_of_expression e) → PlaceStartsChain checked slots (lowered.element q i n (size t) 0) t rest whole
+      → PlaceStartsChain checked slots q (array_shape k n t) (more (index e) rest) whole → NumberHasOutcome checked slots i (value_of_expression e) → PlaceStartsChain checked slots (lowered.element q i n (size t) 0) t rest whole
   unfolding evaluate
   index-leads q k n t e i rest whole h hi =
       let (v, hv, ev) = h in (
-        (λ z. v z >>= (λ p. value_of_expression e z >>= (λ x. or_stuck (read_place z.store p) >>= (λ u. element_step u x >>= (λ s. succeeds_with (extended_place p (s ∷ []))))))),
-        (λ z shown. let l = led-then z.typing (array_shape k n t) t (machine.address z.levels (cells_of_store z.store) q) (v z) (λ a. followed_by (machine.number z.levels (cells_of_store z.store) i) (machine.element_address a n (size t))) (λ p. value_of_expression e z >>= (λ x. or_stuck (read_place z.store p) >>= (λ u. element_step u x >>= (λ s. succeeds_with (extended_place p (s ∷ []))))))
-            (led-at q (array_shape k n t) v hv z shown) (λ p fit. index-led z.typing z.store shown.store_fits shown.store_is_addressable p k n t fit (machine.number z.levels (cells_of_store z.store) i) (value_of_expression e z) (hi z shown)) in
+        (λ z. v z >>= (λ p. value_of_expression e z >>= (λ x. result_or_stuck (read_place z.store p) >>= (λ u. element_step u x >>= (λ s. succeeds_with (extended_place p (s ∷ []))))))),
+        (λ z shown. let l = led-then z.typing (array_shape k n t) t (machine.place_address z.levels (cells_of_store z.store) q) (v z) (λ a. followed_by (machine.number_value z.levels (cells_of_store z.store) i) (machine.element_address a n (size t))) (λ p. value_of_expression e z >>= (λ x. result_or_stuck (read_place z.store p) >>= (λ u. element_step u x >>= (λ s. succeeds_with (extended_place p (s ∷ []))))))
+            (led-at q (array_shape k n t) v hv z shown) (λ p fit. index-led z.typing z.store shown.store_fits shown.store_is_addressable p k n t fit (machine.number_value z.levels (cells_of_store z.store) i) (value_of_expression e z) (hi z shown)) in
             (ap (outcome_of same) (element-address z.levels (cells_of_store z.store) q i n (size t)) ∙ l.is_same, l.is_place)),
-        λ z shown. grouped-then (v z) (λ p. value_of_expression e z >>= (λ x. or_stuck (read_place z.store p) >>= (λ u. element_step u x >>= (λ s. succeeds_with (extended_place p (s ∷ [])))))) (outcome_of_remaining_selectors rest z)
-            ∙ (each-place z.typing (array_shape k n t) (v z) (λ p. (value_of_expression e z >>= (λ x. or_stuck (read_place z.store p) >>= (λ u. element_step u x >>= (λ s. succeeds_with (extended_place p (s ∷ [])))))) >>= outcome_of_remaining_selectors rest z) (outcome_of_remaining_selectors (more (index e) rest) z) (hv z shown).1
+        λ z shown. grouped-then (v z) (λ p. value_of_expression e z >>= (λ x. result_or_stuck (read_place z.store p) >>= (λ u. element_step u x >>= (λ s. succeeds_with (extended_place p (s ∷ [])))))) (outcome_of_remaining_selectors rest z)
+            ∙ (each-place z.typing (array_shape k n t) (v z) (λ p. (value_of_expression e z >>= (λ x. result_or_stuck (read_place z.store p) >>= (λ u. element_step u x >>= (λ s. succeeds_with (extended_place p (s ∷ [])))))) >>= outcome_of_remaining_selectors rest z) (outcome_of_remaining_selectors (more (index e) rest) z) (hv z shown).1
             (λ p fit. let (u, eu, hu, write, made, keeps, lies) = place-lies z.typing z.store p (array_shape k n t) shown.store_fits fit in index-left z p e rest u eu) ∙ ev z shown),
       )
 
-  pub selectors-end : (q : lowered.Place) (s : Shape) (whole : OutcomeByMoment N Place) → PlaceStartsChain checked slots q s end whole → PlaceMeans checked slots q s whole
+  pub selectors-end : (q : lowered.Place) (s : Shape) (whole : OutcomeByMoment N Place) → PlaceStartsChain checked slots q s end whole → PlaceHasOutcome checked slots q s whole
   unfolding evaluate
   selectors-end q s whole h z shown =
       let (v, hv, ev) = h in
       let same_place : v z ≡ whole z = sym (gives-then (v z)) ∙ (each-place z.typing s (v z) succeeds_with (outcome_of_remaining_selectors end z) (hv z shown).1
       (λ p fit. let (u, eu, hu, write, made, keeps, lies) = place-lies z.typing z.store p s shown.store_fits fit in
-      ap (λ path. succeeds_with record { variable = p.variable; path = path }) (sym (append-nil p.path)) ∙ sym (ap (λ o. or_stuck o >>= (λ v. succeeds_with (extended_place p []))) eu)) ∙ ev z shown) in (
+      ap (λ path. succeeds_with record { variable = p.variable; path = path }) (sym (append-nil p.path)) ∙ sym (ap (λ o. result_or_stuck o >>= (λ v. succeeds_with (extended_place p []))) eu)) ∙ ev z shown) in (
         (hv z shown).0 ∙ ap (addresses z.typing) same_place,
         subst (PlaceOutcomeHasType z.typing s) same_place (hv z shown).1,
       )
 
-  pub cell-means : (x : N) (s : Shape) (path : Tree N (items selector)) (q : lowered.Place) → checked.object_for x ≡ Some (a_variable s) → PlaceMeans checked slots q integer_shape (place_of_designator x path) → NumberMeans checked slots (lowered.cell q) (value_of_factor (designator x path))
+  pub cell-means : (x : N) (s : Shape) (path : Tree N (items selector)) (q : lowered.Place) → checked.object_for x ≡ Some (a_variable s) → PlaceHasOutcome checked slots q integer_shape (place_of_designator x path) → NumberHasOutcome checked slots (lowered.cell q) (value_of_factor (designator x path))
   unfolding evaluate designated_place
   cell-means x s path q e h z shown =
       let (p, ep, fit) = variable-is z.typing s (z.active.object_for x) (subst (λ o. RunObjectAgreesWithCheckedObject z.typing o (z.active.object_for x)) e (shown.names_fit.0 x)) in
-      number-there z.typing z.store shown.store_fits (machine.address z.levels (cells_of_store z.store) q) (place_of_designator x path z) (led-at q integer_shape (place_of_designator x path) h z shown) ∙ sym (value-there z.active z.store x path p ep)
+      number-there z.typing z.store shown.store_fits (machine.place_address z.levels (cells_of_store z.store) q) (place_of_designator x path z) (led-at q integer_shape (place_of_designator x path) h z shown) ∙ sym (value-there z.active z.store x path p ep)
 
-  pub flag-means : (x : N) (s : Shape) (path : Tree N (items selector)) (q : lowered.Place) → checked.object_for x ≡ Some (a_variable s) → PlaceMeans checked slots q boolean_shape (place_of_designator x path) → TruthMeans checked slots (lowered.flag q) (value_of_factor (designator x path))
+  pub flag-means : (x : N) (s : Shape) (path : Tree N (items selector)) (q : lowered.Place) → checked.object_for x ≡ Some (a_variable s) → PlaceHasOutcome checked slots q boolean_shape (place_of_designator x path) → TruthHasOutcome checked slots (lowered.flag q) (value_of_factor (designator x path))
   unfolding evaluate designated_place
   flag-means x s path q e h z shown =
       let (p, ep, fit) = variable-is z.typing s (z.active.object_for x) (subst (λ o. RunObjectAgreesWithCheckedObject z.typing o (z.active.object_for x)) e (shown.names_fit.0 x)) in
-      truth-there z.typing z.store shown.store_fits (machine.address z.levels (cells_of_store z.store) q) (place_of_designator x path z) (led-at q boolean_shape (place_of_designator x path) h z shown) ∙ sym (value-there z.active z.store x path p ep)
+      truth-there z.typing z.store shown.store_fits (machine.place_address z.levels (cells_of_store z.store) q) (place_of_designator x path z) (led-at q boolean_shape (place_of_designator x path) h z shown) ∙ sym (value-there z.active z.store x path p ep)
 
-  pub number-constant : (x : N) (n : ℤ) → checked.object_for x ≡ Some (a_constant (number n)) → NumberMeans checked slots (lowered.literal n) (value_of_factor (designator x end))
+  pub number-constant : (x : N) (n : ℤ) → checked.object_for x ≡ Some (a_constant (number n)) → NumberHasOutcome checked slots (lowered.literal n) (value_of_factor (designator x end))
   unfolding evaluate
   number-constant x n e z shown =
       let is_bound : z.active.object_for x ≡ Some (a_constant (number n)) = constant-is z.typing (number n) (z.active.object_for x) (subst (λ o. RunObjectAgreesWithCheckedObject z.typing o (z.active.object_for x)) e (shown.names_fit.0 x)) in
-      sym (ap (λ o. object_value {P = List ParameterMode} z.store o >>= (λ v. succeeds_with [] >>= (λ steps. or_stuck (value_at_path steps v)))) is_bound)
+      sym (ap (λ o. object_value {P = List ParameterMode} z.store o >>= (λ v. succeeds_with [] >>= (λ steps. result_or_stuck (value_at_path steps v)))) is_bound)
 
-  pub truth-constant : (x : N) (b : Bool) → checked.object_for x ≡ Some (a_constant (truth b)) → TruthMeans checked slots (lowered.constant b) (value_of_factor (designator x end))
+  pub truth-constant : (x : N) (b : Bool) → checked.object_for x ≡ Some (a_constant (truth b)) → TruthHasOutcome checked slots (lowered.constant b) (value_of_factor (designator x end))
   unfolding evaluate
   truth-constant x b e z shown =
       let is_bound : z.active.object_for x ≡ Some (a_constant (truth b)) = constant-is z.typing (truth b) (z.active.object_for x) (subst (λ o. RunObjectAgreesWithCheckedObject z.typing o (z.active.object_for x)) e (shown.names_fit.0 x)) in
-      sym (ap (λ o. object_value {P = List ParameterMode} z.store o >>= (λ v. succeeds_with [] >>= (λ steps. or_stuck (value_at_path steps v)))) is_bound)
+      sym (ap (λ o. object_value {P = List ParameterMode} z.store o >>= (λ v. succeeds_with [] >>= (λ steps. result_or_stuck (value_at_path steps v)))) is_bound)
 
-  pub block-designator : (q : lowered.Place) (s : Shape) (x : N) (v : Shape) (path : Tree N (items selector)) → checked.object_for x ≡ Some (a_variable v) → PlaceMeans checked slots q s (place_of_designator x path) → PlaceHoldsValue checked slots q s (value_of_factor (designator x path))
+  pub block-designator : (q : lowered.Place) (s : Shape) (x : N) (v : Shape) (path : Tree N (items selector)) → checked.object_for x ≡ Some (a_variable v) → PlaceHasOutcome checked slots q s (place_of_designator x path) → PlaceHoldsValue checked slots q s (value_of_factor (designator x path))
   unfolding evaluate designated_place
   block-designator q s x v path e hq =
       (place_of_designator x path, hq, λ z shown. let (p, ep, fit) = variable-is z.typing v (z.active.object_for x) (subst (λ o. RunObjectAgreesWithCheckedObject z.typing o (z.active.object_for x)) e (shown.names_fit.0 x)) in value-there z.active z.store x path p ep)

@@ -11,7 +11,7 @@ use Rattle.ob0_language_values.specs.Values.{Outcome, Value, add, add_operator_s
 use Rattle.ob0_run_machine.specs.Evaluation as machine
 use Rattle.ob0_run_machine.specs.LoweredSyntax as lowered
 use Rattle.ob0_run_cells.specs.Cells.{cells_of_store}
-use Rattle.ob0_run_cells.specs.Lowering.{OutcomeByMoment, Moment, NumberMeans, RestOfChain, Slot, TruthStartsChain, TruthMeans, outcome_of_remaining_addends, outcome_of_remaining_multipliers, outcome_of, relation_of, value_of_expression, value_of_factor, value_of_simple_expression, value_of_term}
+use Rattle.ob0_run_cells.specs.LoweredExpressions.{OutcomeByMoment, Moment, NumberHasOutcome, RestOfChain, Slot, TruthStartsChain, TruthHasOutcome, outcome_of_remaining_addends, outcome_of_remaining_multipliers, outcome_of, relation_of, value_of_expression, value_of_factor, value_of_simple_expression, value_of_term}
 use Rattle.ob0_run_cells.proofs.LoweredNumbers.{each-then}
 use Rattle.ob0_run_cells.proofs.LoweredOutcomes.{compare-same, gives-then, grouped-then, outcome-then, followed_by}
 
@@ -21,28 +21,28 @@ right-alone op (machine.gives b) w same e = subst (λ w. succeeds_with (truth b)
 right-alone op (machine.ends x) w same e = ap (λ w. w >>= op) e
 
 module _ {N : Type 0} (checked : TypeMeanings N) (slots : N → Slot) where
-  pub either-means : (t u : lowered.Truth) (v w : OutcomeByMoment N Value) → TruthMeans checked slots t v → TruthMeans checked slots u w
-      → TruthMeans checked slots (lowered.either t u) (λ z. v z >>= (λ x. elim (add_operator_short_circuits add_operator.Or x) [ true ↦ succeeds_with x | false ↦ w z >>= add add_operator.Or x ]))
+  pub either-means : (t u : lowered.Truth) (v w : OutcomeByMoment N Value) → TruthHasOutcome checked slots t v → TruthHasOutcome checked slots u w
+      → TruthHasOutcome checked slots (lowered.either t u) (λ z. v z >>= (λ x. elim (add_operator_short_circuits add_operator.Or x) [ true ↦ succeeds_with x | false ↦ w z >>= add add_operator.Or x ]))
   either-means t u v w ht hu z shown =
-      outcome-then truth truth (machine.truth z.levels (cells_of_store z.store) t) (v z) (λ a. if a then machine.gives true else machine.truth z.levels (cells_of_store z.store) u)
+      outcome-then truth truth (machine.truth_value z.levels (cells_of_store z.store) t) (v z) (λ a. if a then machine.gives true else machine.truth_value z.levels (cells_of_store z.store) u)
       (λ x. elim (add_operator_short_circuits add_operator.Or x) [ true ↦ succeeds_with x | false ↦ w z >>= add add_operator.Or x ]) (ht z shown)
-      (λ a. elim a as (λ a. outcome_of truth (if a then machine.gives true else machine.truth z.levels (cells_of_store z.store) u) ≡ elim (add_operator_short_circuits add_operator.Or (truth a)) [ true ↦ succeeds_with (truth a) | false ↦ w z >>= add add_operator.Or (truth a) ])
-      [ true ↦ refl | false ↦ right-alone (add add_operator.Or (truth false)) (machine.truth z.levels (cells_of_store z.store) u) (w z) (λ b. refl) (hu z shown) ])
+      (λ a. elim a as (λ a. outcome_of truth (if a then machine.gives true else machine.truth_value z.levels (cells_of_store z.store) u) ≡ elim (add_operator_short_circuits add_operator.Or (truth a)) [ true ↦ succeeds_with (truth a) | false ↦ w z >>= add add_operator.Or (truth a) ])
+      [ true ↦ refl | false ↦ right-alone (add add_operator.Or (truth false)) (machine.truth_value z.levels (cells_of_store z.store) u) (w z) (λ b. refl) (hu z shown) ])
 
-  pub both-means : (t u : lowered.Truth) (v w : OutcomeByMoment N Value) → TruthMeans checked slots t v → TruthMeans checked slots u w
-      → TruthMeans checked slots (lowered.both t u) (λ z. v z >>= (λ x. elim (multiply_operator_short_circuits multiply_operator.And x) [ true ↦ succeeds_with x | false ↦ w z >>= multiply multiply_operator.And x ]))
+  pub both-means : (t u : lowered.Truth) (v w : OutcomeByMoment N Value) → TruthHasOutcome checked slots t v → TruthHasOutcome checked slots u w
+      → TruthHasOutcome checked slots (lowered.both t u) (λ z. v z >>= (λ x. elim (multiply_operator_short_circuits multiply_operator.And x) [ true ↦ succeeds_with x | false ↦ w z >>= multiply multiply_operator.And x ]))
   both-means t u v w ht hu z shown =
-      outcome-then truth truth (machine.truth z.levels (cells_of_store z.store) t) (v z) (λ a. if a then machine.truth z.levels (cells_of_store z.store) u else machine.gives false)
+      outcome-then truth truth (machine.truth_value z.levels (cells_of_store z.store) t) (v z) (λ a. if a then machine.truth_value z.levels (cells_of_store z.store) u else machine.gives false)
       (λ x. elim (multiply_operator_short_circuits multiply_operator.And x) [ true ↦ succeeds_with x | false ↦ w z >>= multiply multiply_operator.And x ]) (ht z shown)
-      (λ a. elim a as (λ a. outcome_of truth (if a then machine.truth z.levels (cells_of_store z.store) u else machine.gives false) ≡ elim (multiply_operator_short_circuits multiply_operator.And (truth a)) [ true ↦ succeeds_with (truth a) | false ↦ w z >>= multiply multiply_operator.And (truth a) ])
-      [ true ↦ right-alone (multiply multiply_operator.And (truth true)) (machine.truth z.levels (cells_of_store z.store) u) (w z) (λ b. refl) (hu z shown) | false ↦ refl ])
+      (λ a. elim a as (λ a. outcome_of truth (if a then machine.truth_value z.levels (cells_of_store z.store) u else machine.gives false) ≡ elim (multiply_operator_short_circuits multiply_operator.And (truth a)) [ true ↦ succeeds_with (truth a) | false ↦ w z >>= multiply multiply_operator.And (truth a) ])
+      [ true ↦ right-alone (multiply multiply_operator.And (truth true)) (machine.truth_value z.levels (cells_of_store z.store) u) (w z) (λ b. refl) (hu z shown) | false ↦ refl ])
 
-  pub truth-whole : (t : lowered.Truth) (rest : RestOfChain N Value) (whole : OutcomeByMoment N Value) → ((z : Moment N) (v : Value) → rest z v ≡ succeeds_with v) → TruthStartsChain checked slots t rest whole → TruthMeans checked slots t whole
+  pub truth-whole : (t : lowered.Truth) (rest : RestOfChain N Value) (whole : OutcomeByMoment N Value) → ((z : Moment N) (v : Value) → rest z v ≡ succeeds_with v) → TruthStartsChain checked slots t rest whole → TruthHasOutcome checked slots t whole
   truth-whole t rest whole ends_here h z shown =
       let (v, hv, ev) = h in
       hv z shown ∙ (sym (gives-then (v z)) ∙ (each-then (v z) succeeds_with (rest z) (λ x. sym (ends_here z x)) ∙ ev z shown))
 
-  pub either-leads : (t u : lowered.Truth) (e : Tree N term) (rest : Tree N (items addend)) (whole : OutcomeByMoment N Value) → TruthMeans checked slots u (value_of_term e)
+  pub either-leads : (t u : lowered.Truth) (e : Tree N term) (rest : Tree N (items addend)) (whole : OutcomeByMoment N Value) → TruthHasOutcome checked slots u (value_of_term e)
       → TruthStartsChain checked slots t (outcome_of_remaining_addends (more (adds add_operator.Or e) rest)) whole → TruthStartsChain checked slots (lowered.either t u) (outcome_of_remaining_addends rest) whole
   unfolding evaluate
   either-leads t u e rest whole hu h =
@@ -52,7 +52,7 @@ module _ {N : Type 0} (checked : TypeMeanings N) (slots : N → Slot) where
         λ z shown. grouped-then (v z) (λ x. elim (add_operator_short_circuits add_operator.Or x) [ true ↦ succeeds_with x | false ↦ value_of_term e z >>= add add_operator.Or x ]) (outcome_of_remaining_addends rest z) ∙ ev z shown,
       )
 
-  pub both-leads : (t u : lowered.Truth) (f : Tree N factor) (rest : Tree N (items multiplier)) (whole : OutcomeByMoment N Value) → TruthMeans checked slots u (value_of_factor f)
+  pub both-leads : (t u : lowered.Truth) (f : Tree N factor) (rest : Tree N (items multiplier)) (whole : OutcomeByMoment N Value) → TruthHasOutcome checked slots u (value_of_factor f)
       → TruthStartsChain checked slots t (outcome_of_remaining_multipliers (more (multiplies multiply_operator.And f) rest)) whole → TruthStartsChain checked slots (lowered.both t u) (outcome_of_remaining_multipliers rest) whole
   unfolding evaluate
   both-leads t u f rest whole hu h =
@@ -62,36 +62,36 @@ module _ {N : Type 0} (checked : TypeMeanings N) (slots : N → Slot) where
         λ z shown. grouped-then (v z) (λ x. elim (multiply_operator_short_circuits multiply_operator.And x) [ true ↦ succeeds_with x | false ↦ value_of_factor f z >>= multiply multiply_operator.And x ]) (outcome_of_remaining_multipliers rest z) ∙ ev z shown,
       )
 
-  pub product-begins : (f : Tree N factor) (rest : Tree N (items multiplier)) (t : lowered.Truth) → TruthMeans checked slots t (value_of_factor f) → TruthStartsChain checked slots t (outcome_of_remaining_multipliers rest) (value_of_term (product f rest))
+  pub product-begins : (f : Tree N factor) (rest : Tree N (items multiplier)) (t : lowered.Truth) → TruthHasOutcome checked slots t (value_of_factor f) → TruthStartsChain checked slots t (outcome_of_remaining_multipliers rest) (value_of_term (product f rest))
   unfolding evaluate
   product-begins f rest t ht = (value_of_factor f, ht, λ z shown. refl)
 
-  pub sum-begins : (e : Tree N term) (rest : Tree N (items addend)) (t : lowered.Truth) → TruthMeans checked slots t (value_of_term e) → TruthStartsChain checked slots t (outcome_of_remaining_addends rest) (value_of_simple_expression (sum None e rest))
+  pub sum-begins : (e : Tree N term) (rest : Tree N (items addend)) (t : lowered.Truth) → TruthHasOutcome checked slots t (value_of_term e) → TruthStartsChain checked slots t (outcome_of_remaining_addends rest) (value_of_simple_expression (sum None e rest))
   unfolding evaluate
   sum-begins e rest t ht = (value_of_term e, ht, λ z shown. refl)
 
-  pub negation-means : (f : Tree N factor) (t : lowered.Truth) → TruthMeans checked slots t (value_of_factor f) → TruthMeans checked slots (lowered.negation t) (value_of_factor (negation f))
+  pub negation-means : (f : Tree N factor) (t : lowered.Truth) → TruthHasOutcome checked slots t (value_of_factor f) → TruthHasOutcome checked slots (lowered.negation t) (value_of_factor (negation f))
   unfolding evaluate
   negation-means f t ht z shown =
-      outcome-then truth truth (machine.truth z.levels (cells_of_store z.store) t) (value_of_factor f z) (λ a. machine.gives (not a)) negate (ht z shown) (λ a. refl)
+      outcome-then truth truth (machine.truth_value z.levels (cells_of_store z.store) t) (value_of_factor f z) (λ a. machine.gives (not a)) negate (ht z shown) (λ a. refl)
 
-  pub related-means : (d e : Tree N simple) (r : Relation) (m n : lowered.Number) → NumberMeans checked slots m (value_of_simple_expression d) → NumberMeans checked slots n (value_of_simple_expression e)
-      → TruthMeans checked slots (lowered.related (relation_of r) m n) (value_of_expression (compares d (one (relates r e))))
+  pub related-means : (d e : Tree N simple) (r : Relation) (m n : lowered.Number) → NumberHasOutcome checked slots m (value_of_simple_expression d) → NumberHasOutcome checked slots n (value_of_simple_expression e)
+      → TruthHasOutcome checked slots (lowered.related (relation_of r) m n) (value_of_expression (compares d (one (relates r e))))
   unfolding evaluate
   related-means d e r m n hm hn z shown =
-      outcome-then number truth (machine.number z.levels (cells_of_store z.store) m) (value_of_simple_expression d z) (λ a. followed_by (machine.number z.levels (cells_of_store z.store) n) (λ b. machine.gives (machine.compare (relation_of r) a b))) (λ x. value_of_simple_expression e z >>= apply_relation r x) (hm z shown)
-      (λ a. outcome-then number truth (machine.number z.levels (cells_of_store z.store) n) (value_of_simple_expression e z) (λ b. machine.gives (machine.compare (relation_of r) a b)) (apply_relation r (number a)) (hn z shown) (compare-same r a))
+      outcome-then number truth (machine.number_value z.levels (cells_of_store z.store) m) (value_of_simple_expression d z) (λ a. followed_by (machine.number_value z.levels (cells_of_store z.store) n) (λ b. machine.gives (machine.compare (relation_of r) a b))) (λ x. value_of_simple_expression e z >>= apply_relation r x) (hm z shown)
+      (λ a. outcome-then number truth (machine.number_value z.levels (cells_of_store z.store) n) (value_of_simple_expression e z) (λ b. machine.gives (machine.compare (relation_of r) a b)) (apply_relation r (number a)) (hn z shown) (compare-same r a))
 
-  pub same-means : (d e : Tree N simple) (t u : lowered.Truth) → TruthMeans checked slots t (value_of_simple_expression d) → TruthMeans checked slots u (value_of_simple_expression e)
-      → TruthMeans checked slots (lowered.same t u) (value_of_expression (compares d (one (relates relation.Equal e))))
+  pub same-means : (d e : Tree N simple) (t u : lowered.Truth) → TruthHasOutcome checked slots t (value_of_simple_expression d) → TruthHasOutcome checked slots u (value_of_simple_expression e)
+      → TruthHasOutcome checked slots (lowered.same t u) (value_of_expression (compares d (one (relates relation.Equal e))))
   unfolding evaluate
   same-means d e t u ht hu z shown =
-      outcome-then truth truth (machine.truth z.levels (cells_of_store z.store) t) (value_of_simple_expression d z) (λ a. followed_by (machine.truth z.levels (cells_of_store z.store) u) (λ b. machine.gives (machine.same_truth a b))) (λ x. value_of_simple_expression e z >>= apply_relation relation.Equal x) (ht z shown)
-      (λ a. outcome-then truth truth (machine.truth z.levels (cells_of_store z.store) u) (value_of_simple_expression e z) (λ b. machine.gives (machine.same_truth a b)) (apply_relation relation.Equal (truth a)) (hu z shown) (λ b. refl))
+      outcome-then truth truth (machine.truth_value z.levels (cells_of_store z.store) t) (value_of_simple_expression d z) (λ a. followed_by (machine.truth_value z.levels (cells_of_store z.store) u) (λ b. machine.gives (machine.same_truth a b))) (λ x. value_of_simple_expression e z >>= apply_relation relation.Equal x) (ht z shown)
+      (λ a. outcome-then truth truth (machine.truth_value z.levels (cells_of_store z.store) u) (value_of_simple_expression e z) (λ b. machine.gives (machine.same_truth a b)) (apply_relation relation.Equal (truth a)) (hu z shown) (λ b. refl))
 
-  pub different-means : (d e : Tree N simple) (t u : lowered.Truth) → TruthMeans checked slots t (value_of_simple_expression d) → TruthMeans checked slots u (value_of_simple_expression e)
-      → TruthMeans checked slots (lowered.different t u) (value_of_expression (compares d (one (relates relation.NotEqual e))))
+  pub different-means : (d e : Tree N simple) (t u : lowered.Truth) → TruthHasOutcome checked slots t (value_of_simple_expression d) → TruthHasOutcome checked slots u (value_of_simple_expression e)
+      → TruthHasOutcome checked slots (lowered.different t u) (value_of_expression (compares d (one (relates relation.NotEqual e))))
   unfolding evaluate
   different-means d e t u ht hu z shown =
-      outcome-then truth truth (machine.truth z.levels (cells_of_store z.store) t) (value_of_simple_expression d z) (λ a. followed_by (machine.truth z.levels (cells_of_store z.store) u) (λ b. machine.gives (not (machine.same_truth a b)))) (λ x. value_of_simple_expression e z >>= apply_relation relation.NotEqual x) (ht z shown)
-      (λ a. outcome-then truth truth (machine.truth z.levels (cells_of_store z.store) u) (value_of_simple_expression e z) (λ b. machine.gives (not (machine.same_truth a b))) (apply_relation relation.NotEqual (truth a)) (hu z shown) (λ b. refl))
+      outcome-then truth truth (machine.truth_value z.levels (cells_of_store z.store) t) (value_of_simple_expression d z) (λ a. followed_by (machine.truth_value z.levels (cells_of_store z.store) u) (λ b. machine.gives (not (machine.same_truth a b)))) (λ x. value_of_simple_expression e z >>= apply_relation relation.NotEqual x) (ht z shown)
+      (λ a. outcome-then truth truth (machine.truth_value z.levels (cells_of_store z.store) u) (value_of_simple_expression e z) (λ b. machine.gives (not (machine.same_truth a b))) (apply_relation relation.NotEqual (truth a)) (hu z shown) (λ b. refl))

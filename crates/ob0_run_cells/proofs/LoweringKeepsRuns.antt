@@ -18,8 +18,8 @@ use Rattle.ob0_run_machine.specs.LoweredSyntax as lowered
 use Rattle.ob0_run_cells.specs.LoweringLaws.{LoweringKeepsRuns, run_of}
 use Rattle.ob0_run_cells.specs.Activations.{FirstBindingsAgree, PlacementState, ProgramMeansModule, RoutineTable, outermost_placement}
 use Rattle.ob0_run_cells.specs.Cells.{store_cell_count}
-use Rattle.ob0_run_cells.specs.LoweredStatements.{ProgressRepresents, StateRepresents}
-use Rattle.ob0_run_cells.specs.Lowering.{in_module_activation}
+use Rattle.ob0_run_cells.specs.LoweredStatements.{MachineProgressRepresentsProgress, MachineStateRepresentsState}
+use Rattle.ob0_run_cells.specs.LoweredExpressions.{in_module_activation}
 use Rattle.ob0_run_cells.proofs.CallsLowered.{body-represents, calls-known, with-cells}
 use Rattle.ob0_run_cells.proofs.PlacedDeclarations.{FramePlaced, block-placed}
 
@@ -31,7 +31,7 @@ predeclared h = record { activation_name_agrees = refl; placement_name_agrees = 
 abbrev pub ComesTo : execution.MachineProgress → Run → Type 0
 ComesTo p r = IfSome (execution.run_result p) (λ q. run_of q ≡ r)
 
-pub run_result-same : (typing : StoreTyping) (p : execution.MachineProgress) (q : Progress) → ProgressRepresents typing p q → ComesTo p (run_result q)
+pub run_result-same : (typing : StoreTyping) (p : execution.MachineProgress) (q : Progress) → MachineProgressRepresentsProgress typing p q → ComesTo p (run_result q)
 run_result-same typing execution.no_room q h = tt
 run_result-same typing (execution.running low) (running s) h = ap (λ out. record { output = out; ending = (run_result (running s)).ending }) h.same_output
 run_result-same typing (execution.stopped x out) (stopped y written) h = λ i. record { output = h.1 i; ending = h.0 i }
@@ -55,7 +55,7 @@ run-freed {N} naming (forms_module x b closing) program c t input fits means =
     let counted : 0 + q.cells ≡ store_cell_count part.typing_now = part.frame.cells_counted in
     let runs_body = execution.execute_sequence (execution.call program.procedures c t) t execution.module_levels program.body in
     let statements = execute_body naming g.env (call_freeing_variables naming c t g.env) t (block_statements b) record start { store = g.store } in
-    let represents : StateRepresents part.typing_now low record start { store = g.store } = record {
+    let represents : MachineStateRepresentsState part.typing_now low record start { store = g.store } = record {
       store_fits = part.frame.store_fits;
       same_cells = sym part.cells_added;
       same_input = refl;

@@ -1,8 +1,8 @@
 -- Parts of values lie in the cells of their wholes.
 use Rattle.std.proofs.Common.{◌≡◌, ℕ, zero, suc, ◌+◌, ◌*◌, ◌<◌, ◌≤◌, true, false, List, [], ◌∷◌, ◌++◌, length, ℤ, if◌then◌else◌, nat_lt, Some, None, option_map, option_and_then, unwrap_or, sym, refl, ap, ◌∙◌, subst, arith, length-append}
 use Rattle.ob0_language_names.specs.Names.{Name, same_name}
-use Rattle.ob0_language_types.specs.Typing.{shape_of_field}
-use Rattle.ob0_language_values.specs.Values.{FieldShapes, Members, Shape, Step, Value, Values, array_shape, at_field, at_index, value_at_path, boolean_shape, count_values, elements, integer_shape, members, named_member, next_field_shape, next_member, next_value, no_field_shape, no_member, no_value, nth_value, number, value_at_step, record_shape, truth, with_value_at_path, with_named_member, with_nth_value, with_value_at_step}
+use Rattle.ob0_language_types.specs.Typing.{named_field_shape}
+use Rattle.ob0_language_values.specs.Values.{FieldShapes, Members, Shape, PathStep, Value, Values, array_shape, at_field, at_index, value_at_path, boolean_shape, count_values, elements, integer_shape, members, named_member, next_field_shape, next_member, next_value, no_field_shape, no_member, no_value, nth_value, number, value_at_step, record_shape, truth, with_value_at_path, with_named_member, with_nth_value, with_value_at_step}
 use Rattle.ob0_language_runs.specs.TypeAgreement.{EachElementHasShape, HasShape, MembersHaveShapes, shape_at_step, shape_at_path}
 use Rattle.ob0_language_types.proofs.Conditions.{of_some}
 use Rattle.ob0_language_types.proofs.TypedElsewhere.{then_some}
@@ -55,12 +55,12 @@ element-lies (next_value v rest) s (suc i) below h =
           (lies-following element_cells element_cells (next_value v rest) rest w (with_nth_value (next_value v rest) (suc i)) (with_nth_value rest i) (cells_of v) (size s) (i * size s) refl (λ new. refl) (cells-size v s h.0) k),
     )
 
-pub member-lies : (ms : Members) (fs : FieldShapes) (x : Name) (t : Shape) → shape_of_field fs x ≡ Some t → MembersHaveShapes ms fs
+pub member-lies : (ms : Members) (fs : FieldShapes) (x : Name) (t : Shape) → named_field_shape fs x ≡ Some t → MembersHaveShapes ms fs
     → (w : Value) × (named_member ms x ≡ Some w) × HasShape w t × Lies member_cells ms w (with_named_member ms x) (field_offset fs x)
 member-lies no_member no_field_shape x t e h = absurd (cc)
 member-lies (next_member y v rest) (next_field_shape z s others) x t e h =
-    subst (λ z. shape_of_field (next_field_shape z s others) x ≡ Some t → (w : Value) × (named_member (next_member y v rest) x ≡ Some w) × HasShape w t × Lies member_cells (next_member y v rest) w (with_named_member (next_member y v rest) x) (field_offset (next_field_shape z s others) x)) h.0
-    (elim (same_name x y) as (λ b. (if b then Some s else shape_of_field others x) ≡ Some t
+    subst (λ z. named_field_shape (next_field_shape z s others) x ≡ Some t → (w : Value) × (named_member (next_member y v rest) x ≡ Some w) × HasShape w t × Lies member_cells (next_member y v rest) w (with_named_member (next_member y v rest) x) (field_offset (next_field_shape z s others) x)) h.0
+    (elim (same_name x y) as (λ b. (if b then Some s else named_field_shape others x) ≡ Some t
     → (w : Value) × ((if b then Some v else named_member rest x) ≡ Some w) × HasShape w t × Lies member_cells (next_member y v rest) w (λ new. if b then next_member y new rest else next_member y v (with_named_member rest x new)) (if b then 0 else size s + field_offset others x)) [
       | true ↦ λ e. (v, refl, of_some (λ s. HasShape v s) e h.1, lies-first member_cells (next_member y v rest) v (λ new. next_member y new rest) (member_cells rest) refl (λ new. refl))
       | false ↦ λ e. (let (w, ew, hw, k) = member-lies rest others x t e h.2 in
@@ -74,7 +74,7 @@ pub lies-as : {X : Type 0} (cells : X → List ℤ) (make : X → Value) (whole 
 lies-as cells make whole old write a same h =
     record { before = h.before; after = h.after; is_split = same whole ∙ h.is_split; begins = h.begins; is_written = λ new. same (write new) ∙ h.is_written new }
 
-pub value_at_step-lies : (v : Value) (s : Shape) (step : Step) (t : Shape) → HasShape v s → shape_at_step s step ≡ Some t
+pub value_at_step-lies : (v : Value) (s : Shape) (step : PathStep) (t : Shape) → HasShape v s → shape_at_step s step ≡ Some t
     → (w : Value) × (value_at_step v step ≡ Some w) × HasShape w t × Lies cells_of v w (with_value_at_step v step) (step_offset s step)
 value_at_step-lies (elements vs) (array_shape k n s) (at_index i) t h e =
     (elim (nat_lt i n) as (λ b. nat_lt i n ≡ b → (if b then Some s else None) ≡ Some t → (w : Value) × (nth_value vs i ≡ Some w) × HasShape w t × Lies cells_of (elements vs) w (with_value_at_step (elements vs) (at_index i)) (i * size s)) [
@@ -94,11 +94,11 @@ value_at_step-lies _ _ step t h e = absurd h
 -- paths
 
 -- what lies at the end of a path, and what writing it makes of the whole
-abbrev pub PathLies : List Step → Value → Shape → Shape → Type 0
+abbrev pub PathLies : List PathStep → Value → Shape → Shape → Type 0
 PathLies path v s t =
     (w : Value) × (value_at_path path v ≡ Some w) × HasShape w t × (write : Value → Value) × ((new : Value) → with_value_at_path path new v ≡ Some (write new)) × Lies cells_of v w write (offset path s)
 
-pub path-lies : (path : List Step) (v : Value) (s t : Shape) → HasShape v s → shape_at_path path s ≡ Some t → PathLies path v s t
+pub path-lies : (path : List PathStep) (v : Value) (s t : Shape) → HasShape v s → shape_at_path path s ≡ Some t → PathLies path v s t
 path-lies [] v s t h e = (v, refl, of_some (λ t. HasShape v t) e h, (λ new. new), (λ new. refl), lies-alone v)
 path-lies (step ∷ path) v s t h e =
     let (u, eu, e₁) = then_some (shape_at_step s step) (shape_at_path path) t e in

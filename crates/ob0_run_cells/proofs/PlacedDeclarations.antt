@@ -5,24 +5,24 @@ use Rattle.std.proofs.Common.{◌≡◌, ℕ, zero, suc, ◌+◌, true, ◌&&◌
 use Rattle.std.proofs.lemmas.List.{replicate-append-replicate}
 use Rattle.ob0_tree.specs.Tree.{Tree, block, body, constant, declares, declares_constant, declares_type, declares_variable, end, forms_block, items, maybe, more, procedure, type_definition, variable}
 use Rattle.ob0_language_names.specs.BlockParts.{block_statements, constant_names, declared_type_names, names_in_list, procedure_name, section_constants, section_types, section_variables}
-use Rattle.ob0_language_types.specs.Declarations.{constructors_before_variables, constructors_before_procedures, declare_constants, declare_types, procedure_constructor_count}
+use Rattle.ob0_language_types.specs.Declarations.{constructor_count_before_variables, constructor_count_before_procedures, declare_constants, declare_types, procedure_constructor_count}
 use Rattle.ob0_language_types.specs.Environments.{meanings}
 use Rattle.ob0_language_types.specs.Expressions.{a_constant, a_procedure, a_type, a_variable}
-use Rattle.ob0_language_types.specs.Typing.{constant_value, constructor_count, denoted_type}
-use Rattle.ob0_language_types.specs.WellTyped.{Signature, TypeEnvironment, TypedParameter, bind_names, by_value, bind_typed_parameters, block_is_well_typed, declare_typed_variables, bind_procedure, option_satisfies, procedure_is_well_typed, procedures_are_well_typed}
+use Rattle.ob0_language_types.specs.Typing.{constant_expression_value, constructor_count, denoted_type}
+use Rattle.ob0_language_types.specs.WellTyped.{Signature, TypeEnvironment, TypedParameter, bind_names, by_value, bind_typed_parameters, block_is_well_typed, declare_typed_variables, bind_procedure, option_satisfies, procedure_is_well_typed, procedures_and_body_are_well_typed}
 use Rattle.ob0_language_types.proofs.Literals.{some_inverse}
 use Rattle.ob0_language_values.specs.Values.{Shape, Store, Value, initial_value}
 use Rattle.ob0_language_runs.specs.TypeAgreement.{ArgumentsMatchSignature, RunEnvironmentAgreesWithCheckedEnvironment, HasShape, StoreHasTypes, StoreTyping}
-use Rattle.ob0_language_runs.specs.Runs.{Activation, Argument, Frame, add_variables_to_frame, bind_parameter, bind_parameters, declare_block, declare_procedures, declare_variables, place_argument, value_argument, declare_procedures_in_frame}
+use Rattle.ob0_language_runs.specs.Runs.{RunEnvironment, Argument, Frame, add_variables_to_frame, bind_parameter, bind_parameters, declare_block_in_frame, declare_procedures, declare_variables, place_argument, value_argument, declare_procedures_in_frame}
 use Rattle.ob0_language_runs.proofs.SoundCalls.{ArgumentsMatchSignature-grows, as_parameter, constants-run, denoted_type-same, environments-grow, types-run}
 use Rattle.ob0_language_types.proofs.Conditions.{both_true}
 use Rattle.ob0_language_types.proofs.TypedElsewhere.{then_some}
 use Rattle.ob0_run_machine.specs.Evaluation.{Level, Levels}
 use Rattle.ob0_run_machine.specs.LoweredSyntax as lowered
-use Rattle.ob0_run_cells.specs.Activations.{GivesSizesOfVariables, RoutineTable, CodeMeansBlock, CodeMeansBody, PlacementState, Placement, PlacementMatchesActivation, RoutinesMeanProcedures, add_names_without_place, in_slot, nowhere, local_procedure_target, add_declared_names_to_placement, add_name_to_placement, place_parameters, place_variable_declarations}
+use Rattle.ob0_run_cells.specs.Activations.{ReturnsSizesOfVariables, RoutineTable, CodeMeansBlock, CodeMeansBody, PlacementState, Placement, PlacementMatchesActivation, RoutinesMeanProcedures, add_names_without_place, in_slot, nowhere, local_procedure_target, add_declared_names_to_placement, add_name_to_placement, place_parameters, place_variable_declarations}
 use Rattle.ob0_run_cells.specs.Cells.{address, cells_of_store, cells_of, size, store_cell_count}
 use Rattle.ob0_run_cells.specs.LoweredStatements.{place_argument_addresses, value_argument_cells}
-use Rattle.ob0_run_cells.specs.Lowering.{Slot, in_activation, by_reference, slot_address}
+use Rattle.ob0_run_cells.specs.LoweredExpressions.{Slot, in_activation, by_reference, slot_address}
 use Rattle.ob0_run_cells.proofs.PlacedEnvironments.{placement-grows}
 use Rattle.ob0_run_cells.proofs.Places.{addresses_stay}
 use Rattle.ob0_run_cells.proofs.Variables.{initial_cells_are_zero, variables_are_added}
@@ -47,7 +47,7 @@ pub record Extends {N : Type 0} (table : RoutineTable N) (typing : StoreTyping) 
   pub cells_added : cells_of_store g.store ≡ cells_of_store before ++ added
 
 -- names that are bound before others are sized if those are
-names-sized : {N : Type 0} (size_of : N → ℕ) (xs : List N) (s : Shape) (env : TypeEnvironment N) → GivesSizesOfVariables size_of (bind_names xs (a_variable s) env) → GivesSizesOfVariables size_of env
+names-sized : {N : Type 0} (size_of : N → ℕ) (xs : List N) (s : Shape) (env : TypeEnvironment N) → ReturnsSizesOfVariables size_of (bind_names xs (a_variable s) env) → ReturnsSizesOfVariables size_of env
 names-sized size_of [] s env sized = sized
 names-sized size_of (x ∷ xs) s env sized = (names-sized size_of xs s ((x, a_variable s) ∷ env) sized).1
 
@@ -70,17 +70,17 @@ module _ {N : Type 0} (table : RoutineTable N) where
 
   -- constants and types
 
-  pub constants-placed : (typing : StoreTyping) (ls : Levels) (cs : Tree N (items constant)) (checked after : TypeEnvironment N) (placement : Placement N) (active d : Activation N) → declare_constants table.naming checked cs ≡ Some after → declare_constants table.naming active cs ≡ Some d
+  pub constants-placed : (typing : StoreTyping) (ls : Levels) (cs : Tree N (items constant)) (checked after : TypeEnvironment N) (placement : Placement N) (active d : RunEnvironment N) → declare_constants table.naming checked cs ≡ Some after → declare_constants table.naming active cs ≡ Some d
       → PlacementMatchesActivation table typing ls checked placement active → PlacementMatchesActivation table typing ls after (add_names_without_place (constant_names cs) placement) d
   unfolding declare_constants
   constants-placed typing ls end checked after placement active d e e' h =
       subst (λ a. PlacementMatchesActivation table typing ls a placement d) (some_inverse {a = checked} {b = after} e) (subst (λ d. PlacementMatchesActivation table typing ls checked placement d) (some_inverse {a = active} {b = d} e') h)
   constants-placed typing ls (more (declares_constant x c) cs) checked after placement active d e e' h =
-      let (v, ev, e₁) = then_some (constant_value (meanings table.naming checked) c) (λ v. declare_constants table.naming ((x, a_constant v) ∷ checked) cs) after e in
-      let (w, ew, e₂) = then_some (constant_value (meanings table.naming active) c) (λ v. declare_constants table.naming ((x, a_constant v) ∷ active) cs) d e' in
+      let (v, ev, e₁) = then_some (constant_expression_value (meanings table.naming checked) c) (λ v. declare_constants table.naming ((x, a_constant v) ∷ checked) cs) after e in
+      let (w, ew, e₂) = then_some (constant_expression_value (meanings table.naming active) c) (λ v. declare_constants table.naming ((x, a_constant v) ∷ active) cs) d e' in
       constants-placed typing ls cs ((x, a_constant v) ∷ checked) after ((x, nowhere) ∷ placement) ((x, a_constant w) ∷ active) d e₁ e₂ record { activation_name_agrees = refl; placement_name_agrees = refl; here = tt; further = h }
 
-  pub types-placed : (typing : StoreTyping) (ls : Levels) (k : ℕ) (ds : Tree N (items type_definition)) (checked after : TypeEnvironment N) (placement : Placement N) (active d : Activation N) → declare_types table.naming checked k ds ≡ Some after → declare_types table.naming active k ds ≡ Some d
+  pub types-placed : (typing : StoreTyping) (ls : Levels) (k : ℕ) (ds : Tree N (items type_definition)) (checked after : TypeEnvironment N) (placement : Placement N) (active d : RunEnvironment N) → declare_types table.naming checked k ds ≡ Some after → declare_types table.naming active k ds ≡ Some d
       → PlacementMatchesActivation table typing ls checked placement active → PlacementMatchesActivation table typing ls after (add_names_without_place (declared_type_names ds) placement) d
   unfolding declare_types
   types-placed typing ls k end checked after placement active d e e' h =
@@ -107,14 +107,14 @@ module _ {N : Type 0} (table : RoutineTable N) where
         added.cells_added,
       )
 
-  variables-sized : (size_of : N → ℕ) (k : ℕ) (gs : Tree N (items variable)) (env inner : TypeEnvironment N) → declare_typed_variables table.naming k gs env ≡ Some inner → GivesSizesOfVariables size_of inner → GivesSizesOfVariables size_of env
+  variables-sized : (size_of : N → ℕ) (k : ℕ) (gs : Tree N (items variable)) (env inner : TypeEnvironment N) → declare_typed_variables table.naming k gs env ≡ Some inner → ReturnsSizesOfVariables size_of inner → ReturnsSizesOfVariables size_of env
   unfolding declare_typed_variables
-  variables-sized size_of k end env inner e sized = subst (GivesSizesOfVariables size_of) (sym (some_inverse {a = env} {b = inner} e)) sized
+  variables-sized size_of k end env inner e sized = subst (ReturnsSizesOfVariables size_of) (sym (some_inverse {a = env} {b = inner} e)) sized
   variables-sized size_of k (more (declares_variable ns u) gs) env inner e sized =
       let (s, es, e₁) = then_some (denoted_type (meanings table.naming env) k u) (λ s. declare_typed_variables table.naming (k + constructor_count u) gs (bind_names (names_in_list ns) (a_variable s) env)) inner e in
       names-sized size_of (names_in_list ns) s env (variables-sized size_of (k + constructor_count u) gs (bind_names (names_in_list ns) (a_variable s) env) inner e₁ sized)
 
-  pub names-placed : (typing : StoreTyping) (ls : Levels) (base : ℕ) (at : ℕ → Slot) → ((c : ℕ) → slot_address ls (at c) ≡ base + c) → (size_of : N → ℕ) (xs : List N) (s : Shape) (checked : TypeEnvironment N) (p : PlacementState N) (f : Frame N) → GivesSizesOfVariables size_of (bind_names xs (a_variable s) checked) → FramePlaced table typing ls base checked p f
+  pub names-placed : (typing : StoreTyping) (ls : Levels) (base : ℕ) (at : ℕ → Slot) → ((c : ℕ) → slot_address ls (at c) ≡ base + c) → (size_of : N → ℕ) (xs : List N) (s : Shape) (checked : TypeEnvironment N) (p : PlacementState N) (f : Frame N) → ReturnsSizesOfVariables size_of (bind_names xs (a_variable s) checked) → FramePlaced table typing ls base checked p f
       → (n : ℕ) × ((add_declared_names_to_placement at size_of by_value xs p).cells ≡ p.cells + n) × Extends table typing ls base (bind_names xs (a_variable s) checked) (add_declared_names_to_placement at size_of by_value xs p) f.store (replicate n (pos 0)) (add_variables_to_frame xs (initial_value s) f)
   names-placed typing ls base at is size_of [] s checked p f sized h = (0, omega arith, extends-here typing ls base checked p f h)
   names-placed typing ls base at is size_of (x ∷ xs) s checked p f sized h =
@@ -130,7 +130,7 @@ module _ {N : Type 0} (table : RoutineTable N) where
       )
 
   pub variables-placed : (typing : StoreTyping) (ls : Levels) (base : ℕ) (at : ℕ → Slot) → ((c : ℕ) → slot_address ls (at c) ≡ base + c) → (size_of : N → ℕ) (k : ℕ) (gs : Tree N (items variable)) (checked inner : TypeEnvironment N) (p : PlacementState N) (f : Frame N) → FramePlaced table typing ls base checked p f
-      → declare_typed_variables table.naming k gs checked ≡ Some inner → GivesSizesOfVariables size_of inner
+      → declare_typed_variables table.naming k gs checked ≡ Some inner → ReturnsSizesOfVariables size_of inner
       → (g : Frame N) × (n : ℕ) × (declare_variables table.naming k gs f ≡ Some g) × ((place_variable_declarations at size_of gs p).cells ≡ p.cells + n) × Extends table typing ls base inner (place_variable_declarations at size_of gs p) f.store (replicate n (pos 0)) g
   unfolding declare_typed_variables declare_variables
   variables-placed typing ls base at is size_of k end checked inner p f h e sized =
@@ -150,32 +150,32 @@ module _ {N : Type 0} (table : RoutineTable N) where
 
   -- procedures
 
-  pub procedures-placed : (typing : StoreTyping) (ls : Levels) (k : ℕ) (code : lowered.Instructions) (statements : Tree N (maybe body)) (ps : Tree N (items procedure)) (checked : TypeEnvironment N) (placement : Placement N) (active : Activation N) → RunEnvironmentAgreesWithCheckedEnvironment table.naming typing checked active
-      → PlacementMatchesActivation table typing ls checked placement active → procedures_are_well_typed table.naming checked k statements ps ≡ true → RoutinesMeanProcedures table checked placement k code statements ps
+  pub procedures-placed : (typing : StoreTyping) (ls : Levels) (k : ℕ) (code : lowered.InstructionList) (statements : Tree N (maybe body)) (ps : Tree N (items procedure)) (checked : TypeEnvironment N) (placement : Placement N) (active : RunEnvironment N) → RunEnvironmentAgreesWithCheckedEnvironment table.naming typing checked active
+      → PlacementMatchesActivation table typing ls checked placement active → procedures_and_body_are_well_typed table.naming checked k statements ps ≡ true → RoutinesMeanProcedures table checked placement k code statements ps
       → (after : TypeEnvironment N) × (placed : Placement N) × RunEnvironmentAgreesWithCheckedEnvironment table.naming typing after (declare_procedures k ps active) × PlacementMatchesActivation table typing ls after placed (declare_procedures k ps active) × CodeMeansBody table.naming after placed code statements
   unfolding block_is_well_typed
   procedures-placed typing ls k code statements end checked placement active env h e means = (checked, placement, env, h, means)
   procedures-placed typing ls k code statements (more p rest) checked placement active env h e means =
       let (i, first, others) = means in
       let ps : List (TypedParameter N) = first.parameters in
-      let fits : (procedure_is_well_typed table.naming (bind_typed_parameters ps (bind_procedure (procedure_name p) ps checked)) k p && procedures_are_well_typed table.naming (bind_procedure (procedure_name p) ps checked) (k + procedure_constructor_count p) statements rest) ≡ true =
-      subst (λ o. option_satisfies o (λ ps. procedure_is_well_typed table.naming (bind_typed_parameters ps (bind_procedure (procedure_name p) ps checked)) k p && procedures_are_well_typed table.naming (bind_procedure (procedure_name p) ps checked) (k + procedure_constructor_count p) statements rest) ≡ true) first.are_typed e in
-      let both = both_true (procedure_is_well_typed table.naming (bind_typed_parameters ps (bind_procedure (procedure_name p) ps checked)) k p) (procedures_are_well_typed table.naming (bind_procedure (procedure_name p) ps checked) (k + procedure_constructor_count p) statements rest) fits in
+      let fits : (procedure_is_well_typed table.naming (bind_typed_parameters ps (bind_procedure (procedure_name p) ps checked)) k p && procedures_and_body_are_well_typed table.naming (bind_procedure (procedure_name p) ps checked) (k + procedure_constructor_count p) statements rest) ≡ true =
+      subst (λ o. option_satisfies o (λ ps. procedure_is_well_typed table.naming (bind_typed_parameters ps (bind_procedure (procedure_name p) ps checked)) k p && procedures_and_body_are_well_typed table.naming (bind_procedure (procedure_name p) ps checked) (k + procedure_constructor_count p) statements rest) ≡ true) first.are_typed e in
+      let both = both_true (procedure_is_well_typed table.naming (bind_typed_parameters ps (bind_procedure (procedure_name p) ps checked)) k p) (procedures_and_body_are_well_typed table.naming (bind_procedure (procedure_name p) ps checked) (k + procedure_constructor_count p) statements rest) fits in
       procedures-placed typing ls (k + procedure_constructor_count p) code statements rest (bind_procedure (procedure_name p) ps checked) ((procedure_name p, local_procedure_target i) ∷ placement) ((procedure_name p, a_procedure record { constructors_before = k; text = p }) ∷ active)
       (refl, (ps, first.are_typed, refl, both.0), env) record { activation_name_agrees = refl; placement_name_agrees = refl; here = (placement, h, first); further = h } both.1 others
 
   -- a block: its frame, and its body
 
-  pub block-placed : (typing : StoreTyping) (ls : Levels) (base : ℕ) (at : ℕ → Slot) → ((c : ℕ) → slot_address ls (at c) ≡ base + c) → (k cells : ℕ) (code : lowered.Instructions) (b : Tree N block) (checked : TypeEnvironment N) (p : PlacementState N) (f : Frame N) → FramePlaced table typing ls base checked p f
+  pub block-placed : (typing : StoreTyping) (ls : Levels) (base : ℕ) (at : ℕ → Slot) → ((c : ℕ) → slot_address ls (at c) ≡ base + c) → (k cells : ℕ) (code : lowered.InstructionList) (b : Tree N block) (checked : TypeEnvironment N) (p : PlacementState N) (f : Frame N) → FramePlaced table typing ls base checked p f
       → block_is_well_typed table.naming checked k b ≡ true → CodeMeansBlock table at checked p k cells code b
-      → (g : Frame N) × (after : TypeEnvironment N) × (q : PlacementState N) × (declare_block table.naming k b f ≡ Some g) × (p.cells + cells ≡ q.cells) × CodeMeansBody table.naming after q.placement code (block_statements b) × Extends table typing ls base after q f.store (replicate cells (pos 0)) g
-  unfolding block_is_well_typed declare_block
+      → (g : Frame N) × (after : TypeEnvironment N) × (q : PlacementState N) × (declare_block_in_frame table.naming k b f ≡ Some g) × (p.cells + cells ≡ q.cells) × CodeMeansBody table.naming after q.placement code (block_statements b) × Extends table typing ls base after q f.store (replicate cells (pos 0)) g
+  unfolding block_is_well_typed declare_block_in_frame
   block-placed typing ls base at is k cells code (forms_block (declares cs ts vs ps) statements) checked p f h e means =
       let b : Tree N block = forms_block (declares cs ts vs ps) statements in
       let first : TypeEnvironment N = means.first in
       let inner : TypeEnvironment N = means.inner in
-      let fits : procedures_are_well_typed table.naming inner (constructors_before_procedures k b) statements ps ≡ true =
-      subst (λ o. option_satisfies o (λ inner. procedures_are_well_typed table.naming inner (constructors_before_procedures k b) statements ps) ≡ true) (ap (option_and_then (declare_typed_variables table.naming (constructors_before_variables k b) (section_variables vs))) means.first_declared ∙ means.variables_declared) e in
+      let fits : procedures_and_body_are_well_typed table.naming inner (constructor_count_before_procedures k b) statements ps ≡ true =
+      subst (λ o. option_satisfies o (λ inner. procedures_and_body_are_well_typed table.naming inner (constructor_count_before_procedures k b) statements ps) ≡ true) (ap (option_and_then (declare_typed_variables table.naming (constructor_count_before_variables k b) (section_variables vs))) means.first_declared ∙ means.variables_declared) e in
       let (consts, ec, e₄) = then_some (declare_constants table.naming checked (section_constants cs)) (λ env. declare_types table.naming env k (section_types ts)) first means.first_declared in
       let (d₁, ed₁, fit₁) = constants-run table.naming typing checked f.env (section_constants cs) consts h.environment_fits ec in
       let placed₁ = constants-placed typing ls (section_constants cs) checked consts p.placement f.env d₁ ec ed₁ h.placing_fits in
@@ -185,13 +185,13 @@ module _ {N : Type 0} (table : RoutineTable N) where
       let q : PlacementState N = place_variable_declarations at means.size_of (section_variables vs) p₂ in
       let total : p.cells + cells ≡ q.cells = means.cells_counted in
       let f₂ : Frame N = record { env = d₂; store = f.store } in
-      let (g, n, eg, counts, part) = variables-placed typing ls base at is means.size_of (constructors_before_variables k b) (section_variables vs) first inner p₂ f₂ record { store_fits = h.store_fits; environment_fits = fit₂; placing_fits = placed₂; cells_counted = h.cells_counted } means.variables_declared means.are_sized in
-      let (after, placed, fit₄, placed₄, body_means) = procedures-placed part.typing_now ls (constructors_before_procedures k b) code statements ps inner q.placement g.env part.frame.environment_fits part.frame.placing_fits fits means.inside in
+      let (g, n, eg, counts, part) = variables-placed typing ls base at is means.size_of (constructor_count_before_variables k b) (section_variables vs) first inner p₂ f₂ record { store_fits = h.store_fits; environment_fits = fit₂; placing_fits = placed₂; cells_counted = h.cells_counted } means.variables_declared means.are_sized in
+      let (after, placed, fit₄, placed₄, body_means) = procedures-placed part.typing_now ls (constructor_count_before_procedures k b) code statements ps inner q.placement g.env part.frame.environment_fits part.frame.placing_fits fits means.inside in
       let n_is : n ≡ cells = omega (arith, counts, total) in (
-        declare_procedures_in_frame (constructors_before_procedures k b) ps g,
+        declare_procedures_in_frame (constructor_count_before_procedures k b) ps g,
         after,
         record q { placement = placed },
-        ap (option_and_then (λ env. option_map (declare_procedures_in_frame (constructors_before_procedures k b) ps) (declare_variables table.naming (constructors_before_variables k b) (section_variables vs) record { env = env; store = f.store }))) (ap (option_and_then (λ env. declare_types table.naming env k (section_types ts))) ed₁ ∙ ed₂) ∙ ap (option_map (declare_procedures_in_frame (constructors_before_procedures k b) ps)) eg,
+        ap (option_and_then (λ env. option_map (declare_procedures_in_frame (constructor_count_before_procedures k b) ps) (declare_variables table.naming (constructor_count_before_variables k b) (section_variables vs) record { env = env; store = f.store }))) (ap (option_and_then (λ env. declare_types table.naming env k (section_types ts))) ed₁ ∙ ed₂) ∙ ap (option_map (declare_procedures_in_frame (constructor_count_before_procedures k b) ps)) eg,
         total,
         body_means,
         record {

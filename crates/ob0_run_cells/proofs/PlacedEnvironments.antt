@@ -1,26 +1,26 @@
 -- Placings that fit: names found in them, stores that grow, and what is seen from further in.
 use Rattle.std.proofs.Common.{◌≡◌, true, false, [], ◌∷◌, ◌++◌, drop, Some, None, sym, refl, ap, ◌∙◌, subst}
-use Rattle.ob0_language_types.specs.Environments.{environment_from_binding, newest_object}
+use Rattle.ob0_language_types.specs.Environments.{suffix_from_newest_binding, newest_object}
 use Rattle.ob0_language_types.specs.Expressions.{Object, a_constant, a_procedure, a_standard_procedure, a_type, a_variable}
 use Rattle.ob0_language_types.specs.WellTyped.{Signature, TypeEnvironment}
 use Rattle.ob0_language_values.specs.Values.{Place, Shape}
 use Rattle.ob0_language_runs.specs.TypeAgreement.{StoreTyping}
-use Rattle.ob0_language_runs.specs.Runs.{Activation, ProcedureText, object_for_statements}
+use Rattle.ob0_language_runs.specs.Runs.{RunEnvironment, ProcedureText, object_for_statements}
 use Rattle.ob0_run_machine.specs.Evaluation.{Level, Levels}
 use Rattle.ob0_run_cells.specs.Activations.{BindingIsPlaced, RoutineTable, Placement, PlacementMatchesActivation, BindingPlace, at_target, slot_of_first_binding, suffix_from_latest_binding, in_slot, placement_seen_one_level_deeper, slot_seen_one_level_deeper, binding_place_seen_one_level_deeper, nowhere}
 use Rattle.ob0_run_cells.specs.Cells.{address}
-use Rattle.ob0_run_cells.specs.Lowering.{Slot, in_module_activation, slot_address}
+use Rattle.ob0_run_cells.specs.LoweredExpressions.{Slot, in_module_activation, slot_address}
 use Rattle.ob0_run_cells.proofs.Places.{addresses_stay}
 
 module _ {N : Type 0} (table : RoutineTable N) where
   -- the bindings from a name's first on are placed too
-  pub from-placed : (typing : StoreTyping) (ls : Levels) (checked : TypeEnvironment N) (placement : Placement N) (active : Activation N) (x : N) → PlacementMatchesActivation table typing ls checked placement active
-      → PlacementMatchesActivation table typing ls (environment_from_binding table.naming checked x) (suffix_from_latest_binding table.naming placement x) (environment_from_binding table.naming active x)
+  pub from-placed : (typing : StoreTyping) (ls : Levels) (checked : TypeEnvironment N) (placement : Placement N) (active : RunEnvironment N) (x : N) → PlacementMatchesActivation table typing ls checked placement active
+      → PlacementMatchesActivation table typing ls (suffix_from_newest_binding table.naming checked x) (suffix_from_latest_binding table.naming placement x) (suffix_from_newest_binding table.naming active x)
   from-placed typing ls [] [] [] x h = tt
   from-placed typing ls (b ∷ checked) (w ∷ placement) (d ∷ active) x h =
-      subst (λ y. PlacementMatchesActivation table typing ls (elim (table.naming.same x b.0) [ true ↦ b ∷ checked | false ↦ environment_from_binding table.naming checked x ]) (elim (table.naming.same x y) [ true ↦ w ∷ placement | false ↦ suffix_from_latest_binding table.naming placement x ]) (elim (table.naming.same x d.0) [ true ↦ d ∷ active | false ↦ environment_from_binding table.naming active x ])) h.placement_name_agrees
-      (subst (λ y. PlacementMatchesActivation table typing ls (elim (table.naming.same x b.0) [ true ↦ b ∷ checked | false ↦ environment_from_binding table.naming checked x ]) (elim (table.naming.same x b.0) [ true ↦ w ∷ placement | false ↦ suffix_from_latest_binding table.naming placement x ]) (elim (table.naming.same x y) [ true ↦ d ∷ active | false ↦ environment_from_binding table.naming active x ])) h.activation_name_agrees
-      (elim (table.naming.same x b.0) as (λ v. PlacementMatchesActivation table typing ls (elim v [ true ↦ b ∷ checked | false ↦ environment_from_binding table.naming checked x ]) (elim v [ true ↦ w ∷ placement | false ↦ suffix_from_latest_binding table.naming placement x ]) (elim v [ true ↦ d ∷ active | false ↦ environment_from_binding table.naming active x ]))
+      subst (λ y. PlacementMatchesActivation table typing ls (elim (table.naming.same x b.0) [ true ↦ b ∷ checked | false ↦ suffix_from_newest_binding table.naming checked x ]) (elim (table.naming.same x y) [ true ↦ w ∷ placement | false ↦ suffix_from_latest_binding table.naming placement x ]) (elim (table.naming.same x d.0) [ true ↦ d ∷ active | false ↦ suffix_from_newest_binding table.naming active x ])) h.placement_name_agrees
+      (subst (λ y. PlacementMatchesActivation table typing ls (elim (table.naming.same x b.0) [ true ↦ b ∷ checked | false ↦ suffix_from_newest_binding table.naming checked x ]) (elim (table.naming.same x b.0) [ true ↦ w ∷ placement | false ↦ suffix_from_latest_binding table.naming placement x ]) (elim (table.naming.same x y) [ true ↦ d ∷ active | false ↦ suffix_from_newest_binding table.naming active x ])) h.activation_name_agrees
+      (elim (table.naming.same x b.0) as (λ v. PlacementMatchesActivation table typing ls (elim v [ true ↦ b ∷ checked | false ↦ suffix_from_newest_binding table.naming checked x ]) (elim v [ true ↦ w ∷ placement | false ↦ suffix_from_latest_binding table.naming placement x ]) (elim v [ true ↦ d ∷ active | false ↦ suffix_from_newest_binding table.naming active x ]))
       [ true ↦ h | false ↦ from-placed typing ls checked placement active x h.further ]))
   from-placed typing ls _ _ _ x h = absurd h
 
@@ -33,7 +33,7 @@ module _ {N : Type 0} (table : RoutineTable N) where
   slot-here typing ls checked Fits x (a_standard_procedure q) nowhere (a_standard_procedure r) p h e rest = absurd (cc)
   slot-here typing ls checked Fits x _ _ _ p h e rest = absurd h
 
-  pub slots-fit : (typing : StoreTyping) (ls : Levels) (checked : TypeEnvironment N) (placement : Placement N) (active : Activation N) → PlacementMatchesActivation table typing ls checked placement active → (p : Place) → object_for_statements (newest_object active) ≡ Some (a_variable p) → slot_address ls (slot_of_first_binding placement) ≡ address typing p
+  pub slots-fit : (typing : StoreTyping) (ls : Levels) (checked : TypeEnvironment N) (placement : Placement N) (active : RunEnvironment N) → PlacementMatchesActivation table typing ls checked placement active → (p : Place) → object_for_statements (newest_object active) ≡ Some (a_variable p) → slot_address ls (slot_of_first_binding placement) ≡ address typing p
   slots-fit typing ls [] [] [] h p e = absurd (cc)
   slots-fit typing ls (b ∷ checked) (w ∷ placement) (d ∷ active) h p e = slot-here typing ls checked (λ ls placement. PlacementMatchesActivation table typing ls checked placement active) b.0 b.1 w.1 d.1 p h.here e placement
   slots-fit typing ls _ _ _ h p e = absurd h
@@ -50,7 +50,7 @@ module _ {N : Type 0} (table : RoutineTable N) where
   grows-here typing others ls checked Fits Grown grow x (a_standard_procedure q) nowhere (a_standard_procedure r) h = tt
   grows-here typing others ls checked Fits Grown grow x _ _ _ h = absurd h
 
-  pub placement-grows : (typing others : StoreTyping) (checked : TypeEnvironment N) (active : Activation N) (ls : Levels) (placement : Placement N) → PlacementMatchesActivation table typing ls checked placement active → PlacementMatchesActivation table (typing ++ others) ls checked placement active
+  pub placement-grows : (typing others : StoreTyping) (checked : TypeEnvironment N) (active : RunEnvironment N) (ls : Levels) (placement : Placement N) → PlacementMatchesActivation table typing ls checked placement active → PlacementMatchesActivation table (typing ++ others) ls checked placement active
   placement-grows typing others [] [] ls [] h = tt
   placement-grows typing others (b ∷ checked) (d ∷ active) ls (w ∷ placement) h =
       record {
@@ -78,7 +78,7 @@ module _ {N : Type 0} (table : RoutineTable N) where
   placement_seen_one_level_deeper-here typing l ls checked Fits x (a_standard_procedure q) nowhere (a_standard_procedure r) h = tt
   placement_seen_one_level_deeper-here typing l ls checked Fits x _ _ _ h = absurd h
 
-  pub placement_seen_one_level_deeper-fits : (typing : StoreTyping) (l : Level) (ls : Levels) (checked : TypeEnvironment N) (placement : Placement N) (active : Activation N) → PlacementMatchesActivation table typing ls checked placement active → PlacementMatchesActivation table typing (l ∷ ls) checked (placement_seen_one_level_deeper placement) active
+  pub placement_seen_one_level_deeper-fits : (typing : StoreTyping) (l : Level) (ls : Levels) (checked : TypeEnvironment N) (placement : Placement N) (active : RunEnvironment N) → PlacementMatchesActivation table typing ls checked placement active → PlacementMatchesActivation table typing (l ∷ ls) checked (placement_seen_one_level_deeper placement) active
   placement_seen_one_level_deeper-fits typing l ls [] [] [] h = tt
   placement_seen_one_level_deeper-fits typing l ls (b ∷ checked) (w ∷ placement) (d ∷ active) h =
       record {

@@ -1,12 +1,12 @@
 -- What places hold lies in the cells of the store.
 use Rattle.std.proofs.Common.{◌≡◌, ℕ, zero, suc, ◌+◌, ◌≤◌, Bool, List, [], ◌∷◌, ◌++◌, length, take, ℤ, slice_get, slice_set, Some, option_map, option_and_then, unwrap_or, sym, refl, ap, ◌∙◌, subst, arith, length-append}
-use Rattle.ob0_language_values.specs.Values.{Place, Shape, Step, Store, Value, value_at_path, boolean_shape, integer_shape, number, read_place, truth, with_value_at_path, write_place}
+use Rattle.ob0_language_values.specs.Values.{Place, Shape, PathStep, Store, Value, value_at_path, boolean_shape, integer_shape, number, read_place, truth, with_value_at_path, write_place}
 use Rattle.ob0_language_runs.specs.TypeAgreement.{HasShape, PlaceHasType, StoreHasTypes, StoreTyping, shape_at_step, shape_at_path}
 use Rattle.ob0_language_types.proofs.Conditions.{of_some}
 use Rattle.ob0_language_types.proofs.TypedElsewhere.{then_some}
 use Rattle.ob0_language_runs.proofs.Sound.{is_number, is_truth}
 use Rattle.ob0_language_runs.proofs.SoundStatements.{PlaceHasType-grows, set-fits, slice_get-grows, with_path-fits}
-use Rattle.ob0_run_cells.specs.Cells.{address, cells_of_store, cells_at, cells_of, cells_after_overwrite, offset, size, store_cell_count, truth_cell}
+use Rattle.ob0_run_cells.specs.Cells.{address, cells_of_store, cells_at_address, cells_of, cells_after_overwrite, offset, size, store_cell_count, truth_cell}
 use Rattle.ob0_run_cells.proofs.Parts.{cells-size, lies-inside, path-lies}
 use Rattle.ob0_run_cells.proofs.Splits.{Lies, lies-following, lies-first, lies-within, split-at, split-get, split-set, split-with}
 
@@ -56,7 +56,7 @@ pub record HoldsSlice (typing : StoreTyping) (store : Store) (p : Place) (s : Sh
   pub value : Value
   pub is_read : read_place store p ≡ Some value
   pub has_shape : HasShape value s
-  pub same_cells : cells_of value ≡ cells_at (address typing p) (size s) (cells_of_store store)
+  pub same_cells : cells_of value ≡ cells_at_address (address typing p) (size s) (cells_of_store store)
 
 pub places_are_slices : (typing : StoreTyping) (store : Store) (p : Place) (s : Shape) → StoreHasTypes typing store → PlaceHasType typing p s → HoldsSlice typing store p s
 places_are_slices typing store p s h e =
@@ -65,7 +65,7 @@ places_are_slices typing store p s h e =
       value = v;
       is_read = ev;
       has_shape = hv;
-      same_cells = split-at l.before (cells_of v) l.after (address typing p) (size s) l.begins (cells-size v s hv) ∙ ap (cells_at (address typing p) (size s)) (sym l.is_split);
+      same_cells = split-at l.before (cells_of v) l.after (address typing p) (size s) l.begins (cells-size v s hv) ∙ ap (cells_at_address (address typing p) (size s)) (sym l.is_split);
     }
 
 -- a place is written, and the store keeps its types; `cells` are those of the store then
@@ -113,7 +113,7 @@ truths_are_cells typing store p h e =
 
 -- addresses
 
-pub shape-append : (path more : List Step) (s t u : Shape) → shape_at_path path s ≡ Some t → shape_at_path more t ≡ Some u
+pub shape-append : (path more : List PathStep) (s t u : Shape) → shape_at_path path s ≡ Some t → shape_at_path more t ≡ Some u
     → (shape_at_path (path ++ more) s ≡ Some u) × (offset (path ++ more) s ≡ offset path s + offset more t)
 shape-append [] more s t u e e' =
     let same : s ≡ t = ap (λ o. unwrap_or o s) e in
@@ -126,7 +126,7 @@ shape-append (step ∷ path) more s t u e e' =
     (ap (option_and_then (shape_at_path (path ++ more))) er ∙ is, omega (arith, adds, here, there))
 
 -- a part of what a place holds has its offset after the place's address
-pub parts_have_addresses : (typing : StoreTyping) (p : Place) (path : List Step) (s t : Shape) → PlaceHasType typing p s → shape_at_path path s ≡ Some t
+pub parts_have_addresses : (typing : StoreTyping) (p : Place) (path : List PathStep) (s t : Shape) → PlaceHasType typing p s → shape_at_path path s ≡ Some t
     → PlaceHasType typing record { variable = p.variable; path = p.path ++ path } t × (address typing record { variable = p.variable; path = p.path ++ path } ≡ address typing p + offset path s)
 parts_have_addresses typing p path s t fit e =
     let (v, ev, e₁) = then_some (slice_get typing p.variable) (shape_at_path p.path) s fit in

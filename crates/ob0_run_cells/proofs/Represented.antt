@@ -2,44 +2,44 @@
 use Rattle.std.proofs.Common.{◌≡◌, ℕ, zero, suc, Bool, true, false, List, [], ◌∷◌, ◌++◌, ℤ, slice_set, sym, refl, ap, ◌∙◌, subst}
 use Rattle.std.proofs.lemmas.List.{map-append}
 use Rattle.ob0_language_types.specs.WellTyped.{TypeMeanings}
-use Rattle.ob0_language_values.specs.Values.{Outcome, Place, Shape, Store, TurnBound, Value, boolean_shape, ends_run_with, succeeds_with, integer_shape, number, or_stuck, truth}
+use Rattle.ob0_language_values.specs.Values.{Outcome, Place, Shape, Store, TurnBound, Value, boolean_shape, ends_run_with, succeeds_with, integer_shape, number, result_or_stuck, truth}
 use Rattle.ob0_language_runs.specs.TypeAgreement.{PlaceHasType, StoreHasTypes, StoreTyping}
-use Rattle.ob0_language_runs.specs.Runs.{Progress, State, choose_by_truth, continue_with, append_output, read_number, running, stopped, store_at, execute_while, execute_repeat, continue_with_result}
+use Rattle.ob0_language_runs.specs.Runs.{Progress, State, choose_by_truth_value, continue_if_running, append_output, read_number, running, stopped, store_value_at_place, execute_while, execute_repeat, continue_with_result}
 use Rattle.ob0_run_machine.specs.Evaluation as machine
 use Rattle.ob0_run_machine.specs.Execution as execution
 use Rattle.ob0_run_machine.specs.LoweredSyntax as lowered
 use Rattle.ob0_run_cells.specs.Cells.{address, cells_of_store, truth_cell}
-use Rattle.ob0_run_cells.specs.LoweredStatements.{BodyContext, ProgressRepresents, StateRepresents, IsBodyOfModule, Target, moment, printed_item_of}
-use Rattle.ob0_run_cells.specs.Lowering.{OutcomeByMoment, Moment, NumberMeans, PlaceMeans, IsMomentOfModule, Slot, TruthMeans, end_of, outcome_of}
+use Rattle.ob0_run_cells.specs.LoweredStatements.{BodyContext, MachineProgressRepresentsProgress, MachineStateRepresentsState, IsBodyOfModule, Target, moment_with_store, printed_item_of}
+use Rattle.ob0_run_cells.specs.LoweredExpressions.{OutcomeByMoment, Moment, NumberHasOutcome, PlaceHasOutcome, IsMomentOfModule, Slot, TruthHasOutcome, end_of, outcome_of}
 use Rattle.ob0_run_cells.proofs.LoweredOutcomes.{Led, ended-same, given-same}
 use Rattle.ob0_run_cells.proofs.Places.{numbers_are_cells, truths_are_cells}
 
 -- an evaluation, and what comes of what it gives
 
-pub use-represents : {A B : Type 0} (typing : StoreTyping) (f : A → B) (low : execution.MachineState) (s : State) (o : machine.StepResult A) (w : Outcome B) (k : A → execution.MachineProgress) (j : B → Progress) → StateRepresents typing low s → outcome_of f o ≡ w
-    → ((a : A) → o ≡ machine.gives a → ProgressRepresents typing (k a) (j (f a))) → ProgressRepresents typing (execution.continue_with_result low o k) (continue_with_result s w j)
-use-represents typing f low s (machine.gives a) w k j h e each = subst (λ w. ProgressRepresents typing (k a) (continue_with_result s w j)) e (each a refl)
-use-represents typing f low s (machine.ends x) w k j h e each = subst (λ w. ProgressRepresents typing (execution.stopped x low.output) (continue_with_result s w j)) e (refl, h.same_output)
+pub use-represents : {A B : Type 0} (typing : StoreTyping) (f : A → B) (low : execution.MachineState) (s : State) (o : machine.StepResult A) (w : Outcome B) (k : A → execution.MachineProgress) (j : B → Progress) → MachineStateRepresentsState typing low s → outcome_of f o ≡ w
+    → ((a : A) → o ≡ machine.gives a → MachineProgressRepresentsProgress typing (k a) (j (f a))) → MachineProgressRepresentsProgress typing (execution.continue_with_result low o k) (continue_with_result s w j)
+use-represents typing f low s (machine.gives a) w k j h e each = subst (λ w. MachineProgressRepresentsProgress typing (k a) (continue_with_result s w j)) e (each a refl)
+use-represents typing f low s (machine.ends x) w k j h e each = subst (λ w. MachineProgressRepresentsProgress typing (execution.stopped x low.output) (continue_with_result s w j)) e (refl, h.same_output)
 
-pub use-place : (typing : StoreTyping) (shape : Shape) (low : execution.MachineState) (s : State) (o : machine.StepResult ℕ) (w : Outcome Place) (k : ℕ → execution.MachineProgress) (j : Place → Progress) → StateRepresents typing low s → Led typing shape o w
-    → ((p : Place) → PlaceHasType typing p shape → ProgressRepresents typing (k (address typing p)) (j p)) → ProgressRepresents typing (execution.continue_with_result low o k) (continue_with_result s w j)
+pub use-place : (typing : StoreTyping) (shape : Shape) (low : execution.MachineState) (s : State) (o : machine.StepResult ℕ) (w : Outcome Place) (k : ℕ → execution.MachineProgress) (j : Place → Progress) → MachineStateRepresentsState typing low s → Led typing shape o w
+    → ((p : Place) → PlaceHasType typing p shape → MachineProgressRepresentsProgress typing (k (address typing p)) (j p)) → MachineProgressRepresentsProgress typing (execution.continue_with_result low o k) (continue_with_result s w j)
 use-place typing shape low s (machine.gives a) (succeeds_with p) k j h led each =
     let e : a ≡ address typing p = given-same a (address typing p) led.is_same in
-    subst (λ a. ProgressRepresents typing (k a) (j p)) (sym e) (each p led.is_place)
+    subst (λ a. MachineProgressRepresentsProgress typing (k a) (j p)) (sym e) (each p led.is_place)
 use-place typing shape low s (machine.ends x) (ends_run_with y) k j h led each = (ended-same (end_of x) y led.is_same, h.same_output)
 use-place typing shape low s _ _ k j h led each = let e = led.is_same in absurd (cc)
 
-pub choice-represents : (typing : StoreTyping) (low : execution.MachineState) (s : State) (o : machine.StepResult Bool) (w : Outcome Value) (k l : execution.MachineState → execution.MachineProgress) (i j : State → Progress) → StateRepresents typing low s → outcome_of truth o ≡ w
-    → ProgressRepresents typing (k low) (i s) → ProgressRepresents typing (l low) (j s) → ProgressRepresents typing (execution.choose_by_truth low o k l) (continue_with_result s w (λ v. choose_by_truth s v i j))
-choice-represents typing low s (machine.gives true) w k l i j h e on off = subst (λ w. ProgressRepresents typing (k low) (continue_with_result s w (λ v. choose_by_truth s v i j))) e on
-choice-represents typing low s (machine.gives false) w k l i j h e on off = subst (λ w. ProgressRepresents typing (l low) (continue_with_result s w (λ v. choose_by_truth s v i j))) e off
-choice-represents typing low s (machine.ends x) w k l i j h e on off = subst (λ w. ProgressRepresents typing (execution.stopped x low.output) (continue_with_result s w (λ v. choose_by_truth s v i j))) e (refl, h.same_output)
+pub choice-represents : (typing : StoreTyping) (low : execution.MachineState) (s : State) (o : machine.StepResult Bool) (w : Outcome Value) (k l : execution.MachineState → execution.MachineProgress) (i j : State → Progress) → MachineStateRepresentsState typing low s → outcome_of truth o ≡ w
+    → MachineProgressRepresentsProgress typing (k low) (i s) → MachineProgressRepresentsProgress typing (l low) (j s) → MachineProgressRepresentsProgress typing (execution.choose_by_truth low o k l) (continue_with_result s w (λ v. choose_by_truth_value s v i j))
+choice-represents typing low s (machine.gives true) w k l i j h e on off = subst (λ w. MachineProgressRepresentsProgress typing (k low) (continue_with_result s w (λ v. choose_by_truth_value s v i j))) e on
+choice-represents typing low s (machine.gives false) w k l i j h e on off = subst (λ w. MachineProgressRepresentsProgress typing (l low) (continue_with_result s w (λ v. choose_by_truth_value s v i j))) e off
+choice-represents typing low s (machine.ends x) w k l i j h e on off = subst (λ w. MachineProgressRepresentsProgress typing (execution.stopped x low.output) (continue_with_result s w (λ v. choose_by_truth_value s v i j))) e (refl, h.same_output)
 
 -- what follows in every state
 abbrev pub Follows : StoreTyping → (execution.MachineState → execution.MachineProgress) → (State → Progress) → Type 0
-Follows typing k j = (low : execution.MachineState) (s : State) → StateRepresents typing low s → ProgressRepresents typing (k low) (j s)
+Follows typing k j = (low : execution.MachineState) (s : State) → MachineStateRepresentsState typing low s → MachineProgressRepresentsProgress typing (k low) (j s)
 
-pub going-on : (typing : StoreTyping) (p : execution.MachineProgress) (q : Progress) (k : execution.MachineState → execution.MachineProgress) (j : State → Progress) → ProgressRepresents typing p q → Follows typing k j → ProgressRepresents typing (execution.continue_with p k) (continue_with q j)
+pub going-on : (typing : StoreTyping) (p : execution.MachineProgress) (q : Progress) (k : execution.MachineState → execution.MachineProgress) (j : State → Progress) → MachineProgressRepresentsProgress typing p q → Follows typing k j → MachineProgressRepresentsProgress typing (execution.continue_run p k) (continue_if_running q j)
 going-on typing execution.no_room q k j h follows = tt
 going-on typing (execution.running low) (running s) k j h follows = follows low s h
 going-on typing (execution.stopped e out) (stopped f written) k j h follows = h
@@ -47,23 +47,23 @@ going-on typing _ _ k j h follows = absurd h
 
 -- a condition that evaluates to the same in every state
 abbrev pub SameConditions : StoreTyping → (execution.MachineState → machine.StepResult Bool) → (State → Outcome Value) → Type 0
-SameConditions typing c d = (low : execution.MachineState) (s : State) → StateRepresents typing low s → outcome_of truth (c low) ≡ d s
+SameConditions typing c d = (low : execution.MachineState) (s : State) → MachineStateRepresentsState typing low s → outcome_of truth (c low) ≡ d s
 
 pub execute_while-represent : (t : ℕ) (typing : StoreTyping) (c : execution.MachineState → machine.StepResult Bool) (d : State → Outcome Value) (k : execution.MachineState → execution.MachineProgress) (j : State → Progress)
     → SameConditions typing c d → Follows typing k j → Follows typing (execution.execute_while t c k) (execute_while t d j)
 execute_while-represent zero typing c d k j same follows low s h =
     choice-represents typing low s (c low) (d s) (λ s'. execution.stopped machine.TurnBound s'.output) execution.running (λ s'. stopped TurnBound s'.output) running h (same low s h) (refl, h.same_output) h
 execute_while-represent (suc t) typing c d k j same follows low s h =
-    choice-represents typing low s (c low) (d s) (λ s'. execution.continue_with (k s') (execution.execute_while t c k)) execution.running (λ s'. continue_with (j s') (execute_while t d j)) running h (same low s h)
+    choice-represents typing low s (c low) (d s) (λ s'. execution.continue_run (k s') (execution.execute_while t c k)) execution.running (λ s'. continue_if_running (j s') (execute_while t d j)) running h (same low s h)
     (going-on typing (k low) (j s) (execution.execute_while t c k) (execute_while t d j) (follows low s h) (execute_while-represent t typing c d k j same follows)) h
 
 pub execute_repeat-represent : (t : ℕ) (typing : StoreTyping) (c : execution.MachineState → machine.StepResult Bool) (d : State → Outcome Value) (k : execution.MachineState → execution.MachineProgress) (j : State → Progress)
     → SameConditions typing c d → Follows typing k j → Follows typing (execution.execute_repeat t c k) (execute_repeat t d j)
 execute_repeat-represent zero typing c d k j same follows low s h =
-    going-on typing (k low) (j s) (λ s'. execution.choose_by_truth s' (c s') execution.running (λ s''. execution.stopped machine.TurnBound s''.output)) (λ s'. continue_with_result s' (d s') (λ v. choose_by_truth s' v running (λ s''. stopped TurnBound s''.output))) (follows low s h)
+    going-on typing (k low) (j s) (λ s'. execution.choose_by_truth s' (c s') execution.running (λ s''. execution.stopped machine.TurnBound s''.output)) (λ s'. continue_with_result s' (d s') (λ v. choose_by_truth_value s' v running (λ s''. stopped TurnBound s''.output))) (follows low s h)
     (λ low s h. choice-represents typing low s (c low) (d s) execution.running (λ s''. execution.stopped machine.TurnBound s''.output) running (λ s''. stopped TurnBound s''.output) h (same low s h) h (refl, h.same_output))
 execute_repeat-represent (suc t) typing c d k j same follows low s h =
-    going-on typing (k low) (j s) (λ s'. execution.choose_by_truth s' (c s') execution.running (execution.execute_repeat t c k)) (λ s'. continue_with_result s' (d s') (λ v. choose_by_truth s' v running (execute_repeat t d j))) (follows low s h)
+    going-on typing (k low) (j s) (λ s'. execution.choose_by_truth s' (c s') execution.running (execution.execute_repeat t c k)) (λ s'. continue_with_result s' (d s') (λ v. choose_by_truth_value s' v running (execute_repeat t d j))) (follows low s h)
     (λ low s h. choice-represents typing low s (c low) (d s) execution.running (execution.execute_repeat t c k) running (execute_repeat t d j) h (same low s h) h (execute_repeat-represent t typing c d k j same follows low s h))
 
 pub truth_as_cell-same : (b : Bool) → machine.truth_as_cell b ≡ truth_cell b
@@ -72,38 +72,38 @@ truth_as_cell-same false = refl
 
 -- what is stored
 
-pub number-stored : (typing : StoreTyping) (low : execution.MachineState) (s : State) (p : Place) (n : ℤ) → StateRepresents typing low s → PlaceHasType typing p integer_shape
-    → ProgressRepresents typing (execution.running (execution.store_at low (address typing p) n)) (store_at s p (number n))
+pub number-stored : (typing : StoreTyping) (low : execution.MachineState) (s : State) (p : Place) (n : ℤ) → MachineStateRepresentsState typing low s → PlaceHasType typing p integer_shape
+    → MachineProgressRepresentsProgress typing (execution.running (execution.store_in_cell low (address typing p) n)) (store_value_at_place s p (number n))
 number-stored typing low s p n h fit =
     let (found, writes) = numbers_are_cells typing s.store p h.store_fits fit in
     let done = writes n in
-    subst (λ o. ProgressRepresents typing (execution.running (execution.store_at low (address typing p) n)) (continue_with_result s (or_stuck o) (λ store. running record s { store = store }))) (sym done.is_written) record {
+    subst (λ o. MachineProgressRepresentsProgress typing (execution.running (execution.store_in_cell low (address typing p) n)) (continue_with_result s (result_or_stuck o) (λ store. running record s { store = store }))) (sym done.is_written) record {
       store_fits = done.store_fits;
       same_cells = ap (λ l. slice_set l (address typing p) n) h.same_cells ∙ sym done.same_cells;
       same_input = h.same_input;
       same_output = h.same_output;
     }
 
-pub truth-stored : (typing : StoreTyping) (low : execution.MachineState) (s : State) (p : Place) (b : Bool) → StateRepresents typing low s → PlaceHasType typing p boolean_shape
-    → ProgressRepresents typing (execution.running (execution.store_at low (address typing p) (machine.truth_as_cell b))) (store_at s p (truth b))
+pub truth-stored : (typing : StoreTyping) (low : execution.MachineState) (s : State) (p : Place) (b : Bool) → MachineStateRepresentsState typing low s → PlaceHasType typing p boolean_shape
+    → MachineProgressRepresentsProgress typing (execution.running (execution.store_in_cell low (address typing p) (machine.truth_as_cell b))) (store_value_at_place s p (truth b))
 truth-stored typing low s p b h fit =
     let (found, writes) = truths_are_cells typing s.store p h.store_fits fit in
     let done = writes b in
-    subst (λ o. ProgressRepresents typing (execution.running (execution.store_at low (address typing p) (machine.truth_as_cell b))) (continue_with_result s (or_stuck o) (λ store. running record s { store = store }))) (sym done.is_written) record {
+    subst (λ o. MachineProgressRepresentsProgress typing (execution.running (execution.store_in_cell low (address typing p) (machine.truth_as_cell b))) (continue_with_result s (result_or_stuck o) (λ store. running record s { store = store }))) (sym done.is_written) record {
       store_fits = done.store_fits;
       same_cells = ap (λ l. slice_set l (address typing p) (machine.truth_as_cell b)) h.same_cells ∙ (ap (slice_set (cells_of_store s.store) (address typing p)) (truth_as_cell-same b) ∙ sym done.same_cells);
       same_input = h.same_input;
       same_output = h.same_output;
     }
 
-pub number-read : (typing : StoreTyping) (low : execution.MachineState) (s : State) (p : Place) (input : List ℤ) → StateRepresents typing low s → PlaceHasType typing p integer_shape
-    → ProgressRepresents typing (execution.read_number low (address typing p) input) (read_number s p input)
+pub number-read : (typing : StoreTyping) (low : execution.MachineState) (s : State) (p : Place) (input : List ℤ) → MachineStateRepresentsState typing low s → PlaceHasType typing p integer_shape
+    → MachineProgressRepresentsProgress typing (execution.read_number low (address typing p) input) (read_number s p input)
 number-read typing low s p [] h fit = (refl, h.same_output)
 number-read typing low s p (n ∷ rest) h fit =
     number-stored typing (record low { input = rest }) (record s { input = rest }) p n
     record { store_fits = h.store_fits; same_cells = h.same_cells; same_input = refl; same_output = h.same_output } fit
 
-pub put-represents : (typing : StoreTyping) (low : execution.MachineState) (s : State) (i : execution.OutputItem) → StateRepresents typing low s → ProgressRepresents typing (execution.running (execution.append_output low i)) (running (append_output s (printed_item_of i)))
+pub put-represents : (typing : StoreTyping) (low : execution.MachineState) (s : State) (i : execution.OutputItem) → MachineStateRepresentsState typing low s → MachineProgressRepresentsProgress typing (execution.running (execution.append_output low i)) (running (append_output s (printed_item_of i)))
 put-represents typing low s i h = record {
   store_fits = h.store_fits;
   same_cells = h.same_cells;
@@ -114,16 +114,16 @@ put-represents typing low s i h = record {
 -- evaluations at a moment of a body
 
 module _ {N : Type 0} (checked : TypeMeanings N) (slots : N → Slot) (targets : N → Target) (b : BodyContext N) (shown : IsBodyOfModule checked slots targets b) where
-  pub number-in : (n : lowered.Number) (w : OutcomeByMoment N Value) → NumberMeans checked slots n w → (low : execution.MachineState) (s : State) → StateRepresents b.typing low s
-      → outcome_of number (machine.number b.levels low.cells n) ≡ w (moment b s.store)
+  pub number-in : (n : lowered.Number) (w : OutcomeByMoment N Value) → NumberHasOutcome checked slots n w → (low : execution.MachineState) (s : State) → MachineStateRepresentsState b.typing low s
+      → outcome_of number (machine.number_value b.levels low.cells n) ≡ w (moment_with_store b s.store)
   number-in n w hn low s h =
-      subst (λ l. outcome_of number (machine.number b.levels l n) ≡ w (moment b s.store)) (sym h.same_cells) (hn (moment b s.store) (shown.is_moment s.store h.store_fits))
+      subst (λ l. outcome_of number (machine.number_value b.levels l n) ≡ w (moment_with_store b s.store)) (sym h.same_cells) (hn (moment_with_store b s.store) (shown.is_moment s.store h.store_fits))
 
-  pub truth-in : (t : lowered.Truth) (w : OutcomeByMoment N Value) → TruthMeans checked slots t w → (low : execution.MachineState) (s : State) → StateRepresents b.typing low s → outcome_of truth (machine.truth b.levels low.cells t) ≡ w (moment b s.store)
+  pub truth-in : (t : lowered.Truth) (w : OutcomeByMoment N Value) → TruthHasOutcome checked slots t w → (low : execution.MachineState) (s : State) → MachineStateRepresentsState b.typing low s → outcome_of truth (machine.truth_value b.levels low.cells t) ≡ w (moment_with_store b s.store)
   truth-in t w ht low s h =
-      subst (λ l. outcome_of truth (machine.truth b.levels l t) ≡ w (moment b s.store)) (sym h.same_cells) (ht (moment b s.store) (shown.is_moment s.store h.store_fits))
+      subst (λ l. outcome_of truth (machine.truth_value b.levels l t) ≡ w (moment_with_store b s.store)) (sym h.same_cells) (ht (moment_with_store b s.store) (shown.is_moment s.store h.store_fits))
 
-  pub place-in : (q : lowered.Place) (shape : Shape) (w : OutcomeByMoment N Place) → PlaceMeans checked slots q shape w → (low : execution.MachineState) (s : State) → StateRepresents b.typing low s → Led b.typing shape (machine.address b.levels low.cells q) (w (moment b s.store))
+  pub place-in : (q : lowered.Place) (shape : Shape) (w : OutcomeByMoment N Place) → PlaceHasOutcome checked slots q shape w → (low : execution.MachineState) (s : State) → MachineStateRepresentsState b.typing low s → Led b.typing shape (machine.place_address b.levels low.cells q) (w (moment_with_store b s.store))
   place-in q shape w hq low s h =
-      let m = hq (moment b s.store) (shown.is_moment s.store h.store_fits) in
-      subst (λ l. Led b.typing shape (machine.address b.levels l q) (w (moment b s.store))) (sym h.same_cells) record { is_same = m.0; is_place = m.1 }
+      let m = hq (moment_with_store b s.store) (shown.is_moment s.store h.store_fits) in
+      subst (λ l. Led b.typing shape (machine.place_address b.levels l q) (w (moment_with_store b s.store))) (sym h.same_cells) record { is_same = m.0; is_place = m.1 }

@@ -6,7 +6,7 @@
 use Rattle.std.proofs.Common.{◌≡◌, ℕ, ◌+◌, List, [], ◌∷◌, ◌++◌, length, take, drop, ℤ, slice_get, slice_set, Some, sym, refl, ap, ◌∙◌, length-append, append_assoc}
 use Rattle.std.proofs.lemmas.List.{append-nil, drop_at, take_at}
 use Rattle.ob0_language_values.specs.Values.{Value}
-use Rattle.ob0_run_cells.specs.Cells.{cells_at, cells_of, cells_after_overwrite}
+use Rattle.ob0_run_cells.specs.Cells.{cells_at_address, cells_of, cells_after_overwrite}
 
 -- what is written in a whole is the part `old`, which begins at an address
 pub record Lies {X : Type 0} (cells : X → List ℤ) (whole : X) (old : Value) (write : Value → X) (at : ℕ) : Type 0 where
@@ -53,7 +53,7 @@ lies-alone v = record { before = []; after = []; is_split = sym (append-nil (cel
 
 -- slices of what is split
 
-pub split-at : (before mine after : List ℤ) (a n : ℕ) → length before ≡ a → length mine ≡ n → mine ≡ cells_at a n (before ++ (mine ++ after))
+pub split-at : (before mine after : List ℤ) (a n : ℕ) → length before ≡ a → length mine ≡ n → mine ≡ cells_at_address a n (before ++ (mine ++ after))
 split-at before mine after a n ea en = sym (ap (take n) (drop_at before (mine ++ after) a ea) ∙ take_at mine after n en)
 
 pub split-with : (before mine new after : List ℤ) (a : ℕ) → length before ≡ a → length new ≡ length mine → before ++ (new ++ after) ≡ cells_after_overwrite a new (before ++ (mine ++ after))

@@ -11,19 +11,19 @@
 use Rattle.std.specs.Prelude.{◌≡◌, ℕ, suc, ◌+◌, true, false, List, [], ◌∷◌, drop, slice_get, Some}
 use Rattle.ob0_tree.specs.Tree.{Tree, begins, block, body, declares, declares_procedure, declares_variable, end, forms_block, item, items, maybe, module_text, more, none, one, procedure, variable}
 use Rattle.ob0_language_names.specs.Names.{Label, Naming, naming_by_label}
-use Rattle.ob0_language_names.specs.BlockParts.{block_constants, block_types, block_variables, constant_names, formal_sections, module_block, declared_type_names, names_in_list, procedure_formals, procedure_name}
-use Rattle.ob0_language_types.specs.Declarations.{constructors_before_variables, constructors_before_procedures, declare_constants_and_types, formals_constructor_count, procedure_constructor_count}
+use Rattle.ob0_language_names.specs.BlockParts.{block_constants, block_types, block_variables, constant_names, formal_parameter_sections, module_block, declared_type_names, names_in_list, procedure_formals, procedure_name}
+use Rattle.ob0_language_types.specs.Declarations.{constructor_count_before_variables, constructor_count_before_procedures, declare_constants_and_types, formals_constructor_count, procedure_constructor_count}
 use Rattle.ob0_language_types.specs.Environments.{meanings, outermost_environment}
 use Rattle.ob0_language_types.specs.Expressions.{Object, a_constant, a_procedure, a_standard_procedure, a_type, a_variable}
 use Rattle.ob0_language_types.specs.WellTyped.{ParameterMode, Signature, TypeEnvironment, TypedParameter, bind_typed_parameters, by_place, by_value, declare_typed_variables, bind_procedure, typed_parameters}
 use Rattle.ob0_language_values.specs.Values.{Place, Shape}
 use Rattle.ob0_language_runs.specs.TypeAgreement.{PlaceHasType, StoreTyping}
-use Rattle.ob0_language_runs.specs.Runs.{Activation, ProcedureText}
+use Rattle.ob0_language_runs.specs.Runs.{RunEnvironment, ProcedureText}
 use Rattle.ob0_run_machine.specs.Evaluation.{Levels}
 use Rattle.ob0_run_machine.specs.LoweredSyntax as lowered
 use Rattle.ob0_run_cells.specs.Cells.{address, size}
 use Rattle.ob0_run_cells.specs.LoweredStatements.{CodeMeansSequence, Target}
-use Rattle.ob0_run_cells.specs.Lowering.{Slot, in_activation, by_reference, in_module_activation, slot_address}
+use Rattle.ob0_run_cells.specs.LoweredExpressions.{Slot, in_activation, by_reference, in_module_activation, slot_address}
 
 -- The place of a declaration in lowered code: a slot for a variable, a target for a procedure, or
 -- `nowhere` for any other declaration.
@@ -160,9 +160,9 @@ HasSizeIfVariable n (a_variable s) = n ≡ size s
 HasSizeIfVariable n other = Unit {0}
 
 -- States that `size_of` returns the number of cells of each variable in an environment.
-abbrev pub GivesSizesOfVariables : {N : Type 0} → (N → ℕ) → TypeEnvironment N → Type 0
-GivesSizesOfVariables size_of [] = Unit {0}
-GivesSizesOfVariables size_of (b ∷ env) = HasSizeIfVariable (size_of b.0) b.1 × GivesSizesOfVariables size_of env
+abbrev pub ReturnsSizesOfVariables : {N : Type 0} → (N → ℕ) → TypeEnvironment N → Type 0
+ReturnsSizesOfVariables size_of [] = Unit {0}
+ReturnsSizesOfVariables size_of (b ∷ env) = HasSizeIfVariable (size_of b.0) b.1 × ReturnsSizesOfVariables size_of env
 
 -- returns the target of the procedure with this index, as seen from the activation in which the
 -- procedure is declared
@@ -181,7 +181,7 @@ abbrev pub CodeMeansBody : {N : Type 0}
     → Naming N
     → TypeEnvironment N
     → Placement N
-    → lowered.Instructions
+    → lowered.InstructionList
     → Tree N (maybe body)
     → Type 0
 CodeMeansBody naming checked placement code none = code ≡ lowered.no_statement
@@ -224,9 +224,9 @@ pub record BlockIsPlaced {N : Type 0} (table : RoutineTable N) (at : ℕ → Slo
   pub inner : TypeEnvironment N
   pub size_of : N → ℕ
   pub first_declared : declare_constants_and_types table.naming checked k b ≡ Some first
-  pub variables_declared : declare_typed_variables table.naming (constructors_before_variables k b) (block_variables b) first
+  pub variables_declared : declare_typed_variables table.naming (constructor_count_before_variables k b) (block_variables b) first
       ≡ Some inner
-  pub are_sized : GivesSizesOfVariables size_of inner
+  pub are_sized : ReturnsSizesOfVariables size_of inner
   pub cells_counted : p.cells + cells ≡ (place_declarations at size_of b p).cells
   pub inside : Inside inner (place_declarations at size_of b p).placement
 
@@ -243,13 +243,13 @@ abbrev mutual
       → PlacementState N
       → ℕ
       → ℕ
-      → lowered.Instructions
+      → lowered.InstructionList
       → Tree N block
       → Type 0
   CodeMeansBlock {N} table at checked p k cells code (forms_block (declares cs ts vs ps) statements) =
       BlockIsPlaced table at checked p k cells (forms_block (declares cs ts vs ps) statements)
       (λ inner placement. RoutinesMeanProcedures table inner placement
-      (constructors_before_procedures k (forms_block (declares cs ts vs ps) statements)) code statements ps)
+      (constructor_count_before_procedures k (forms_block (declares cs ts vs ps) statements)) code statements ps)
 
   -- Runs 6: states that the table has correct code for each of these procedures. Also states that
   -- `code` is correct code for the statements of the block in which they are declared.
@@ -258,7 +258,7 @@ abbrev mutual
       → TypeEnvironment N
       → Placement N
       → ℕ
-      → lowered.Instructions
+      → lowered.InstructionList
       → Tree N (maybe body)
       → Tree N (items procedure)
       → Type 0
@@ -282,7 +282,7 @@ abbrev mutual
       → Tree N (item procedure)
       → Type 0
   RoutineMeansProcedure table checked p k routine (declares_procedure x fs b closing) =
-      CodeMeansBlock table (in_activation 0) checked p (k + formals_constructor_count (formal_sections fs))
+      CodeMeansBlock table (in_activation 0) checked p (k + formals_constructor_count (formal_parameter_sections fs))
       routine.cells routine.body b
 
 -- States that one binding has the right place, as seen from the activations `ls`. A variable's slot
@@ -334,7 +334,7 @@ abbrev pub PlacementMatchesActivation : {N : Type 0}
     → Levels
     → TypeEnvironment N
     → Placement N
-    → Activation N
+    → RunEnvironment N
     → Type 0
 PlacementMatchesActivation table typing ls [] [] [] = Unit {0}
 PlacementMatchesActivation table typing ls (b ∷ checked) (w ∷ placement) (d ∷ active) =

@@ -3,7 +3,7 @@
 -- Rule: none; used in contracts of lowering.
 use Rattle.std.specs.Prelude.{ℕ, ◌+◌, ◌*◌, Bool, true, false, List, [], ◌∷◌, ◌++◌, length, take, drop, ℤ, pos, if◌then◌else◌, slice_get, option_map, unwrap_or}
 use Rattle.ob0_language_names.specs.Names.{Name, same_name}
-use Rattle.ob0_language_values.specs.Values.{FieldShapes, Members, Place, Shape, Step, Store, Value, Values, array_shape, at_field, at_index, boolean_shape, elements, integer_shape, members, next_field_shape, next_member, next_value, no_field_shape, no_member, no_value, number, record_shape, truth}
+use Rattle.ob0_language_values.specs.Values.{FieldShapes, Members, Place, Shape, PathStep, Store, Value, Values, array_shape, at_field, at_index, boolean_shape, elements, integer_shape, members, next_field_shape, next_member, next_value, no_field_shape, no_member, no_value, number, record_shape, truth}
 use Rattle.ob0_language_runs.specs.TypeAgreement.{StoreTyping, shape_at_step}
 
 -- returns the cell of a truth value: 0 for FALSE, 1 for TRUE
@@ -65,14 +65,14 @@ field_offset (next_field_shape y s rest) x =
 
 -- Returns the offset of the element or field that a step selects: the number of cells of the
 -- elements or fields before it. Returns 0 if the step doesn't fit the type.
-abbrev pub step_offset : Shape → Step → ℕ
+abbrev pub step_offset : Shape → PathStep → ℕ
 step_offset (array_shape k n s) (at_index i) = i * size s
 step_offset (record_shape k fs) (at_field x) = field_offset fs x
 step_offset _ _ = 0
 
 -- Returns the offset of the part at the end of a path, in cells from the start of a value with the
 -- type `s`. The steps after one that selects no part are ignored.
-abbrev pub offset : List Step → Shape → ℕ
+abbrev pub offset : List PathStep → Shape → ℕ
 offset [] s = 0
 offset (step ∷ path) s =
     step_offset s step + unwrap_or (option_map (offset path) (shape_at_step s step)) 0
@@ -85,8 +85,8 @@ address typing p =
     + unwrap_or (option_map (offset p.path) (slice_get typing p.variable)) 0
 
 -- returns the `n` cells that begin at an address, or fewer if the list ends earlier
-abbrev pub cells_at : ℕ → ℕ → List ℤ → List ℤ
-cells_at address n cells = take n (drop address cells)
+abbrev pub cells_at_address : ℕ → ℕ → List ℤ → List ℤ
+cells_at_address address n cells = take n (drop address cells)
 
 -- returns the list `cells` with the cells `new` in place of the cells that begin at an address; as
 -- many cells are replaced as `new` has

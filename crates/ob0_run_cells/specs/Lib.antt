@@ -1,5 +1,5 @@
 pub mod Cells
-pub mod Lowering
+pub mod LoweredExpressions
 pub mod LoweredStatements
 pub mod Activations
 pub mod LoweringLaws

@@ -8,22 +8,22 @@ use Rattle.ob0_language_types.specs.Typing.{lone_designator}
 use Rattle.ob0_language_types.specs.WellTyped.{FormalParameter, ParameterMode, Signature, TypeMeanings, by_place, by_value}
 use Rattle.ob0_language_values.specs.Values.{Place, Shape, Store, boolean_shape, integer_shape}
 use Rattle.ob0_language_runs.specs.TypeAgreement.{ArgumentsMatchSignature, StoreHasTypes, StoreTyping}
-use Rattle.ob0_language_runs.specs.Runs.{Argument, CallFunction, Progress, State, PrintedItem, execute, execute_sequence, execute_else, execute_elsifs, execute_further_statements, line_out, number_out, place_argument, running, stopped, value_argument}
+use Rattle.ob0_language_runs.specs.Runs.{Argument, CallFunction, Progress, State, PrintedItem, execute, execute_sequence, execute_else, execute_elsifs, execute_further_statements, printed_line_end, printed_number, place_argument, running, stopped, value_argument}
 use Rattle.ob0_run_machine.specs.Evaluation.{Levels}
 use Rattle.ob0_run_machine.specs.Execution as execution
 use Rattle.ob0_run_machine.specs.LoweredSyntax as lowered
 use Rattle.ob0_run_cells.specs.Cells.{address, cells_of_store, cells_of, size}
-use Rattle.ob0_run_cells.specs.Lowering.{IsMomentOfModule, Moment, NumberMeans, PlaceMeans, Slot, TruthMeans, PlaceHoldsValue, end_of, place_of_designator, value_of_expression}
+use Rattle.ob0_run_cells.specs.LoweredExpressions.{IsMomentOfModule, Moment, NumberHasOutcome, PlaceHasOutcome, Slot, TruthHasOutcome, PlaceHoldsValue, end_of, place_of_designator, value_of_expression}
 
 -- converts an item of the machine's output to an item of a module's output
 abbrev pub printed_item_of : execution.OutputItem → PrintedItem
-printed_item_of (execution.number_out n) = number_out n
-printed_item_of execution.line_out = line_out
+printed_item_of (execution.number_out n) = printed_number n
+printed_item_of execution.line_out = printed_line_end
 
 -- States that the state `low` of the machine represents the state `s` of the module. `low` has the
 -- cells of the store of `s`, whose variables have these types, and the same input and output as
 -- `s`.
-pub record StateRepresents (typing : StoreTyping) (low : execution.MachineState) (s : State)
+pub record MachineStateRepresentsState (typing : StoreTyping) (low : execution.MachineState) (s : State)
     : Type 0 where
   pub store_fits : StoreHasTypes typing s.store
   pub same_cells : low.cells ≡ cells_of_store s.store
@@ -33,12 +33,12 @@ pub record StateRepresents (typing : StoreTyping) (low : execution.MachineState)
 -- States that a run of the machine and a run of the module agree. Both continue, in states that
 -- represent each other, or both have ended with the same end and output. Claims nothing if the
 -- number of the machine's cells would have more than 64 bits (`no_room`).
-abbrev pub ProgressRepresents : StoreTyping → execution.MachineProgress → Progress → Type 0
-ProgressRepresents typing execution.no_room q = Unit {0}
-ProgressRepresents typing (execution.running low) (running s) = StateRepresents typing low s
-ProgressRepresents typing (execution.stopped e out) (stopped f written) =
+abbrev pub MachineProgressRepresentsProgress : StoreTyping → execution.MachineProgress → Progress → Type 0
+MachineProgressRepresentsProgress typing execution.no_room q = Unit {0}
+MachineProgressRepresentsProgress typing (execution.running low) (running s) = MachineStateRepresentsState typing low s
+MachineProgressRepresentsProgress typing (execution.stopped e out) (stopped f written) =
     (end_of e ≡ f) × (map printed_item_of out ≡ written)
-ProgressRepresents typing _ _ = ⊥
+MachineProgressRepresentsProgress typing _ _ = ⊥
 
 -- returns the cells of the arguments that are passed by value
 abbrev pub value_argument_cells : List Argument → List ℤ
@@ -71,22 +71,22 @@ pub record BodyContext (N : Type 0) : Type 0 where
 
 -- States that each lowered call has the effect of the module's call of the same procedure. This has
 -- to hold if both calls have the same arguments and begin in states that represent each other.
-abbrev pub CallsRepresent : {N : Type 0} → TypeMeanings N → (N → Target) → BodyContext N → Type 0
-CallsRepresent {N} checked targets b =
+abbrev pub LoweredCallsRepresentCalls : {N : Type 0} → TypeMeanings N → (N → Target) → BodyContext N → Type 0
+LoweredCallsRepresentCalls {N} checked targets b =
     (x : N) (signature : Signature)
     → checked.object_for x ≡ Some (a_procedure signature)
     → (args : List Argument) (low : execution.MachineState) (s : State) (p : execution.CallArguments)
-    → StateRepresents b.typing low s
+    → MachineStateRepresentsState b.typing low s
     → ArgumentsMatchSignature b.typing signature args
     → p.cells ≡ low.cells ++ value_argument_cells args
     → p.addresses ≡ place_argument_addresses b.typing args
-    → ProgressRepresents b.typing (b.lowered_call_effect (targets x).procedure
+    → MachineProgressRepresentsProgress b.typing (b.lowered_call_effect (targets x).procedure
     (execution.levels_in_call b.levels (length low.cells) (targets x).up p) record low
     { cells = p.cells }) (b.enters x args s)
 
 -- returns the moment of a run (`Moment`) at which the body `b` runs and the store is `store`
-abbrev pub moment : {N : Type 0} → BodyContext N → Store → Moment N
-moment b store = record { typing = b.typing; store = store; active = b.active; levels = b.levels }
+abbrev pub moment_with_store : {N : Type 0} → BodyContext N → Store → Moment N
+moment_with_store b store = record { typing = b.typing; store = store; active = b.active; levels = b.levels }
 
 -- States that a body belongs to a checked module. All its moments belong to the module
 -- (`IsMomentOfModule`), and a lowered call of a procedure's target has the effect of the
@@ -95,24 +95,24 @@ pub record IsBodyOfModule {N : Type 0} (checked : TypeMeanings N) (slots : N →
     (b : BodyContext N) : Type 0 where
   pub is_moment : (store : Store)
       → StoreHasTypes b.typing store
-      → IsMomentOfModule checked slots (moment b store)
-  pub calls_represent : CallsRepresent checked targets b
+      → IsMomentOfModule checked slots (moment_with_store b store)
+  pub calls_represent : LoweredCallsRepresentCalls checked targets b
 
 -- States that a lowered step has the effect of a step of the module. This has to hold in each body
 -- that belongs to the checked module, and for each bound `t` on the iterations of a loop.
-abbrev pub StepRepresents : {N : Type 0}
+abbrev pub LoweredStepRepresentsStep : {N : Type 0}
     → TypeMeanings N
     → (N → Slot)
     → (N → Target)
     → (BodyContext N → ℕ → execution.MachineState → execution.MachineProgress)
     → (BodyContext N → ℕ → State → Progress)
     → Type 0
-StepRepresents {N} checked slots targets low_step step =
+LoweredStepRepresentsStep {N} checked slots targets low_step step =
     (b : BodyContext N)
     → IsBodyOfModule checked slots targets b
     → (t : ℕ) (low : execution.MachineState) (s : State)
-    → StateRepresents b.typing low s
-    → ProgressRepresents b.typing (low_step b t low) (step b t s)
+    → MachineStateRepresentsState b.typing low s
+    → MachineProgressRepresentsProgress b.typing (low_step b t low) (step b t s)
 
 -- states that an instruction is correct code for a statement: it has the statement's effect
 abbrev pub CodeMeansStatement : {N : Type 0}
@@ -123,7 +123,7 @@ abbrev pub CodeMeansStatement : {N : Type 0}
     → Tree N statement
     → Type 0
 CodeMeansStatement checked slots targets c a =
-    StepRepresents checked slots targets (λ b t. execution.execute b.lowered_call_effect t b.levels c)
+    LoweredStepRepresentsStep checked slots targets (λ b t. execution.execute b.lowered_call_effect t b.levels c)
     (λ b t. execute b.active b.enters t a)
 
 -- states that instructions are correct code for a sequence of statements: they have its effect
@@ -131,11 +131,11 @@ abbrev pub CodeMeansSequence : {N : Type 0}
     → TypeMeanings N
     → (N → Slot)
     → (N → Target)
-    → lowered.Instructions
+    → lowered.InstructionList
     → Tree N sequence
     → Type 0
 CodeMeansSequence checked slots targets cs a =
-    StepRepresents checked slots targets (λ b t. execution.execute_sequence b.lowered_call_effect t b.levels cs)
+    LoweredStepRepresentsStep checked slots targets (λ b t. execution.execute_sequence b.lowered_call_effect t b.levels cs)
     (λ b t. execute_sequence b.active b.enters t a)
 
 -- States that instructions are correct code for the statements after the first one of a sequence.
@@ -143,11 +143,11 @@ abbrev pub CodeMeansStatementsAfterFirst : {N : Type 0}
     → TypeMeanings N
     → (N → Slot)
     → (N → Target)
-    → lowered.Instructions
+    → lowered.InstructionList
     → Tree N (items statement_after_semicolon)
     → Type 0
 CodeMeansStatementsAfterFirst checked slots targets cs rest =
-    StepRepresents checked slots targets (λ b t. execution.execute_sequence b.lowered_call_effect t b.levels cs)
+    LoweredStepRepresentsStep checked slots targets (λ b t. execution.execute_sequence b.lowered_call_effect t b.levels cs)
     (λ b t. execute_further_statements b.active b.enters t rest)
 
 -- States that instructions are correct code for an ELSE part. If there is no ELSE part, the
@@ -156,11 +156,11 @@ abbrev pub CodeMeansElse : {N : Type 0}
     → TypeMeanings N
     → (N → Slot)
     → (N → Target)
-    → lowered.Instructions
+    → lowered.InstructionList
     → Tree N (maybe else_part)
     → Type 0
 CodeMeansElse checked slots targets cs last =
-    StepRepresents checked slots targets (λ b t. execution.execute_sequence b.lowered_call_effect t b.levels cs)
+    LoweredStepRepresentsStep checked slots targets (λ b t. execution.execute_sequence b.lowered_call_effect t b.levels cs)
     (λ b t. execute_else b.active b.enters t last)
 
 -- States that branches are correct code for ELSIF parts. Also states that the instructions `cs`,
@@ -170,25 +170,25 @@ abbrev pub CodeMeansElsifs : {N : Type 0}
     → (N → Slot)
     → (N → Target)
     → lowered.Branches
-    → lowered.Instructions
+    → lowered.InstructionList
     → Tree N (items elsif_part)
     → Tree N (maybe else_part)
     → Type 0
 CodeMeansElsifs checked slots targets bs cs rest last =
-    StepRepresents checked slots targets (λ b t. execution.execute_branches b.lowered_call_effect t b.levels bs
+    LoweredStepRepresentsStep checked slots targets (λ b t. execution.execute_branches b.lowered_call_effect t b.levels bs
     (execution.execute_sequence b.lowered_call_effect t b.levels cs))
     (λ b t. execute_elsifs b.active b.enters t rest (execute_else b.active b.enters t last))
 
 -- States that an expression is only a designator of a variable, and that the lowered place `q`
 -- finds the place of this designator.
-pub record IsLoneDesignatorAt {N : Type 0} (checked : TypeMeanings N) (slots : N → Slot) (q : lowered.Place) (s : Shape)
+pub record IsLoneDesignatorOfPlace {N : Type 0} (checked : TypeMeanings N) (slots : N → Slot) (q : lowered.Place) (s : Shape)
     (e : Tree N expression) : Type 0 where
   pub name : N
   pub path : Tree N (items selector)
   pub shape : Shape
   pub is_designator : lone_designator e ≡ Some (name, path)
   pub is_variable : checked.object_for name ≡ Some (a_variable shape)
-  pub place_means : PlaceMeans checked slots q s (place_of_designator name path)
+  pub place_means : PlaceHasOutcome checked slots q s (place_of_designator name path)
 
 -- States that a lowered argument is correct code for an argument, given its parameter. For a VAR
 -- parameter, the lowered argument is a place. For any other parameter, it is a number, a truth, or
@@ -201,15 +201,15 @@ abbrev pub CodeMeansArgument : {N : Type 0}
     → Tree N expression
     → Type 0
 CodeMeansArgument checked slots f (lowered.by_place q) e =
-    (f.mode ≡ by_place) × IsLoneDesignatorAt checked slots q f.shape e
+    (f.mode ≡ by_place) × IsLoneDesignatorOfPlace checked slots q f.shape e
 CodeMeansArgument checked slots f (lowered.by_number n) e =
     (f.mode ≡ by_value)
     × (f.shape ≡ integer_shape)
-    × NumberMeans checked slots n (value_of_expression e)
+    × NumberHasOutcome checked slots n (value_of_expression e)
 CodeMeansArgument checked slots f (lowered.by_truth t) e =
     (f.mode ≡ by_value)
     × (f.shape ≡ boolean_shape)
-    × TruthMeans checked slots t (value_of_expression e)
+    × TruthHasOutcome checked slots t (value_of_expression e)
 CodeMeansArgument checked slots f (lowered.by_block q n) e =
     (f.mode ≡ by_value)
     × (n ≡ size f.shape)

@@ -11,7 +11,7 @@ use Rattle.ob0_run_machine.specs.Execution as execution
 use Rattle.ob0_run_machine.specs.LoweredSyntax as lowered
 use Rattle.ob0_run_cells.specs.Activations.{ProgramMeansModule}
 use Rattle.ob0_run_cells.specs.LoweredStatements.{printed_item_of}
-use Rattle.ob0_run_cells.specs.Lowering.{end_of}
+use Rattle.ob0_run_cells.specs.LoweredExpressions.{end_of}
 
 -- converts a run of the machine to a run of a module, with the same output and the same end
 abbrev pub run_of : execution.MachineRun → Run

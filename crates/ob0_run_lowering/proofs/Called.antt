@@ -9,23 +9,23 @@ use Rattle.ob0_tree.specs.declared.tree.Expression.{Expression}
 use Rattle.ob0_language_names.specs.Names.{Label}
 use Rattle.ob0_scope_table.specs.Resolution.{Resolution}
 use Rattle.ob0_types_table.specs.DeclarationTables.{shapes_of}
-use Rattle.ob0_types_table.specs.DeclarationTableView.{formal_view}
-use Rattle.ob0_types_table.specs.declared.known.FormalParameter as formal
+use Rattle.ob0_types_table.specs.DeclarationTableView.{formal_parameter_view}
+use Rattle.ob0_types_table.specs.declared.declaration_table.FormalParameter as formal
 use Rattle.ob0_types_table.specs.Designators.{labelled_expressions}
 use Rattle.ob0_scope_table.specs.LabelledTrees.{tree_with_labels}
 use Rattle.ob0_types_table.proofs.LabelledParts.{all_listed}
 use Rattle.ob0_language_types.specs.Arguments.{call_arguments}
 use Rattle.ob0_language_types.specs.Expressions.{Object, a_procedure, a_standard_procedure, read_procedure, write_procedure, write_line_procedure}
-use Rattle.ob0_language_types.specs.Typing.{lone_designator, type_of}
-use Rattle.ob0_language_types.specs.WellTyped.{FormalParameter, Signature, TypeMeanings, argument_matches, arguments_match, by_place, by_value, call_is_well_typed, signature_of, statement_is_well_typed, variable_type}
+use Rattle.ob0_language_types.specs.Typing.{lone_designator, type_of_expression}
+use Rattle.ob0_language_types.specs.WellTyped.{FormalParameter, Signature, TypeMeanings, argument_matches_parameter, arguments_match_signature, by_place, by_value, call_is_well_typed, signature_of, statement_is_well_typed, assignable_type}
 use Rattle.ob0_language_values.specs.Values.{Shape, integer_shape}
 use Rattle.ob0_language_types.proofs.Conditions.{same_known_shape-true, both_true}
 use Rattle.ob0_run_machine.specs.declared.code.Argument as argument
 use Rattle.ob0_run_machine.specs.declared.code.Number.{Number}
 use Rattle.ob0_run_machine.specs.LoweredSyntax as lowered
-use Rattle.ob0_run_machine.specs.View.{argument_of, number_of, place_of}
+use Rattle.ob0_run_machine.specs.LoweredCodeViews.{argument_of, number_of, place_of}
 use Rattle.ob0_run_cells.specs.LoweredStatements.{CodeMeansStatement, Target}
-use Rattle.ob0_run_cells.specs.Lowering.{Slot}
+use Rattle.ob0_run_cells.specs.LoweredExpressions.{Slot}
 use Rattle.ob0_run_cells.proofs.LoweredAssignments.{line-means, reads-mean, writes-mean}
 use Rattle.ob0_run_cells.proofs.PassedArguments.{call-means}
 use Rattle.ob0_run_lowering.specs.LoweredExpressionMeans.{LocatesLoneDesignator, LowersArgument, LowersNumber}
@@ -61,7 +61,7 @@ pub uncallable : (scene : Scene) (x : Label) (es : Tree Label (maybe arguments))
 uncallable scene x es c none_there checked slots targets sees fits =
     absurd (no_signature checked (signature_of (object_of_label scene.types.now x)) (call_arguments es) none_there (called_with scene x es (object_of_label scene.types.now x) refl checked slots targets sees fits))
 
-signed : (checked : TypeMeanings Label) (signature : Signature) (es : List (Tree Label expression)) → call_is_well_typed checked (Some signature) es ≡ true → arguments_match checked signature es ≡ true
+signed : (checked : TypeMeanings Label) (signature : Signature) (es : List (Tree Label expression)) → call_is_well_typed checked (Some signature) es ≡ true → arguments_match_signature checked signature es ≡ true
 unfolding call_is_well_typed
 signed checked signature es h = h
 
@@ -80,34 +80,34 @@ given_listed r None = refl
 given_listed r (Some es) = all_listed r es.items
 
 -- of one argument
-one_fits : (checked : TypeMeanings Label) (r : Resolution) (f : FormalParameter) (es : List Expression) (e : Expression) → slice_get es 0 ≡ Some e → arguments_match checked (f ∷ []) (labelled_expressions r es) ≡ true
-    → (labelled_expressions r es ≡ tree_with_labels r (expression_of e) ∷ []) × (argument_matches checked f (tree_with_labels r (expression_of e)) ≡ true)
-unfolding arguments_match
+one_fits : (checked : TypeMeanings Label) (r : Resolution) (f : FormalParameter) (es : List Expression) (e : Expression) → slice_get es 0 ≡ Some e → arguments_match_signature checked (f ∷ []) (labelled_expressions r es) ≡ true
+    → (labelled_expressions r es ≡ tree_with_labels r (expression_of e) ∷ []) × (argument_matches_parameter checked f (tree_with_labels r (expression_of e)) ≡ true)
+unfolding arguments_match_signature
 one_fits checked r f [] e here h = absurd (cc)
 one_fits checked r f (e' ∷ []) e here h =
     let same : e' ≡ e = cc in
-    let both = both_true (argument_matches checked f (tree_with_labels r (expression_of e'))) true h in
-    (ap (λ e. tree_with_labels r (expression_of e) ∷ []) same, ap (λ e. argument_matches checked f (tree_with_labels r (expression_of e))) (sym same) ∙ both.0)
+    let both = both_true (argument_matches_parameter checked f (tree_with_labels r (expression_of e'))) true h in
+    (ap (λ e. tree_with_labels r (expression_of e) ∷ []) same, ap (λ e. argument_matches_parameter checked f (tree_with_labels r (expression_of e))) (sym same) ∙ both.0)
 one_fits checked r f (e' ∷ e'' ∷ es) e here h =
-    let two = (both_true (argument_matches checked f (tree_with_labels r (expression_of e'))) false h).1 in absurd (cc)
+    let two = (both_true (argument_matches_parameter checked f (tree_with_labels r (expression_of e'))) false h).1 in absurd (cc)
 
-none_fits : (checked : TypeMeanings Label) (r : Resolution) (f : FormalParameter) (es : List Expression) → slice_get es 0 ≡ None → arguments_match checked (f ∷ []) (labelled_expressions r es) ≡ true → ⊥
-unfolding arguments_match
+none_fits : (checked : TypeMeanings Label) (r : Resolution) (f : FormalParameter) (es : List Expression) → slice_get es 0 ≡ None → arguments_match_signature checked (f ∷ []) (labelled_expressions r es) ≡ true → ⊥
+unfolding arguments_match_signature
 none_fits checked r f [] here h = cc
 none_fits checked r f (e ∷ es) here h = cc
 
-no_argument_fits : (checked : TypeMeanings Label) (es : List (Tree Label expression)) → arguments_match checked [] es ≡ true → es ≡ []
-unfolding arguments_match
+no_argument_fits : (checked : TypeMeanings Label) (es : List (Tree Label expression)) → arguments_match_signature checked [] es ≡ true → es ≡ []
+unfolding arguments_match_signature
 no_argument_fits checked [] h = refl
 no_argument_fits checked (e ∷ es) h = absurd (cc)
 
-placed : (checked : TypeMeanings Label) (e : Tree Label expression) → argument_matches checked (record { mode = by_place; shape = integer_shape }) e ≡ true → variable_type checked (lone_designator e) ≡ Some integer_shape
-unfolding argument_matches
-placed checked e h = let (s, hs, ht) = same_known_shape-true (Some integer_shape) (variable_type checked (lone_designator e)) h in ht ∙ sym hs
+placed : (checked : TypeMeanings Label) (e : Tree Label expression) → argument_matches_parameter checked (record { mode = by_place; shape = integer_shape }) e ≡ true → assignable_type checked (lone_designator e) ≡ Some integer_shape
+unfolding argument_matches_parameter
+placed checked e h = let (s, hs, ht) = same_known_shape-true (Some integer_shape) (assignable_type checked (lone_designator e)) h in ht ∙ sym hs
 
-valued : (checked : TypeMeanings Label) (e : Tree Label expression) → argument_matches checked (record { mode = by_value; shape = integer_shape }) e ≡ true → type_of checked e ≡ Some integer_shape
-unfolding argument_matches
-valued checked e h = let (s, hs, ht) = same_known_shape-true (Some integer_shape) (type_of checked e) h in ht ∙ sym hs
+valued : (checked : TypeMeanings Label) (e : Tree Label expression) → argument_matches_parameter checked (record { mode = by_value; shape = integer_shape }) e ≡ true → type_of_expression checked e ≡ Some integer_shape
+unfolding argument_matches_parameter
+valued checked e h = let (s, hs, ht) = same_known_shape-true (Some integer_shape) (type_of_expression checked e) h in ht ∙ sym hs
 
 -- the standard procedures
 module _ (scene : Scene) (x : Label) (given : Option (Vec Expression Global)) where
@@ -115,9 +115,9 @@ module _ (scene : Scene) (x : Label) (given : Option (Vec Expression Global)) wh
   written_arguments = tree_with_labels scene.resolved.now (arguments_of given)
 
   all_fit : (s : Object Shape Signature) (signature : Signature) → signature_of (Some s) ≡ Some signature → object_of_label scene.types.now x ≡ Some s → (checked : TypeMeanings Label) (slots : Label → Slot) (targets : Label → Target) → SceneAgreesWithChecker scene checked slots targets → statement_is_well_typed checked (calls x written_arguments) ≡ true
-      → arguments_match checked signature (labelled_expressions scene.resolved.now (arguments_or_empty_list given)) ≡ true
+      → arguments_match_signature checked signature (labelled_expressions scene.resolved.now (arguments_or_empty_list given)) ≡ true
   all_fit s signature is declared checked slots targets sees fits =
-      sym (ap (arguments_match checked signature) (given_listed scene.resolved.now given))
+      sym (ap (arguments_match_signature checked signature) (given_listed scene.resolved.now given))
       ∙ signed checked signature (call_arguments written_arguments) (sym (ap (λ s. call_is_well_typed checked s (call_arguments written_arguments)) is) ∙ called_with scene x written_arguments (Some s) declared checked slots targets sees fits)
 
   pub lower_read : (e : Expression) (l : TypedPlace) → slice_get (arguments_or_empty_list given) 0 ≡ Some e → LocatesLoneDesignator scene (expression_of e) l → object_of_label scene.types.now x ≡ Some (a_standard_procedure read_procedure) → LowersStatement scene (lowered.reads (place_of l.place)) (calls x written_arguments)
@@ -151,7 +151,7 @@ module _ (scene : Scene) (x : Label) (given : Option (Vec Expression Global)) wh
 
 -- arguments that are lowered one after the other
 abbrev pub signature_in : Scene → List formal.FormalParameter → Signature
-signature_in scene fs = map (formal_view (shapes_of scene.types.now)) fs
+signature_in scene fs = map (formal_parameter_view (shapes_of scene.types.now)) fs
 
 pub record ArgumentsMade (scene : Scene) (fs : List formal.FormalParameter) (es : List Expression) (n : ℕ) (made : List argument.Argument) : Type 0 where
   pub so_far : (cs : List lowered.LoweredArgument) → LowersArguments scene (signature_in scene (drop n fs)) cs (labelled_expressions scene.resolved.now (drop n es)) → LowersArguments scene (signature_in scene fs) (map argument_of made ++ cs) (labelled_expressions scene.resolved.now es)
@@ -161,9 +161,9 @@ arguments_begin scene fs es = record { so_far = λ cs h. h }
 
 one_argument : (scene : Scene) (f : formal.FormalParameter) (fs : List formal.FormalParameter) (e : Expression) (es : List Expression) (a : argument.Argument) (cs : List lowered.LoweredArgument) → LowersArgument scene f (expression_of e) a
     → LowersArguments scene (signature_in scene fs) cs (labelled_expressions scene.resolved.now es) → LowersArguments scene (signature_in scene (f ∷ fs)) (argument_of a ∷ cs) (labelled_expressions scene.resolved.now (e ∷ es))
-unfolding arguments_match
+unfolding arguments_match_signature
 one_argument scene f fs e es a cs ha hs checked slots targets sees fits =
-    let both = both_true (argument_matches checked (formal_view (shapes_of scene.types.now) f) (tree_with_labels scene.resolved.now (expression_of e))) (arguments_match checked (signature_in scene fs) (labelled_expressions scene.resolved.now es)) fits in
+    let both = both_true (argument_matches_parameter checked (formal_parameter_view (shapes_of scene.types.now) f) (tree_with_labels scene.resolved.now (expression_of e))) (arguments_match_signature checked (signature_in scene fs) (labelled_expressions scene.resolved.now es)) fits in
     (ha checked slots targets sees both.0, hs checked slots targets sees both.1)
 
 following : (made : List argument.Argument) (a : argument.Argument) (cs : List lowered.LoweredArgument) → map argument_of (made ++ a ∷ []) ++ cs ≡ map argument_of made ++ (argument_of a ∷ cs)
@@ -184,7 +184,7 @@ arguments_go_on {scene = scene} {fs = fs} {es = es} {n = n} {made = made} f e a 
 
 -- where a parameter or an argument is left alone, they don't fit
 over : (scene : Scene) (fs : List formal.FormalParameter) (es : List Expression) → min (length fs) (length es) ≡ 0 → LowersArguments scene (signature_in scene fs) [] (labelled_expressions scene.resolved.now es)
-unfolding arguments_match
+unfolding arguments_match_signature
 over scene [] [] h checked slots targets sees fits = tt
 over scene (f ∷ fs) (e ∷ es) h checked slots targets sees fits = absurd (omega (arith, h))
 over scene _ _ h checked slots targets sees fits = absurd (cc)
@@ -197,6 +197,6 @@ arguments_end {scene = scene} {fs = fs} {es = es} {n = n} {made = made} m all =
     subst R (append-nil (map argument_of made)) (m.so_far [] (over scene (drop n fs) (drop n es) none_left))
 
 pub none_given : (scene : Scene) (fs : List formal.FormalParameter) → LowersArguments scene (signature_in scene fs) [] []
-unfolding arguments_match
+unfolding arguments_match_signature
 none_given scene [] checked slots targets sees fits = tt
 none_given scene (f ∷ fs) checked slots targets sees fits = absurd (cc)

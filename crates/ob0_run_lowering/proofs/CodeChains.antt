@@ -7,7 +7,7 @@ use Rattle.ob0_tree.specs.View.{items_of}
 use Rattle.ob0_language_names.specs.Names.{Label}
 use Rattle.ob0_scope_table.specs.Resolution.{Resolution}
 use Rattle.ob0_scope_table.specs.LabelledTrees.{tree_with_labels}
-use Rattle.ob0_run_lowering.specs.Codes.{ExpressionCode, PlaceWithShape, addition_code, multiplication_code}
+use Rattle.ob0_run_lowering.specs.OperationCodes.{ExpressionCode, PlaceWithShape, addition_code, multiplication_code}
 use Rattle.ob0_run_lowering.specs.TreeCodes.{addends_code, factor_code, multipliers_code, place_after_selector, selected_place, term_code}
 use Rattle.ob0_run_lowering.specs.declared.scene.Scene.{Scene}
 

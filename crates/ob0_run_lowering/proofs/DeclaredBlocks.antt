@@ -5,7 +5,7 @@ use Rattle.ob0_language_names.specs.Names.{Label, Name, naming_by_label, declare
 use Rattle.ob0_language_names.specs.BlockParts.{module_block}
 use Rattle.ob0_language_names.specs.Scopes.{numbered}
 use Rattle.ob0_language_types.specs.Bindings.{module_bindings, object_of_ordinal}
-use Rattle.ob0_language_types.specs.Environments.{environment_from_binding, outermost_environment}
+use Rattle.ob0_language_types.specs.Environments.{suffix_from_newest_binding, outermost_environment}
 use Rattle.ob0_language_types.specs.Expressions.{Object}
 use Rattle.ob0_language_types.specs.WellTyped.{Signature, TypeEnvironment, WellTyped}
 use Rattle.ob0_language_values.specs.Values.{Shape}
@@ -21,7 +21,7 @@ tail-included all i o noted below st d p h = by (d == i) refl
     by : (t : Bool) → (d == i) ≡ t → object_of_ordinal all d ≡ Some p
     by true same = absurd (nothing p (sym (bound-none 0 i d (typed_by_ordinal noted) (noted-binds i noted below) (λ a z. omega (arith, z, eqb-true d i same))) ∙ h))
     by false other =
-        st d p (newest_object-if (d == i) (declared i) o (typed_by_ordinal noted) (environment_from_binding naming_by_label (typed_by_ordinal noted) (declared d)) ∙ ap (λ t. cond t (Some o) (object_of_ordinal (typed_by_ordinal noted) d)) other ∙ h)
+        st d p (newest_object-if (d == i) (declared i) o (typed_by_ordinal noted) (suffix_from_newest_binding naming_by_label (typed_by_ordinal noted) (declared d)) ∙ ap (λ t. cond t (Some o) (object_of_ordinal (typed_by_ordinal noted) d)) other ∙ h)
 
 noted-declared : (all : TypeEnvironment Label) (n : ℕ) (noted : TypeNoted Name) → TypedBelow n noted → Includes all (typed_by_ordinal noted) → BindingsAreDeclared (object_of_ordinal all) (typed_by_ordinal noted)
 noted-declared all n [] below st = tt
@@ -30,7 +30,7 @@ noted-declared all n (b ∷ noted) below st = (
     b.ordinal,
     refl,
     st b.ordinal b.object
-        (newest_object-if (b.ordinal == b.ordinal) (declared b.ordinal) b.object (typed_by_ordinal noted) (environment_from_binding naming_by_label (typed_by_ordinal noted) (declared b.ordinal)) ∙ ap (λ t. cond t (Some b.object) (object_of_ordinal (typed_by_ordinal noted) b.ordinal)) (eq-eqb b.ordinal b.ordinal refl)),
+        (newest_object-if (b.ordinal == b.ordinal) (declared b.ordinal) b.object (typed_by_ordinal noted) (suffix_from_newest_binding naming_by_label (typed_by_ordinal noted) (declared b.ordinal)) ∙ ap (λ t. cond t (Some b.object) (object_of_ordinal (typed_by_ordinal noted) b.ordinal)) (eq-eqb b.ordinal b.ordinal refl)),
   ),
   noted-declared all b.ordinal noted below.1 (tail-included all b.ordinal b.object noted below.1 st),
 )

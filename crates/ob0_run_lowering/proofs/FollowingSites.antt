@@ -4,8 +4,8 @@ use Rattle.std.proofs.Math.ListN.{set}
 use Rattle.std.proofs.lemmas.List.{append-nil, drop_all, drop_more, get_or-set_other, get_or-set_same, length-set}
 use Rattle.ob0_types_table.proofs.Sighted.{last_of}
 use Rattle.ob0_run_cells.specs.Activations.{PlacementState, in_slot, add_name_to_placement}
-use Rattle.ob0_run_cells.specs.Lowering.{Slot, by_reference}
-use Rattle.ob0_run_lowering.specs.Scenes.{place_seen_from, site_in_table}
+use Rattle.ob0_run_cells.specs.LoweredExpressions.{Slot, by_reference}
+use Rattle.ob0_run_lowering.specs.Scenes.{place_seen_from_depth, site_in_table}
 use Rattle.ob0_run_lowering.specs.declared.scene.LoweredSite.{LoweredSite}
 use Rattle.ob0_run_lowering.specs.declared.scene.LoweredSite.TheVariants as site
 use Rattle.ob0_tree.specs.Tree.{Tree, section_after_semicolon, items, more, semicolon_then_section}
@@ -19,35 +19,35 @@ use Rattle.ob0_types_table.specs.DeclarationTableView.{mode_from_flag}
 use Rattle.ob0_language_names.specs.Names.{Label, Name, naming_by_spelling}
 use Rattle.ob0_language_names.specs.Scopes.{label_from_ordinal}
 use Rattle.ob0_language_types.specs.WellTyped.{by_place, by_value}
-use Rattle.ob0_run_lowering.specs.PlacedNames.{OrdinalsAreBelow, HidesMoreSites, HiddenSitesAreRestored, SitesMatchPlacement, FrameMatchesPlacement, IsSiteOfNextVariable, PlacesNames, SiteMatchesPlace, sites_before_hiding, add_declared_names_to_placement, place_parameter_sections, sites_after_binding, sites_after_setting, variable_slot_at_depth}
+use Rattle.ob0_run_lowering.specs.PlacedNames.{HiddenOrdinalsAreBelowLimit, HidesMoreSites, HiddenSitesAreRestored, SitesMatchPlacement, FrameMatchesPlacement, IsSiteOfNextVariable, AddsNamesToSitesAndFrame, SiteMatchesPlace, sites_after_restoring_hidden_sites, add_declared_names_to_placement, place_parameter_sections, sites_after_binding_ordinal, sites_after_setting_ordinal, variable_slot_at_depth}
 use Rattle.ob0_run_lowering.specs.declared.visible_sites.Frame.{Frame}
 use Rattle.ob0_run_lowering.specs.declared.visible_sites.HiddenSite.{HiddenSite}
 use Rattle.ob0_run_lowering.specs.declared.visible_sites.VisibleSites.{VisibleSites}
 use Rattle.ob0_run_lowering.proofs.Placings.{holds_bound}
 
-within-weaken : (m n : ℕ) (hs : List HiddenSite) → m ≤ n → OrdinalsAreBelow m hs → OrdinalsAreBelow n hs
+within-weaken : (m n : ℕ) (hs : List HiddenSite) → m ≤ n → HiddenOrdinalsAreBelowLimit m hs → HiddenOrdinalsAreBelowLimit n hs
 within-weaken m n [] le a = tt
 within-weaken m n (h ∷ hs) le a = (omega (arith, a.0, le), within-weaken m n hs le a.1)
 
-within-append : (n : ℕ) (xs ys : List HiddenSite) → OrdinalsAreBelow n xs → OrdinalsAreBelow n ys → OrdinalsAreBelow n (xs ++ ys)
+within-append : (n : ℕ) (xs ys : List HiddenSite) → HiddenOrdinalsAreBelowLimit n xs → HiddenOrdinalsAreBelowLimit n ys → HiddenOrdinalsAreBelowLimit n (xs ++ ys)
 within-append n [] ys a b = b
 within-append n (x ∷ xs) ys a b = (a.0, within-append n xs ys a.1 b)
 
-within-front : (n : ℕ) (xs ys : List HiddenSite) → OrdinalsAreBelow n (xs ++ ys) → OrdinalsAreBelow n xs
+within-front : (n : ℕ) (xs ys : List HiddenSite) → HiddenOrdinalsAreBelowLimit n (xs ++ ys) → HiddenOrdinalsAreBelowLimit n xs
 within-front n [] ys a = tt
 within-front n (x ∷ xs) ys a = (a.0, within-front n xs ys a.1)
 
-within-back : (n : ℕ) (xs ys : List HiddenSite) → OrdinalsAreBelow n (xs ++ ys) → OrdinalsAreBelow n ys
+within-back : (n : ℕ) (xs ys : List HiddenSite) → HiddenOrdinalsAreBelowLimit n (xs ++ ys) → HiddenOrdinalsAreBelowLimit n ys
 within-back n [] ys a = a
 within-back n (x ∷ xs) ys a = within-back n xs ys a.1
 
-sites_before_hiding-append : (xs ys : List HiddenSite) (f : ℕ → LoweredSite) → sites_before_hiding (xs ++ ys) f ≡ sites_before_hiding xs (sites_before_hiding ys f)
-sites_before_hiding-append [] ys f = refl
-sites_before_hiding-append (x ∷ xs) ys f = ap (sites_after_setting x.ordinal x.earlier_site) (sites_before_hiding-append xs ys f)
+sites_after_restoring_hidden_sites-append : (xs ys : List HiddenSite) (f : ℕ → LoweredSite) → sites_after_restoring_hidden_sites (xs ++ ys) f ≡ sites_after_restoring_hidden_sites xs (sites_after_restoring_hidden_sites ys f)
+sites_after_restoring_hidden_sites-append [] ys f = refl
+sites_after_restoring_hidden_sites-append (x ∷ xs) ys f = ap (sites_after_setting_ordinal x.ordinal x.earlier_site) (sites_after_restoring_hidden_sites-append xs ys f)
 
 -- tables that are the same at each ordinal
-sites_before_hiding-same : (xs : List HiddenSite) (f g : ℕ → LoweredSite) → ((k : ℕ) → f k ≡ g k) → (k : ℕ) → sites_before_hiding xs f k ≡ sites_before_hiding xs g k
-sites_before_hiding-same xs f g same k = ap (λ (h : ℕ → LoweredSite). sites_before_hiding xs h k) (λ i j. same j i)
+sites_after_restoring_hidden_sites-same : (xs : List HiddenSite) (f g : ℕ → LoweredSite) → ((k : ℕ) → f k ≡ g k) → (k : ℕ) → sites_after_restoring_hidden_sites xs f k ≡ sites_after_restoring_hidden_sites xs g k
+sites_after_restoring_hidden_sites-same xs f g same k = ap (λ (h : ℕ → LoweredSite). sites_after_restoring_hidden_sites xs h k) (λ i j. same j i)
 
 pub follows_itself : (w : VisibleSites) → HidesMoreSites w w
 follows_itself w = record { more = []; added = sym (append-nil w.hidden.items); within = tt; longer = le_refl (length w.sites.items); restores_sites = λ k. refl }
@@ -59,8 +59,8 @@ follows_then w v u a b = record {
   within = within-append (length u.sites.items) a.more b.more (within-weaken (length v.sites.items) (length u.sites.items) a.more b.longer a.within) b.within;
   longer = omega (arith, a.longer, b.longer);
   restores_sites = λ k.
-      ap (λ f. f k) (sites_before_hiding-append a.more b.more (site_in_table u.sites.items))
-      ∙ sites_before_hiding-same a.more (sites_before_hiding b.more (site_in_table u.sites.items)) (site_in_table v.sites.items) b.restores_sites k
+      ap (λ f. f k) (sites_after_restoring_hidden_sites-append a.more b.more (site_in_table u.sites.items))
+      ∙ sites_after_restoring_hidden_sites-same a.more (sites_after_restoring_hidden_sites b.more (site_in_table u.sites.items)) (site_in_table v.sites.items) b.restores_sites k
       ∙ a.restores_sites k;
 }
 
@@ -71,7 +71,7 @@ follows_back w v u after a b g = record {
   added = g.0 ∙ a.added;
   within = within-weaken (length v.sites.items) (length after.sites.items) a.more (omega (arith, b.longer, g.2)) a.within;
   longer = omega (arith, a.longer, b.longer, g.2);
-  restores_sites = λ k. sites_before_hiding-same a.more (site_in_table after.sites.items) (site_in_table v.sites.items) g.1 k ∙ a.restores_sites k;
+  restores_sites = λ k. sites_after_restoring_hidden_sites-same a.more (site_in_table after.sites.items) (site_in_table v.sites.items) g.1 k ∙ a.restores_sites k;
 }
 
 -- a site put into the table
@@ -92,7 +92,7 @@ back_on start now v mark last back less popped put = λ w f is.
     let so_far = back w f is in
     let a : HidesMoreSites w now = so_far.0 in
     let left = last_of w.hidden.items a.more v.hidden.items last (sym a.added ∙ popped) (omega (arith, ap length a.added, is, less)) in
-    let parts : OrdinalsAreBelow (length now.sites.items) (left.0 ++ last ∷ []) = subst (OrdinalsAreBelow (length now.sites.items)) left.1 a.within in
+    let parts : HiddenOrdinalsAreBelowLimit (length now.sites.items) (left.0 ++ last ∷ []) = subst (HiddenOrdinalsAreBelowLimit (length now.sites.items)) left.1 a.within in
     let room : suc last.ordinal ≤ length now.sites.items = (within-back (length now.sites.items) left.0 (last ∷ []) parts).0 in
     let long : length v.sites.items ≡ length now.sites.items = ap length put ∙ length-set now.sites.items last.ordinal last.earlier_site in (
       record {
@@ -101,9 +101,9 @@ back_on start now v mark last back less popped put = λ w f is.
         within = within-weaken (length now.sites.items) (length v.sites.items) left.0 (omega (arith, long)) (within-front (length now.sites.items) left.0 (last ∷ []) parts);
         longer = omega (arith, long, a.longer);
         restores_sites = λ k.
-            sites_before_hiding-same left.0 (site_in_table v.sites.items) (sites_before_hiding (last ∷ []) (site_in_table now.sites.items)) (λ j. ap (λ xs. site_in_table xs j) put ∙ site-set now.sites.items last.ordinal last.earlier_site j room) k
-            ∙ ap (λ f. f k) (sym (sites_before_hiding-append left.0 (last ∷ []) (site_in_table now.sites.items)))
-            ∙ ap (λ hs. sites_before_hiding hs (site_in_table now.sites.items) k) (sym left.1)
+            sites_after_restoring_hidden_sites-same left.0 (site_in_table v.sites.items) (sites_after_restoring_hidden_sites (last ∷ []) (site_in_table now.sites.items)) (λ j. ap (λ xs. site_in_table xs j) put ∙ site-set now.sites.items last.ordinal last.earlier_site j room) k
+            ∙ ap (λ f. f k) (sym (sites_after_restoring_hidden_sites-append left.0 (last ∷ []) (site_in_table now.sites.items)))
+            ∙ ap (λ hs. sites_after_restoring_hidden_sites hs (site_in_table now.sites.items) k) (sym left.1)
             ∙ a.restores_sites k;
       },
       long ∙ so_far.1,
@@ -119,22 +119,22 @@ back_ends start now mark back all w f is =
     let a : HidesMoreSites w now = so_far.0 in
     let none : a.more ≡ [] = nil_of w.hidden.items a.more (omega (arith, ap length a.added, all, is)) in (
       a.added ∙ ap (λ hs. w.hidden.items ++ hs) none ∙ append-nil w.hidden.items,
-      λ k. ap (λ hs. sites_before_hiding hs (site_in_table now.sites.items) k) (sym none) ∙ a.restores_sites k,
+      λ k. ap (λ hs. sites_after_restoring_hidden_sites hs (site_in_table now.sites.items) k) (sym none) ∙ a.restores_sites k,
       so_far.1,
     )
 
 -- steps of placing
 
-pub places_as : (w v : VisibleSites) (f g : Frame) (first second : PlacementState Label → PlacementState Label) → ((p : PlacementState Label) → first p ≡ second p) → PlacesNames w v f first g → PlacesNames w v f second g
-places_as w v f g first second same a = subst (λ (step : PlacementState Label → PlacementState Label). PlacesNames w v f step g) (λ i p. same p i) a
+pub places_as : (w v : VisibleSites) (f g : Frame) (first second : PlacementState Label → PlacementState Label) → ((p : PlacementState Label) → first p ≡ second p) → AddsNamesToSitesAndFrame w v f first g → AddsNamesToSitesAndFrame w v f second g
+places_as w v f g first second same a = subst (λ (step : PlacementState Label → PlacementState Label). AddsNamesToSitesAndFrame w v f step g) (λ i p. same p i) a
 
 -- one name
-pub place-by_reference : (w v : VisibleSites) (f g : Frame) (size_of : Label → ℕ) (o : Option ℕ) (name : Name) → ((k : ℕ) → site_in_table v.sites.items k ≡ sites_after_binding o (site.ByReference f.depth f.var_parameter_count) (site_in_table w.sites.items) k) → HidesMoreSites w v → g ≡ record f { var_parameter_count = f.var_parameter_count + 1 }
-    → PlacesNames w v f (add_name_to_placement (variable_slot_at_depth f.depth) by_place (label_from_ordinal naming_by_spelling o name) (size_of (label_from_ordinal naming_by_spelling o name))) g
+pub place-by_reference : (w v : VisibleSites) (f g : Frame) (size_of : Label → ℕ) (o : Option ℕ) (name : Name) → ((k : ℕ) → site_in_table v.sites.items k ≡ sites_after_binding_ordinal o (site.ByReference f.depth f.var_parameter_count) (site_in_table w.sites.items) k) → HidesMoreSites w v → g ≡ record f { var_parameter_count = f.var_parameter_count + 1 }
+    → AddsNamesToSitesAndFrame w v f (add_name_to_placement (variable_slot_at_depth f.depth) by_place (label_from_ordinal naming_by_spelling o name) (size_of (label_from_ordinal naming_by_spelling o name))) g
 place-by_reference w v f g size_of o name put follows is =
     let none : f.depth - f.depth ≡ 0 = omega arith in
-    let seen : place_seen_from f.depth (site.ByReference f.depth f.var_parameter_count) ≡ in_slot (by_reference 0 f.var_parameter_count) = ap (λ up. in_slot (by_reference up f.var_parameter_count)) none in
-    subst (λ (z : Frame). PlacesNames w v f (add_name_to_placement (variable_slot_at_depth f.depth) by_place (label_from_ordinal naming_by_spelling o name) (size_of (label_from_ordinal naming_by_spelling o name))) z) (sym is)
+    let seen : place_seen_from_depth f.depth (site.ByReference f.depth f.var_parameter_count) ≡ in_slot (by_reference 0 f.var_parameter_count) = ap (λ up. in_slot (by_reference up f.var_parameter_count)) none in
+    subst (λ (z : Frame). AddsNamesToSitesAndFrame w v f (add_name_to_placement (variable_slot_at_depth f.depth) by_place (label_from_ordinal naming_by_spelling o name) (size_of (label_from_ordinal naming_by_spelling o name))) z) (sym is)
     record {
       placed = λ p h. record {
         holds = holds_bound w.sites.items v.sites.items f.depth p.placement o name (site.ByReference f.depth f.var_parameter_count) (in_slot (by_reference 0 p.var_parameters_so_far)) (le_refl f.depth, seen ∙ ap (λ n. in_slot (by_reference 0 n)) h.var_parameters_so_far) put h.holds;
@@ -149,8 +149,8 @@ place-by_reference w v f g size_of o name put follows is =
 next-reports : (f : Frame) (s : LoweredSite) (n : ℕ) → IsSiteOfNextVariable f s → f.cells ≡ n → SiteMatchesPlace f.depth s (in_slot (variable_slot_at_depth f.depth n))
 next-reports f s n next e = (next.0, next.1 ∙ ap (λ m. in_slot (variable_slot_at_depth f.depth m)) e)
 
-pub place-in_activation : (w v : VisibleSites) (f g : Frame) (size_of : Label → ℕ) (o : Option ℕ) (name : Name) (s : LoweredSite) (n : ℕ) → IsSiteOfNextVariable f s → ((k : ℕ) → site_in_table v.sites.items k ≡ sites_after_binding o s (site_in_table w.sites.items) k) → HidesMoreSites w v → g ≡ record f { cells = f.cells + n }
-    → n ≡ size_of (label_from_ordinal naming_by_spelling o name) → PlacesNames w v f (add_name_to_placement (variable_slot_at_depth f.depth) by_value (label_from_ordinal naming_by_spelling o name) (size_of (label_from_ordinal naming_by_spelling o name))) g
+pub place-in_activation : (w v : VisibleSites) (f g : Frame) (size_of : Label → ℕ) (o : Option ℕ) (name : Name) (s : LoweredSite) (n : ℕ) → IsSiteOfNextVariable f s → ((k : ℕ) → site_in_table v.sites.items k ≡ sites_after_binding_ordinal o s (site_in_table w.sites.items) k) → HidesMoreSites w v → g ≡ record f { cells = f.cells + n }
+    → n ≡ size_of (label_from_ordinal naming_by_spelling o name) → AddsNamesToSitesAndFrame w v f (add_name_to_placement (variable_slot_at_depth f.depth) by_value (label_from_ordinal naming_by_spelling o name) (size_of (label_from_ordinal naming_by_spelling o name))) g
 place-in_activation w v f g size_of o name s n next put follows is size =
     let cells : g.cells ≡ f.cells + n = ap (λ (z : Frame). z.cells) is in
     record {
@@ -176,7 +176,7 @@ pub in_begins : {A : Type 0} (fold : List A → PlacementState Label → Placeme
 in_begins fold xs w f = record { on = λ p h. (p, h, refl); follows = follows_itself w; depth = refl; has_no_fewer_cells = le_refl f.cells }
 
 pub in_on : {A : Type 0} {fold : List A → PlacementState Label → PlacementState Label} {xs : List A} {w v : VisibleSites} {f g : Frame} {done : ℕ} (step : A → PlacementState Label → PlacementState Label) (u : VisibleSites) (h : Frame) (x d : A)
-    → ((x : A) (xs : List A) (p : PlacementState Label) → fold (x ∷ xs) p ≡ fold xs (step x p)) → InPlaces fold xs w v f g done → done < length xs → x ≡ get_or xs done d → PlacesNames v u g (step x) h → InPlaces fold xs w u f h (done + 1)
+    → ((x : A) (xs : List A) (p : PlacementState Label) → fold (x ∷ xs) p ≡ fold xs (step x p)) → InPlaces fold xs w v f g done → done < length xs → x ≡ get_or xs done d → AddsNamesToSitesAndFrame v u g (step x) h → InPlaces fold xs w u f h (done + 1)
 in_on {fold = fold} {xs = xs} {w = w} {v = v} {f = f} {g = g} {done = done} step u h x d folds a less here b =
     let cut : drop done xs ≡ x ∷ drop (done + 1) xs = drop_more xs done d less ∙ ap (λ y. y ∷ drop (done + 1) xs) (sym here) in
     record {
@@ -187,7 +187,7 @@ in_on {fold = fold} {xs = xs} {w = w} {v = v} {f = f} {g = g} {done = done} step
       has_no_fewer_cells = omega (arith, a.has_no_fewer_cells, b.has_no_fewer_cells);
     }
 
-pub in_ends : {A : Type 0} {fold : List A → PlacementState Label → PlacementState Label} {xs : List A} {w v : VisibleSites} {f g : Frame} {done : ℕ} → ((p : PlacementState Label) → fold [] p ≡ p) → InPlaces fold xs w v f g done → length xs ≤ done → PlacesNames w v f (fold xs) g
+pub in_ends : {A : Type 0} {fold : List A → PlacementState Label → PlacementState Label} {xs : List A} {w v : VisibleSites} {f g : Frame} {done : ℕ} → ((p : PlacementState Label) → fold [] p ≡ p) → InPlaces fold xs w v f g done → length xs ≤ done → AddsNamesToSitesAndFrame w v f (fold xs) g
 in_ends {fold = fold} {xs = xs} {v = v} {g = g} {done = done} ended a all = record {
   placed = λ p is.
       let at = a.on p is in
@@ -198,8 +198,8 @@ in_ends {fold = fold} {xs = xs} {v = v} {g = g} {done = done} ended a all = reco
 }
 
 -- a step of an activation as deep
-pub as_deep : (w v : VisibleSites) (f g : Frame) (m n : ℕ) (step : ℕ → PlacementState Label → PlacementState Label) → m ≡ n → PlacesNames w v f (step m) g → PlacesNames w v f (step n) g
-as_deep w v f g m n step same a = subst (λ k. PlacesNames w v f (step k) g) same a
+pub as_deep : (w v : VisibleSites) (f g : Frame) (m n : ℕ) (step : ℕ → PlacementState Label → PlacementState Label) → m ≡ n → AddsNamesToSitesAndFrame w v f (step m) g → AddsNamesToSitesAndFrame w v f (step n) g
+as_deep w v f g m n step same a = subst (λ k. AddsNamesToSitesAndFrame w v f (step k) g) same a
 
 -- the names of a section, by how it is written
 pub section_step : (r : Resolution) (at : ℕ → Slot) (size_of : Label → ℕ) (s : ParameterSection) (fs : Tree Label (items section_after_semicolon)) (p : PlacementState Label)

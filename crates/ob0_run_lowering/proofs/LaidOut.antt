@@ -9,17 +9,17 @@ use Rattle.ob0_run_machine.specs.Evaluation as machine
 use Rattle.ob0_language_types.specs.Expressions.{a_constant}
 use Rattle.ob0_types_table.specs.DeclarationTables.{DeclarationTableView, declared_object_in, shapes_of}
 use Rattle.ob0_types_table.specs.FieldPlaces.{selected_field, position_of_field}
-use Rattle.ob0_types_table.specs.DeclarationTableView.{field_shapes, entry_shape, faulty_shape, object_view, array_or_faulty, record_or_faulty, shapes_after_entries, type_shape}
-use Rattle.ob0_types_table.proofs.DeclarationTableView.{shapes_after_entries-push}
-use Rattle.ob0_types_table.specs.declared.known.FieldId.{FieldId}
-use Rattle.ob0_types_table.specs.declared.known.TypeEntry as code
-use Rattle.ob0_types_table.specs.declared.known.Field.{Field}
+use Rattle.ob0_types_table.specs.DeclarationTableView.{field_shapes, entry_shape, faulty_shape, object_view, array_shape_or_faulty, record_shape_or_faulty, append_shapes_of_entries, type_shape}
+use Rattle.ob0_types_table.proofs.DeclarationTableView.{append_shapes_of_entries-push}
+use Rattle.ob0_types_table.specs.declared.declaration_table.FieldId.{FieldId}
+use Rattle.ob0_types_table.specs.declared.declaration_table.TypeEntry as code
+use Rattle.ob0_types_table.specs.declared.declaration_table.Field.{Field}
 use Rattle.ob0_language_values.specs.Values.{FieldShapes, Shape, array_shape, next_field_shape, no_field_shape, number, record_shape}
 use Rattle.ob0_run_cells.specs.Cells.{field_offset, total_field_size, size}
-use Rattle.ob0_run_lowering.specs.Layouts.{IsLayoutOfFields, HasLayout, HaveLayouts, field_offsets_from}
-use Rattle.ob0_run_lowering.specs.declared.types.CellLayout.{CellLayout}
-use Rattle.ob0_run_lowering.specs.declared.types.CellLayout.TheVariants as layout
-use Rattle.ob0_run_lowering.specs.declared.types.RecordLayout.{RecordLayout}
+use Rattle.ob0_run_lowering.specs.Layouts.{IsLayoutOfFields, IsLayoutOfType, AreLayoutsOfTypes, consecutive_field_offsets}
+use Rattle.ob0_run_lowering.specs.declared.type_layouts.CellLayout.{CellLayout}
+use Rattle.ob0_run_lowering.specs.declared.type_layouts.CellLayout.TheVariants as layout
+use Rattle.ob0_run_lowering.specs.declared.type_layouts.RecordLayout.{RecordLayout}
 
 -- what is read of an entry
 
@@ -27,12 +27,12 @@ abbrev pub array_size : Option CellLayout → ℕ
 array_size (Some (layout.Array cells)) = cells
 array_size _ = 0
 
-array-entry : (s : Shape) (l : CellLayout) → HasLayout s l → array_size (Some l) ≡ size (array_or_faulty s)
+array-entry : (s : Shape) (l : CellLayout) → IsLayoutOfType s l → array_size (Some l) ≡ size (array_shape_or_faulty s)
 array-entry (array_shape k n s) (layout.Array cells) h = h
 array-entry (record_shape k fs) (layout.Record r) h = refl
 array-entry _ _ h = absurd h
 
-pub array_size-at : (shapes : List Shape) (layouts : List CellLayout) (i : ℕ) → HaveLayouts shapes layouts → array_size (slice_get layouts i) ≡ size (array_or_faulty (slice_index_or shapes i faulty_shape))
+pub array_size-at : (shapes : List Shape) (layouts : List CellLayout) (i : ℕ) → AreLayoutsOfTypes shapes layouts → array_size (slice_get layouts i) ≡ size (array_shape_or_faulty (slice_index_or shapes i faulty_shape))
 array_size-at [] [] i h = refl
 array_size-at (s ∷ shapes) (l ∷ layouts) zero h = array-entry s l h.0
 array_size-at (s ∷ shapes) (l ∷ layouts) (suc i) h = array_size-at shapes layouts i h.1
@@ -43,19 +43,19 @@ abbrev pub HasRecord : Option CellLayout → Shape → Type 0
 HasRecord (Some (layout.Record r)) s = (k : ℕ) × (fs : FieldShapes) × (s ≡ record_shape k fs) × IsLayoutOfFields fs r
 HasRecord _ s = s ≡ faulty_shape
 
-record-entry : (s : Shape) (l : CellLayout) → HasLayout s l → HasRecord (Some l) (record_or_faulty s)
+record-entry : (s : Shape) (l : CellLayout) → IsLayoutOfType s l → HasRecord (Some l) (record_shape_or_faulty s)
 record-entry (array_shape k n s) (layout.Array cells) h = refl
 record-entry (record_shape k fs) (layout.Record r) h = (k, fs, refl, h)
 record-entry _ _ h = absurd h
 
-pub record-there : (shapes : List Shape) (layouts : List CellLayout) (i : ℕ) → HaveLayouts shapes layouts → HasRecord (slice_get layouts i) (record_or_faulty (slice_index_or shapes i faulty_shape))
+pub record-there : (shapes : List Shape) (layouts : List CellLayout) (i : ℕ) → AreLayoutsOfTypes shapes layouts → HasRecord (slice_get layouts i) (record_shape_or_faulty (slice_index_or shapes i faulty_shape))
 record-there [] [] i h = refl
 record-there (s ∷ shapes) (l ∷ layouts) zero h = record-entry s l h.0
 record-there (s ∷ shapes) (l ∷ layouts) (suc i) h = record-there shapes layouts i h.1
 record-there _ _ i h = absurd h
 
 -- one more entry
-pub one_more : (shapes : List Shape) (layouts : List CellLayout) (s : Shape) (l : CellLayout) → HaveLayouts shapes layouts → HasLayout s l → HaveLayouts (shapes ++ s ∷ []) (layouts ++ l ∷ [])
+pub one_more : (shapes : List Shape) (layouts : List CellLayout) (s : Shape) (l : CellLayout) → AreLayoutsOfTypes shapes layouts → IsLayoutOfType s l → AreLayoutsOfTypes (shapes ++ s ∷ []) (layouts ++ l ∷ [])
 one_more [] [] s l h more = (more, tt)
 one_more (t ∷ shapes) (m ∷ layouts) s l h more = (h.0, one_more shapes layouts s l h.1 more)
 one_more _ _ s l h more = absurd h
@@ -67,9 +67,9 @@ further-listed true n k o f xs later zero h = omega arith
 further-listed false n k (Some j) f xs later (suc i) h = let e : Some j ≡ Some i = cc in omega (arith, later i e)
 further-listed _ n k _ f xs later _ h = absurd (cc)
 
-pub offset-listed : (fs : FieldShapes) (n : ℕ) (x : Name) (i : ℕ) → position_of_field fs x ≡ Some i → slice_index_or (field_offsets_from n fs) i 0 ≡ n + field_offset fs x
+pub offset-listed : (fs : FieldShapes) (n : ℕ) (x : Name) (i : ℕ) → position_of_field fs x ≡ Some i → slice_index_or (consecutive_field_offsets n fs) i 0 ≡ n + field_offset fs x
 offset-listed no_field_shape n x i h = absurd (cc)
-offset-listed (next_field_shape y s rest) n x i h = further-listed (same_name x y) n (size s) (position_of_field rest x) (field_offset rest x) (field_offsets_from (n + size s) rest) (λ i h. offset-listed rest (n + size s) x i h) i h
+offset-listed (next_field_shape y s rest) n x i h = further-listed (same_name x y) n (size s) (position_of_field rest x) (field_offset rest x) (consecutive_field_offsets (n + size s) rest) (λ i h. offset-listed rest (n + size s) x i h) i h
 
 further-past : (b : Bool) (k : ℕ) (o : Option ℕ) (f g : ℕ) → (o ≡ None → f ≡ g) → (if b then Some 0 else option_map suc o) ≡ None → (if b then 0 else k + f) ≡ k + g
 further-past false k None f g later h = ap (λ n. k + n) (later refl)
@@ -82,12 +82,12 @@ offset-past (next_field_shape y s rest) x h = further-past (same_name x y) (size
 -- the fields so far, and those that are left
 pub record LaidSoFar (shapes : List Shape) (fields : List Field) (done cells : ℕ) (offsets : List ℕ) : Type 0 where
   pub cells_left : cells + total_field_size (field_shapes shapes (drop done fields)) ≡ total_field_size (field_shapes shapes fields)
-  pub offsets_left : offsets ++ field_offsets_from cells (field_shapes shapes (drop done fields)) ≡ field_offsets_from 0 (field_shapes shapes fields)
+  pub offsets_left : offsets ++ consecutive_field_offsets cells (field_shapes shapes (drop done fields)) ≡ consecutive_field_offsets 0 (field_shapes shapes fields)
 
 pub laid_begins : (shapes : List Shape) (fields : List Field) (offsets : List ℕ) → offsets ≡ [] → LaidSoFar shapes fields 0 0 offsets
 laid_begins shapes fields offsets none = record {
   cells_left = zero-add (total_field_size (field_shapes shapes fields));
-  offsets_left = ap (λ os. os ++ field_offsets_from 0 (field_shapes shapes fields)) none;
+  offsets_left = ap (λ os. os ++ consecutive_field_offsets 0 (field_shapes shapes fields)) none;
 }
 
 pub laid_goes_on : {shapes : List Shape} {fields : List Field} {done cells : ℕ} {offsets : List ℕ} (d : Field) (more cells' : ℕ) (offsets' : List ℕ) → LaidSoFar shapes fields done cells offsets → done < length fields
@@ -99,31 +99,31 @@ laid_goes_on {shapes} {fields} {done} {cells} {offsets} d more cells' offsets' h
     let left = h.cells_left in
     record {
       cells_left = omega (arith, sizes, left, sized, sum);
-      offsets_left = ap (λ os. os ++ field_offsets_from cells' rest) pushed
-          ∙ ap (λ n. (offsets ++ cells ∷ []) ++ field_offsets_from n rest) (sum ∙ ap (λ m. cells + m) sized)
-          ∙ append_assoc offsets (cells ∷ []) (field_offsets_from (cells + size (type_shape shapes (get_or fields done d).of)) rest)
-          ∙ sym (ap (λ xs. offsets ++ field_offsets_from cells (field_shapes shapes xs)) split)
+      offsets_left = ap (λ os. os ++ consecutive_field_offsets cells' rest) pushed
+          ∙ ap (λ n. (offsets ++ cells ∷ []) ++ consecutive_field_offsets n rest) (sum ∙ ap (λ m. cells + m) sized)
+          ∙ append_assoc offsets (cells ∷ []) (consecutive_field_offsets (cells + size (type_shape shapes (get_or fields done d).of)) rest)
+          ∙ sym (ap (λ xs. offsets ++ consecutive_field_offsets cells (field_shapes shapes xs)) split)
           ∙ h.offsets_left;
     }
 
-pub laid_ends : {shapes : List Shape} {fields : List Field} {done cells : ℕ} {offsets : List ℕ} → LaidSoFar shapes fields done cells offsets → length fields ≤ done → (cells ≡ total_field_size (field_shapes shapes fields)) × (offsets ≡ field_offsets_from 0 (field_shapes shapes fields))
+pub laid_ends : {shapes : List Shape} {fields : List Field} {done cells : ℕ} {offsets : List ℕ} → LaidSoFar shapes fields done cells offsets → length fields ≤ done → (cells ≡ total_field_size (field_shapes shapes fields)) × (offsets ≡ consecutive_field_offsets 0 (field_shapes shapes fields))
 laid_ends {shapes} {fields} {done} {cells} {offsets} h all =
     let none : drop done fields ≡ [] = drop_all done fields all in (
       sym (add-zero cells) ∙ sym (ap (λ xs. cells + total_field_size (field_shapes shapes xs)) none) ∙ h.cells_left,
-      sym (append-nil offsets) ∙ sym (ap (λ xs. offsets ++ field_offsets_from cells (field_shapes shapes xs)) none) ∙ h.offsets_left,
+      sym (append-nil offsets) ∙ sym (ap (λ xs. offsets ++ consecutive_field_offsets cells (field_shapes shapes xs)) none) ∙ h.offsets_left,
     )
 
 -- the types so far
-pub table_goes_on : (entries : List code.TypeEntry) (done : ℕ) (layouts : List CellLayout) (x : code.TypeEntry) (next : CellLayout) (read layouts' : List CellLayout) → HaveLayouts (shapes_after_entries [] (take done entries)) layouts → done < length entries → x ≡ get_or entries done x
-    → read ≡ layouts → ((shapes : List Shape) → HaveLayouts shapes read → HasLayout (entry_shape shapes x) next) → layouts' ≡ layouts ++ next ∷ [] → HaveLayouts (shapes_after_entries [] (take (done + 1) entries)) layouts'
+pub table_goes_on : (entries : List code.TypeEntry) (done : ℕ) (layouts : List CellLayout) (x : code.TypeEntry) (next : CellLayout) (read layouts' : List CellLayout) → AreLayoutsOfTypes (append_shapes_of_entries [] (take done entries)) layouts → done < length entries → x ≡ get_or entries done x
+    → read ≡ layouts → ((shapes : List Shape) → AreLayoutsOfTypes shapes read → IsLayoutOfType (entry_shape shapes x) next) → layouts' ≡ layouts ++ next ∷ [] → AreLayoutsOfTypes (append_shapes_of_entries [] (take (done + 1) entries)) layouts'
 table_goes_on entries done layouts x next read layouts' h less here same made pushed =
-    let so_far = shapes_after_entries [] (take done entries) in
+    let so_far = append_shapes_of_entries [] (take done entries) in
     let split : take (done + 1) entries ≡ take done entries ++ x ∷ [] = ap (λ n. take n entries) (add-one done) ∙ take-suc entries done x less ∙ ap (λ y. take done entries ++ y ∷ []) (sym here) in
-    let shapes : shapes_after_entries [] (take (done + 1) entries) ≡ so_far ++ entry_shape so_far x ∷ [] = ap (shapes_after_entries []) split ∙ shapes_after_entries-push [] (take done entries) x in
-    subst (λ ss. HaveLayouts ss layouts') (sym shapes) (subst (λ ls. HaveLayouts (so_far ++ entry_shape so_far x ∷ []) ls) (sym pushed) (one_more so_far layouts (entry_shape so_far x) next h (made so_far (subst (λ ls. HaveLayouts so_far ls) (sym same) h))))
+    let shapes : append_shapes_of_entries [] (take (done + 1) entries) ≡ so_far ++ entry_shape so_far x ∷ [] = ap (append_shapes_of_entries []) split ∙ append_shapes_of_entries-push [] (take done entries) x in
+    subst (λ ss. AreLayoutsOfTypes ss layouts') (sym shapes) (subst (λ ls. AreLayoutsOfTypes (so_far ++ entry_shape so_far x ∷ []) ls) (sym pushed) (one_more so_far layouts (entry_shape so_far x) next h (made so_far (subst (λ ls. AreLayoutsOfTypes so_far ls) (sym same) h))))
 
-pub table_ends : (entries : List code.TypeEntry) (done : ℕ) (layouts : List CellLayout) (all : List code.TypeEntry) → HaveLayouts (shapes_after_entries [] (take done entries)) layouts → length entries ≤ done → entries ≡ all → HaveLayouts (shapes_after_entries [] all) layouts
-table_ends entries done layouts all h past same = subst (λ es. HaveLayouts (shapes_after_entries [] es) layouts) (take_all done entries past ∙ same) h
+pub table_ends : (entries : List code.TypeEntry) (done : ℕ) (layouts : List CellLayout) (all : List code.TypeEntry) → AreLayoutsOfTypes (append_shapes_of_entries [] (take done entries)) layouts → length entries ≤ done → entries ≡ all → AreLayoutsOfTypes (append_shapes_of_entries [] all) layouts
+table_ends entries done layouts all h past same = subst (λ es. AreLayoutsOfTypes (append_shapes_of_entries [] es) layouts) (take_all done entries past ∙ same) h
 
 -- where a field of a record begins
 abbrev field_in : ℕ → ℕ → FieldId

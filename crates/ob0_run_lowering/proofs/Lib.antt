@@ -7,7 +7,7 @@ pub mod CodeChains
 pub mod Lowerings
 pub mod Longer
 pub mod TruthDepths
-pub mod HoldsInScene
+pub mod HoldsIfWellTypedInScene
 pub mod Made
 pub mod Assigned
 pub mod Called

@@ -1,11 +1,11 @@
 -- A row of operations with one more.
 use Rattle.std.proofs.Common.{◌≡◌, List, [], ◌∷◌, ◌++◌, refl}
 use Rattle.ob0_run_machine.specs.LoweredSyntax as lowered
-use Rattle.ob0_run_machine.specs.declared.code.Link.{Link}
+use Rattle.ob0_run_machine.specs.declared.code.ChainLink.{ChainLink}
 use Rattle.ob0_run_machine.specs.declared.code.Truth.{Truth}
-use Rattle.ob0_run_machine.specs.View.{conjunction_with_list, disjunction_with_list, operation_with_link, operation_with_links, truth_of}
+use Rattle.ob0_run_machine.specs.LoweredCodeViews.{conjunction_with_list, disjunction_with_list, operation_with_link, operation_with_links, truth_of}
 
-pub chained_more : (left : lowered.Number) (links : List Link) (l : Link) → operation_with_links left (links ++ l ∷ []) ≡ operation_with_link l (operation_with_links left links)
+pub chained_more : (left : lowered.Number) (links : List ChainLink) (l : ChainLink) → operation_with_links left (links ++ l ∷ []) ≡ operation_with_link l (operation_with_links left links)
 chained_more left [] l = refl
 chained_more left (k ∷ links) l = chained_more (operation_with_link k left) links l
 

@@ -4,7 +4,7 @@ use Rattle.std.proofs.Math.ListN.{set}
 use Rattle.std.proofs.lemmas.List.{drop_all, length-set}
 use Rattle.std.proofs.lemmas.Option.{slice_get-map, slice_get_within}
 use Rattle.ob0_tree.specs.Tree.{Tree, block, body, constants, declares, declares_procedure, end, formals, forms_block, items, maybe, module_text, more, procedure, type_definitions, variables}
-use Rattle.ob0_tree.specs.Places.{token_text_at}
+use Rattle.ob0_tree.specs.TokenIndexLeaves.{token_text_at}
 use Rattle.ob0_tree.specs.View.{block_of, body_of, constant_section_of, formals_of, items_of, type_section_of, variable_section_of}
 use Rattle.ob0_tree.specs.View.{procedure_of as tree_procedure_of}
 use Rattle.ob0_tree.specs.declared.tree.Block as tree_block
@@ -14,30 +14,30 @@ use Rattle.ob0_scope_table.specs.LabelledTrees.{tree_with_labels, label_at_token
 use Rattle.ob0_types_table.proofs.LabelledParts.{split}
 use Rattle.ob0_scope_table.specs.Resolution.{Resolution, ordinal_in}
 use Rattle.ob0_language_names.specs.Names.{Label, Name, naming_by_label, naming_by_spelling}
-use Rattle.ob0_language_names.specs.BlockParts.{constant_names, formal_sections, module_block, declared_type_names, section_constants, section_types, section_variables}
+use Rattle.ob0_language_names.specs.BlockParts.{constant_names, formal_parameter_sections, module_block, declared_type_names, section_constants, section_types, section_variables}
 use Rattle.ob0_language_names.specs.Scopes.{label_from_ordinal, numbered}
 use Rattle.ob0_types_table.specs.DeclarationTables.{DeclarationTableView, declared_object_in}
 use Rattle.ob0_language_types.specs.Bindings.{declared_object}
 use Rattle.ob0_language_types.proofs.ConstantsDeclared.{FitParts, block-parts, procedure-parts}
-use Rattle.ob0_language_types.specs.Declarations.{constructors_before_variables, constructors_before_procedures, declare_constants_and_types, formals_constructor_count, procedure_constructor_count}
+use Rattle.ob0_language_types.specs.Declarations.{constructor_count_before_variables, constructor_count_before_procedures, declare_constants_and_types, formals_constructor_count, procedure_constructor_count}
 use Rattle.ob0_language_types.specs.Environments.{outermost_environment}
-use Rattle.ob0_language_types.specs.WellTyped.{TypeEnvironment, TypedParameter, WellTyped, bind_typed_parameters, block_is_well_typed, body_is_well_typed, declare_typed_variables, passes_type_check, bind_procedure, procedures_are_well_typed}
+use Rattle.ob0_language_types.specs.WellTyped.{TypeEnvironment, TypedParameter, WellTyped, bind_typed_parameters, block_is_well_typed, body_is_well_typed, declare_typed_variables, passes_type_check, bind_procedure, procedures_and_body_are_well_typed}
 use Rattle.ob0_language_types.proofs.Proved.{numbering_keeps_type_check-holds}
 use Rattle.ob0_language_types.proofs.Literals.{some_inverse}
 use Rattle.ob0_language_types.proofs.TypedElsewhere.{then_some}
 use Rattle.ob0_run_machine.specs.LoweredSyntax as lowered
-use Rattle.ob0_run_machine.specs.View.{procedure_of, program_of, sequence_of}
+use Rattle.ob0_run_machine.specs.LoweredCodeViews.{procedure_of, program_of, sequence_of}
 use Rattle.ob0_run_machine.specs.declared.code.Routine.{Routine}
 use Rattle.ob0_run_machine.specs.declared.code.LoweredCode.{LoweredCode}
 use Rattle.ob0_run_cells.specs.Activations.{CodeMeansBlock, PlacementState, Placement, RoutinesMeanProcedures, ProgramMeansModule, at_target, placement_inside_procedure, add_names_without_place, placement_seen_one_level_deeper, routine_table_by_label, outermost_placement, local_procedure_target, place_parameters}
-use Rattle.ob0_run_cells.specs.Lowering.{in_activation, in_module_activation}
+use Rattle.ob0_run_cells.specs.LoweredExpressions.{in_activation, in_module_activation}
 use Rattle.ob0_run_lowering.specs.LoweredBodies.{LowersBody}
-use Rattle.ob0_run_lowering.specs.Scenes.{place_seen_from, site_in_table}
+use Rattle.ob0_run_lowering.specs.Scenes.{place_seen_from_depth, site_in_table}
 use Rattle.ob0_run_lowering.specs.declared.scene.Scene.{Scene}
 use Rattle.ob0_run_lowering.specs.declared.scene.LoweredSite.TheVariants as site
 use Rattle.ob0_run_lowering.specs.DeclaredBindings.{BindingsAreDeclared, BlockBindingsAreDeclared, ObjectByOrdinal}
-use Rattle.ob0_run_lowering.specs.Blocks.{LowersProcedures, KeepsRoutines, HasRoutinesFromIndex, LowersBlock, RoutineMeansBlock, IsReadyToLower, BlockLoweringState}
-use Rattle.ob0_run_lowering.specs.PlacedNames.{HidesMoreSites, HiddenSitesAreRestored, SitesMatchPlacement, FrameMatchesPlacement, PlacementMatchesEnvironment, PlacesNames, declared_size, place_variable_declarations, place_parameter_sections, sites_after_binding, variable_slot_at_depth}
+use Rattle.ob0_run_lowering.specs.Blocks.{LowersProcedures, KeepsRoutines, HasRoutinesFromIndex, LowersBlock, RoutineMeansBlock, RestOfBlockIsReadyToLower, BlockLoweringState}
+use Rattle.ob0_run_lowering.specs.PlacedNames.{HidesMoreSites, HiddenSitesAreRestored, SitesMatchPlacement, FrameMatchesPlacement, PlacementMatchesEnvironment, AddsNamesToSitesAndFrame, declared_size, place_variable_declarations, place_parameter_sections, sites_after_binding_ordinal, variable_slot_at_depth}
 use Rattle.ob0_run_lowering.specs.declared.programs.Lowering.{Lowering}
 use Rattle.ob0_run_lowering.specs.declared.visible_sites.Frame.{Frame}
 use Rattle.ob0_run_lowering.specs.declared.visible_sites.VisibleSites.{VisibleSites}
@@ -113,11 +113,11 @@ kept-later table a b c d i e k later = λ j x le get.
 -- a procedure announced, its parameters placed, its block lowered, and its code kept
 pub record IsProcedure (t : DeclarationTableView) (w v u after : Lowering) (depth index : ℕ) (o : Option ℕ) (name : Name) (fs : Tree Label (maybe formals)) (b : Tree Label block) (first f : Frame) (entry : Routine) : Type 0 where
   pub index_is : index ≡ length w.procedures.items
-  pub sites : (k : ℕ) → site_in_table v.visible.sites.items k ≡ sites_after_binding o (site.Procedure depth index) (site_in_table w.visible.sites.items) k
+  pub sites : (k : ℕ) → site_in_table v.visible.sites.items k ≡ sites_after_binding_ordinal o (site.Procedure depth index) (site_in_table w.visible.sites.items) k
   pub announced : HidesMoreSites w.visible v.visible
   pub pushed : (e : Routine) × (v.procedures.items ≡ w.procedures.items ++ e ∷ [])
   pub first_is : first ≡ record { depth = suc depth; cells = 0; var_parameter_count = 0 }
-  pub placed : (inside : VisibleSites) × PlacesNames v.visible inside first (place_parameter_sections (variable_slot_at_depth first.depth) (declared_size t) (formal_sections fs)) f × LowersBlock t (record { visible = inside; procedures = v.procedures }) u f b entry
+  pub placed : (inside : VisibleSites) × AddsNamesToSitesAndFrame v.visible inside first (place_parameter_sections (variable_slot_at_depth first.depth) (declared_size t) (formal_parameter_sections fs)) f × LowersBlock t (record { visible = inside; procedures = v.procedures }) u f b entry
   pub back : HiddenSitesAreRestored v.visible u.visible after.visible
   pub kept : after.procedures.items ≡ set u.procedures.items index entry
 
@@ -142,7 +142,7 @@ procedure_goes t w v u after depth index o name fs b closing rest first f entry 
           let known = ready.procedures_are_declared ps parts.typed in
           let outer : Placement Label = (x, local_procedure_target index) ∷ s.placement in
           let none : depth - depth ≡ 0 = omega arith in
-          let seen : place_seen_from depth (site.Procedure depth index) ≡ local_procedure_target index = ap (λ n. at_target (record { procedure = index; up = n })) none in
+          let seen : place_seen_from_depth depth (site.Procedure depth index) ≡ local_procedure_target index = ap (λ n. at_target (record { procedure = index; up = n })) none in
           let held_there : SitesMatchPlacement v.visible.sites.items depth outer = holds_bound w.visible.sites.items v.visible.sites.items depth s.placement o name (site.Procedure depth index) (local_procedure_target index) (le_refl depth, seen) is.sites ready.holds in
           let matched : PlacementMatchesEnvironment headed outer = (refl, (record { procedure = index; up = 0 }, refl), ready.matches) in
           let now : BlockLoweringState = record { env = headed; placement = outer; next = s.next + procedure_constructor_count (declares_procedure x fs b closing) } in
@@ -152,12 +152,12 @@ procedure_goes t w v u after depth index o name fs b closing rest first f entry 
             cells = ap (λ (z : Frame). z.cells) is.first_is;
             var_parameters_so_far = ap (λ (z : Frame). z.var_parameter_count) is.first_is;
           } in
-          let all_placed : place_parameters ps empty ≡ place_parameter_sections (variable_slot_at_depth first.depth) (declared_size t) (formal_sections fs) empty =
-          sections_placed t (formal_sections fs) s.next s.env headed ps empty parts.typed known.0 ∙ ap (λ d. place_parameter_sections (variable_slot_at_depth d) (declared_size t) (formal_sections fs) empty) (sym deep) in
+          let all_placed : place_parameters ps empty ≡ place_parameter_sections (variable_slot_at_depth first.depth) (declared_size t) (formal_parameter_sections fs) empty =
+          sections_placed t (formal_parameter_sections fs) s.next s.env headed ps empty parts.typed known.0 ∙ ap (λ d. place_parameter_sections (variable_slot_at_depth d) (declared_size t) (formal_parameter_sections fs) empty) (sym deep) in
           let entered : FrameMatchesPlacement is.placed.0.sites.items f (placement_inside_procedure ps outer) = subst (FrameMatchesPlacement is.placed.0.sites.items f) (sym all_placed) (places.placed empty begun) in
           let inner_matches : PlacementMatchesEnvironment (bind_typed_parameters ps headed) (placement_inside_procedure ps outer).placement = parameters_match ps headed empty (matches_inward headed outer matched) in
           let slots : variable_slot_at_depth f.depth ≡ in_activation 0 = ap variable_slot_at_depth (places.depth ∙ deep) in
-          let at : ℕ = s.next + formals_constructor_count (formal_sections fs) in
+          let at : ℕ = s.next + formals_constructor_count (formal_parameter_sections fs) in
           let lowers : RoutineMeansBlock inside u f b entry (bind_typed_parameters ps headed) (placement_inside_procedure ps outer) at = block_is.lowers_from (bind_typed_parameters ps headed) (placement_inside_procedure ps outer) at inner_matches entered parts.block_right known.1 in record {
             now = now;
             ready = record {
@@ -174,7 +174,7 @@ procedure_goes t w v u after depth index o name fs b closing rest first f entry 
                 routine = procedure_of entry;
                 are_typed = parts.typed;
                 in_table = later index entry (omega (arith, is.index_is)) (kept-entry w.procedures.items v.procedures.items u.procedures.items after.procedures.items index entry kept);
-                means = subst (λ at. CodeMeansBlock (routine_table_by_label table) at (bind_typed_parameters ps headed) (placement_inside_procedure ps outer) (s.next + formals_constructor_count (formal_sections fs)) entry.cells (sequence_of entry.body.items) b) slots
+                means = subst (λ at. CodeMeansBlock (routine_table_by_label table) at (bind_typed_parameters ps headed) (placement_inside_procedure ps outer) (s.next + formals_constructor_count (formal_parameter_sections fs)) entry.cells (sequence_of entry.body.items) b) slots
                     (lowers.means table (kept-later table w.procedures.items v.procedures.items u.procedures.items after.procedures.items index entry kept later));
               },
               means,
@@ -187,12 +187,12 @@ procedure_goes t w v u after depth index o name fs b closing rest first f entry 
 
 -- blocks
 
-body-fits : (env : TypeEnvironment Label) (k : ℕ) (statements : Tree Label (maybe body)) → procedures_are_well_typed naming_by_label env k statements end ≡ true → IsTrue (body_is_well_typed naming_by_label env statements)
+body-fits : (env : TypeEnvironment Label) (k : ℕ) (statements : Tree Label (maybe body)) → procedures_and_body_are_well_typed naming_by_label env k statements end ≡ true → IsTrue (body_is_well_typed naming_by_label env statements)
 unfolding block_is_well_typed
 body-fits env k statements h = h
 
 pub block_lowers : (t : DeclarationTableView) (w v : Lowering) (inside : VisibleSites) (cs : Tree Label (maybe constants)) (ts : Tree Label (maybe type_definitions)) (vs : Tree Label (maybe variables)) (ps : Tree Label (items procedure)) (statements : Tree Label (maybe body)) (f own : Frame) (scene : Scene) (entry : Routine)
-    → PlacesNames w.visible inside f (place_variable_declarations (variable_slot_at_depth f.depth) (declared_size t) (section_variables vs)) own → LowersProcedures t (record { visible = inside; procedures = w.procedures }) v own.depth ps end
+    → AddsNamesToSitesAndFrame w.visible inside f (place_variable_declarations (variable_slot_at_depth f.depth) (declared_size t) (section_variables vs)) own → LowersProcedures t (record { visible = inside; procedures = w.procedures }) v own.depth ps end
     → scene.types.now ≡ t → scene.sites.now ≡ v.visible.sites.items → scene.depth ≡ own.depth → LowersBody scene (sequence_of entry.body.items) statements → entry.cells ≡ own.cells - f.cells
     → LowersBlock t w v f (forms_block (declares cs ts vs ps) statements) entry
 block_lowers t w v inside cs ts vs ps statements f own scene entry places goes types sites deep lowers cells = record {
@@ -200,7 +200,7 @@ block_lowers t w v inside cs ts vs ps statements f own scene entry places goes t
       let b : Tree Label block = forms_block (declares cs ts vs ps) statements in
       let parts = block-parts env k b fits in
       let inner : TypeEnvironment Label = parts.0 in
-      let declared_parts = then_some (declare_constants_and_types naming_by_label env k b) (declare_typed_variables naming_by_label (constructors_before_variables k b) (section_variables vs)) inner parts.1 in
+      let declared_parts = then_some (declare_constants_and_types naming_by_label env k b) (declare_typed_variables naming_by_label (constructor_count_before_variables k b) (section_variables vs)) inner parts.1 in
       let first : TypeEnvironment Label = declared_parts.0 in
       let known_parts = known inner parts.1 in
       let at = variable_slot_at_depth f.depth in
@@ -209,14 +209,14 @@ block_lowers t w v inside cs ts vs ps statements f own scene entry places goes t
       let q : PlacementState Label = place_variable_declarations at (declared_size t) (section_variables vs) start in
       let begun : FrameMatchesPlacement w.visible.sites.items f start = record { holds = holds_hidden w.visible.sites.items f.depth (declared_type_names (section_types ts)) (add_names_without_place (constant_names (section_constants cs)) p.placement) (holds_hidden w.visible.sites.items f.depth (constant_names (section_constants cs)) p.placement frame.holds); cells = frame.cells; var_parameters_so_far = frame.var_parameters_so_far } in
       let laid : FrameMatchesPlacement inside.sites.items own q = places.placed start begun in
-      let ready : IsReadyToLower t inside.sites.items own.depth (record { env = inner; placement = q.placement; next = constructors_before_procedures k b }) statements ps = record {
+      let ready : RestOfBlockIsReadyToLower t inside.sites.items own.depth (record { env = inner; placement = q.placement; next = constructor_count_before_procedures k b }) statements ps = record {
         environment_is_declared = known_parts.0;
-        matches = groups_match at (declared_size t) (section_variables vs) (constructors_before_variables k b) first inner start declared_parts.2 (first_match b k env first p.placement declared_parts.1 matches);
+        matches = groups_match at (declared_size t) (section_variables vs) (constructor_count_before_variables k b) first inner start declared_parts.2 (first_match b k env first p.placement declared_parts.1 matches);
         holds = laid.holds;
         fits = parts.2;
         procedures_are_declared = known_parts.1;
       } in
-      let gone = goes.lowers_from (record { env = inner; placement = q.placement; next = constructors_before_procedures k b }) statements ready in
+      let gone = goes.lowers_from (record { env = inner; placement = q.placement; next = constructor_count_before_procedures k b }) statements ready in
       let now : BlockLoweringState = gone.now in
       let last = gone.ready in
       let seen = sees scene now.env now.placement (subst (λ z. BindingsAreDeclared (declared_object_in z) now.env) (sym types) last.environment_is_declared) last.matches
@@ -247,7 +247,7 @@ goes_on t w v u d r xs done x all a less here b =
     (subst (λ ys. LowersProcedures t v u d (tree_with_labels r (items_of tree_procedure_of ys)) rest) (sym (split done xs x less here)) (b rest))
 
 pub block_means : (t : DeclarationTableView) (w v : Lowering) (inside : VisibleSites) (b : tree_block.Block) (xs : List tree.Procedure) (done : ℕ) (f own : Frame) (scene : Scene) (entry : Routine) (r : Resolution)
-    → PlacesNames w.visible inside f (place_variable_declarations (variable_slot_at_depth f.depth) (declared_size t) (section_variables (tree_with_labels r (variable_section_of (tree_block.out-Block b).variables)))) own
+    → AddsNamesToSitesAndFrame w.visible inside f (place_variable_declarations (variable_slot_at_depth f.depth) (declared_size t) (section_variables (tree_with_labels r (variable_section_of (tree_block.out-Block b).variables)))) own
     → LowersProcedures t (record { visible = inside; procedures = w.procedures }) v own.depth (tree_with_labels r (items_of tree_procedure_of xs)) (tree_with_labels r (items_of tree_procedure_of (drop done xs))) → length xs ≤ done → xs ≡ (tree_block.out-Block b).procedures.items
     → scene.types.now ≡ t → scene.sites.now ≡ v.visible.sites.items → scene.depth ≡ own.depth → LowersBody scene (sequence_of entry.body.items) (tree_with_labels r (body_of (tree_block.out-Block b).body)) → entry.cells ≡ own.cells - f.cells
     → LowersBlock t w v f (tree_with_labels r (block_of b)) entry

@@ -15,14 +15,14 @@ use Rattle.ob0_run_machine.specs.declared.code.Branch as branch
 use Rattle.ob0_run_machine.specs.declared.code.Conditional.{out-roll-Conditional, roll-Conditional}
 use Rattle.ob0_run_machine.specs.declared.code.Instruction as code
 use Rattle.ob0_run_machine.specs.LoweredSyntax as lowered
-use Rattle.ob0_run_machine.specs.View.{branches_of_list, conditional_of, if_of, sequence_of, statement_of, truth_of}
+use Rattle.ob0_run_machine.specs.LoweredCodeViews.{branches_of_list, conditional_of, if_of, sequence_of, statement_of, truth_of}
 use Rattle.ob0_run_machine.proofs.Viewed.{if_made}
 use Rattle.ob0_run_lowering.specs.declared.scene.Scene.{Scene}
 use Rattle.ob0_run_lowering.specs.LoweredBodies.{LowersOptionalStatement, LowersCondition, LowersElse, LowersElsifs, LowersStatementsAfterFirst, LowersSequence, LowersStatement}
-use Rattle.ob0_run_lowering.proofs.HoldsInScene.{branches-lower, else-lowers, elsif-lowers, empty-alone, empty-more, from-first, no-else, no-elsif, none-left, one-more}
+use Rattle.ob0_run_lowering.proofs.HoldsIfWellTypedInScene.{branches-lower, else-lowers, elsif-lowers, empty-alone, empty-more, from-first, no-else, no-elsif, none-left, one-more}
 
 -- statements, with code after them
-abbrev pub joined : List code.Instruction → lowered.Instructions → lowered.Instructions
+abbrev pub joined : List code.Instruction → lowered.InstructionList → lowered.InstructionList
 joined [] cs = cs
 joined (s ∷ ss) cs = lowered.next_statement (statement_of s) (joined ss cs)
 
@@ -45,11 +45,11 @@ all_joined-alone (x ∷ made) = ap (lowered.branch (truth_of x.condition) (seque
 
 -- the first statements of a sequence have code
 pub record SequenceMade (scene : Scene) (r : Resolution) (ss : List Statement) (n : ℕ) (made : List code.Instruction) : Type 0 where
-  pub so_far : (cs : lowered.Instructions) → LowersStatementsAfterFirst scene cs (tree_with_labels r (items_of statement_after_semicolon_of (drop n ss))) → LowersSequence scene (joined made cs) (tree_with_labels r (sequence_of_list ss))
+  pub so_far : (cs : lowered.InstructionList) → LowersStatementsAfterFirst scene cs (tree_with_labels r (items_of statement_after_semicolon_of (drop n ss))) → LowersSequence scene (joined made cs) (tree_with_labels r (sequence_of_list ss))
 
 -- the first branches of IF have code
 pub record BranchesMade (scene : Scene) (r : Resolution) (e : Tree Label expression) (a : Tree Label sequence) (parts : List Elsif) (n : ℕ) (made : List branch.Branch) : Type 0 where
-  pub so_far : (bs : lowered.Branches) (otherwise : lowered.Instructions) (last : Tree Label (maybe else_part)) → LowersElsifs scene bs otherwise (tree_with_labels r (items_of elsif_of (drop n parts))) last
+  pub so_far : (bs : lowered.Branches) (otherwise : lowered.InstructionList) (last : Tree Label (maybe else_part)) → LowersElsifs scene bs otherwise (tree_with_labels r (items_of elsif_of (drop n parts))) last
       → LowersStatement scene (lowered.chooses_branch (all_joined made bs) otherwise) (branches e a (tree_with_labels r (items_of elsif_of parts)) last)
 
 split_at : {A : Type 0} (xs : List A) (n : ℕ) (x : A) → n < length xs → x ≡ get_or xs n x → drop n xs ≡ x ∷ drop (n + 1) xs
@@ -59,7 +59,7 @@ pub sequence_begins : (scene : Scene) (r : Resolution) (ss : List Statement) →
 sequence_begins scene r [] = record { so_far = λ cs h. empty-alone scene cs h }
 sequence_begins scene r (s ∷ ss) = record { so_far = λ cs h. from-first scene (tree_with_labels r (view.statement_of s)) (tree_with_labels r (items_of statement_after_semicolon_of ss)) cs h }
 
-one_made : (scene : Scene) (r : Resolution) (s : Statement) (o : Option code.Instruction) (rest : List Statement) (cs : lowered.Instructions) → LowersOptionalStatement scene (option_map statement_of o) (tree_with_labels r (view.statement_of s))
+one_made : (scene : Scene) (r : Resolution) (s : Statement) (o : Option code.Instruction) (rest : List Statement) (cs : lowered.InstructionList) → LowersOptionalStatement scene (option_map statement_of o) (tree_with_labels r (view.statement_of s))
     → LowersStatementsAfterFirst scene cs (tree_with_labels r (items_of statement_after_semicolon_of rest)) → LowersStatementsAfterFirst scene (joined (option_to_list o) cs) (tree_with_labels r (items_of statement_after_semicolon_of (s ∷ rest)))
 one_made scene r s None rest cs h hr =
     let left = tree_with_labels r (items_of statement_after_semicolon_of rest) in
@@ -67,7 +67,7 @@ one_made scene r s None rest cs h hr =
     subst P (sym h) (empty-more scene left cs hr)
 one_made scene r s (Some c) rest cs h hr = one-more scene (tree_with_labels r (view.statement_of s)) (statement_of c) (tree_with_labels r (items_of statement_after_semicolon_of rest)) cs h hr
 
-joined-both : (made more_made : List code.Instruction) (cs : lowered.Instructions) → joined (made ++ more_made) cs ≡ joined made (joined more_made cs)
+joined-both : (made more_made : List code.Instruction) (cs : lowered.InstructionList) → joined (made ++ more_made) cs ≡ joined made (joined more_made cs)
 joined-both [] more_made cs = refl
 joined-both (x ∷ made) more_made cs = ap (lowered.next_statement (statement_of x)) (joined-both made more_made cs)
 
@@ -76,7 +76,7 @@ pub sequence_goes_on : {scene : Scene} {r : Resolution} {ss : List Statement} {n
 sequence_goes_on {scene = scene} {r = r} {ss = ss} {n = n} {made = made} s o f less here h = record {
   so_far = λ cs hr.
       let P : List Statement → Type 0 = λ left. LowersStatementsAfterFirst scene (joined (option_to_list o) cs) (tree_with_labels r (items_of statement_after_semicolon_of left)) in
-      let Q : lowered.Instructions → Type 0 = λ code. LowersSequence scene code (tree_with_labels r (sequence_of_list ss)) in
+      let Q : lowered.InstructionList → Type 0 = λ code. LowersSequence scene code (tree_with_labels r (sequence_of_list ss)) in
       let whole = f.so_far (joined (option_to_list o) cs) (subst P (sym (split_at ss n s less here)) (one_made scene r s o (drop (n + 1) ss) cs h hr)) in
       subst Q (sym (joined-both made (option_to_list o) cs)) whole;
 }
@@ -84,7 +84,7 @@ sequence_goes_on {scene = scene} {r = r} {ss = ss} {n = n} {made = made} s o f l
 pub sequence_ends : {scene : Scene} {r : Resolution} {ss : List Statement} {n : ℕ} {made : List code.Instruction} → SequenceMade scene r ss n made → length ss ≤ n → LowersSequence scene (sequence_of made) (tree_with_labels r (sequence_of_list ss))
 sequence_ends {scene = scene} {r = r} {ss = ss} {n = n} {made = made} f all =
     let P : List Statement → Type 0 = λ left. LowersStatementsAfterFirst scene lowered.no_statement (tree_with_labels r (items_of statement_after_semicolon_of left)) in
-    let Q : lowered.Instructions → Type 0 = λ code. LowersSequence scene code (tree_with_labels r (sequence_of_list ss)) in
+    let Q : lowered.InstructionList → Type 0 = λ code. LowersSequence scene code (tree_with_labels r (sequence_of_list ss)) in
     subst Q (joined-alone made) (f.so_far lowered.no_statement (subst P (sym (drop_all n ss all)) (none-left scene)))
 
 pub branches_begin : (scene : Scene) (r : Resolution) (e : Tree Label expression) (a : Tree Label sequence) (parts : List Elsif) (b : branch.Branch) → LowersCondition scene (truth_of b.condition) e → LowersSequence scene (sequence_of b.body.items) a → BranchesMade scene r e a parts 0 (b ∷ [])
@@ -105,7 +105,7 @@ branches_go_on {scene = scene} {r = r} {e = e} {a = a} {parts = parts} {n = n} {
       subst Q (sym (all_joined-last made b bs)) (f.so_far next otherwise last (subst P (sym (split_at parts n part less here)) one));
 }
 
-pub branches_end : {scene : Scene} {r : Resolution} {e : Tree Label expression} {a : Tree Label sequence} {parts : List Elsif} {n : ℕ} {made : List branch.Branch} (otherwise : lowered.Instructions) (last : Tree Label (maybe else_part))
+pub branches_end : {scene : Scene} {r : Resolution} {e : Tree Label expression} {a : Tree Label sequence} {parts : List Elsif} {n : ℕ} {made : List branch.Branch} (otherwise : lowered.InstructionList) (last : Tree Label (maybe else_part))
     → BranchesMade scene r e a parts n made → length parts ≤ n → LowersElse scene otherwise last → LowersStatement scene (lowered.chooses_branch (branches_of_list made) otherwise) (branches e a (tree_with_labels r (items_of elsif_of parts)) last)
 branches_end {scene = scene} {r = r} {e = e} {a = a} {parts = parts} {n = n} {made = made} otherwise last f all h =
     let P : List Elsif → Type 0 = λ left. LowersElsifs scene lowered.no_branch otherwise (tree_with_labels r (items_of elsif_of left)) last in

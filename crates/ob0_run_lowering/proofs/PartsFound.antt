@@ -9,23 +9,23 @@ use Rattle.ob0_run_machine.specs.Evaluation as machine
 use Rattle.ob0_run_machine.specs.Evaluation.{Levels}
 use Rattle.ob0_run_machine.specs.LoweredSyntax as lowered
 use Rattle.ob0_run_cells.specs.Cells.{cells_of_store}
-use Rattle.ob0_run_cells.specs.Lowering.{OutcomeByMoment, PlaceStartsChain, Slot, outcome_of}
+use Rattle.ob0_run_cells.specs.LoweredExpressions.{OutcomeByMoment, PlaceStartsChain, Slot, outcome_of}
 use Rattle.ob0_run_cells.proofs.LoweredOutcomes.{followed_by, same}
 use Rattle.ob0_run_cells.proofs.LoweredPlaces.{element-address, value_at_step-address}
-use Rattle.ob0_run_lowering.specs.Codes.{place_of_element, element_place_at_optional_offset}
+use Rattle.ob0_run_lowering.specs.OperationCodes.{place_of_element, element_place_at_optional_offset}
 
 -- two places that have the same address, in all activations and over all cells
 pub record SamePlace (p q : lowered.Place) : Type 0 where
-  pub same_address : (ls : Levels) (cells : List ℤ) → machine.address ls cells p ≡ machine.address ls cells q
+  pub same_address : (ls : Levels) (cells : List ℤ) → machine.place_address ls cells p ≡ machine.place_address ls cells q
 
-at-index : (ls : Levels) (cells : List ℤ) (q : lowered.Place) (i : lowered.Number) (n s : ℕ) → machine.address ls cells (place_of_element q i n s) ≡ machine.address ls cells (lowered.element q i n s 0)
+at-index : (ls : Levels) (cells : List ℤ) (q : lowered.Place) (i : lowered.Number) (n s : ℕ) → machine.place_address ls cells (place_of_element q i n s) ≡ machine.place_address ls cells (lowered.element q i n s 0)
 at-index ls cells q (lowered.literal (pos j)) n s = known (nat_lt j n) refl
   where
-    known : (b : Bool) → nat_lt j n ≡ b → machine.address ls cells (element_place_at_optional_offset (if b then Some ((j * s) % 2 ^ 64) else None) q (lowered.literal (pos j)) n s) ≡ machine.address ls cells (lowered.element q (lowered.literal (pos j)) n s 0)
+    known : (b : Bool) → nat_lt j n ≡ b → machine.place_address ls cells (element_place_at_optional_offset (if b then Some ((j * s) % 2 ^ 64) else None) q (lowered.literal (pos j)) n s) ≡ machine.place_address ls cells (lowered.element q (lowered.literal (pos j)) n s 0)
     known true h =
         value_at_step-address ls cells q ((j * s) % 2 ^ 64)
-        ∙ ((λ z. followed_by (machine.address ls cells q) (λ a. machine.gives (add-mod-mod a (j * s) (2 ^ 64) z)))
-        ∙ (ap (λ b. followed_by (machine.address ls cells q) (λ a. if b then machine.gives (machine.add_offset a (j * s)) else machine.ends machine.Index)) (sym h)
+        ∙ ((λ z. followed_by (machine.place_address ls cells q) (λ a. machine.gives (add-mod-mod a (j * s) (2 ^ 64) z)))
+        ∙ (ap (λ b. followed_by (machine.place_address ls cells q) (λ a. if b then machine.gives (machine.add_offset a (j * s)) else machine.ends machine.Index)) (sym h)
         ∙ sym (element-address ls cells q (lowered.literal (pos j)) n s)))
     known false h = refl
 at-index ls cells q _ n s = refl

@@ -1,32 +1,32 @@
 -- Where what is in scope is placed, and what the code's table has of it.
 use Rattle.std.proofs.Common.{◌≡◌, ℕ, suc, ◌+◌, ◌-◌, ◌≤◌, ◌==◌, Bool, true, false, List, [], ◌∷◌, ◌++◌, map, Some, None, Option, option_and_then, if◌then◌else◌, refl, sym, ap, ◌∙◌, subst, arith, eqb-true, true≢false}
 use Rattle.ob0_tree.specs.Tree.{Tree, block, constant, declares_constant, declares_type, declares_variable, end, section_after_semicolon, items, more, section, semicolon_then_section, type_definition, variable}
-use Rattle.ob0_language_names.specs.Names.{Label, Name, naming_by_label, naming_by_spelling, as_written, declared, same_label}
+use Rattle.ob0_language_names.specs.Names.{Label, Name, naming_by_label, naming_by_spelling, as_written, declared, same_ordinal_label}
 use Rattle.ob0_language_names.specs.BlockParts.{block_constants, block_types, constant_names, declared_type_names, names_in_list, parameter_section_names, parameter_section_type}
 use Rattle.ob0_language_names.specs.Scopes.{label_from_ordinal}
 use Rattle.ob0_types_table.specs.DeclarationTables.{DeclarationTableView, declared_object_in}
 use Rattle.ob0_language_types.specs.Declarations.{declare_constants, declare_constants_and_types, declare_types}
-use Rattle.ob0_language_types.specs.Environments.{environment_from_binding, meanings, newest_object}
+use Rattle.ob0_language_types.specs.Environments.{suffix_from_newest_binding, meanings, newest_object}
 use Rattle.ob0_language_types.specs.Expressions.{Object, a_constant, a_procedure, a_type, a_variable}
-use Rattle.ob0_language_types.specs.Typing.{constant_value, constructor_count, denoted_type, type_of_object}
+use Rattle.ob0_language_types.specs.Typing.{constant_expression_value, constructor_count, denoted_type, type_of_object}
 use Rattle.ob0_language_types.specs.WellTyped.{ParameterMode, Signature, TypeEnvironment, TypedParameter, bind_names, bind_typed_parameters, by_place, by_value, declare_typed_variables, parameter_section_mode, typed_parameters}
 use Rattle.ob0_language_types.proofs.Literals.{some_inverse}
 use Rattle.ob0_language_types.proofs.TypedElsewhere.{then_some}
 use Rattle.ob0_language_values.specs.Values.{Shape}
-use Rattle.ob0_run_cells.specs.Activations.{GivesSizesOfVariables, HasSizeIfVariable, PlacementState, Placement, BindingPlace, at_target, slot_of_first_binding, target_of_first_binding, suffix_from_latest_binding, add_names_without_place, in_slot, placement_seen_one_level_deeper, slot_seen_one_level_deeper, binding_place_seen_one_level_deeper, nowhere, place_parameters, slot_of_binding_place, slot_in_placement, target_of_binding_place, target_in_placement, add_name_to_placement}
+use Rattle.ob0_run_cells.specs.Activations.{ReturnsSizesOfVariables, HasSizeIfVariable, PlacementState, Placement, BindingPlace, at_target, slot_of_first_binding, target_of_first_binding, suffix_from_latest_binding, add_names_without_place, in_slot, placement_seen_one_level_deeper, slot_seen_one_level_deeper, binding_place_seen_one_level_deeper, nowhere, place_parameters, slot_of_binding_place, slot_in_placement, target_of_binding_place, target_in_placement, add_name_to_placement}
 use Rattle.ob0_run_cells.specs.Cells.{size}
 use Rattle.ob0_run_cells.specs.LoweredStatements.{Target}
-use Rattle.ob0_run_cells.specs.Lowering.{Slot, in_activation, by_reference}
-use Rattle.ob0_run_lowering.specs.Scenes.{SceneAgreesWithChecker, object_of_label, place_seen_from, site_in_table, slot_of_label, target_of_label}
+use Rattle.ob0_run_cells.specs.LoweredExpressions.{Slot, in_activation, by_reference}
+use Rattle.ob0_run_lowering.specs.Scenes.{SceneAgreesWithChecker, object_of_label, place_seen_from_depth, site_in_table, slot_of_label, target_of_label}
 use Rattle.ob0_run_lowering.specs.declared.scene.Scene.{Scene}
 use Rattle.ob0_run_lowering.specs.declared.scene.LoweredSite.{LoweredSite}
 use Rattle.ob0_run_lowering.specs.declared.scene.LoweredSite.TheVariants as site
 use Rattle.ob0_run_lowering.specs.DeclaredBindings.{BindingsAreDeclared, ObjectByOrdinal}
-use Rattle.ob0_run_lowering.specs.PlacedNames.{SitesMatchPlacement, PlacementMatchesEnvironment, PlaceMatchesObject, SiteMatchesPlace, declared_size, place_of_first_binding, place_in_placement, add_declared_names_to_placement, place_variable_declarations, place_parameter_sections, sites_after_binding, optional_shape_size, depth_of_site}
+use Rattle.ob0_run_lowering.specs.PlacedNames.{SitesMatchPlacement, PlacementMatchesEnvironment, PlaceMatchesObject, SiteMatchesPlace, declared_size, place_of_first_binding, place_in_placement, add_declared_names_to_placement, place_variable_declarations, place_parameter_sections, sites_after_binding_ordinal, optional_shape_size, depth_of_site}
 
 -- bindings
 
-pub holds_bound : (sites later : List LoweredSite) (d : ℕ) (placement : Placement Label) (o : Option ℕ) (name : Name) (s : LoweredSite) (w : BindingPlace) → SiteMatchesPlace d s w → ((k : ℕ) → site_in_table later k ≡ sites_after_binding o s (site_in_table sites) k) → SitesMatchPlacement sites d placement → SitesMatchPlacement later d ((label_from_ordinal naming_by_spelling o name, w) ∷ placement)
+pub holds_bound : (sites later : List LoweredSite) (d : ℕ) (placement : Placement Label) (o : Option ℕ) (name : Name) (s : LoweredSite) (w : BindingPlace) → SiteMatchesPlace d s w → ((k : ℕ) → site_in_table later k ≡ sites_after_binding_ordinal o s (site_in_table sites) k) → SitesMatchPlacement sites d placement → SitesMatchPlacement later d ((label_from_ordinal naming_by_spelling o name, w) ∷ placement)
 holds_bound sites later d placement None name s w new put h = λ k. subst (λ z. SiteMatchesPlace d z (place_in_placement placement (declared k))) (sym (put k)) (h k)
 holds_bound sites later d placement (Some j) name s w new put h = λ k.
     subst (λ z. SiteMatchesPlace d z (place_in_placement ((declared j, w) ∷ placement) (declared k))) (sym (put k))
@@ -41,7 +41,7 @@ holds_same sites later d placement same h = λ k. subst (λ z. SiteMatchesPlace 
 
 -- what is nowhere needs no site
 holds_nowhere : (sites : List LoweredSite) (d : ℕ) (x : Label) (placement : Placement Label) → SitesMatchPlacement sites d placement → SitesMatchPlacement sites d ((x, nowhere) ∷ placement)
-holds_nowhere sites d x placement h = λ k. by k (same_label (declared k) x)
+holds_nowhere sites d x placement h = λ k. by k (same_ordinal_label (declared k) x)
   where
     by : (k : ℕ) (t : Bool) → SiteMatchesPlace d (site_in_table sites k) (place_of_first_binding (elim t [ true ↦ (x, nowhere) ∷ placement | false ↦ suffix_from_latest_binding naming_by_label placement (declared k) ]))
     by k true = tt
@@ -53,7 +53,7 @@ holds_hidden sites d (x ∷ xs) placement h = holds_hidden sites d xs ((x, nowhe
 
 -- one activation further in
 
-seen_inward : (d : ℕ) (s : LoweredSite) → depth_of_site s ≤ d → place_seen_from (suc d) s ≡ binding_place_seen_one_level_deeper (place_seen_from d s)
+seen_inward : (d : ℕ) (s : LoweredSite) → depth_of_site s ≤ d → place_seen_from_depth (suc d) s ≡ binding_place_seen_one_level_deeper (place_seen_from_depth d s)
 seen_inward d (site.InActivation at offset) le = let e : suc d - at ≡ suc (d - at) = omega arith in ap (λ up. in_slot (in_activation up offset)) e
 seen_inward d (site.ByReference at index) le = let e : suc d - at ≡ suc (d - at) = omega arith in ap (λ up. in_slot (by_reference up index)) e
 seen_inward d (site.Procedure at index) le = let e : suc d - at ≡ suc (d - at) = omega arith in ap (λ up. at_target (record { procedure = index; up = up })) e
@@ -66,7 +66,7 @@ reports_inward d s _ h = (omega (arith, h.0), seen_inward d s h.0 ∙ ap binding
 found_inward : (placement : Placement Label) (x : Label) → place_in_placement (placement_seen_one_level_deeper placement) x ≡ binding_place_seen_one_level_deeper (place_in_placement placement x)
 found_inward [] x = refl
 found_inward (b ∷ placement) x =
-    elim (same_label x b.0) as (λ t. place_of_first_binding (elim t [ true ↦ (b.0, binding_place_seen_one_level_deeper b.1) ∷ placement_seen_one_level_deeper placement | false ↦ suffix_from_latest_binding naming_by_label (placement_seen_one_level_deeper placement) x ]) ≡ binding_place_seen_one_level_deeper (place_of_first_binding (elim t [ true ↦ b ∷ placement | false ↦ suffix_from_latest_binding naming_by_label placement x ])))
+    elim (same_ordinal_label x b.0) as (λ t. place_of_first_binding (elim t [ true ↦ (b.0, binding_place_seen_one_level_deeper b.1) ∷ placement_seen_one_level_deeper placement | false ↦ suffix_from_latest_binding naming_by_label (placement_seen_one_level_deeper placement) x ]) ≡ binding_place_seen_one_level_deeper (place_of_first_binding (elim t [ true ↦ b ∷ placement | false ↦ suffix_from_latest_binding naming_by_label placement x ])))
     [ true ↦ refl | false ↦ found_inward placement x ]
 
 pub holds_inward : (sites : List LoweredSite) (d : ℕ) (placement : Placement Label) → SitesMatchPlacement sites d placement → SitesMatchPlacement sites (suc d) (placement_seen_one_level_deeper placement)
@@ -84,25 +84,25 @@ matches_inward _ _ m = absurd m
 
 -- names looked up
 
-matches_found : (env : TypeEnvironment Label) (placement : Placement Label) → PlacementMatchesEnvironment env placement → (x : Label) (o : Object Shape Signature) → newest_object (environment_from_binding naming_by_label env x) ≡ Some o → PlaceMatchesObject o (place_in_placement placement x)
+matches_found : (env : TypeEnvironment Label) (placement : Placement Label) → PlacementMatchesEnvironment env placement → (x : Label) (o : Object Shape Signature) → newest_object (suffix_from_newest_binding naming_by_label env x) ≡ Some o → PlaceMatchesObject o (place_in_placement placement x)
 matches_found [] [] m x o h = absurd (cc)
 matches_found (b ∷ env) (w ∷ placement) m x o h =
-    subst (λ (y : Label). PlaceMatchesObject o (place_of_first_binding (elim (same_label x y) [ true ↦ w ∷ placement | false ↦ suffix_from_latest_binding naming_by_label placement x ]))) m.0 (by (matches_found env placement m.2 x o) (same_label x b.0) h)
+    subst (λ (y : Label). PlaceMatchesObject o (place_of_first_binding (elim (same_ordinal_label x y) [ true ↦ w ∷ placement | false ↦ suffix_from_latest_binding naming_by_label placement x ]))) m.0 (by (matches_found env placement m.2 x o) (same_ordinal_label x b.0) h)
   where
-    by : (newest_object (environment_from_binding naming_by_label env x) ≡ Some o → PlaceMatchesObject o (place_in_placement placement x)) → (t : Bool) → newest_object (elim t [ true ↦ b ∷ env | false ↦ environment_from_binding naming_by_label env x ]) ≡ Some o → PlaceMatchesObject o (place_of_first_binding (elim t [ true ↦ w ∷ placement | false ↦ suffix_from_latest_binding naming_by_label placement x ]))
+    by : (newest_object (suffix_from_newest_binding naming_by_label env x) ≡ Some o → PlaceMatchesObject o (place_in_placement placement x)) → (t : Bool) → newest_object (elim t [ true ↦ b ∷ env | false ↦ suffix_from_newest_binding naming_by_label env x ]) ≡ Some o → PlaceMatchesObject o (place_of_first_binding (elim t [ true ↦ w ∷ placement | false ↦ suffix_from_latest_binding naming_by_label placement x ]))
     by following true e = subst (λ (z : Object Shape Signature). PlaceMatchesObject z w.1) (some_inverse e) m.1
     by following false e = following e
 matches_found _ _ m x o h = absurd m
 
-same_declared : (x : Label) (k : ℕ) → same_label x (declared k) ≡ true → x ≡ declared k
+same_declared : (x : Label) (k : ℕ) → same_ordinal_label x (declared k) ≡ true → x ≡ declared k
 same_declared (declared j) k h = ap declared (eqb-true j k h)
 same_declared (as_written n) k h = absurd (true≢false (sym h))
 
-declared_found : (objects : ObjectByOrdinal) (env : TypeEnvironment Label) → BindingsAreDeclared objects env → (x : Label) (o : Object Shape Signature) → newest_object (environment_from_binding naming_by_label env x) ≡ Some o → (k : ℕ) × (x ≡ declared k) × (objects k ≡ Some o)
+declared_found : (objects : ObjectByOrdinal) (env : TypeEnvironment Label) → BindingsAreDeclared objects env → (x : Label) (o : Object Shape Signature) → newest_object (suffix_from_newest_binding naming_by_label env x) ≡ Some o → (k : ℕ) × (x ≡ declared k) × (objects k ≡ Some o)
 declared_found objects [] a x o h = absurd (cc)
 declared_found objects (b ∷ env) a x o h =
-    (elim (same_label x b.0) as (λ t. same_label x b.0 ≡ t → newest_object (elim t [ true ↦ b ∷ env | false ↦ environment_from_binding naming_by_label env x ]) ≡ Some o → (k : ℕ) × (x ≡ declared k) × (objects k ≡ Some o)) [
-      | true ↦ λ is e. (a.0.0, same_declared x a.0.0 (sym (ap (same_label x) a.0.1) ∙ is), a.0.2 ∙ e)
+    (elim (same_ordinal_label x b.0) as (λ t. same_ordinal_label x b.0 ≡ t → newest_object (elim t [ true ↦ b ∷ env | false ↦ suffix_from_newest_binding naming_by_label env x ]) ≡ Some o → (k : ℕ) × (x ≡ declared k) × (objects k ≡ Some o)) [
+      | true ↦ λ is e. (a.0.0, same_declared x a.0.0 (sym (ap (same_ordinal_label x) a.0.1) ∙ is), a.0.2 ∙ e)
       | false ↦ λ is e. declared_found objects env a.1 x o e
     ]) refl h
 
@@ -114,10 +114,10 @@ target_found : (placement : Placement Label) → target_of_first_binding placeme
 target_found [] = refl
 target_found (b ∷ placement) = refl
 
-reports_slot : (d : ℕ) (s : LoweredSite) (w : BindingPlace) (slot : Slot) → w ≡ in_slot slot → SiteMatchesPlace d s w → place_seen_from d s ≡ w
+reports_slot : (d : ℕ) (s : LoweredSite) (w : BindingPlace) (slot : Slot) → w ≡ in_slot slot → SiteMatchesPlace d s w → place_seen_from_depth d s ≡ w
 reports_slot d s w slot e h = (subst (SiteMatchesPlace d s) e h).1 ∙ sym e
 
-reports_target : (d : ℕ) (s : LoweredSite) (w : BindingPlace) (t : Target) → w ≡ at_target t → SiteMatchesPlace d s w → place_seen_from d s ≡ w
+reports_target : (d : ℕ) (s : LoweredSite) (w : BindingPlace) (t : Target) → w ≡ at_target t → SiteMatchesPlace d s w → place_seen_from_depth d s ≡ w
 reports_target d s w t e h = (subst (SiteMatchesPlace d s) e h).1 ∙ sym e
 
 -- a scene is right at a body whose names are known and whose placing is held
@@ -143,7 +143,7 @@ constants_match : (cs : Tree Label (items constant)) (env inner : TypeEnvironmen
 unfolding declare_constants
 constants_match end env inner placement h m = subst (λ e. PlacementMatchesEnvironment e placement) (some_inverse h) m
 constants_match (more (declares_constant x e) cs) env inner placement h m =
-    let f = then_some (constant_value (meanings naming_by_label env) e) (λ v. declare_constants naming_by_label ((x, a_constant v) ∷ env) cs) inner h in
+    let f = then_some (constant_expression_value (meanings naming_by_label env) e) (λ v. declare_constants naming_by_label ((x, a_constant v) ∷ env) cs) inner h in
     constants_match cs ((x, a_constant f.0) ∷ env) inner ((x, nowhere) ∷ placement) f.2 (refl, tt, m)
 
 types_match : (ds : Tree Label (items type_definition)) (k : ℕ) (env inner : TypeEnvironment Label) (placement : Placement Label) → declare_types naming_by_label env k ds ≡ Some inner → PlacementMatchesEnvironment env placement → PlacementMatchesEnvironment inner (add_names_without_place (declared_type_names ds) placement)
@@ -168,7 +168,7 @@ has_size : (t : DeclarationTableView) (x : Label) (o : Object Shape Signature) �
 has_size t x (a_variable s) f = one_size t x s f
 has_size t x _ f = tt
 
-pub sizes_declared : (t : DeclarationTableView) (env : TypeEnvironment Label) → BindingsAreDeclared (declared_object_in t) env → GivesSizesOfVariables (declared_size t) env
+pub sizes_declared : (t : DeclarationTableView) (env : TypeEnvironment Label) → BindingsAreDeclared (declared_object_in t) env → ReturnsSizesOfVariables (declared_size t) env
 sizes_declared t [] a = tt
 sizes_declared t (b ∷ env) a = (has_size t b.0 b.1 a.0, sizes_declared t env a.1)
 

@@ -3,13 +3,13 @@ use Rattle.std.proofs.Common.{◌≡◌, ℕ, ◌≤◌, suc, refl, max, subst, 
 use Rattle.std.proofs.Math.Nat.{le-max_right}
 use Rattle.ob0_run_machine.specs.declared.code.TruthList.{out-TruthList}
 use Rattle.ob0_run_machine.specs.declared.code.Truth.{All, Any}
-use Rattle.ob0_run_lowering.specs.TruthDepths.{WholeIsNoDeeperThanLeft, IsNotNestedOnLeft, and_depth, or_depth}
+use Rattle.ob0_run_lowering.specs.TruthDepths.{WholeIsNoDeeperThanLeft, IsNotNestedOnLeft, conjunction_depth, disjunction_depth}
 use Rattle.ob0_run_lowering.specs.declared.lowered_expression.LoweredExpression.{LoweredExpression}
 
-pub all_deep : (c : _) → and_depth (All c) ≡ suc (and_depth (out-TruthList c.value).first)
+pub all_deep : (c : _) → conjunction_depth (All c) ≡ suc (conjunction_depth (out-TruthList c.value).first)
 all_deep c = refl
 
-pub any_deep : (c : _) → or_depth (Any c) ≡ suc (or_depth (out-TruthList c.value).first)
+pub any_deep : (c : _) → disjunction_depth (Any c) ≡ suc (disjunction_depth (out-TruthList c.value).first)
 any_deep c = refl
 
 pub as_deep : (n m : ℕ) → n ≡ m → n ≤ max 1 m

@@ -11,12 +11,12 @@ use Rattle.std.specs.Prelude.{◌≡◌, ℕ, ◌≤◌, true, List, length, Som
 use Rattle.ob0_tree.specs.Tree.{Tree, block, body, items, maybe, procedure}
 use Rattle.ob0_language_names.specs.Names.{Label, naming_by_label}
 use Rattle.ob0_types_table.specs.DeclarationTables.{DeclarationTableView, declared_object_in}
-use Rattle.ob0_language_types.specs.WellTyped.{TypeEnvironment, block_is_well_typed, procedures_are_well_typed}
+use Rattle.ob0_language_types.specs.WellTyped.{TypeEnvironment, block_is_well_typed, procedures_and_body_are_well_typed}
 use Rattle.ob0_run_machine.specs.LoweredSyntax as lowered
-use Rattle.ob0_run_machine.specs.View.{procedure_of, sequence_of}
+use Rattle.ob0_run_machine.specs.LoweredCodeViews.{procedure_of, sequence_of}
 use Rattle.ob0_run_machine.specs.declared.code.Routine.{Routine}
 use Rattle.ob0_run_cells.specs.Activations.{CodeMeansBlock, PlacementState, Placement, RoutinesMeanProcedures, routine_table_by_label}
-use Rattle.ob0_run_cells.specs.Lowering.{Slot}
+use Rattle.ob0_run_cells.specs.LoweredExpressions.{Slot}
 use Rattle.ob0_run_lowering.specs.declared.scene.LoweredSite.{LoweredSite}
 use Rattle.ob0_run_lowering.specs.DeclaredBindings.{BindingsAreDeclared, BlockBindingsAreDeclared, ProcedureBindingsAreDeclared}
 use Rattle.ob0_run_lowering.specs.PlacedNames.{HidesMoreSites, SitesMatchPlacement, FrameMatchesPlacement, PlacementMatchesEnvironment, variable_slot_at_depth}
@@ -47,19 +47,19 @@ pub record BlockLoweringState : Type 0 where
 -- States that the remaining procedures `ps` and the statements of a block are well-typed in the
 -- state `s`. The table of declarations has the object of each name in scope, and of each name that
 -- these procedures declare. The table of sites has the place of each name in scope.
-pub record IsReadyToLower (t : DeclarationTableView) (sites : List LoweredSite) (depth : ℕ) (s : BlockLoweringState)
+pub record RestOfBlockIsReadyToLower (t : DeclarationTableView) (sites : List LoweredSite) (depth : ℕ) (s : BlockLoweringState)
     (statements : Tree Label (maybe body)) (ps : Tree Label (items procedure)) : Type 0 where
   pub environment_is_declared : BindingsAreDeclared (declared_object_in t) s.env
   pub matches : PlacementMatchesEnvironment s.env s.placement
   pub holds : SitesMatchPlacement sites depth s.placement
-  pub fits : procedures_are_well_typed naming_by_label s.env s.next statements ps ≡ true
+  pub fits : procedures_and_body_are_well_typed naming_by_label s.env s.next statements ps ≡ true
   pub procedures_are_declared : ProcedureBindingsAreDeclared (declared_object_in t) s.env s.next ps
 
 -- States that a table has correct code for the remaining procedures `ps` of a block, and that
 -- `code` is correct for the block's statements. `s` is the state before these procedures.
 abbrev pub CodeMeansRestOfBlock : List lowered.Routine
     → BlockLoweringState
-    → lowered.Instructions
+    → lowered.InstructionList
     → Tree Label (maybe body)
     → Tree Label (items procedure)
     → Type 0
@@ -71,24 +71,24 @@ CodeMeansRestOfBlock table s code statements ps =
 -- (`Lowering`) before and after. `composes_meaning` is about each table that has the added
 -- routines. If the table and some code are correct for `left` in the state `now`, they are correct
 -- for `ps` in the state `s`.
-pub record LowersFromState (t : DeclarationTableView) (w v : Lowering) (depth : ℕ) (s : BlockLoweringState)
+pub record LowersProceduresFromState (t : DeclarationTableView) (w v : Lowering) (depth : ℕ) (s : BlockLoweringState)
     (statements : Tree Label (maybe body)) (ps left : Tree Label (items procedure)) : Type 0 where
   pub now : BlockLoweringState
-  pub ready : IsReadyToLower t v.visible.sites.items depth now statements left
-  pub composes_meaning : (table : List lowered.Routine) (code : lowered.Instructions)
+  pub ready : RestOfBlockIsReadyToLower t v.visible.sites.items depth now statements left
+  pub composes_meaning : (table : List lowered.Routine) (code : lowered.InstructionList)
       → HasRoutinesFromIndex table (length w.procedures.items) v.procedures.items
       → CodeMeansRestOfBlock table now code statements left
       → CodeMeansRestOfBlock table s code statements ps
 
 -- States that lowering starts with the remaining procedures `ps` of a block, and reaches the
 -- remaining procedures `left`. This holds for each state in which lowering starts, and for any
--- statements of the block (`LowersFromState`). Also states that the tables of sites and of
+-- statements of the block (`LowersProceduresFromState`). Also states that the tables of sites and of
 -- procedures only grow.
 pub record LowersProcedures (t : DeclarationTableView) (w v : Lowering) (depth : ℕ) (ps left : Tree Label (items procedure))
     : Type 0 where
   pub lowers_from : (s : BlockLoweringState) (statements : Tree Label (maybe body))
-      → IsReadyToLower t w.visible.sites.items depth s statements ps
-      → LowersFromState t w v depth s statements ps left
+      → RestOfBlockIsReadyToLower t w.visible.sites.items depth s statements ps
+      → LowersProceduresFromState t w v depth s statements ps left
   pub follows : HidesMoreSites w.visible v.visible
   pub longer : length w.procedures.items ≤ length v.procedures.items
   pub grown : KeepsRoutines w.procedures.items v.procedures.items

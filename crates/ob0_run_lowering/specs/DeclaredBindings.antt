@@ -9,7 +9,7 @@
 use Rattle.std.specs.Prelude.{◌≡◌, ℕ, [], ◌∷◌, Some, Option}
 use Rattle.ob0_tree.specs.Tree.{Tree, block, items, procedure}
 use Rattle.ob0_language_names.specs.Names.{Label, declared}
-use Rattle.ob0_language_types.specs.Bodies.{HoldsInBlock, HoldsInProcedures}
+use Rattle.ob0_language_types.specs.Bodies.{HoldsForBlockEnvironments, HoldsForProcedureListEnvironments}
 use Rattle.ob0_language_types.specs.Expressions.{Object}
 use Rattle.ob0_language_types.specs.WellTyped.{Signature, TypeEnvironment}
 use Rattle.ob0_language_values.specs.Values.{Shape}
@@ -30,7 +30,7 @@ BindingsAreDeclared objects (b ∷ env) =
 -- statements of a block are checked. This includes the environments of all blocks inside this
 -- block.
 abbrev pub BlockBindingsAreDeclared : ObjectByOrdinal → TypeEnvironment Label → ℕ → Tree Label block → Type 0
-BlockBindingsAreDeclared objects = HoldsInBlock (BindingsAreDeclared objects)
+BlockBindingsAreDeclared objects = HoldsForBlockEnvironments (BindingsAreDeclared objects)
 
 -- States that `BindingsAreDeclared` holds for each environment in which some procedures and their
 -- blocks are checked, and for the environment after the last of these procedures.
@@ -39,4 +39,4 @@ abbrev pub ProcedureBindingsAreDeclared : ObjectByOrdinal
     → ℕ
     → Tree Label (items procedure)
     → Type 0
-ProcedureBindingsAreDeclared objects = HoldsInProcedures (BindingsAreDeclared objects)
+ProcedureBindingsAreDeclared objects = HoldsForProcedureListEnvironments (BindingsAreDeclared objects)

@@ -6,34 +6,34 @@ use Rattle.std.specs.Borrow.{Bor}
 use Rattle.ob0_types_table.specs.DeclarationTableView.{faulty_shape}
 use Rattle.ob0_language_values.specs.Values.{FieldShapes, Shape, array_shape, next_field_shape, no_field_shape, record_shape}
 use Rattle.ob0_run_cells.specs.Cells.{total_field_size, size}
-use Rattle.ob0_run_lowering.specs.declared.types.CellLayout.{CellLayout}
-use Rattle.ob0_run_lowering.specs.declared.types.CellLayout.TheVariants as layout
-use Rattle.ob0_run_lowering.specs.declared.types.RecordLayout.{RecordLayout}
+use Rattle.ob0_run_lowering.specs.declared.type_layouts.CellLayout.{CellLayout}
+use Rattle.ob0_run_lowering.specs.declared.type_layouts.CellLayout.TheVariants as layout
+use Rattle.ob0_run_lowering.specs.declared.type_layouts.RecordLayout.{RecordLayout}
 
 -- returns the offsets of fields that are stored one after the other, if the first field has the
 -- offset `n`
-abbrev pub field_offsets_from : ℕ → FieldShapes → List ℕ
-field_offsets_from n no_field_shape = []
-field_offsets_from n (next_field_shape x s rest) = n ∷ field_offsets_from (n + size s) rest
+abbrev pub consecutive_field_offsets : ℕ → FieldShapes → List ℕ
+consecutive_field_offsets n no_field_shape = []
+consecutive_field_offsets n (next_field_shape x s rest) = n ∷ consecutive_field_offsets (n + size s) rest
 
 -- states that the layout of a record has the number of cells of these fields, and the offset of
 -- each field
 pub record IsLayoutOfFields (fs : FieldShapes) (r : RecordLayout) : Type 0 where
   pub cells : r.cells ≡ total_field_size fs
-  pub offsets : r.offsets.items ≡ field_offsets_from 0 fs
+  pub offsets : r.offsets.items ≡ consecutive_field_offsets 0 fs
 
 -- States that a layout is right for a type. This is never true for a type that is neither an array
 -- nor a record.
-abbrev pub HasLayout : Shape → CellLayout → Type 0
-HasLayout (array_shape k n s) (layout.Array cells) = cells ≡ size (array_shape k n s)
-HasLayout (record_shape k fs) (layout.Record r) = IsLayoutOfFields fs r
-HasLayout _ _ = ⊥
+abbrev pub IsLayoutOfType : Shape → CellLayout → Type 0
+IsLayoutOfType (array_shape k n s) (layout.Array cells) = cells ≡ size (array_shape k n s)
+IsLayoutOfType (record_shape k fs) (layout.Record r) = IsLayoutOfFields fs r
+IsLayoutOfType _ _ = ⊥
 
 -- states that a list of layouts has the right layout for each type of a table, in the table's order
-abbrev pub HaveLayouts : List Shape → List CellLayout → Type 0
-HaveLayouts [] [] = Unit {0}
-HaveLayouts (s ∷ shapes) (l ∷ layouts) = HasLayout s l × HaveLayouts shapes layouts
-HaveLayouts _ _ = ⊥
+abbrev pub AreLayoutsOfTypes : List Shape → List CellLayout → Type 0
+AreLayoutsOfTypes [] [] = Unit {0}
+AreLayoutsOfTypes (s ∷ shapes) (l ∷ layouts) = IsLayoutOfType s l × AreLayoutsOfTypes shapes layouts
+AreLayoutsOfTypes _ _ = ⊥
 
 -- States that a layout is right for a record type. For None, states that the type is
 -- `faulty_shape`.

@@ -1,10 +1,10 @@
 pub mod Layouts
 pub mod Scenes
-pub mod Codes
+pub mod OperationCodes
 pub mod TruthDepths
 pub mod TreeCodes
 pub mod LoweredExpressionMeans
-pub mod Parts
+pub mod CodeParts
 pub mod LoweredBodies
 pub mod DeclaredBindings
 pub mod PlacedNames

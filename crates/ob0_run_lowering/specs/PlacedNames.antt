@@ -22,8 +22,8 @@ use Rattle.ob0_run_cells.specs.Activations.{PlacementState, Placement, BindingPl
 pub use Rattle.ob0_run_cells.specs.Activations.{add_declared_names_to_placement, place_variable_declarations}
 use Rattle.ob0_run_cells.specs.Cells.{size}
 use Rattle.ob0_run_cells.specs.LoweredStatements.{Target}
-use Rattle.ob0_run_cells.specs.Lowering.{Slot, in_activation, in_module_activation}
-use Rattle.ob0_run_lowering.specs.Scenes.{object_of_label, place_seen_from, site_in_table}
+use Rattle.ob0_run_cells.specs.LoweredExpressions.{Slot, in_activation, in_module_activation}
+use Rattle.ob0_run_lowering.specs.Scenes.{object_of_label, place_seen_from_depth, site_in_table}
 use Rattle.ob0_run_lowering.specs.declared.scene.LoweredSite.{LoweredSite}
 use Rattle.ob0_run_lowering.specs.declared.scene.LoweredSite.TheVariants as site
 use Rattle.ob0_run_lowering.specs.declared.visible_sites.Frame.{Frame}
@@ -51,8 +51,8 @@ depth_of_site (site.Procedure at index) = at
 -- states that the site isn't deeper than this activation. Claims nothing if the place is `nowhere`.
 abbrev pub SiteMatchesPlace : ℕ → LoweredSite → BindingPlace → Type 0
 SiteMatchesPlace depth s nowhere = Unit {0}
-SiteMatchesPlace depth s (in_slot slot) = (depth_of_site s ≤ depth) × (place_seen_from depth s ≡ in_slot slot)
-SiteMatchesPlace depth s (at_target t) = (depth_of_site s ≤ depth) × (place_seen_from depth s ≡ at_target t)
+SiteMatchesPlace depth s (in_slot slot) = (depth_of_site s ≤ depth) × (place_seen_from_depth depth s ≡ in_slot slot)
+SiteMatchesPlace depth s (at_target t) = (depth_of_site s ≤ depth) × (place_seen_from_depth depth s ≡ at_target t)
 
 -- States that a table of sites has the place of each name in a placement. The site at the name's
 -- ordinal is this place, as seen from an activation of this depth.
@@ -93,7 +93,7 @@ variable_slot_at_depth (suc depth) = in_activation 0
 -- far
 abbrev pub IsSiteOfNextVariable : Frame → LoweredSite → Type 0
 IsSiteOfNextVariable f s =
-    (depth_of_site s ≤ f.depth) × (place_seen_from f.depth s ≡ in_slot (variable_slot_at_depth f.depth f.cells))
+    (depth_of_site s ≤ f.depth) × (place_seen_from_depth f.depth s ≡ in_slot (variable_slot_at_depth f.depth f.cells))
 
 -- adds the parameters of a heading to a placement, one by one
 abbrev pub place_parameter_sections : (ℕ → Slot)
@@ -107,34 +107,34 @@ place_parameter_sections at size_of (more (semicolon_then_section f) fs) p =
 
 -- Returns the site of the ordinal `k` after the site of `ordinal` was set to `s`. `sites` returns
 -- the site of each ordinal before this change.
-abbrev pub sites_after_setting : ℕ → LoweredSite → (ℕ → LoweredSite) → ℕ → LoweredSite
-sites_after_setting ordinal s sites k = if k == ordinal then s else sites k
+abbrev pub sites_after_setting_ordinal : ℕ → LoweredSite → (ℕ → LoweredSite) → ℕ → LoweredSite
+sites_after_setting_ordinal ordinal s sites k = if k == ordinal then s else sites k
 
 -- Returns the site of each ordinal after the site of one ordinal was set to `s`. For None, all
 -- sites are unchanged.
-abbrev pub sites_after_binding : Option ℕ → LoweredSite → (ℕ → LoweredSite) → ℕ → LoweredSite
-sites_after_binding None s sites = sites
-sites_after_binding (Some ordinal) s sites = sites_after_setting ordinal s sites
+abbrev pub sites_after_binding_ordinal : Option ℕ → LoweredSite → (ℕ → LoweredSite) → ℕ → LoweredSite
+sites_after_binding_ordinal None s sites = sites
+sites_after_binding_ordinal (Some ordinal) s sites = sites_after_setting_ordinal ordinal s sites
 
 -- Returns the site of each ordinal after all hidden sites were restored. The list begins with the
 -- site that was hidden first.
-abbrev pub sites_before_hiding : List HiddenSite → (ℕ → LoweredSite) → ℕ → LoweredSite
-sites_before_hiding [] sites = sites
-sites_before_hiding (h ∷ later) sites = sites_after_setting h.ordinal h.earlier_site (sites_before_hiding later sites)
+abbrev pub sites_after_restoring_hidden_sites : List HiddenSite → (ℕ → LoweredSite) → ℕ → LoweredSite
+sites_after_restoring_hidden_sites [] sites = sites
+sites_after_restoring_hidden_sites (h ∷ later) sites = sites_after_setting_ordinal h.ordinal h.earlier_site (sites_after_restoring_hidden_sites later sites)
 
 -- states that the ordinals of all hidden sites in a list are below `n`
-abbrev pub OrdinalsAreBelow : ℕ → List HiddenSite → Type 0
-OrdinalsAreBelow n [] = Unit {0}
-OrdinalsAreBelow n (h ∷ hs) = (suc h.ordinal ≤ n) × OrdinalsAreBelow n hs
+abbrev pub HiddenOrdinalsAreBelowLimit : ℕ → List HiddenSite → Type 0
+HiddenOrdinalsAreBelowLimit n [] = Unit {0}
+HiddenOrdinalsAreBelowLimit n (h ∷ hs) = (suc h.ordinal ≤ n) × HiddenOrdinalsAreBelowLimit n hs
 
 -- States that the table `v` results from the table `w` by hiding more sites. If these are restored
 -- in `v`, each ordinal has the site that it has in `w`.
 pub record HidesMoreSites (w v : VisibleSites) : Type 0 where
   pub more : List HiddenSite
   pub added : v.hidden.items ≡ w.hidden.items ++ more
-  pub within : OrdinalsAreBelow (length v.sites.items) more
+  pub within : HiddenOrdinalsAreBelowLimit (length v.sites.items) more
   pub longer : length w.sites.items ≤ length v.sites.items
-  pub restores_sites : (k : ℕ) → sites_before_hiding more (site_in_table v.sites.items) k ≡ site_in_table w.sites.items k
+  pub restores_sites : (k : ℕ) → sites_after_restoring_hidden_sites more (site_in_table v.sites.items) k ≡ site_in_table w.sites.items k
 
 -- States that restoring hidden sites leads from the table `u` to the table `v`, and undoes all
 -- bindings since the table `w`. `v` has the site of each ordinal and the hidden sites of `w`, and as
@@ -155,7 +155,7 @@ pub record FrameMatchesPlacement (sites : List LoweredSite) (f : Frame) (p : Pla
 -- States that names are added to a table of sites and to a frame. `w` and `f` are the table and the
 -- frame before, `v` and `g` are the table and the frame after. If `w` and `f` match a placement,
 -- `v` and `g` match the result of `step` on this placement.
-pub record PlacesNames (w v : VisibleSites) (f : Frame) (step : PlacementState Label → PlacementState Label) (g : Frame)
+pub record AddsNamesToSitesAndFrame (w v : VisibleSites) (f : Frame) (step : PlacementState Label → PlacementState Label) (g : Frame)
     : Type 0 where
   pub placed : (p : PlacementState Label) → FrameMatchesPlacement w.sites.items f p → FrameMatchesPlacement v.sites.items g (step p)
   pub follows : HidesMoreSites w v

@@ -11,18 +11,18 @@ use Rattle.ob0_language_types.specs.WellTyped.{Signature, TypeMeanings}
 use Rattle.ob0_language_values.specs.Values.{Shape}
 use Rattle.ob0_run_cells.specs.Activations.{BindingPlace, at_target, in_slot, nowhere, slot_of_binding_place, target_of_binding_place}
 use Rattle.ob0_run_cells.specs.LoweredStatements.{Target}
-use Rattle.ob0_run_cells.specs.Lowering.{Slot, in_activation, by_reference, in_module_activation}
+use Rattle.ob0_run_cells.specs.LoweredExpressions.{Slot, in_activation, by_reference, in_module_activation}
 use Rattle.ob0_run_lowering.specs.declared.scene.Scene.{Scene}
 use Rattle.ob0_run_lowering.specs.declared.scene.LoweredSite.{LoweredSite}
 use Rattle.ob0_run_lowering.specs.declared.scene.LoweredSite.TheVariants as site
 
 -- returns the place of a declaration with this site, as seen from an activation of this depth
-abbrev pub place_seen_from : ℕ → LoweredSite → BindingPlace
-place_seen_from depth site.Nowhere = nowhere
-place_seen_from depth (site.InModule offset) = in_slot (in_module_activation offset)
-place_seen_from depth (site.InActivation at offset) = in_slot (in_activation (depth - at) offset)
-place_seen_from depth (site.ByReference at index) = in_slot (by_reference (depth - at) index)
-place_seen_from depth (site.Procedure at index) =
+abbrev pub place_seen_from_depth : ℕ → LoweredSite → BindingPlace
+place_seen_from_depth depth site.Nowhere = nowhere
+place_seen_from_depth depth (site.InModule offset) = in_slot (in_module_activation offset)
+place_seen_from_depth depth (site.InActivation at offset) = in_slot (in_activation (depth - at) offset)
+place_seen_from_depth depth (site.ByReference at index) = in_slot (by_reference (depth - at) index)
+place_seen_from_depth depth (site.Procedure at index) =
     at_target (record { procedure = index; up = depth - at })
 
 -- returns the site of an ordinal in a table of sites, or `Nowhere` if the table has no entry for
@@ -33,7 +33,7 @@ site_in_table sites k = slice_index_or sites k site.Nowhere
 -- Returns the place of the declaration that a label refers to, as seen from the scene's body.
 -- Returns `nowhere` if the label isn't bound.
 abbrev pub place_of_label : Scene → Label → BindingPlace
-place_of_label scene (declared k) = place_seen_from scene.depth (site_in_table scene.sites.now k)
+place_of_label scene (declared k) = place_seen_from_depth scene.depth (site_in_table scene.sites.now k)
 place_of_label scene (as_written x) = nowhere
 
 -- Returns the slot of the variable that a label refers to, as seen from the scene's body. If the

@@ -6,13 +6,13 @@ use Rattle.ob0_tree.specs.Tree.{Tree, addend, adds, compares, designator, end, e
 use Rattle.ob0_language_names.specs.Names.{Label, label_text}
 use Rattle.ob0_types_table.specs.DeclarationTableView.{type_shape}
 use Rattle.ob0_language_types.specs.Expressions.{Object, a_variable}
-use Rattle.ob0_language_types.specs.Typing.{constant_of}
+use Rattle.ob0_language_types.specs.Typing.{value_of_constant_object}
 use Rattle.ob0_language_types.specs.WellTyped.{Signature}
 use Rattle.ob0_language_values.specs.Values.{Shape}
 use Rattle.ob0_run_machine.specs.LoweredSyntax as lowered
-use Rattle.ob0_run_machine.specs.View.{number_of, place_of, truth_of}
-use Rattle.ob0_run_cells.specs.Lowering.{slot_place}
-use Rattle.ob0_run_lowering.specs.Codes.{ExpressionCode, PlaceWithShape, a_block, a_number, a_truth, addition_code, element_of_optional_place, record_field_place, multiplication_code, designator_code, negation_code, no_code, relation_code, signed_term_code}
+use Rattle.ob0_run_machine.specs.LoweredCodeViews.{number_of, place_of, truth_of}
+use Rattle.ob0_run_cells.specs.LoweredExpressions.{slot_place}
+use Rattle.ob0_run_lowering.specs.OperationCodes.{ExpressionCode, PlaceWithShape, a_block, a_number, a_truth, addition_code, element_of_optional_place, record_field_place, multiplication_code, designator_code, negation_code, no_code, relation_code, signed_term_code}
 use Rattle.ob0_run_lowering.specs.Scenes.{object_of_label, slot_of_label}
 use Rattle.ob0_run_lowering.specs.declared.lowered_expression.TypedPlace.{TypedPlace}
 use Rattle.ob0_run_lowering.specs.declared.lowered_expression.LoweredExpression.{LoweredExpression}
@@ -20,11 +20,11 @@ use Rattle.ob0_run_lowering.specs.declared.lowered_expression.LoweredExpression.
 use Rattle.ob0_run_lowering.specs.declared.scene.Scene.{Scene}
 
 -- converts the code in a `LoweredExpression` to an `ExpressionCode`
-abbrev pub code_of : LoweredExpression → ExpressionCode
-code_of (code.Number n) = a_number (number_of n)
-code_of (code.Truth t) = a_truth (truth_of t)
-code_of (code.Block q n) = a_block (place_of q) n
-code_of code.Nothing = no_code
+abbrev pub expression_code_of : LoweredExpression → ExpressionCode
+expression_code_of (code.Number n) = a_number (number_of n)
+expression_code_of (code.Truth t) = a_truth (truth_of t)
+expression_code_of (code.Block q n) = a_block (place_of q) n
+expression_code_of code.NoCode = no_code
 
 -- converts a `TypedPlace` to a `PlaceWithShape`, given the types of the table of types
 abbrev pub place_with_shape_of : List Shape → TypedPlace → PlaceWithShape
@@ -73,7 +73,7 @@ abbrev mutual
   -- the value at the variable's place.
   pub factor_code : Scene → Tree Label factor → ExpressionCode
   factor_code scene (designator x path) =
-      designator_code (constant_of (object_of_label scene.types.now x))
+      designator_code (value_of_constant_object (object_of_label scene.types.now x))
       (selected_place scene (variable_place_of_label scene x) path)
   factor_code scene (integer n) = a_number (lowered.literal (pos n))
   factor_code scene (parenthesised e) = expression_code scene e

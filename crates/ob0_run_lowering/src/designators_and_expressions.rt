@@ -1,7 +1,7 @@
 //! Lowers designators and expressions. Loops visit the operands of a chain of operators and the
 //! selectors of a designator. Recursion visits nested expressions.
 //!
-//! Code and meaning are separate. `specs/Codes` and `specs/TreeCodes` define the code of a tree by
+//! Code and meaning are separate. `specs/OperationCodes` and `specs/TreeCodes` define the code of a tree by
 //! functions that compute it (`expression_code`), and each function here returns this code. An
 //! induction over trees (`proofs/TreesMean`) shows by the laws of `ob0_run_cells` that this code is
 //! correct for the tree. No proof about a function mentions moments of a run (`Moment`) or cells.
@@ -10,7 +10,7 @@
 //! has types of variables that aren't in scope, and nothing is claimed about these types.
 
 ghost use Rattle.std.specs.Prelude.{◌≡◌, IfOk, Some, option_and_then, option_map, pos};
-ghost use Rattle.ob0_tree.specs.Places.{token_value_at};
+ghost use Rattle.ob0_tree.specs.TokenIndexLeaves.{token_value_at};
 ghost use Rattle.ob0_tree.specs.View.{compound_expression_of, designator_of, expression_of, factor_of, selector_of, simple_expression_of, term_of};
 ghost use Rattle.ob0_tree.specs.declared.tree.Designator.{out-Designator};
 ghost use Rattle.ob0_language_names.specs.Names.{label_text};
@@ -19,19 +19,19 @@ ghost use Rattle.ob0_types_table.specs.DeclarationTableView.{type_shape};
 ghost use Rattle.ob0_language_types.specs.Bindings.{variable_shape};
 ghost use Rattle.ob0_scope_table.specs.LabelledTrees.{tree_with_labels, label_at_token};
 ghost use Rattle.ob0_language_types.specs.DesignatorSelectors.{selectors_of_designator};
-ghost use Rattle.ob0_language_types.specs.Typing.{constant_of};
+ghost use Rattle.ob0_language_types.specs.Typing.{value_of_constant_object};
 ghost use Rattle.ob0_language_values.specs.Scalars.{scalar_value};
-ghost use Rattle.ob0_run_machine.specs.View.{number_of};
+ghost use Rattle.ob0_run_machine.specs.LoweredCodeViews.{number_of};
 ghost use Rattle.ob0_run_lowering.specs.TruthDepths.{IsNotNestedOnLeft};
-ghost use Rattle.ob0_run_lowering.specs.Codes.{a_number, constant_code, element_place_with_shape, element_of_optional_place, record_field_place, code_of_value_at_place, code_of_value_at_optional_place};
+ghost use Rattle.ob0_run_lowering.specs.OperationCodes.{a_number, constant_code, element_place_with_shape, element_of_optional_place, record_field_place, code_of_value_at_place, code_of_value_at_optional_place};
 ghost use Rattle.ob0_run_lowering.specs.Scenes.{object_of_label};
-ghost use Rattle.ob0_run_lowering.specs.TreeCodes.{variable_place_of_label, code_of, expression_code, factor_code, place_with_shape_of, place_after_selector, selected_place, simple_expression_code, term_code};
+ghost use Rattle.ob0_run_lowering.specs.TreeCodes.{variable_place_of_label, expression_code_of, expression_code, factor_code, place_with_shape_of, place_after_selector, selected_place, simple_expression_code, term_code};
 
 use crate::lowered_expression::{LoweredExpression, TypedPlace};
 use crate::operators::{
     lower_addition, lower_multiplication, lower_negation, lower_relation, lower_signed_term,
 };
-use crate::places::{element, number_at_place, shifted_place};
+use crate::places::{number_at_place, place_of_element, shifted_place};
 use crate::scene::Scene;
 use ob0_language_values::Scalar;
 use ob0_run_machine::code::{Number, Truth};
@@ -43,7 +43,7 @@ use ob0_types_table::{Object, TypeId, TypeWithParts, integer_value_at_token};
 use std::alloc::{AllocError, Global};
 
 fn lower_constant(value: Scalar) -> LoweredExpression
-    ensures code { code_of result ≡ constant_code (scalar_value value) }
+    ensures code { expression_code_of result ≡ constant_code (scalar_value value) }
     ensures flat { IsNotNestedOnLeft result }
 {
     match value {
@@ -59,7 +59,7 @@ impl<'s, 'k, 't> Scene<'s, 'k, 't> {
         ensures { option_map (type_shape (shapes_of self.now.types.now)) result
             ≡ variable_shape (object_of_label self.now.types.now (label_at_token self.now.resolved.now name)) }
     {
-        match self.object(name)? {
+        match self.object_at_token(name)? {
             Object::Variable(of) => Some(*of),
             Object::Named(_) => None,
             Object::Constant(_) => None,
@@ -73,9 +73,9 @@ impl<'s, 'k, 't> Scene<'s, 'k, 't> {
     /// refers to no constant.
     fn constant_at_token(&self, name: usize) -> Option<Scalar>
         ensures { option_map scalar_value result
-            ≡ constant_of (object_of_label self.now.types.now (label_at_token self.now.resolved.now name)) }
+            ≡ value_of_constant_object (object_of_label self.now.types.now (label_at_token self.now.resolved.now name)) }
     {
-        match self.object(name)? {
+        match self.object_at_token(name)? {
             Object::Constant(value) => Some(*value),
             Object::Named(_) => None,
             Object::FaultyConstant => None,
@@ -116,7 +116,7 @@ impl<'s, 'k, 't> Scene<'s, 'k, 't> {
         match self.variable_type(name) {
             None => Ok(None),
             Some(type_id) => {
-                let place = self.variable(alloc, name)?;
+                let place = self.variable_place_at_token(alloc, name)?;
                 Ok(Some(TypedPlace { place, type_id }))
             }
         }
@@ -125,7 +125,7 @@ impl<'s, 'k, 't> Scene<'s, 'k, 't> {
     /// Returns the code of the value at a place: a number, a truth, or the cells of an array or a
     /// record.
     fn code_of_value_at_place(&self, at: TypedPlace) -> LoweredExpression
-        ensures code { code_of result
+        ensures code { expression_code_of result
             ≡ code_of_value_at_place (place_with_shape_of (shapes_of self.now.types.now) at).place
             (place_with_shape_of (shapes_of self.now.types.now) at).shape }
         ensures flat { IsNotNestedOnLeft result }
@@ -141,19 +141,19 @@ impl<'s, 'k, 't> Scene<'s, 'k, 't> {
     }
 
     fn code_of_value_at_optional_place(&self, at: Option<TypedPlace>) -> LoweredExpression
-        ensures code { code_of result
+        ensures code { expression_code_of result
             ≡ code_of_value_at_optional_place (option_map (place_with_shape_of (shapes_of self.now.types.now)) at) }
         ensures flat { IsNotNestedOnLeft result }
     {
         match at {
-            None => LoweredExpression::Nothing,
+            None => LoweredExpression::NoCode,
             Some(at) => self.code_of_value_at_place(at),
         }
     }
 
     /// Returns the place of a field of the record at the place `at`. Returns None if the value
     /// there isn't a record or has no such field.
-    fn field(
+    fn field_place(
         &self,
         alloc: Global,
         at: TypedPlace,
@@ -180,7 +180,7 @@ impl<'s, 'k, 't> Scene<'s, 'k, 't> {
 
     /// Returns the place of an element of the array at the place `at`. Returns None if the value
     /// there isn't an array.
-    fn element(
+    fn element_place(
         &self,
         alloc: Global,
         at: TypedPlace,
@@ -195,7 +195,7 @@ impl<'s, 'k, 't> Scene<'s, 'k, 't> {
         match self.types.declarations().parts(type_id) {
             TypeWithParts::Array(array) => {
                 let stride = self.types.size(array.element);
-                let place = element(alloc, place, index, array.length, stride)?;
+                let place = place_of_element(alloc, place, index, array.length, stride)?;
                 Ok(Some(TypedPlace {
                     place,
                     type_id: array.element,
@@ -215,16 +215,16 @@ impl<'s, 'k, 't> Scene<'s, 'k, 't> {
         index: LoweredExpression,
     ) -> Result<Option<TypedPlace>, AllocError>
         ensures { IfOk result (λ o. option_map (place_with_shape_of (shapes_of self.now.types.now)) o
-            ≡ element_of_optional_place (code_of index)
+            ≡ element_of_optional_place (expression_code_of index)
             (option_map (place_with_shape_of (shapes_of self.now.types.now)) at)) }
     {
         match at {
             None => Ok(None),
             Some(at) => match index {
-                LoweredExpression::Number(index) => self.element(alloc, at, index),
+                LoweredExpression::Number(index) => self.element_place(alloc, at, index),
                 LoweredExpression::Truth(_) => Ok(None),
                 LoweredExpression::Block(_, _) => Ok(None),
-                LoweredExpression::Nothing => Ok(None),
+                LoweredExpression::NoCode => Ok(None),
             },
         }
     }
@@ -241,7 +241,7 @@ impl<'s, 'k, 't> Scene<'s, 'k, 't> {
     {
         match at {
             None => Ok(None),
-            Some(at) => self.field(alloc, at, name),
+            Some(at) => self.field_place(alloc, at, name),
         }
     }
 
@@ -252,7 +252,7 @@ impl<'s, 'k, 't> Scene<'s, 'k, 't> {
         alloc: Global,
         e: &Expression,
     ) -> Result<LoweredExpression, AllocError>
-        ensures code { IfOk result (λ l. code_of l
+        ensures code { IfOk result (λ l. expression_code_of l
             ≡ expression_code self.now (tree_with_labels self.now.resolved.now (expression_of e.now))) }
         ensures flat { IfOk result IsNotNestedOnLeft }
     {
@@ -268,7 +268,7 @@ impl<'s, 'k, 't> Scene<'s, 'k, 't> {
         alloc: Global,
         c: &CompoundExpression,
     ) -> Result<LoweredExpression, AllocError>
-        ensures code { IfOk result (λ l. code_of l
+        ensures code { IfOk result (λ l. expression_code_of l
             ≡ expression_code self.now (tree_with_labels self.now.resolved.now (compound_expression_of c.now))) }
         ensures flat { IfOk result IsNotNestedOnLeft }
     {
@@ -289,7 +289,7 @@ impl<'s, 'k, 't> Scene<'s, 'k, 't> {
         alloc: Global,
         s: &SimpleExpression,
     ) -> Result<LoweredExpression, AllocError>
-        ensures code { IfOk result (λ l. code_of l
+        ensures code { IfOk result (λ l. expression_code_of l
             ≡ simple_expression_code self.now (tree_with_labels self.now.resolved.now (simple_expression_of s.now))) }
         ensures flat { IfOk result IsNotNestedOnLeft }
     {
@@ -304,7 +304,7 @@ impl<'s, 'k, 't> Scene<'s, 'k, 't> {
 
     #[cycle(lowering)]
     fn lower_term(&self, alloc: Global, t: &Term) -> Result<LoweredExpression, AllocError>
-        ensures code { IfOk result (λ l. code_of l
+        ensures code { IfOk result (λ l. expression_code_of l
             ≡ term_code self.now (tree_with_labels self.now.resolved.now (term_of t.now))) }
         ensures flat { IfOk result IsNotNestedOnLeft }
     {
@@ -318,7 +318,7 @@ impl<'s, 'k, 't> Scene<'s, 'k, 't> {
 
     #[cycle(lowering)]
     fn lower_factor(&self, alloc: Global, f: &Factor) -> Result<LoweredExpression, AllocError>
-        ensures code { IfOk result (λ l. code_of l
+        ensures code { IfOk result (λ l. expression_code_of l
             ≡ factor_code self.now (tree_with_labels self.now.resolved.now (factor_of f.now))) }
         ensures flat { IfOk result IsNotNestedOnLeft }
     {
@@ -336,14 +336,14 @@ impl<'s, 'k, 't> Scene<'s, 'k, 't> {
     }
 
     /// Returns the code of a designator: the value of a constant, or the value at the place of a
-    /// variable with its selectors. Returns `Nothing` if the designator is neither.
+    /// variable with its selectors. Returns `NoCode` if the designator is neither.
     #[cycle(lowering)]
     fn lower_designator(
         &self,
         alloc: Global,
         d: &Designator,
     ) -> Result<LoweredExpression, AllocError>
-        ensures code { IfOk result (λ l. code_of l
+        ensures code { IfOk result (λ l. expression_code_of l
             ≡ factor_code self.now (tree_with_labels self.now.resolved.now (designator_of d.now))) }
         ensures flat { IfOk result IsNotNestedOnLeft }
     {

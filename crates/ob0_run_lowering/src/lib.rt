@@ -12,23 +12,23 @@
 //! So every tree is accepted and lowered.
 #![tactic(auto)]
 
-mod chains;
-mod contexts;
 mod designators_and_expressions;
-mod expressions;
 mod lowered_assignments;
 mod lowered_calls;
 mod lowered_expression;
+mod lowering_context;
+mod operation_chains;
 mod operators;
 mod places;
 mod programs;
 mod scene;
+mod statement_operands;
 mod statements;
-mod types;
+mod type_layouts;
 mod visible_sites;
 
 pub(crate) use lowered_expression::{LoweredExpression, TypedPlace};
 pub use programs::{Program, lower};
 pub(crate) use scene::{LoweredSite, Scene};
 pub(crate) use statements::lower_body;
-pub(crate) use types::TypeLayouts;
+pub(crate) use type_layouts::TypeLayouts;

@@ -6,12 +6,12 @@ ghost use Rattle.std.specs.Prelude.{◌≡◌, IfOk};
 ghost use Rattle.ob0_tree.specs.View.{assignment_of};
 ghost use Rattle.ob0_scope_table.specs.LabelledTrees.{tree_with_labels};
 ghost use Rattle.ob0_run_machine.specs.LoweredSyntax as machine;
-ghost use Rattle.ob0_run_machine.specs.View.{operation_with_link, number_of, operation_of, place_of, statement_of, truth_of, variable_of};
+ghost use Rattle.ob0_run_machine.specs.LoweredCodeViews.{operation_with_link, number_of, operation_of, place_of, statement_of, truth_of, variable_of};
 ghost use Rattle.ob0_run_lowering.specs.LoweredBodies.{LowersStatement};
 
 use crate::{LoweredExpression, Scene};
 use ob0_run_machine::code::{
-    FirstOperand, Instruction, Link, Number, Operation, Place, Truth, Variable,
+    ChainLink, FirstOperand, Instruction, Number, Operation, Place, Truth, Variable,
 };
 use ob0_tree::Assignment;
 use std::alloc::{AllocError, Global};
@@ -47,12 +47,12 @@ fn variable_assignment(
 
 /// Returns the code that applies a link to a variable's value, and assigns the result to the same
 /// variable.
-fn update_assignment(variable: Variable, link: Link) -> Instruction
+fn update_assignment(variable: Variable, link: ChainLink) -> Instruction
     ensures { statement_of result ≡ machine.stores_number (variable_of variable)
         (operation_with_link link (machine.cell (variable_of variable))) }
 {
     match link {
-        Link::SumWithLiteral(n) => Instruction::Increase(variable, n),
+        ChainLink::SumWithLiteral(n) => Instruction::Increase(variable, n),
         link => Instruction::Update(variable, link),
     }
 }
@@ -89,7 +89,7 @@ fn operation_assignment(
 
 /// Returns the code that assigns TRUE or FALSE to a place. If the place is an element whose array
 /// and index are variables, the code is a single node.
-fn constant_assignment(place: Place, b: bool) -> Instruction
+fn truth_constant_assignment(place: Place, b: bool) -> Instruction
     ensures { statement_of result ≡ machine.stores_truth (place_of place) (machine.constant b) }
 {
     match place {
@@ -103,7 +103,7 @@ fn truth_assignment(place: Place, t: Truth) -> Instruction
     ensures { statement_of result ≡ machine.stores_truth (place_of place) (truth_of t) }
 {
     match t {
-        Truth::Constant(b) => constant_assignment(place, b),
+        Truth::Constant(b) => truth_constant_assignment(place, b),
         other => Instruction::StoreTruth(place, other),
     }
 }
@@ -123,6 +123,6 @@ pub(crate) fn lower_assignment(
         LoweredExpression::Number(n) => number_assignment(alloc, target.place, n),
         LoweredExpression::Truth(t) => Ok(truth_assignment(target.place, t)),
         LoweredExpression::Block(from, cells) => Ok(Instruction::Copy(target.place, from, cells)),
-        LoweredExpression::Nothing => Ok(Instruction::WriteLine),
+        LoweredExpression::NoCode => Ok(Instruction::WriteLine),
     }
 }

@@ -12,11 +12,11 @@ ghost use Rattle.ob0_tree.specs.View.{arguments_of, call_of};
 ghost use Rattle.ob0_tree.specs.Tree.{calls};
 ghost use Rattle.ob0_language_names.specs.Names.{Label};
 ghost use Rattle.ob0_types_table.specs.DeclarationTables.{shapes_of};
-ghost use Rattle.ob0_types_table.specs.DeclarationTableView.{formal_view, standard_procedure_of};
+ghost use Rattle.ob0_types_table.specs.DeclarationTableView.{formal_parameter_view, standard_procedure_of};
 ghost use Rattle.ob0_types_table.specs.Designators.{labelled_expressions};
 ghost use Rattle.ob0_scope_table.specs.LabelledTrees.{tree_with_labels, label_at_token};
 ghost use Rattle.ob0_language_types.specs.Expressions.{a_procedure, a_standard_procedure, read_procedure, write_procedure};
-ghost use Rattle.ob0_run_machine.specs.View.{argument_of, statement_of};
+ghost use Rattle.ob0_run_machine.specs.LoweredCodeViews.{argument_of, statement_of};
 ghost use Rattle.ob0_run_lowering.specs.Scenes.{object_of_label};
 ghost use Rattle.ob0_run_lowering.specs.LoweredBodies.{LowersArguments, LowersStatement, arguments_or_empty_list};
 
@@ -37,7 +37,7 @@ pub(crate) fn lower_call_statement(
     ensures { IfOk result (λ made. LowersStatement scene.now (statement_of made)
         (tree_with_labels scene.now.resolved.now (call_of c.now))) }
 {
-    match scene.object(c.procedure) {
+    match scene.object_at_token(c.procedure) {
         None => Ok(Instruction::WriteLine),
         Some(object) => match object {
             Object::Procedure(formals) => lower_procedure_call(alloc, scene, c, formals.as_slice()),
@@ -64,12 +64,12 @@ fn lower_procedure_call(
 ) -> Result<Instruction, AllocError>
     ensures { IfOk result (λ made. object_of_label scene.now.types.now
         (label_at_token scene.now.resolved.now c.now.procedure)
-        ≡ Some (a_procedure (map (formal_view (shapes_of scene.now.types.now)) formals.now))
+        ≡ Some (a_procedure (map (formal_parameter_view (shapes_of scene.now.types.now)) formals.now))
         → LowersStatement scene.now (statement_of made)
         (tree_with_labels scene.now.resolved.now (call_of c.now))) }
 {
     let arguments = lower_arguments(alloc, scene, formals, &c.arguments)?;
-    let target = scene.target(c.procedure);
+    let target = scene.call_target_at_token(c.procedure);
     Ok(Instruction::Call(code::ProcedureCall {
         procedure: target.procedure,
         up: target.up,
@@ -86,7 +86,7 @@ fn lower_arguments(
     given: &Option<Vec<Expression>>,
 ) -> Result<Vec<Argument>, AllocError>
     ensures { IfOk result (λ made. LowersArguments scene.now
-        (map (formal_view (shapes_of scene.now.types.now)) formals.now) (map argument_of made.items)
+        (map (formal_parameter_view (shapes_of scene.now.types.now)) formals.now) (map argument_of made.items)
         (labelled_expressions scene.now.resolved.now (arguments_or_empty_list given.now))) }
 {
     match given {
@@ -102,7 +102,7 @@ fn lower_argument_list(
     given: &Vec<Expression>,
 ) -> Result<Vec<Argument>, AllocError>
     ensures { IfOk result (λ made. LowersArguments scene.now
-        (map (formal_view (shapes_of scene.now.types.now)) formals.now) (map argument_of made.items)
+        (map (formal_parameter_view (shapes_of scene.now.types.now)) formals.now) (map argument_of made.items)
         (labelled_expressions scene.now.resolved.now given.now.items)) }
 {
     let mut made = Vec::new(alloc);

@@ -12,7 +12,7 @@ pub enum LoweredExpression {
     Block(Place, usize),
     /// No code. Each expression of a well-typed module has code. If code is needed in this case,
     /// lowering uses 0 as a number, FALSE as a truth, and the module's first cell as a place.
-    Nothing,
+    NoCode,
 }
 
 /// The place of a designator in lowered code, and the type of the value there.

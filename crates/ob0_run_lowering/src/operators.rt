@@ -3,16 +3,18 @@
 ghost use Rattle.std.specs.Prelude.{◌≡◌, IfOk, Some};
 ghost use Rattle.ob0_tree.specs.declared.tree.Sign.TheVariants as signs;
 ghost use Rattle.ob0_run_machine.specs.LoweredSyntax as machine;
-ghost use Rattle.ob0_run_machine.specs.View.{number_of, operator_of, truth_of};
-ghost use Rattle.ob0_run_cells.specs.Lowering.{relation_of};
-ghost use Rattle.ob0_run_machine.specs.View as view;
-ghost use Rattle.ob0_run_lowering.specs.Codes as codes;
-ghost use Rattle.ob0_run_lowering.specs.Parts.{number_in_code, truth_in_code};
-ghost use Rattle.ob0_run_lowering.specs.TruthDepths.{WholeIsNoDeeperThanLeft, IsNotNestedOnLeft, and_depth, or_depth};
-ghost use Rattle.ob0_run_lowering.specs.TreeCodes.{code_of};
+ghost use Rattle.ob0_run_machine.specs.LoweredCodeViews.{number_of, operator_of, truth_of};
+ghost use Rattle.ob0_run_cells.specs.LoweredExpressions.{relation_of};
+ghost use Rattle.ob0_run_machine.specs.LoweredCodeViews as view;
+ghost use Rattle.ob0_run_lowering.specs.OperationCodes as codes;
+ghost use Rattle.ob0_run_lowering.specs.CodeParts.{number_in_code, truth_in_code};
+ghost use Rattle.ob0_run_lowering.specs.TruthDepths.{WholeIsNoDeeperThanLeft, IsNotNestedOnLeft, conjunction_depth, disjunction_depth};
+ghost use Rattle.ob0_run_lowering.specs.TreeCodes.{expression_code_of};
 
-use crate::chains::{conjunction_of_two, disjunction_of_two, negation, operation_on_numbers};
 use crate::lowered_expression::LoweredExpression;
+use crate::operation_chains::{
+    conjunction_of_two_truths, disjunction_of_two_truths, negation, operation_on_numbers,
+};
 use ob0_run_machine::code;
 use ob0_run_machine::code::{
     Number, NumberPair, Operator, Place, Truth, TruthPair, Variable, VariableElement,
@@ -28,7 +30,7 @@ fn number_in_code(operand: LoweredExpression) -> Option<Number>
         LoweredExpression::Number(number) => Some(number),
         LoweredExpression::Truth(_) => None,
         LoweredExpression::Block(_, _) => None,
-        LoweredExpression::Nothing => None,
+        LoweredExpression::NoCode => None,
     }
 }
 
@@ -40,7 +42,7 @@ fn truth_in_code(operand: LoweredExpression) -> Option<Truth>
         LoweredExpression::Truth(truth) => Some(truth),
         LoweredExpression::Number(_) => None,
         LoweredExpression::Block(_, _) => None,
-        LoweredExpression::Nothing => None,
+        LoweredExpression::NoCode => None,
     }
 }
 
@@ -51,14 +53,14 @@ fn lower_number_operation(
     right: LoweredExpression,
 ) -> Result<LoweredExpression, AllocError>
     ensures code { IfOk result
-        (λ l. code_of l ≡ codes.number_operation (operator_of operator) (code_of left) (code_of right)) }
+        (λ l. expression_code_of l ≡ codes.number_operation_code (operator_of operator) (expression_code_of left) (expression_code_of right)) }
     ensures flat { IfOk result (WholeIsNoDeeperThanLeft left) }
 {
     let Some(first) = number_in_code(left) else {
-        return Ok(LoweredExpression::Nothing);
+        return Ok(LoweredExpression::NoCode);
     };
     let Some(second) = number_in_code(right) else {
-        return Ok(LoweredExpression::Nothing);
+        return Ok(LoweredExpression::NoCode);
     };
     let number = operation_on_numbers(alloc, operator, first, second)?;
     Ok(LoweredExpression::Number(number))
@@ -70,16 +72,16 @@ fn lower_conjunction(
     right: LoweredExpression,
 ) -> Result<LoweredExpression, AllocError>
     ensures code { IfOk result
-        (λ l. code_of l ≡ codes.truth_operation machine.both (code_of left) (code_of right)) }
+        (λ l. expression_code_of l ≡ codes.truth_operation_code machine.both (expression_code_of left) (expression_code_of right)) }
     ensures flat { IfOk result (WholeIsNoDeeperThanLeft left) }
 {
     let Some(first) = truth_in_code(left) else {
-        return Ok(LoweredExpression::Nothing);
+        return Ok(LoweredExpression::NoCode);
     };
     let Some(second) = truth_in_code(right) else {
-        return Ok(LoweredExpression::Nothing);
+        return Ok(LoweredExpression::NoCode);
     };
-    let truth = conjunction_of_two(alloc, first, second)?;
+    let truth = conjunction_of_two_truths(alloc, first, second)?;
     Ok(LoweredExpression::Truth(truth))
 }
 
@@ -89,16 +91,16 @@ fn lower_disjunction(
     right: LoweredExpression,
 ) -> Result<LoweredExpression, AllocError>
     ensures code { IfOk result
-        (λ l. code_of l ≡ codes.truth_operation machine.either (code_of left) (code_of right)) }
+        (λ l. expression_code_of l ≡ codes.truth_operation_code machine.either (expression_code_of left) (expression_code_of right)) }
     ensures flat { IfOk result (WholeIsNoDeeperThanLeft left) }
 {
     let Some(first) = truth_in_code(left) else {
-        return Ok(LoweredExpression::Nothing);
+        return Ok(LoweredExpression::NoCode);
     };
     let Some(second) = truth_in_code(right) else {
-        return Ok(LoweredExpression::Nothing);
+        return Ok(LoweredExpression::NoCode);
     };
-    let truth = disjunction_of_two(alloc, first, second)?;
+    let truth = disjunction_of_two_truths(alloc, first, second)?;
     Ok(LoweredExpression::Truth(truth))
 }
 
@@ -109,7 +111,7 @@ pub(crate) fn lower_addition(
     right: LoweredExpression,
 ) -> Result<LoweredExpression, AllocError>
     ensures code { IfOk result
-        (λ l. code_of l ≡ codes.addition_code operator (code_of left) (code_of right)) }
+        (λ l. expression_code_of l ≡ codes.addition_code operator (expression_code_of left) (expression_code_of right)) }
     ensures flat { IfOk result (WholeIsNoDeeperThanLeft left) }
 {
     match operator {
@@ -126,7 +128,7 @@ pub(crate) fn lower_multiplication(
     right: LoweredExpression,
 ) -> Result<LoweredExpression, AllocError>
     ensures code { IfOk result
-        (λ l. code_of l ≡ codes.multiplication_code operator (code_of left) (code_of right)) }
+        (λ l. expression_code_of l ≡ codes.multiplication_code operator (expression_code_of left) (expression_code_of right)) }
     ensures flat { IfOk result (WholeIsNoDeeperThanLeft left) }
 {
     match operator {
@@ -142,27 +144,27 @@ fn lower_unary_minus(
     operand: LoweredExpression,
 ) -> Result<LoweredExpression, AllocError>
     ensures code { IfOk result
-        (λ l. code_of l ≡ codes.signed_term_code (Some signs.Minus) (code_of operand)) }
+        (λ l. expression_code_of l ≡ codes.signed_term_code (Some signs.Minus) (expression_code_of operand)) }
     ensures flat { IfOk result (WholeIsNoDeeperThanLeft operand) }
 {
     match operand {
         LoweredExpression::Number(number) => {
             Ok(LoweredExpression::Number(Number::Negative(Box::new(alloc, number)?)))
         }
-        LoweredExpression::Truth(_) => Ok(LoweredExpression::Nothing),
-        LoweredExpression::Block(_, _) => Ok(LoweredExpression::Nothing),
-        LoweredExpression::Nothing => Ok(LoweredExpression::Nothing),
+        LoweredExpression::Truth(_) => Ok(LoweredExpression::NoCode),
+        LoweredExpression::Block(_, _) => Ok(LoweredExpression::NoCode),
+        LoweredExpression::NoCode => Ok(LoweredExpression::NoCode),
     }
 }
 
 /// Returns the code of a term with the sign `+`, which is the sum of the term and 0. Returns
-/// `Nothing` if the term isn't a number.
+/// `NoCode` if the term isn't a number.
 fn lower_unary_plus(
     alloc: Global,
     operand: LoweredExpression,
 ) -> Result<LoweredExpression, AllocError>
     ensures code { IfOk result
-        (λ l. code_of l ≡ codes.signed_term_code (Some signs.Plus) (code_of operand)) }
+        (λ l. expression_code_of l ≡ codes.signed_term_code (Some signs.Plus) (expression_code_of operand)) }
     ensures flat { IfOk result (WholeIsNoDeeperThanLeft operand) }
 {
     lower_number_operation(
@@ -174,13 +176,13 @@ fn lower_unary_plus(
 }
 
 /// Returns the code of a term with its sign, or the code of the term if there is no sign. Returns
-/// `Nothing` if a term with a sign isn't a number.
+/// `NoCode` if a term with a sign isn't a number.
 pub(crate) fn lower_signed_term(
     alloc: Global,
     sign: Option<Sign>,
     operand: LoweredExpression,
 ) -> Result<LoweredExpression, AllocError>
-    ensures code { IfOk result (λ l. code_of l ≡ codes.signed_term_code sign (code_of operand)) }
+    ensures code { IfOk result (λ l. expression_code_of l ≡ codes.signed_term_code sign (expression_code_of operand)) }
     ensures flat { IfOk result (WholeIsNoDeeperThanLeft operand) }
 {
     match sign {
@@ -196,14 +198,14 @@ pub(crate) fn lower_negation(
     alloc: Global,
     operand: LoweredExpression,
 ) -> Result<LoweredExpression, AllocError>
-    ensures code { IfOk result (λ l. code_of l ≡ codes.negation_code (code_of operand)) }
+    ensures code { IfOk result (λ l. expression_code_of l ≡ codes.negation_code (expression_code_of operand)) }
     ensures flat { IfOk result IsNotNestedOnLeft }
 {
     match operand {
         LoweredExpression::Truth(truth) => Ok(LoweredExpression::Truth(negation(alloc, truth)?)),
-        LoweredExpression::Number(_) => Ok(LoweredExpression::Nothing),
-        LoweredExpression::Block(_, _) => Ok(LoweredExpression::Nothing),
-        LoweredExpression::Nothing => Ok(LoweredExpression::Nothing),
+        LoweredExpression::Number(_) => Ok(LoweredExpression::NoCode),
+        LoweredExpression::Block(_, _) => Ok(LoweredExpression::NoCode),
+        LoweredExpression::NoCode => Ok(LoweredExpression::NoCode),
     }
 }
 
@@ -223,7 +225,7 @@ fn comparator_of(relation: Relation) -> code::Comparator
 /// Returns the code of a comparison of a variable with a literal.
 fn lower_literal_comparison(relation: code::Comparator, variable: Variable, n: i32) -> Truth
     ensures code { truth_of result ≡ view.variable_comparison relation variable (machine.literal n) }
-    ensures flat { (and_depth result ≡ 0) × (or_depth result ≡ 0) }
+    ensures flat { (conjunction_depth result ≡ 0) × (disjunction_depth result ≡ 0) }
 {
     match relation {
         code::Comparator::Less => Truth::VariableLessThanLiteral(variable, n),
@@ -241,7 +243,7 @@ fn lower_variable_comparison(
 ) -> Result<Truth, AllocError>
     ensures code { IfOk result
         (λ t. truth_of t ≡ view.variable_comparison relation variable (number_of right)) }
-    ensures flat { IfOk result (λ t. (and_depth t ≡ 0) × (or_depth t ≡ 0)) }
+    ensures flat { IfOk result (λ t. (conjunction_depth t ≡ 0) × (disjunction_depth t ≡ 0)) }
 {
     match right {
         Number::Literal(n) => Ok(lower_literal_comparison(relation, variable, n)),
@@ -265,7 +267,7 @@ fn lower_cell_comparison(
 ) -> Result<Truth, AllocError>
     ensures code { IfOk result (λ t. truth_of t ≡ machine.related (view.relation_of relation)
         (machine.cell (view.place_of place)) (number_of right)) }
-    ensures flat { IfOk result (λ t. (and_depth t ≡ 0) × (or_depth t ≡ 0)) }
+    ensures flat { IfOk result (λ t. (conjunction_depth t ≡ 0) × (disjunction_depth t ≡ 0)) }
 {
     match place {
         Place::VariableElement(row) => lower_element_comparison(alloc, relation, *row, right),
@@ -285,7 +287,7 @@ fn lower_element_comparison(
 ) -> Result<Truth, AllocError>
     ensures code { IfOk result (λ t. truth_of t ≡ machine.related (view.relation_of relation)
         (machine.cell (view.variable_element_of row)) (number_of right)) }
-    ensures flat { IfOk result (λ t. (and_depth t ≡ 0) × (or_depth t ≡ 0)) }
+    ensures flat { IfOk result (λ t. (conjunction_depth t ≡ 0) × (disjunction_depth t ≡ 0)) }
 {
     match right {
         Number::Variable(variable) => {
@@ -309,7 +311,7 @@ fn lower_number_comparison(
 ) -> Result<Truth, AllocError>
     ensures code { IfOk result (λ t. truth_of t
         ≡ machine.related (relation_of relation) (number_of left) (number_of right)) }
-    ensures flat { IfOk result (λ t. (and_depth t ≡ 0) × (or_depth t ≡ 0)) }
+    ensures flat { IfOk result (λ t. (conjunction_depth t ≡ 0) × (disjunction_depth t ≡ 0)) }
 {
     let relation = comparator_of(relation);
     match left {
@@ -322,14 +324,14 @@ fn lower_number_comparison(
     }
 }
 
-/// Returns the code of `=` or `#` between two truths. Returns `Nothing` for any other relation.
+/// Returns the code of `=` or `#` between two truths. Returns `NoCode` for any other relation.
 fn lower_truth_comparison(
     alloc: Global,
     relation: Relation,
     left: Truth,
     right: Truth,
 ) -> Result<LoweredExpression, AllocError>
-    ensures code { IfOk result (λ l. code_of l
+    ensures code { IfOk result (λ l. expression_code_of l
         ≡ codes.relation_code relation (codes.a_truth (truth_of left)) (codes.a_truth (truth_of right))) }
     ensures flat { IfOk result IsNotNestedOnLeft }
 {
@@ -343,14 +345,14 @@ fn lower_truth_comparison(
             let sides = Box::new(alloc, truths)?;
             Ok(LoweredExpression::Truth(Truth::Different(sides)))
         }
-        Relation::Less => Ok(LoweredExpression::Nothing),
-        Relation::LessEqual => Ok(LoweredExpression::Nothing),
-        Relation::Greater => Ok(LoweredExpression::Nothing),
-        Relation::GreaterEqual => Ok(LoweredExpression::Nothing),
+        Relation::Less => Ok(LoweredExpression::NoCode),
+        Relation::LessEqual => Ok(LoweredExpression::NoCode),
+        Relation::Greater => Ok(LoweredExpression::NoCode),
+        Relation::GreaterEqual => Ok(LoweredExpression::NoCode),
     }
 }
 
-/// Returns the code of a relation between a number and an operand, or `Nothing` if the operand
+/// Returns the code of a relation between a number and an operand, or `NoCode` if the operand
 /// isn't a number.
 fn lower_number_relation(
     alloc: Global,
@@ -358,18 +360,18 @@ fn lower_number_relation(
     left: Number,
     right: LoweredExpression,
 ) -> Result<LoweredExpression, AllocError>
-    ensures code { IfOk result (λ l. code_of l
-        ≡ codes.relation_code relation (codes.a_number (number_of left)) (code_of right)) }
+    ensures code { IfOk result (λ l. expression_code_of l
+        ≡ codes.relation_code relation (codes.a_number (number_of left)) (expression_code_of right)) }
     ensures flat { IfOk result IsNotNestedOnLeft }
 {
     let Some(second) = number_in_code(right) else {
-        return Ok(LoweredExpression::Nothing);
+        return Ok(LoweredExpression::NoCode);
     };
     let truth = lower_number_comparison(alloc, relation, left, second)?;
     Ok(LoweredExpression::Truth(truth))
 }
 
-/// Returns the code of a relation between a truth and an operand. Returns `Nothing` if the operand
+/// Returns the code of a relation between a truth and an operand. Returns `NoCode` if the operand
 /// isn't a truth, or if the relation is neither `=` nor `#`.
 fn lower_truth_relation(
     alloc: Global,
@@ -378,11 +380,11 @@ fn lower_truth_relation(
     right: LoweredExpression,
 ) -> Result<LoweredExpression, AllocError>
     ensures code { IfOk result
-        (λ l. code_of l ≡ codes.relation_code relation (codes.a_truth (truth_of left)) (code_of right)) }
+        (λ l. expression_code_of l ≡ codes.relation_code relation (codes.a_truth (truth_of left)) (expression_code_of right)) }
     ensures flat { IfOk result IsNotNestedOnLeft }
 {
     let Some(second) = truth_in_code(right) else {
-        return Ok(LoweredExpression::Nothing);
+        return Ok(LoweredExpression::NoCode);
     };
     lower_truth_comparison(alloc, relation, left, second)
 }
@@ -394,13 +396,13 @@ pub(crate) fn lower_relation(
     right: LoweredExpression,
 ) -> Result<LoweredExpression, AllocError>
     ensures code { IfOk result
-        (λ l. code_of l ≡ codes.relation_code relation (code_of left) (code_of right)) }
+        (λ l. expression_code_of l ≡ codes.relation_code relation (expression_code_of left) (expression_code_of right)) }
     ensures flat { IfOk result IsNotNestedOnLeft }
 {
     match left {
         LoweredExpression::Number(number) => lower_number_relation(alloc, relation, number, right),
         LoweredExpression::Truth(truth) => lower_truth_relation(alloc, relation, truth, right),
-        LoweredExpression::Block(_, _) => Ok(LoweredExpression::Nothing),
-        LoweredExpression::Nothing => Ok(LoweredExpression::Nothing),
+        LoweredExpression::Block(_, _) => Ok(LoweredExpression::NoCode),
+        LoweredExpression::NoCode => Ok(LoweredExpression::NoCode),
     }
 }

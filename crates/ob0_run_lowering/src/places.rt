@@ -10,10 +10,10 @@
 
 ghost use Rattle.std.specs.Prelude.{◌≡◌, IfOk, length};
 ghost use Rattle.ob0_run_machine.specs.LoweredSyntax as machine;
-ghost use Rattle.ob0_run_machine.specs.View.{chain_of, element_of, first_operand_of, number_of, place_of, variable_element_of, variable_of};
+ghost use Rattle.ob0_run_machine.specs.LoweredCodeViews.{chain_of, element_of, first_operand_of, number_of, place_of, variable_element_of, variable_of};
 ghost use Rattle.ob0_run_machine.specs.declared.code.Chain.{out-Chain};
-ghost use Rattle.ob0_run_cells.specs.Lowering.{place_at_offset};
-ghost use Rattle.ob0_run_lowering.specs.Codes.{place_of_element, known_element_offset};
+ghost use Rattle.ob0_run_cells.specs.LoweredExpressions.{place_at_offset};
+ghost use Rattle.ob0_run_lowering.specs.OperationCodes.{place_of_element, known_element_offset};
 
 use ob0_run_machine::code::{
     Chain, Element, FirstOperand, Number, Place, VarParameterPlace, Variable, VariableElement,
@@ -194,7 +194,7 @@ fn known_element_offset(index: &Number, length: usize, stride: usize) -> Option<
 
 /// Returns the place of an element of the array at a place. If the index is a literal below the
 /// array's length, this is a place at a known offset in the array (`shifted_place`).
-pub(crate) fn element(
+pub(crate) fn place_of_element(
     alloc: Global,
     array: Place,
     index: Number,

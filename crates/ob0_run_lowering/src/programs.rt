@@ -11,10 +11,10 @@ ghost use Rattle.ob0_language_names.specs.Names.{naming_by_label};
 ghost use Rattle.ob0_language_names.specs.Scopes.{numbered};
 ghost use Rattle.ob0_scope_table.specs.LabelledTrees.{tree_with_labels};
 ghost use Rattle.ob0_run_cells.specs.Activations.{ProgramMeansModule};
-ghost use Rattle.ob0_run_machine.specs.View.{program_of};
+ghost use Rattle.ob0_run_machine.specs.LoweredCodeViews.{program_of};
 ghost use Rattle.ob0_run_lowering.specs.Blocks.{LowersProcedures, LowersBlock};
 
-use crate::contexts::LoweringContext;
+use crate::lowering_context::LoweringContext;
 use crate::visible_sites::{Frame, VisibleSites};
 use crate::{LoweredSite, Scene, TypeLayouts, lower_body};
 use ob0_run_machine::code;
@@ -45,7 +45,7 @@ impl Lowering {
     ghost use Rattle.ob0_run_lowering.specs.Scenes.{site_in_table};
     ghost use Rattle.ob0_run_lowering.specs.declared.scene.LoweredSite.TheVariants as site;
     ghost use Rattle.ob0_run_machine.specs.declared.code.Routine as code;
-    ghost use Rattle.ob0_run_lowering.specs.PlacedNames.{HidesMoreSites, sites_after_binding};
+    ghost use Rattle.ob0_run_lowering.specs.PlacedNames.{HidesMoreSites, sites_after_binding_ordinal};
 
     /// Stores the code of a procedure at the procedure's index. Does nothing if the list of
     /// procedures has no such index.
@@ -71,7 +71,7 @@ impl Lowering {
         ensures index { IfOk result (λ i. i ≡ length self.old.procedures.items) }
         ensures sites { IfOk result (λ i. (k : ℕ)
             → site_in_table self.new.visible.sites.items k
-            ≡ sites_after_binding (ordinal_in context.now.resolved.now.ordinals name) (site.Procedure depth i)
+            ≡ sites_after_binding_ordinal (ordinal_in context.now.resolved.now.ordinals name) (site.Procedure depth i)
             (site_in_table self.old.visible.sites.items) k) }
         ensures follows { IfOk result (λ i. HidesMoreSites self.old.visible self.new.visible) }
         ensures pushed { IfOk result (λ i. (e : code.Routine)

@@ -2,12 +2,12 @@
 //! declaration in lowered code.
 
 ghost use Rattle.std.specs.Prelude.{◌≡◌, IfOk};
-ghost use Rattle.ob0_run_machine.specs.View.{place_of};
-ghost use Rattle.ob0_run_cells.specs.Lowering.{slot_place};
-ghost use Rattle.ob0_run_cells.specs.Lowering as slots;
+ghost use Rattle.ob0_run_machine.specs.LoweredCodeViews.{place_of};
+ghost use Rattle.ob0_run_cells.specs.LoweredExpressions.{slot_place};
+ghost use Rattle.ob0_run_cells.specs.LoweredExpressions as slots;
 
 use crate::places::var_parameter_place;
-use crate::types::TypeLayouts;
+use crate::type_layouts::TypeLayouts;
 use ob0_run_machine::code::{Place, Variable};
 use ob0_scope_table::Resolved;
 use ob0_types_table::Object;
@@ -66,11 +66,11 @@ impl<'s, 'k, 't> Scene<'s, 'k, 't> {
     ghost use Rattle.ob0_scope_table.specs.LabelledTrees.{label_at_token};
     ghost use Rattle.ob0_types_table.specs.DeclarationTables.{shapes_of};
     ghost use Rattle.ob0_types_table.specs.DeclarationTableView.{object_view};
-    ghost use Rattle.ob0_run_lowering.specs.Scenes.{object_of_label, place_seen_from, slot_of_label, target_of_label, place_of_label};
+    ghost use Rattle.ob0_run_lowering.specs.Scenes.{object_of_label, place_seen_from_depth, slot_of_label, target_of_label, place_of_label};
 
     /// Returns the object of the declaration that the name at a token refers to, or None if the
     /// name isn't bound.
-    pub fn object(&self, name: usize) -> Option<&'k Object>
+    pub fn object_at_token(&self, name: usize) -> Option<&'k Object>
         ensures { option_and_then (λ o. object_view (shapes_of self.now.types.now) o.now) result
             ≡ object_of_label self.now.types.now (label_at_token self.now.resolved.now name) }
     {
@@ -80,8 +80,8 @@ impl<'s, 'k, 't> Scene<'s, 'k, 't> {
 
     /// Returns the site of the declaration that the name at a token refers to. Returns `Nowhere` if
     /// the name is unbound, or if its declaration has no site.
-    fn site(&self, name: usize) -> LoweredSite
-        ensures { place_seen_from self.now.depth result
+    fn site_at_token(&self, name: usize) -> LoweredSite
+        ensures { place_seen_from_depth self.now.depth result
             ≡ place_of_label self.now (label_at_token self.now.resolved.now name) }
     {
         match self.resolved.ordinal_at(name) {
@@ -95,11 +95,11 @@ impl<'s, 'k, 't> Scene<'s, 'k, 't> {
 
     /// Returns the target of a call of the procedure that the name at a token refers to. The call
     /// is in the scene's body. For any other name, the target is index 0, and 0 levels out.
-    pub fn target(&self, name: usize) -> CallTarget
+    pub fn call_target_at_token(&self, name: usize) -> CallTarget
         ensures { record { procedure = result.procedure; up = result.up }
             ≡ target_of_label self.now (label_at_token self.now.resolved.now name) }
     {
-        match self.site(name) {
+        match self.site_at_token(name) {
             LoweredSite::Procedure { depth, index } => CallTarget {
                 procedure: index,
                 up: self.depth.saturating_sub(depth),
@@ -113,11 +113,15 @@ impl<'s, 'k, 't> Scene<'s, 'k, 't> {
 
     /// Returns the place by which code in the scene's body finds the variable that the name at a
     /// token refers to. For any other name, this is the module's first cell.
-    pub(crate) fn variable(&self, alloc: Global, name: usize) -> Result<Place, AllocError>
+    pub(crate) fn variable_place_at_token(
+        &self,
+        alloc: Global,
+        name: usize,
+    ) -> Result<Place, AllocError>
         ensures { IfOk result (λ p. place_of p
             ≡ slot_place (slot_of_label self.now (label_at_token self.now.resolved.now name))) }
     {
-        match self.site(name) {
+        match self.site_at_token(name) {
             LoweredSite::InModule(offset) => Ok(Place::Variable(Variable::InModule(offset))),
             LoweredSite::InActivation { depth, offset } => {
                 Ok(place_in_activation(self.depth.saturating_sub(depth), offset))

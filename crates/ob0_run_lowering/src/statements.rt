@@ -9,7 +9,7 @@ ghost use Rattle.std.specs.Prelude.{◌≡◌, ◌++◌, IfOk, OnOk, option_map,
 ghost use Rattle.ob0_tree.specs.View as view;
 ghost use Rattle.ob0_tree.specs.View.{body_of, if_of, sequence_of_vec};
 ghost use Rattle.ob0_scope_table.specs.LabelledTrees.{tree_with_labels};
-ghost use Rattle.ob0_run_machine.specs.View.{sequence_of, statement_of};
+ghost use Rattle.ob0_run_machine.specs.LoweredCodeViews.{sequence_of, statement_of};
 ghost use Rattle.ob0_run_lowering.specs.LoweredBodies.{LowersBody, LowersOptionalStatement, LowersSequence, LowersStatement};
 
 use crate::Scene;

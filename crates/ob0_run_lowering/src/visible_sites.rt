@@ -12,7 +12,7 @@ ghost use Rattle.ob0_run_lowering.specs.Scenes.{site_in_table};
 ghost use Rattle.ob0_run_lowering.specs.PlacedNames.{IsSiteOfNextVariable};
 
 use crate::LoweredSite;
-use crate::contexts::LoweringContext;
+use crate::lowering_context::LoweringContext;
 use ob0_tree::{Names as NameList, ParameterSection, VariableDeclaration};
 use std::alloc::{AllocError, Global};
 
@@ -74,10 +74,10 @@ impl Frame {
 impl VisibleSites {
     ghost use Rattle.std.specs.Prelude.{[], Some};
     ghost use Rattle.ob0_tree.specs.View.{formals_of, items_of, parameter_section_after_semicolon_of, names_of, variable_of, variable_section_of};
-    ghost use Rattle.ob0_language_names.specs.BlockParts.{formal_sections, names_in_list, section_variables};
+    ghost use Rattle.ob0_language_names.specs.BlockParts.{formal_parameter_sections, names_in_list, section_variables};
     ghost use Rattle.ob0_scope_table.specs.LabelledTrees.{tree_with_labels, label_at_token};
     ghost use Rattle.ob0_run_cells.specs.Activations.{add_name_to_placement};
-    ghost use Rattle.ob0_run_lowering.specs.PlacedNames.{HidesMoreSites, HiddenSitesAreRestored, PlacesNames, declared_size, add_declared_names_to_placement, sites_after_binding, variable_slot_at_depth};
+    ghost use Rattle.ob0_run_lowering.specs.PlacedNames.{HidesMoreSites, HiddenSitesAreRestored, AddsNamesToSitesAndFrame, declared_size, add_declared_names_to_placement, sites_after_binding_ordinal, variable_slot_at_depth};
     ghost use Rattle.ob0_run_lowering.specs.PlacedNames as placed;
     ghost use Rattle.ob0_types_table.specs.DeclarationTableView.{mode_from_flag};
 
@@ -133,7 +133,7 @@ impl VisibleSites {
     fn bind_ordinal(&mut self, ordinal: usize, site: LoweredSite) -> Result<(), AllocError>
         ensures sites { OnOk result ((k : ℕ)
             → site_in_table self.new.sites.items k
-            ≡ sites_after_binding (Some ordinal) site (site_in_table self.old.sites.items) k) }
+            ≡ sites_after_binding_ordinal (Some ordinal) site (site_in_table self.old.sites.items) k) }
         ensures follows { OnOk result (HidesMoreSites self.old self.new) }
     {
         self.extend_to_ordinal(ordinal)?;
@@ -155,7 +155,7 @@ impl VisibleSites {
     ) -> Result<(), AllocError>
         ensures sites { OnOk result ((k : ℕ)
             → site_in_table self.new.sites.items k
-            ≡ sites_after_binding ordinal site (site_in_table self.old.sites.items) k) }
+            ≡ sites_after_binding_ordinal ordinal site (site_in_table self.old.sites.items) k) }
         ensures follows { OnOk result (HidesMoreSites self.old self.new) }
     {
         match ordinal {
@@ -199,7 +199,7 @@ impl VisibleSites {
         by_place: bool,
         name: usize,
     ) -> Result<Frame, AllocError>
-        ensures { IfOk result (PlacesNames self.old self.new frame (add_name_to_placement (variable_slot_at_depth frame.depth)
+        ensures { IfOk result (AddsNamesToSitesAndFrame self.old self.new frame (add_name_to_placement (variable_slot_at_depth frame.depth)
             (mode_from_flag by_place) (label_at_token context.now.resolved.now name)
             (declared_size context.now.types.now (label_at_token context.now.resolved.now name)))) }
     {
@@ -235,7 +235,7 @@ impl VisibleSites {
         by_place: bool,
         names: &NameList,
     ) -> Result<Frame, AllocError>
-        ensures { IfOk result (PlacesNames self.old self.new frame (add_declared_names_to_placement (variable_slot_at_depth frame.depth)
+        ensures { IfOk result (AddsNamesToSitesAndFrame self.old self.new frame (add_declared_names_to_placement (variable_slot_at_depth frame.depth)
             (declared_size context.now.types.now) (mode_from_flag by_place)
             (names_in_list (tree_with_labels context.now.resolved.now (names_of names.now))))) }
     {
@@ -252,7 +252,7 @@ impl VisibleSites {
         frame: Frame,
         groups: &[VariableDeclaration],
     ) -> Result<Frame, AllocError>
-        ensures { IfOk result (PlacesNames self.old self.new frame (placed.place_variable_declarations
+        ensures { IfOk result (AddsNamesToSitesAndFrame self.old self.new frame (placed.place_variable_declarations
             (variable_slot_at_depth frame.depth) (declared_size context.now.types.now)
             (tree_with_labels context.now.resolved.now (items_of variable_of groups.now)))) }
     {
@@ -271,7 +271,7 @@ impl VisibleSites {
         frame: Frame,
         section: &Option<Vec<VariableDeclaration>>,
     ) -> Result<Frame, AllocError>
-        ensures { IfOk result (PlacesNames self.old self.new frame (placed.place_variable_declarations
+        ensures { IfOk result (AddsNamesToSitesAndFrame self.old self.new frame (placed.place_variable_declarations
             (variable_slot_at_depth frame.depth) (declared_size context.now.types.now)
             (section_variables (tree_with_labels context.now.resolved.now (variable_section_of section.now))))) }
     {
@@ -287,7 +287,7 @@ impl VisibleSites {
         frame: Frame,
         sections: &[ParameterSection],
     ) -> Result<Frame, AllocError>
-        ensures { IfOk result (PlacesNames self.old self.new frame (placed.place_parameter_sections
+        ensures { IfOk result (AddsNamesToSitesAndFrame self.old self.new frame (placed.place_parameter_sections
             (variable_slot_at_depth frame.depth) (declared_size context.now.types.now)
             (tree_with_labels context.now.resolved.now (items_of parameter_section_after_semicolon_of sections.now)))) }
     {
@@ -311,9 +311,9 @@ impl VisibleSites {
         frame: Frame,
         formals: &Option<Vec<ParameterSection>>,
     ) -> Result<Frame, AllocError>
-        ensures { IfOk result (PlacesNames self.old self.new frame (placed.place_parameter_sections
+        ensures { IfOk result (AddsNamesToSitesAndFrame self.old self.new frame (placed.place_parameter_sections
             (variable_slot_at_depth frame.depth) (declared_size context.now.types.now)
-            (formal_sections (tree_with_labels context.now.resolved.now (formals_of formals.now))))) }
+            (formal_parameter_sections (tree_with_labels context.now.resolved.now (formals_of formals.now))))) }
     {
         match formals {
             None => self.place_parameter_sections(context, frame, &[]),

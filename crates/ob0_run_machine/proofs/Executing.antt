@@ -18,17 +18,17 @@ use Rattle.ob0_run_machine.specs.Allocations.{has_failed}
 use Rattle.ob0_run_machine.specs.StepOutcomes.{end_of_stop_reason, end_of}
 use Rattle.ob0_run_machine.specs.declared.code.Variable.{Variable}
 use Rattle.ob0_run_machine.specs.declared.code.Comparator.TheVariants as relation
-use Rattle.ob0_run_machine.specs.Evaluation.{Halt, Levels, StepResult, TurnBound, address, cell_at, compare, ends, gives, number, truth, ◌>>=◌}
-use Rattle.ob0_run_machine.specs.Execution.{CallEffect, CallArguments, MachineProgress, MachineState, choose_by_truth, levels_in_call, execute, execute_sequence, execute_branches, continue_with, no_room, pass_arguments, running, stopped, execute_while, execute_repeat, continue_with_result}
+use Rattle.ob0_run_machine.specs.Evaluation.{MachineEnd, Levels, StepResult, TurnBound, place_address, cell_at, compare, ends, gives, number_value, truth_value, ◌>>=◌}
+use Rattle.ob0_run_machine.specs.Execution.{CallEffect, CallArguments, MachineProgress, MachineState, choose_by_truth, levels_in_call, execute, execute_sequence, execute_branches, continue_run, no_room, pass_arguments, running, stopped, execute_while, execute_repeat, continue_with_result}
 use Rattle.ob0_run_machine.specs.LoweredSyntax as lowered
-use Rattle.ob0_run_machine.specs.Machines.{StepHasEffect, CodeEffect, PerformsCalls, CallPostcondition, IsProgressAfterStep, StopsRun, StopsArgumentPassing, statement_effect, sequence_effect, elsifs_effect, procedure_entry_effect, output_items, passed_arguments, state_of}
-use Rattle.ob0_run_machine.specs.View.{branches_of_list, argument_of, conditional_of, call_of, variable_comparison, variable_increase, elsif_branches, else_statements, repeat_of, sequence_of, statement_of, truth_of, variable_of}
+use Rattle.ob0_run_machine.specs.Machines.{StepHasEffect, CodeEffect, CallsHaveEffect, CallPostcondition, IsProgressAfterStep, StopsRun, StopsArgumentPassing, statement_effect, sequence_effect, elsifs_effect, procedure_entry_effect, output_items, passed_arguments, state_of}
+use Rattle.ob0_run_machine.specs.LoweredCodeViews.{branches_of_list, argument_of, conditional_of, call_of, variable_comparison, variable_increase, elsif_branches, else_statements, repeat_of, sequence_of, statement_of, truth_of, variable_of}
 
-stopped_then : (o : Option Halt) (m : Machine) (p : MachineProgress) (k : MachineState → MachineProgress) → StopsRun o m p → StopsRun o m (continue_with p k)
-stopped_then (Some x) m p k h = ap (λ p. continue_with p k) h
+stopped_then : (o : Option MachineEnd) (m : Machine) (p : MachineProgress) (k : MachineState → MachineProgress) → StopsRun o m p → StopsRun o m (continue_run p k)
+stopped_then (Some x) m p k h = ap (λ p. continue_run p k) h
 stopped_then None m p k h = h
 
-failed_then : (e : StopReason) (m : Machine) (p : MachineProgress) (k : MachineState → MachineProgress) → IsProgressAfterStep (Err e) m p → IsProgressAfterStep (Err e) m (continue_with p k)
+failed_then : (e : StopReason) (m : Machine) (p : MachineProgress) (k : MachineState → MachineProgress) → IsProgressAfterStep (Err e) m p → IsProgressAfterStep (Err e) m (continue_run p k)
 failed_then e = stopped_then (end_of_stop_reason e)
 
 -- the exit of a `?`
@@ -37,7 +37,7 @@ leaving {post = post} {r = r} {m = m} {m' = m'} {f = f} q h = subst (λ r. StepH
 
 -- what is done ends the run so
 abbrev pub EndsRun : CallPostcondition → EvaluationFault → Machine → Machine → CodeEffect → Type 0
-EndsRun post e m m' f = (enters : CallEffect) → PerformsCalls post enters → f enters (state_of m) ≡ stopped (end_of e) (output_items m'.output.items)
+EndsRun post e m m' f = (enters : CallEffect) → CallsHaveEffect post enters → f enters (state_of m) ≡ stopped (end_of e) (output_items m'.output.items)
 
 -- the exit of a `?` at what ends the run
 pub ending_by : {post : CallPostcondition} {r : Result (Unit {0}) StopReason} {m m' : Machine} {f : CodeEffect} (e : EvaluationFault) → (y : StopReason) × (r ≡ Err y) × (end_of_stop_reason y ≡ Some (end_of e))
@@ -55,10 +55,10 @@ does_statement {post = post} {r = r} {m = m} {m' = m'} t ls e h = subst (λ a. S
 
 -- what was executed so far, with what is left, is the whole
 pub record InSequence (post : CallPostcondition) (start now : Machine) (t : ℕ) (ls : Levels) (xs : List Instruction) (k : ℕ) : Type 0 where
-  pub so_far : (enters : CallEffect) → PerformsCalls post enters → execute_sequence enters t ls (sequence_of xs) (state_of start) ≡ execute_sequence enters t ls (sequence_of (drop k xs)) (state_of now)
+  pub so_far : (enters : CallEffect) → CallsHaveEffect post enters → execute_sequence enters t ls (sequence_of xs) (state_of start) ≡ execute_sequence enters t ls (sequence_of (drop k xs)) (state_of now)
 
 execute-next : (enters : CallEffect) (t : ℕ) (ls : Levels) (xs : List Instruction) (k : ℕ) (x : Instruction) (s : MachineState) → k < length xs → x ≡ get_or xs k x
-    → execute_sequence enters t ls (sequence_of (drop k xs)) s ≡ continue_with (execute enters t ls (statement_of x) s) (execute_sequence enters t ls (sequence_of (drop (k + 1) xs)))
+    → execute_sequence enters t ls (sequence_of (drop k xs)) s ≡ continue_run (execute enters t ls (statement_of x) s) (execute_sequence enters t ls (sequence_of (drop (k + 1) xs)))
 unfolding execute
 execute-next enters t ls xs k x s less is = ap (λ ys. execute_sequence enters t ls (sequence_of ys) s) (drop_more xs k x less ∙ ap (λ z. z ∷ drop (k + 1) xs) (sym is))
 
@@ -73,7 +73,7 @@ pub sequence_on : {post : CallPostcondition} {start now m : Machine} {t : ℕ} {
     → StepHasEffect post (Ok u) now m (statement_effect t ls (statement_of x)) → InSequence post start m t ls xs (k + 1)
 sequence_on {now = now} {t = t} {ls = ls} {xs = xs} {k = k} u x c less is h = record {
   so_far = λ enters p.
-      c.so_far enters p ∙ execute-next enters t ls xs k x (state_of now) less is ∙ ap (λ q. continue_with q (execute_sequence enters t ls (sequence_of (drop (k + 1) xs)))) (h.has_effect enters p);
+      c.so_far enters p ∙ execute-next enters t ls xs k x (state_of now) less is ∙ ap (λ q. continue_run q (execute_sequence enters t ls (sequence_of (drop (k + 1) xs)))) (h.has_effect enters p);
 }
 
 pub sequence_fails : {post : CallPostcondition} {start now m : Machine} {t : ℕ} {ls : Levels} {xs : List Instruction} {k : ℕ} (e : StopReason) (x : Instruction) → InSequence post start now t ls xs k → k < length xs → x ≡ get_or xs k x
@@ -93,10 +93,10 @@ abbrev pub from_branches : CallEffect → ℕ → Levels → Conditional → Lis
 from_branches enters t ls i bs = execute_branches enters t ls (branches_of_list bs) (execute_sequence enters t ls (else_statements i))
 
 pub record InBranches (post : CallPostcondition) (start now : Machine) (t : ℕ) (ls : Levels) (i : Conditional) (xs : List Branch) (k : ℕ) : Type 0 where
-  pub so_far : (enters : CallEffect) → PerformsCalls post enters → elsifs_effect t ls (elsif_branches i) (else_statements i) enters (state_of start) ≡ from_branches enters t ls i (drop k xs) (state_of now)
+  pub so_far : (enters : CallEffect) → CallsHaveEffect post enters → elsifs_effect t ls (elsif_branches i) (else_statements i) enters (state_of start) ≡ from_branches enters t ls i (drop k xs) (state_of now)
 
 branch-next : (enters : CallEffect) (t : ℕ) (ls : Levels) (i : Conditional) (xs : List Branch) (k : ℕ) (x : Branch) (s : MachineState) → k < length xs → x ≡ get_or xs k x
-    → from_branches enters t ls i (drop k xs) s ≡ choose_by_truth s (truth ls s.cells (truth_of x.condition)) (execute_sequence enters t ls (sequence_of x.body.items)) (from_branches enters t ls i (drop (k + 1) xs))
+    → from_branches enters t ls i (drop k xs) s ≡ choose_by_truth s (truth_value ls s.cells (truth_of x.condition)) (execute_sequence enters t ls (sequence_of x.body.items)) (from_branches enters t ls i (drop (k + 1) xs))
 unfolding execute
 branch-next enters t ls i xs k x s less is = ap (λ ys. from_branches enters t ls i ys s) (drop_more xs k x less ∙ ap (λ z. z ∷ drop (k + 1) xs) (sym is))
 
@@ -108,20 +108,20 @@ pub branches_begin : {post : CallPostcondition} {start : Machine} {t : ℕ} {ls 
 branches_begin {start = start} {t = t} {ls = ls} {i = i} same = record { so_far = λ enters p. ap (λ ys. from_branches enters t ls i ys (state_of start)) (sym same) }
 
 pub branches_on : {post : CallPostcondition} {start now : Machine} {t : ℕ} {ls : Levels} {i : Conditional} {xs : List Branch} {k : ℕ} (x : Branch) → InBranches post start now t ls i xs k → k < length xs → x ≡ get_or xs k x
-    → gives false ≡ truth ls now.cells.items (truth_of x.condition) → InBranches post start now t ls i xs (k + 1)
+    → gives false ≡ truth_value ls now.cells.items (truth_of x.condition) → InBranches post start now t ls i xs (k + 1)
 branches_on {now = now} {t = t} {ls = ls} {i = i} {xs = xs} {k = k} x c less is h = record {
   so_far = λ enters p. c.so_far enters p ∙ branch-next enters t ls i xs k x (state_of now) less is
       ∙ ap (λ o. choose_by_truth (state_of now) o (execute_sequence enters t ls (sequence_of x.body.items)) (from_branches enters t ls i (drop (k + 1) xs))) (sym h);
 }
 
 pub branches_fail : {post : CallPostcondition} {start now : Machine} {t : ℕ} {ls : Levels} {i : Conditional} {xs : List Branch} {k : ℕ} (e : EvaluationFault) (x : Branch) → InBranches post start now t ls i xs k → k < length xs → x ≡ get_or xs k x
-    → ends (end_of e) ≡ truth ls now.cells.items (truth_of x.condition) → EndsRun post e start now (elsifs_effect t ls (elsif_branches i) (else_statements i))
+    → ends (end_of e) ≡ truth_value ls now.cells.items (truth_of x.condition) → EndsRun post e start now (elsifs_effect t ls (elsif_branches i) (else_statements i))
 branches_fail {now = now} {t = t} {ls = ls} {i = i} {xs = xs} {k = k} e x c less is h = λ enters p.
     c.so_far enters p ∙ branch-next enters t ls i xs k x (state_of now) less is
     ∙ ap (λ o. choose_by_truth (state_of now) o (execute_sequence enters t ls (sequence_of x.body.items)) (from_branches enters t ls i (drop (k + 1) xs))) (sym h)
 
 pub branch_taken : {post : CallPostcondition} {start now m : Machine} {t : ℕ} {ls : Levels} {i : Conditional} {xs : List Branch} {k : ℕ} (r : Result (Unit {0}) StopReason) (ss : List Instruction) (x : Branch) → InBranches post start now t ls i xs k → k < length xs → x ≡ get_or xs k x
-    → gives true ≡ truth ls now.cells.items (truth_of x.condition) → ss ≡ x.body.items → StepHasEffect post r now m (sequence_effect t ls (sequence_of ss)) → StepHasEffect post r start m (elsifs_effect t ls (elsif_branches i) (else_statements i))
+    → gives true ≡ truth_value ls now.cells.items (truth_of x.condition) → ss ≡ x.body.items → StepHasEffect post r now m (sequence_effect t ls (sequence_of ss)) → StepHasEffect post r start m (elsifs_effect t ls (elsif_branches i) (else_statements i))
 branch_taken {now = now} {m = m} {t = t} {ls = ls} {i = i} {xs = xs} {k = k} r ss x c less is h same d = record {
   has_effect = λ enters p.
       subst (IsProgressAfterStep r m) (sym (c.so_far enters p ∙ branch-next enters t ls i xs k x (state_of now) less is
@@ -141,30 +141,30 @@ branches_end {now = now} {m = m} {t = t} {ls = ls} {i = i} {xs = xs} {k = k} r s
 abbrev if_chosen : CallEffect → ℕ → Levels → Conditional → MachineState → StepResult Bool → MachineProgress
 if_chosen enters t ls i s o = choose_by_truth s o (execute_sequence enters t ls (sequence_of (out-Conditional i).body.items)) (elsifs_effect t ls (elsif_branches i) (else_statements i) enters)
 
-if-goes : (enters : CallEffect) (t : ℕ) (ls : Levels) (i : Conditional) (s : MachineState) (o : StepResult Bool) → o ≡ truth ls s.cells (truth_of (out-Conditional i).condition) → execute enters t ls (conditional_of i) s ≡ if_chosen enters t ls i s o
+if-goes : (enters : CallEffect) (t : ℕ) (ls : Levels) (i : Conditional) (s : MachineState) (o : StepResult Bool) → o ≡ truth_value ls s.cells (truth_of (out-Conditional i).condition) → execute enters t ls (conditional_of i) s ≡ if_chosen enters t ls i s o
 unfolding execute
 if-goes enters t ls i s o h = ap (if_chosen enters t ls i s) (sym h)
 
-pub if_fails : {post : CallPostcondition} (m : Machine) (t : ℕ) (ls : Levels) (i : Conditional) (e : EvaluationFault) → ends (end_of e) ≡ truth ls m.cells.items (truth_of (out-Conditional i).condition) → EndsRun post e m m (statement_effect t ls (conditional_of i))
+pub if_fails : {post : CallPostcondition} (m : Machine) (t : ℕ) (ls : Levels) (i : Conditional) (e : EvaluationFault) → ends (end_of e) ≡ truth_value ls m.cells.items (truth_of (out-Conditional i).condition) → EndsRun post e m m (statement_effect t ls (conditional_of i))
 if_fails m t ls i e h = λ enters p. if-goes enters t ls i (state_of m) (ends (end_of e)) h
 
-pub if_taken : {post : CallPostcondition} {m m' : Machine} (t : ℕ) (ls : Levels) (i : Conditional) (r : Result (Unit {0}) StopReason) (ss : List Instruction) → gives true ≡ truth ls m.cells.items (truth_of (out-Conditional i).condition)
+pub if_taken : {post : CallPostcondition} {m m' : Machine} (t : ℕ) (ls : Levels) (i : Conditional) (r : Result (Unit {0}) StopReason) (ss : List Instruction) → gives true ≡ truth_value ls m.cells.items (truth_of (out-Conditional i).condition)
     → ss ≡ (out-Conditional i).body.items → StepHasEffect post r m m' (sequence_effect t ls (sequence_of ss)) → StepHasEffect post r m m' (statement_effect t ls (conditional_of i))
 if_taken {m = m} {m' = m'} t ls i r ss h same d = record {
   has_effect = λ enters p. subst (IsProgressAfterStep r m') (sym (if-goes enters t ls i (state_of m) (gives true) h ∙ ap (λ ss. execute_sequence enters t ls (sequence_of ss) (state_of m)) (sym same))) (d.has_effect enters p);
 }
 
-pub if_passed : {post : CallPostcondition} {m m' : Machine} (t : ℕ) (ls : Levels) (i : Conditional) (r : Result (Unit {0}) StopReason) → gives false ≡ truth ls m.cells.items (truth_of (out-Conditional i).condition)
+pub if_passed : {post : CallPostcondition} {m m' : Machine} (t : ℕ) (ls : Levels) (i : Conditional) (r : Result (Unit {0}) StopReason) → gives false ≡ truth_value ls m.cells.items (truth_of (out-Conditional i).condition)
     → StepHasEffect post r m m' (elsifs_effect t ls (elsif_branches i) (else_statements i)) → StepHasEffect post r m m' (statement_effect t ls (conditional_of i))
 if_passed {m = m} {m' = m'} t ls i r h d = record { has_effect = λ enters p. subst (IsProgressAfterStep r m') (sym (if-goes enters t ls i (state_of m) (gives false) h)) (d.has_effect enters p) }
 
 -- WHILE
 
 abbrev pub turning : CallEffect → ℕ → ℕ → Levels → lowered.Truth → List Instruction → MachineState → MachineProgress
-turning enters left t ls w xs = execute_while left (λ s'. truth ls s'.cells w) (execute_sequence enters t ls (sequence_of xs))
+turning enters left t ls w xs = execute_while left (λ s'. truth_value ls s'.cells w) (execute_sequence enters t ls (sequence_of xs))
 
 pub record InWhile (post : CallPostcondition) (start now : Machine) (t : ℕ) (ls : Levels) (w : lowered.Truth) (xs : List Instruction) (left : ℕ) : Type 0 where
-  pub so_far : (enters : CallEffect) → PerformsCalls post enters → execute enters t ls (lowered.while_loop w (sequence_of xs)) (state_of start) ≡ turning enters left t ls w xs (state_of now)
+  pub so_far : (enters : CallEffect) → CallsHaveEffect post enters → execute enters t ls (lowered.while_loop w (sequence_of xs)) (state_of start) ≡ turning enters left t ls w xs (state_of now)
 
 pub while_begins : {post : CallPostcondition} {start : Machine} {t : ℕ} {ls : Levels} {w : lowered.Truth} {xs : List Instruction} → InWhile post start start t ls w xs t
 unfolding execute
@@ -173,9 +173,9 @@ while_begins = record { so_far = λ enters p. refl }
 -- a turn more, or the bound
 pub once_more : CallEffect → ℕ → ℕ → Levels → lowered.Truth → List Instruction → MachineState → MachineProgress
 once_more enters zero t ls w xs s = stopped TurnBound s.output
-once_more enters (suc left) t ls w xs s = continue_with (execute_sequence enters t ls (sequence_of xs) s) (turning enters left t ls w xs)
+once_more enters (suc left) t ls w xs s = continue_run (execute_sequence enters t ls (sequence_of xs) s) (turning enters left t ls w xs)
 
-turning-goes : (enters : CallEffect) (left t : ℕ) (ls : Levels) (w : lowered.Truth) (xs : List Instruction) (s : MachineState) → turning enters left t ls w xs s ≡ choose_by_truth s (truth ls s.cells w) (once_more enters left t ls w xs) running
+turning-goes : (enters : CallEffect) (left t : ℕ) (ls : Levels) (w : lowered.Truth) (xs : List Instruction) (s : MachineState) → turning enters left t ls w xs s ≡ choose_by_truth s (truth_value ls s.cells w) (once_more enters left t ls w xs) running
 unfolding once_more
 turning-goes enters zero t ls w xs s = refl
 turning-goes enters (suc left) t ls w xs s = refl
@@ -188,56 +188,56 @@ one_less : (n : ℕ) → n ≢ 0 → n ≡ suc (n - 1)
 one_less zero h = absurd (h refl)
 one_less (suc n) h = omega arith
 
-once-more : (enters : CallEffect) (left t : ℕ) (ls : Levels) (w : lowered.Truth) (xs : List Instruction) (s : MachineState) → left ≢ 0 → once_more enters left t ls w xs s ≡ continue_with (execute_sequence enters t ls (sequence_of xs) s) (turning enters (left - 1) t ls w xs)
+once-more : (enters : CallEffect) (left t : ℕ) (ls : Levels) (w : lowered.Truth) (xs : List Instruction) (s : MachineState) → left ≢ 0 → once_more enters left t ls w xs s ≡ continue_run (execute_sequence enters t ls (sequence_of xs) s) (turning enters (left - 1) t ls w xs)
 unfolding once_more
 once-more enters left t ls w xs s e = ap (λ left. once_more enters left t ls w xs s) (one_less left e)
 
-while-chosen : {post : CallPostcondition} {start now : Machine} {t : ℕ} {ls : Levels} {w : lowered.Truth} {xs : List Instruction} {left : ℕ} (o : StepResult Bool) → InWhile post start now t ls w xs left → o ≡ truth ls now.cells.items w
-    → (enters : CallEffect) → PerformsCalls post enters → execute enters t ls (lowered.while_loop w (sequence_of xs)) (state_of start) ≡ choose_by_truth (state_of now) o (once_more enters left t ls w xs) running
+while-chosen : {post : CallPostcondition} {start now : Machine} {t : ℕ} {ls : Levels} {w : lowered.Truth} {xs : List Instruction} {left : ℕ} (o : StepResult Bool) → InWhile post start now t ls w xs left → o ≡ truth_value ls now.cells.items w
+    → (enters : CallEffect) → CallsHaveEffect post enters → execute enters t ls (lowered.while_loop w (sequence_of xs)) (state_of start) ≡ choose_by_truth (state_of now) o (once_more enters left t ls w xs) running
 while-chosen {now = now} {t = t} {ls = ls} {w = w} {xs = xs} {left = left} o c h enters p = c.so_far enters p ∙ turning-goes enters left t ls w xs (state_of now) ∙ ap (λ o. choose_by_truth (state_of now) o (once_more enters left t ls w xs) running) (sym h)
 
-pub while_fails : {post : CallPostcondition} {start now : Machine} {t : ℕ} {ls : Levels} {w : lowered.Truth} {xs : List Instruction} {left : ℕ} (e : EvaluationFault) → InWhile post start now t ls w xs left → ends (end_of e) ≡ truth ls now.cells.items w
+pub while_fails : {post : CallPostcondition} {start now : Machine} {t : ℕ} {ls : Levels} {w : lowered.Truth} {xs : List Instruction} {left : ℕ} (e : EvaluationFault) → InWhile post start now t ls w xs left → ends (end_of e) ≡ truth_value ls now.cells.items w
     → EndsRun post e start now (statement_effect t ls (lowered.while_loop w (sequence_of xs)))
 while_fails e c h = while-chosen (ends (end_of e)) c h
 
-pub while_ends : {post : CallPostcondition} {start now : Machine} {t : ℕ} {ls : Levels} {w : lowered.Truth} {xs : List Instruction} {left : ℕ} (u : Unit {0}) → InWhile post start now t ls w xs left → gives false ≡ truth ls now.cells.items w
+pub while_ends : {post : CallPostcondition} {start now : Machine} {t : ℕ} {ls : Levels} {w : lowered.Truth} {xs : List Instruction} {left : ℕ} (u : Unit {0}) → InWhile post start now t ls w xs left → gives false ≡ truth_value ls now.cells.items w
     → StepHasEffect post (Ok u) start now (statement_effect t ls (lowered.while_loop w (sequence_of xs)))
 while_ends u c h = record { has_effect = while-chosen (gives false) c h }
 
-pub while_bound : {post : CallPostcondition} {start now : Machine} {t : ℕ} {ls : Levels} {w : lowered.Truth} {xs : List Instruction} {left : ℕ} → InWhile post start now t ls w xs left → gives true ≡ truth ls now.cells.items w → left ≡ 0
+pub while_bound : {post : CallPostcondition} {start now : Machine} {t : ℕ} {ls : Levels} {w : lowered.Truth} {xs : List Instruction} {left : ℕ} → InWhile post start now t ls w xs left → gives true ≡ truth_value ls now.cells.items w → left ≡ 0
     → StepHasEffect post (Err stop.TurnBound) start now (statement_effect t ls (lowered.while_loop w (sequence_of xs)))
 while_bound {now = now} {t = t} {ls = ls} {w = w} {xs = xs} {left = left} c h e = record { has_effect = λ enters p. while-chosen (gives true) c h enters p ∙ once-none enters left t ls w xs (state_of now) e }
 
-pub while_on : {post : CallPostcondition} {start now m : Machine} {t : ℕ} {ls : Levels} {w : lowered.Truth} {xs : List Instruction} {left : ℕ} (u : Unit {0}) (ss : List Instruction) → InWhile post start now t ls w xs left → gives true ≡ truth ls now.cells.items w → left ≢ 0
+pub while_on : {post : CallPostcondition} {start now m : Machine} {t : ℕ} {ls : Levels} {w : lowered.Truth} {xs : List Instruction} {left : ℕ} (u : Unit {0}) (ss : List Instruction) → InWhile post start now t ls w xs left → gives true ≡ truth_value ls now.cells.items w → left ≢ 0
     → ss ≡ xs → StepHasEffect post (Ok u) now m (sequence_effect t ls (sequence_of ss)) → InWhile post start m t ls w xs (left - 1)
 while_on {now = now} {t = t} {ls = ls} {w = w} {xs = xs} {left = left} u ss c h e same d = record {
   so_far = λ enters p. while-chosen (gives true) c h enters p ∙ once-more enters left t ls w xs (state_of now) e
-      ∙ ap (λ q. continue_with q (turning enters (left - 1) t ls w xs)) (ap (λ ss. execute_sequence enters t ls (sequence_of ss) (state_of now)) (sym same) ∙ d.has_effect enters p);
+      ∙ ap (λ q. continue_run q (turning enters (left - 1) t ls w xs)) (ap (λ ss. execute_sequence enters t ls (sequence_of ss) (state_of now)) (sym same) ∙ d.has_effect enters p);
 }
 
-pub while_body_fails : {post : CallPostcondition} {start now m : Machine} {t : ℕ} {ls : Levels} {w : lowered.Truth} {xs : List Instruction} {left : ℕ} (x : StopReason) (ss : List Instruction) → InWhile post start now t ls w xs left → gives true ≡ truth ls now.cells.items w → left ≢ 0
+pub while_body_fails : {post : CallPostcondition} {start now m : Machine} {t : ℕ} {ls : Levels} {w : lowered.Truth} {xs : List Instruction} {left : ℕ} (x : StopReason) (ss : List Instruction) → InWhile post start now t ls w xs left → gives true ≡ truth_value ls now.cells.items w → left ≢ 0
     → ss ≡ xs → StepHasEffect post (Err x) now m (sequence_effect t ls (sequence_of ss)) → StepHasEffect post (Err x) start m (statement_effect t ls (lowered.while_loop w (sequence_of xs)))
 while_body_fails {now = now} {m = m} {t = t} {ls = ls} {w = w} {xs = xs} {left = left} x ss c h e same d = record {
   has_effect = λ enters p.
       subst (IsProgressAfterStep (Err x) m) (sym (while-chosen (gives true) c h enters p ∙ once-more enters left t ls w xs (state_of now) e
-      ∙ ap (λ q. continue_with q (turning enters (left - 1) t ls w xs)) (ap (λ ss. execute_sequence enters t ls (sequence_of ss) (state_of now)) (sym same))))
+      ∙ ap (λ q. continue_run q (turning enters (left - 1) t ls w xs)) (ap (λ ss. execute_sequence enters t ls (sequence_of ss) (state_of now)) (sym same))))
       (failed_then x m (execute_sequence enters t ls (sequence_of ss) (state_of now)) (turning enters (left - 1) t ls w xs) (d.has_effect enters p));
 }
 
 -- the statements of a counting loop: some, and one after them
 
-continued_running : (p : MachineProgress) (f : MachineState → MachineProgress) → ((s : MachineState) → f s ≡ running s) → continue_with p f ≡ p
+continued_running : (p : MachineProgress) (f : MachineState → MachineProgress) → ((s : MachineState) → f s ≡ running s) → continue_run p f ≡ p
 continued_running (running s) f h = h s
 continued_running (stopped e out) f h = refl
 continued_running no_room f h = refl
 
-continued_twice : (p : MachineProgress) (f g k : MachineState → MachineProgress) → ((s : MachineState) → f s ≡ continue_with (g s) k) → continue_with p f ≡ continue_with (continue_with p g) k
+continued_twice : (p : MachineProgress) (f g k : MachineState → MachineProgress) → ((s : MachineState) → f s ≡ continue_run (g s) k) → continue_run p f ≡ continue_run (continue_run p g) k
 continued_twice (running s) f g k h = h s
 continued_twice (stopped e out) f g k h = refl
 continued_twice no_room f g k h = refl
 
 all-after : (enters : CallEffect) (t : ℕ) (ls : Levels) (xs : List Instruction) (x : Instruction) (s : MachineState)
-    → execute_sequence enters t ls (sequence_of (xs ++ x ∷ [])) s ≡ continue_with (execute_sequence enters t ls (sequence_of xs) s) (execute enters t ls (statement_of x))
+    → execute_sequence enters t ls (sequence_of (xs ++ x ∷ [])) s ≡ continue_run (execute_sequence enters t ls (sequence_of xs) s) (execute enters t ls (statement_of x))
 unfolding execute
 all-after enters t ls [] x s = continued_running (execute enters t ls (statement_of x) s) _ (λ s. refl)
 all-after enters t ls (y ∷ ys) x s = continued_twice (execute enters t ls (statement_of y) s) _ _ (execute enters t ls (statement_of x)) (all-after enters t ls ys x)
@@ -246,7 +246,7 @@ pub then_last : {post : CallPostcondition} {r : Result (Unit {0}) StopReason} {s
     → StepHasEffect post r now m (statement_effect t ls (statement_of x)) → StepHasEffect post r start m (sequence_effect t ls (sequence_of (xs ++ x ∷ [])))
 then_last {r = r} {start = start} {now = now} {m = m} t ls xs u x d e = record {
   has_effect = λ enters p.
-      subst (IsProgressAfterStep r m) (sym (all-after enters t ls xs x (state_of start) ∙ ap (λ q. continue_with q (execute enters t ls (statement_of x))) (d.has_effect enters p))) (e.has_effect enters p);
+      subst (IsProgressAfterStep r m) (sym (all-after enters t ls xs x (state_of start) ∙ ap (λ q. continue_run q (execute enters t ls (statement_of x))) (d.has_effect enters p))) (e.has_effect enters p);
 }
 
 pub before_last : {post : CallPostcondition} {start m : Machine} (t : ℕ) (ls : Levels) (xs : List Instruction) (e : StopReason) (x : Instruction) → StepHasEffect post (Err e) start m (sequence_effect t ls (sequence_of xs))
@@ -269,18 +269,18 @@ loop_as {post = post} {r = r} {m = m} {m' = m'} t ls w u xs e h =
     subst (λ b. StepHasEffect post r m m' (statement_effect t ls (lowered.while_loop w (sequence_of (xs ++ Increase u b ∷ []))))) e h
 
 -- Compares a variable at a known address with an expression of a known value.
-pub compared_at : (ls : Levels) (cells : List ℤ) (v : Variable) (a : ℕ) (n : lowered.Number) (x : ℤ) (b : Bool) → address ls cells (variable_of v) ≡ gives a → number ls cells n ≡ gives x → b ≡ compare lowered.less (cell_at cells a) x → gives b ≡ truth ls cells (variable_comparison relation.Less v n)
+pub compared_at : (ls : Levels) (cells : List ℤ) (v : Variable) (a : ℕ) (n : lowered.Number) (x : ℤ) (b : Bool) → place_address ls cells (variable_of v) ≡ gives a → number_value ls cells n ≡ gives x → b ≡ compare lowered.less (cell_at cells a) x → gives b ≡ truth_value ls cells (variable_comparison relation.Less v n)
 compared_at ls cells v a n x b h k e =
     ap gives e ∙ ap (λ o. o >>= (λ y. gives (compare lowered.less (cell_at cells a) y))) (sym k)
-    ∙ ap (λ o. (o >>= (λ a. gives (cell_at cells a))) >>= (λ z. number ls cells n >>= (λ y. gives (compare lowered.less z y)))) (sym h)
+    ∙ ap (λ o. (o >>= (λ a. gives (cell_at cells a))) >>= (λ z. number_value ls cells n >>= (λ y. gives (compare lowered.less z y)))) (sym h)
 
 -- REPEAT
 
 abbrev pub turning_until : CallEffect → ℕ → ℕ → Levels → RepeatLoop → MachineState → MachineProgress
-turning_until enters left t ls r = execute_repeat left (λ s'. truth ls s'.cells (truth_of r.condition)) (execute_sequence enters t ls (sequence_of r.body.items))
+turning_until enters left t ls r = execute_repeat left (λ s'. truth_value ls s'.cells (truth_of r.condition)) (execute_sequence enters t ls (sequence_of r.body.items))
 
 pub record InRepeat (post : CallPostcondition) (start now : Machine) (t : ℕ) (ls : Levels) (r : RepeatLoop) (left : ℕ) : Type 0 where
-  pub so_far : (enters : CallEffect) → PerformsCalls post enters → execute enters t ls (repeat_of r) (state_of start) ≡ turning_until enters left t ls r (state_of now)
+  pub so_far : (enters : CallEffect) → CallsHaveEffect post enters → execute enters t ls (repeat_of r) (state_of start) ≡ turning_until enters left t ls r (state_of now)
 
 pub repeat_begins : {post : CallPostcondition} {start : Machine} {t : ℕ} {ls : Levels} {r : RepeatLoop} {left : ℕ} → left ≡ t - 1 → InRepeat post start start t ls r left
 unfolding execute
@@ -292,9 +292,9 @@ again enters (suc left) t ls r s = turning_until enters left t ls r s
 
 -- after a turn
 abbrev pub turned : CallEffect → ℕ → ℕ → Levels → RepeatLoop → MachineState → MachineProgress
-turned enters left t ls r s = choose_by_truth s (truth ls s.cells (truth_of r.condition)) running (again enters left t ls r)
+turned enters left t ls r s = choose_by_truth s (truth_value ls s.cells (truth_of r.condition)) running (again enters left t ls r)
 
-until-goes : (enters : CallEffect) (left t : ℕ) (ls : Levels) (r : RepeatLoop) (s : MachineState) → turning_until enters left t ls r s ≡ continue_with (execute_sequence enters t ls (sequence_of r.body.items) s) (turned enters left t ls r)
+until-goes : (enters : CallEffect) (left t : ℕ) (ls : Levels) (r : RepeatLoop) (s : MachineState) → turning_until enters left t ls r s ≡ continue_run (execute_sequence enters t ls (sequence_of r.body.items) s) (turned enters left t ls r)
 unfolding again
 until-goes enters zero t ls r s = refl
 until-goes enters (suc left) t ls r s = refl
@@ -312,38 +312,38 @@ pub repeat_body_fails : {post : CallPostcondition} {start now m : Machine} {t : 
 repeat_body_fails {now = now} {m = m} {t = t} {ls = ls} {r = r} {left = left} x ss c same d = record {
   has_effect = λ enters p.
       subst (IsProgressAfterStep (Err x) m) (sym (c.so_far enters p ∙ until-goes enters left t ls r (state_of now)
-      ∙ ap (λ q. continue_with q (turned enters left t ls r)) (ap (λ ss. execute_sequence enters t ls (sequence_of ss) (state_of now)) (sym same))))
+      ∙ ap (λ q. continue_run q (turned enters left t ls r)) (ap (λ ss. execute_sequence enters t ls (sequence_of ss) (state_of now)) (sym same))))
       (failed_then x m (execute_sequence enters t ls (sequence_of ss) (state_of now)) (turned enters left t ls r) (d.has_effect enters p));
 }
 
 -- a turn was made
 pub record Turned (post : CallPostcondition) (start now : Machine) (t : ℕ) (ls : Levels) (r : RepeatLoop) (left : ℕ) : Type 0 where
-  pub so_far : (enters : CallEffect) → PerformsCalls post enters → execute enters t ls (repeat_of r) (state_of start) ≡ turned enters left t ls r (state_of now)
+  pub so_far : (enters : CallEffect) → CallsHaveEffect post enters → execute enters t ls (repeat_of r) (state_of start) ≡ turned enters left t ls r (state_of now)
 
 pub turn_made : {post : CallPostcondition} {start now m : Machine} {t : ℕ} {ls : Levels} {r : RepeatLoop} {left : ℕ} (u : Unit {0}) (ss : List Instruction) → InRepeat post start now t ls r left
     → ss ≡ r.body.items → StepHasEffect post (Ok u) now m (sequence_effect t ls (sequence_of ss)) → Turned post start m t ls r left
 turn_made {now = now} {t = t} {ls = ls} {r = r} {left = left} u ss c same d = record {
   so_far = λ enters p. c.so_far enters p ∙ until-goes enters left t ls r (state_of now)
-      ∙ ap (λ q. continue_with q (turned enters left t ls r)) (ap (λ ss. execute_sequence enters t ls (sequence_of ss) (state_of now)) (sym same) ∙ d.has_effect enters p);
+      ∙ ap (λ q. continue_run q (turned enters left t ls r)) (ap (λ ss. execute_sequence enters t ls (sequence_of ss) (state_of now)) (sym same) ∙ d.has_effect enters p);
 }
 
-turned-chosen : {post : CallPostcondition} {start now : Machine} {t : ℕ} {ls : Levels} {r : RepeatLoop} {left : ℕ} (o : StepResult Bool) → Turned post start now t ls r left → o ≡ truth ls now.cells.items (truth_of r.condition)
-    → (enters : CallEffect) → PerformsCalls post enters → execute enters t ls (repeat_of r) (state_of start) ≡ choose_by_truth (state_of now) o running (again enters left t ls r)
+turned-chosen : {post : CallPostcondition} {start now : Machine} {t : ℕ} {ls : Levels} {r : RepeatLoop} {left : ℕ} (o : StepResult Bool) → Turned post start now t ls r left → o ≡ truth_value ls now.cells.items (truth_of r.condition)
+    → (enters : CallEffect) → CallsHaveEffect post enters → execute enters t ls (repeat_of r) (state_of start) ≡ choose_by_truth (state_of now) o running (again enters left t ls r)
 turned-chosen {now = now} {t = t} {ls = ls} {r = r} {left = left} o c h enters p = c.so_far enters p ∙ ap (λ o. choose_by_truth (state_of now) o running (again enters left t ls r)) (sym h)
 
-pub repeat_fails : {post : CallPostcondition} {start now : Machine} {t : ℕ} {ls : Levels} {r : RepeatLoop} {left : ℕ} (e : EvaluationFault) → Turned post start now t ls r left → ends (end_of e) ≡ truth ls now.cells.items (truth_of r.condition)
+pub repeat_fails : {post : CallPostcondition} {start now : Machine} {t : ℕ} {ls : Levels} {r : RepeatLoop} {left : ℕ} (e : EvaluationFault) → Turned post start now t ls r left → ends (end_of e) ≡ truth_value ls now.cells.items (truth_of r.condition)
     → EndsRun post e start now (statement_effect t ls (repeat_of r))
 repeat_fails e c h = turned-chosen (ends (end_of e)) c h
 
-pub repeat_ends : {post : CallPostcondition} {start now : Machine} {t : ℕ} {ls : Levels} {r : RepeatLoop} {left : ℕ} (u : Unit {0}) → Turned post start now t ls r left → gives true ≡ truth ls now.cells.items (truth_of r.condition)
+pub repeat_ends : {post : CallPostcondition} {start now : Machine} {t : ℕ} {ls : Levels} {r : RepeatLoop} {left : ℕ} (u : Unit {0}) → Turned post start now t ls r left → gives true ≡ truth_value ls now.cells.items (truth_of r.condition)
     → StepHasEffect post (Ok u) start now (statement_effect t ls (repeat_of r))
 repeat_ends u c h = record { has_effect = turned-chosen (gives true) c h }
 
-pub repeat_bound : {post : CallPostcondition} {start now : Machine} {t : ℕ} {ls : Levels} {r : RepeatLoop} {left : ℕ} → Turned post start now t ls r left → gives false ≡ truth ls now.cells.items (truth_of r.condition) → left ≡ 0
+pub repeat_bound : {post : CallPostcondition} {start now : Machine} {t : ℕ} {ls : Levels} {r : RepeatLoop} {left : ℕ} → Turned post start now t ls r left → gives false ≡ truth_value ls now.cells.items (truth_of r.condition) → left ≡ 0
     → StepHasEffect post (Err stop.TurnBound) start now (statement_effect t ls (repeat_of r))
 repeat_bound {now = now} {t = t} {ls = ls} {r = r} {left = left} c h e = record { has_effect = λ enters p. turned-chosen (gives false) c h enters p ∙ again-none enters left t ls r (state_of now) e }
 
-pub repeat_on : {post : CallPostcondition} {start now : Machine} {t : ℕ} {ls : Levels} {r : RepeatLoop} {left : ℕ} → Turned post start now t ls r left → gives false ≡ truth ls now.cells.items (truth_of r.condition) → left ≢ 0
+pub repeat_on : {post : CallPostcondition} {start now : Machine} {t : ℕ} {ls : Levels} {r : RepeatLoop} {left : ℕ} → Turned post start now t ls r left → gives false ≡ truth_value ls now.cells.items (truth_of r.condition) → left ≢ 0
     → InRepeat post start now t ls r (left - 1)
 repeat_on {now = now} {t = t} {ls = ls} {r = r} {left = left} c h e = record { so_far = λ enters p. turned-chosen (gives false) c h enters p ∙ again-more enters left t ls r (state_of now) e }
 
@@ -354,7 +354,7 @@ pub call-goes : (t : ℕ) (ls : Levels) (c : call.ProcedureCall) (enters : CallE
 unfolding execute
 call-goes t ls c enters s = refl
 
-passing_stops : (m m' : Machine) (o : Option Halt) (memory : Memory) → m'.output ≡ m.output → m'.memory ≡ memory → (given : StepResult CallArguments) (next : CallArguments → MachineProgress)
+passing_stops : (m m' : Machine) (o : Option MachineEnd) (memory : Memory) → m'.output ≡ m.output → m'.memory ≡ memory → (given : StepResult CallArguments) (next : CallArguments → MachineProgress)
     → StopsArgumentPassing o memory given → StopsRun o m' (continue_with_result (state_of m) given next)
 passing_stops m m' (Some x) memory out kept given next h = ap (λ o. continue_with_result (state_of m) o next) h ∙ ap (λ o. stopped x (output_items o.items)) (sym out)
 passing_stops m m' None memory out kept given next h = ap has_failed kept ∙ h
@@ -372,7 +372,7 @@ call_fails {m = m} {m' = m'} memory e t ls c xs none empty same h out kept = rec
 pub call_enters : {post : CallPostcondition} {m m' : Machine} {r : Result (Unit {0}) StopReason} (cells : List ℤ) (addresses : List ℕ) (t : ℕ) (ls inner : Levels) (c : call.ProcedureCall) (xs : List Argument) (none : List ℕ)
     → none ≡ [] → xs ≡ c.arguments.items → pass_arguments ls m.cells.items (map argument_of xs) (passed_arguments m.cells.items none) ≡ gives (passed_arguments cells addresses)
     → inner ≡ levels_in_call ls (length m.cells.items) c.up (passed_arguments cells addresses)
-    → ((enters : CallEffect) → PerformsCalls post enters → IsProgressAfterStep r m' (enters c.procedure inner (record (state_of m) { cells = cells })))
+    → ((enters : CallEffect) → CallsHaveEffect post enters → IsProgressAfterStep r m' (enters c.procedure inner (record (state_of m) { cells = cells })))
     → StepHasEffect post r m m' (statement_effect t ls (call_of c))
 call_enters {m = m} {m' = m'} {r = r} cells addresses t ls inner c xs none empty same h seen done = record {
   has_effect = λ enters p.
@@ -384,7 +384,7 @@ call_enters {m = m} {m' = m'} {r = r} cells addresses t ls inner c xs none empty
 }
 
 pub enters_as : {post : CallPostcondition} {m m' : Machine} {r : Result (Unit {0}) StopReason} (k up base : ℕ) (addresses : List ℕ) (ls inner : Levels) → inner ≡ levels_in_call ls base up (passed_arguments m.cells.items addresses)
-    → ((enters : CallEffect) → PerformsCalls post enters → IsProgressAfterStep r m' (enters k inner (state_of m))) → StepHasEffect post r m m' (procedure_entry_effect k up ls base addresses)
+    → ((enters : CallEffect) → CallsHaveEffect post enters → IsProgressAfterStep r m' (enters k inner (state_of m))) → StepHasEffect post r m m' (procedure_entry_effect k up ls base addresses)
 enters_as {m = m} {m' = m'} {r = r} k up base addresses ls inner seen done = record { has_effect = λ enters p. subst (λ seen. IsProgressAfterStep r m' (enters k seen (state_of m))) seen (done enters p) }
 
 -- the levels of an activation that is made

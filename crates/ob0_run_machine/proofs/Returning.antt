@@ -10,13 +10,13 @@ use Rattle.ob0_run_machine.specs.declared.machine.Machine.{Machine}
 use Rattle.ob0_run_machine.specs.StepOutcomes.{end_of_stop_reason}
 use Rattle.ob0_run_machine.specs.Evaluation as ending
 use Rattle.ob0_run_machine.specs.Evaluation.{CallBound, Levels, innermost_level}
-use Rattle.ob0_run_machine.specs.Execution.{MachineProgress, MachineState, OutputItem, activate, call, execute_sequence, run_result, drop_variables, no_room, module_levels, run, running, stopped, run_with_added_cells, zeros}
+use Rattle.ob0_run_machine.specs.Execution.{MachineProgress, MachineState, OutputItem, run_routine, call, execute_sequence, run_result, drop_variables, no_room, module_levels, run, running, stopped, run_with_added_cells, zeros}
 use Rattle.ob0_run_machine.specs.Levels.{levels_of}
 use Rattle.ob0_run_machine.specs.LoweredSyntax.{Routine}
-use Rattle.ob0_run_machine.specs.Machines.{StepHasEffect, IsProgressAfterCall, StopsRun, PerformsCalls, CallPostcondition, IsProgressAfterStep, activation_effect, sequence_effect, output_items, state_of}
+use Rattle.ob0_run_machine.specs.Machines.{StepHasEffect, IsProgressAfterCall, StopsRun, CallsHaveEffect, CallPostcondition, IsProgressAfterStep, activation_effect, sequence_effect, output_items, state_of}
 use Rattle.ob0_run_machine.specs.declared.machine.Item.{Item}
 use Rattle.ob0_run_machine.specs.LoweredSyntax as lowered
-use Rattle.ob0_run_machine.specs.View.{program_of, sequence_of}
+use Rattle.ob0_run_machine.specs.LoweredCodeViews.{program_of, sequence_of}
 use Rattle.ob0_run_machine.specs.declared.code.Instruction.{Instruction}
 use Rattle.ob0_run_machine.specs.Outcomes.{ReturnsEnd, IsEndAfterExecution, progress_after_body, meaning_of_end}
 use Rattle.ob0_run_machine.specs.declared.program_runs.End.{End}
@@ -31,7 +31,7 @@ one_less : (n : ℕ) → n ≢ 0 → n ≡ suc (n - 1)
 one_less zero h = absurd (h refl)
 one_less (suc n) h = omega arith
 
-call-goes : (ps : List Routine) (c t k : ℕ) (ls : Levels) (s : MachineState) → c ≢ 0 → call ps c t k ls s ≡ drop_variables (innermost_level ls).base (activate (call ps (c - 1) t) t ls (slice_get ps k) s)
+call-goes : (ps : List Routine) (c t k : ℕ) (ls : Levels) (s : MachineState) → c ≢ 0 → call ps c t k ls s ≡ drop_variables (innermost_level ls).base (run_routine (call ps (c - 1) t) t ls (slice_get ps k) s)
 unfolding call
 call-goes ps c t k ls s e = ap (λ c. call ps c t k ls s) (one_less c e)
 
@@ -39,12 +39,12 @@ pub call_ends : (m : Machine) (program : LoweredCode) (c t k : ℕ) (l : level.L
 call_ends m program c t k l e = call-none (program_of program).procedures c t k (levels_of l) (state_of m) e
 
 module _ (m m₂ : Machine) (program : LoweredCode) (c t k : ℕ) (l : level.Level) (o : Option Routine) (post : CallPostcondition) (more : c ≢ 0) (found : o ≡ slice_get (program_of program).procedures k)
-    (performs : PerformsCalls post (call (program_of program).procedures (c - 1) t)) where
-  goes : call (program_of program).procedures c t k (levels_of l) (state_of m) ≡ drop_variables (innermost_level (levels_of l)).base (activate (call (program_of program).procedures (c - 1) t) t (levels_of l) o (state_of m))
+    (performs : CallsHaveEffect post (call (program_of program).procedures (c - 1) t)) where
+  goes : call (program_of program).procedures c t k (levels_of l) (state_of m) ≡ drop_variables (innermost_level (levels_of l)).base (run_routine (call (program_of program).procedures (c - 1) t) t (levels_of l) o (state_of m))
   goes = call-goes (program_of program).procedures c t k (levels_of l) (state_of m) more
-      ∙ ap (λ o. drop_variables (innermost_level (levels_of l)).base (activate (call (program_of program).procedures (c - 1) t) t (levels_of l) o (state_of m))) (sym found)
+      ∙ ap (λ o. drop_variables (innermost_level (levels_of l)).base (run_routine (call (program_of program).procedures (c - 1) t) t (levels_of l) o (state_of m))) (sym found)
 
-  dropped : (o : Option ending.Halt) (p : MachineProgress) → StopsRun o m₂ p → StopsRun o m₂ (drop_variables (innermost_level (levels_of l)).base p)
+  dropped : (o : Option ending.MachineEnd) (p : MachineProgress) → StopsRun o m₂ p → StopsRun o m₂ (drop_variables (innermost_level (levels_of l)).base p)
   dropped (Some x) p h = ap (drop_variables (innermost_level (levels_of l)).base) h
   dropped None p h = h
 
@@ -56,8 +56,8 @@ module _ (m m₂ : Machine) (program : LoweredCode) (c t k : ℕ) (l : level.Lev
 
 -- the body
 pub activates_none : {post : CallPostcondition} {m : Machine} {o : Option Routine} (u : Unit {0}) (t : ℕ) (ls : Levels) → o ≡ None → StepHasEffect post (Ok u) m m (activation_effect o t ls)
-unfolding activate
-activates_none {m = m} u t ls e = record { has_effect = λ enters p. ap (λ o. activate enters t ls o (state_of m)) e }
+unfolding run_routine
+activates_none {m = m} u t ls e = record { has_effect = λ enters p. ap (λ o. run_routine enters t ls o (state_of m)) e }
 
 -- existing cells have room
 pub has_room : (cells more : List ℤ) (n : ℕ) → more ≡ cells ++ zeros n → length more < 2 ^ 64 → nat_lt (length cells + n) (2 ^ 64) ≡ true
@@ -68,22 +68,22 @@ has_room cells more n same few =
 pub with-room : (n : ℕ) (next : MachineState → MachineProgress) (s : MachineState) (more : List ℤ) → more ≡ s.cells ++ zeros n → length more < 2 ^ 64 → run_with_added_cells n next s ≡ next (record s { cells = s.cells ++ zeros n })
 with-room n next s more same few = ap (λ b. if b then next (record s { cells = s.cells ++ zeros n }) else no_room) (has_room s.cells more n same few)
 
-activate-goes : (enters : _) (t : ℕ) (ls : Levels) (o : Option Routine) (p : Routine) (s : MachineState) → o ≡ Some p → activate enters t ls o s ≡ run_with_added_cells p.cells (execute_sequence enters t ls p.body) s
-unfolding activate
-activate-goes enters t ls o p s e = ap (λ o. activate enters t ls o s) e
+run_routine-goes : (enters : _) (t : ℕ) (ls : Levels) (o : Option Routine) (p : Routine) (s : MachineState) → o ≡ Some p → run_routine enters t ls o s ≡ run_with_added_cells p.cells (execute_sequence enters t ls p.body) s
+unfolding run_routine
+run_routine-goes enters t ls o p s e = ap (λ o. run_routine enters t ls o s) e
 
 pub activates : {post : CallPostcondition} {r : Result (Unit {0}) StopReason} {m m₂ m' : Machine} {o : Option Routine} (t : ℕ) (ls : Levels) (p : Routine) → o ≡ Some p → m₂.cells.items ≡ m.cells.items ++ zeros p.cells → length m₂.cells.items < 2 ^ 64
     → state_of m₂ ≡ record (state_of m) { cells = m.cells.items ++ zeros p.cells } → StepHasEffect post r m₂ m' (sequence_effect t ls p.body) → StepHasEffect post r m m' (activation_effect o t ls)
 activates {r = r} {m = m} {m₂ = m₂} {m' = m'} {o = o} t ls p e grown few more d = record {
   has_effect = λ enters performs.
-      subst (IsProgressAfterStep r m') (sym (activate-goes enters t ls o p (state_of m) e ∙ with-room p.cells (execute_sequence enters t ls p.body) (state_of m) m₂.cells.items grown few ∙ ap (execute_sequence enters t ls p.body) (sym more))) (d.has_effect enters performs);
+      subst (IsProgressAfterStep r m') (sym (run_routine-goes enters t ls o p (state_of m) e ∙ with-room p.cells (execute_sequence enters t ls p.body) (state_of m) m₂.cells.items grown few ∙ ap (execute_sequence enters t ls p.body) (sym more))) (d.has_effect enters performs);
 }
 
 pub leaving_steps : (r : Result (Unit {0}) StopReason) (e : StopReason) (m : Machine) (p : MachineProgress) → (y : StopReason) × (r ≡ Err y) × (y ≡ e) → IsProgressAfterStep (Err e) m p → IsProgressAfterStep r m p
 leaving_steps r e m p q h = subst (λ r. IsProgressAfterStep r m p) (sym q.1) (subst (λ y. IsProgressAfterStep (Err y) m p) (sym q.2) h)
 
 -- the statements of a program
-pub block_runs : (m m' : Machine) (program : LoweredCode) (c t : ℕ) (r : Result (Unit {0}) StopReason) (post : CallPostcondition) (inner : Levels) (xs : List Instruction) → PerformsCalls post (call (program_of program).procedures c t)
+pub block_runs : (m m' : Machine) (program : LoweredCode) (c t : ℕ) (r : Result (Unit {0}) StopReason) (post : CallPostcondition) (inner : Levels) (xs : List Instruction) → CallsHaveEffect post (call (program_of program).procedures c t)
     → inner ≡ module_levels → xs ≡ program.body.items → StepHasEffect post r m m' (sequence_effect t inner (sequence_of xs)) → IsProgressAfterStep r m' (progress_after_body (program_of program) c t (state_of m))
 block_runs m m' program c t r post inner xs performs seen same d =
     subst (λ xs. IsProgressAfterStep r m' (sequence_effect t module_levels (sequence_of xs) (call (program_of program).procedures c t) (state_of m))) same
@@ -100,7 +100,7 @@ given d (Err e) = d
 ok-same : {A E : Type 0} {a b : A} (r : Result A E) → r ≡ Ok a → r ≡ Ok b → a ≡ b
 ok-same {a = a} r h k = sym (ap (given a) h) ∙ ap (given a) k
 
-index_ending_at : (o : Option ending.Halt) (m : Machine) (p : MachineProgress) (r : Result End AllocError) (end : End) → r ≡ Ok end → ReturnsEnd o r → StopsRun o m p
+index_ending_at : (o : Option ending.MachineEnd) (m : Machine) (p : MachineProgress) (r : Result End AllocError) (end : End) → r ≡ Ok end → ReturnsEnd o r → StopsRun o m p
     → Some (record { output = output_items m.output.items; ending = meaning_of_end end }) ≡ run_result p
 index_ending_at (Some e) m p r end is h steps = ap (λ e. Some (record { output = output_items m.output.items; ending = e })) (ap meaning_of_end (ok-same r is h.1) ∙ h.2) ∙ sym (ap run_result steps)
 index_ending_at None m p r end is h steps = let no = subst IsErr is h in absurd (cc)

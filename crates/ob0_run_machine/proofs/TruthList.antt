@@ -3,9 +3,9 @@ use Rattle.std.proofs.Common.{◌≡◌, ℕ, ℤ, Bool, true, false, List, [], 
 use Rattle.ob0_run_machine.specs.declared.code.TruthList.{out-TruthList}
 use Rattle.ob0_run_machine.specs.declared.code.Truth.{Truth, All, Any, Row_of-Truth, end_of-Truth, more_of-Truth, items-the_row-Truth, items_hidden-the_row-Truth-0}
 use Rattle.ob0_run_machine.specs.declared.code.Truth.TheBlock.{hidden-the_row-Truth-0}
-use Rattle.ob0_run_machine.specs.Evaluation.{Levels, StepResult, gives, truth, ◌>>=◌}
+use Rattle.ob0_run_machine.specs.Evaluation.{Levels, StepResult, gives, truth_value, ◌>>=◌}
 use Rattle.ob0_run_machine.specs.LoweredSyntax as lowered
-use Rattle.ob0_run_machine.specs.View.{conjunction_with_list, conjunction_of, conjunction_with_row, disjunction_with_list, disjunction_of, disjunction_with_row, truth_of}
+use Rattle.ob0_run_machine.specs.LoweredCodeViews.{conjunction_with_list, conjunction_of, conjunction_with_row, disjunction_with_list, disjunction_of, disjunction_with_row, truth_of}
 use Rattle.ob0_run_machine.proofs.Chains.{bind_assoc, bind_gives}
 
 -- what a truth becomes by one more
@@ -21,26 +21,26 @@ with_or a o = if a then gives true else o
 -- what a truth becomes by those that are left
 abbrev pub joined : Joining → Levels → List ℤ → List Truth → Bool → StepResult Bool
 joined join ls cells [] a = gives a
-joined join ls cells (t ∷ ts) a = join a (truth ls cells (truth_of t)) >>= joined join ls cells ts
+joined join ls cells (t ∷ ts) a = join a (truth_value ls cells (truth_of t)) >>= joined join ls cells ts
 
-pub all_joined : (ls : Levels) (cells : List ℤ) (left : lowered.Truth) (ts : List Truth) → truth ls cells (conjunction_with_list left ts) ≡ (truth ls cells left >>= joined with_and ls cells ts)
-all_joined ls cells left [] = sym (bind_gives (truth ls cells left))
+pub all_joined : (ls : Levels) (cells : List ℤ) (left : lowered.Truth) (ts : List Truth) → truth_value ls cells (conjunction_with_list left ts) ≡ (truth_value ls cells left >>= joined with_and ls cells ts)
+all_joined ls cells left [] = sym (bind_gives (truth_value ls cells left))
 all_joined ls cells left (t ∷ ts) = all_joined ls cells (lowered.both left (truth_of t)) ts
-    ∙ bind_assoc (truth ls cells left) (λ a. with_and a (truth ls cells (truth_of t))) (joined with_and ls cells ts)
+    ∙ bind_assoc (truth_value ls cells left) (λ a. with_and a (truth_value ls cells (truth_of t))) (joined with_and ls cells ts)
 
-pub any_joined : (ls : Levels) (cells : List ℤ) (left : lowered.Truth) (ts : List Truth) → truth ls cells (disjunction_with_list left ts) ≡ (truth ls cells left >>= joined with_or ls cells ts)
-any_joined ls cells left [] = sym (bind_gives (truth ls cells left))
+pub any_joined : (ls : Levels) (cells : List ℤ) (left : lowered.Truth) (ts : List Truth) → truth_value ls cells (disjunction_with_list left ts) ≡ (truth_value ls cells left >>= joined with_or ls cells ts)
+any_joined ls cells left [] = sym (bind_gives (truth_value ls cells left))
 any_joined ls cells left (t ∷ ts) = any_joined ls cells (lowered.either left (truth_of t)) ts
-    ∙ bind_assoc (truth ls cells left) (λ a. with_or a (truth ls cells (truth_of t))) (joined with_or ls cells ts)
+    ∙ bind_assoc (truth_value ls cells left) (λ a. with_or a (truth_value ls cells (truth_of t))) (joined with_or ls cells ts)
 
 -- what was joined so far, with what is left, is the whole
 pub record Joined (join : Joining) (ls : Levels) (cells : List ℤ) (whole : StepResult Bool) (ts : List Truth) (done : ℕ) (left : Bool) : Type 0 where
   pub so_far : whole ≡ joined join ls cells (drop done ts) left
 
-pub all_fails : (ls : Levels) (cells : List ℤ) (first : lowered.Truth) (ts : List Truth) (o : StepResult Bool) → o ≡ truth ls cells first → (o >>= joined with_and ls cells ts) ≡ truth ls cells (conjunction_with_list first ts)
+pub all_fails : (ls : Levels) (cells : List ℤ) (first : lowered.Truth) (ts : List Truth) (o : StepResult Bool) → o ≡ truth_value ls cells first → (o >>= joined with_and ls cells ts) ≡ truth_value ls cells (conjunction_with_list first ts)
 all_fails ls cells first ts o h = ap (λ o. o >>= joined with_and ls cells ts) h ∙ sym (all_joined ls cells first ts)
 
-pub any_fails : (ls : Levels) (cells : List ℤ) (first : lowered.Truth) (ts : List Truth) (o : StepResult Bool) → o ≡ truth ls cells first → (o >>= joined with_or ls cells ts) ≡ truth ls cells (disjunction_with_list first ts)
+pub any_fails : (ls : Levels) (cells : List ℤ) (first : lowered.Truth) (ts : List Truth) (o : StepResult Bool) → o ≡ truth_value ls cells first → (o >>= joined with_or ls cells ts) ≡ truth_value ls cells (disjunction_with_list first ts)
 any_fails ls cells first ts o h = ap (λ o. o >>= joined with_or ls cells ts) h ∙ sym (any_joined ls cells first ts)
 
 all_listed : (n : _) (row : Row_of-Truth n) (left : lowered.Truth) → conjunction_with_row row left ≡ conjunction_with_list left (items-the_row-Truth n row)

@@ -4,7 +4,7 @@ use Rattle.ob0_run_machine.specs.declared.code.Instruction.{If, While, Repeat, R
 use Rattle.ob0_run_machine.specs.declared.code.Instruction.TheBlock.{hidden-the_row-Instruction-0, items_shown-the_row-Instruction-0, hidden-the_row-Branch-1}
 use Rattle.ob0_run_machine.specs.declared.code.Conditional.{out-Conditional, roll-Conditional, roll-out-Conditional, rolls-Conditional', Row_of-Branch, end_of-Branch, more_of-Branch, items-the_row-Branch, items_hidden-the_row-Branch-1}
 use Rattle.ob0_run_machine.specs.LoweredSyntax.{next_statement, branch, chooses_branch, repeat_loop, while_loop}
-use Rattle.ob0_run_machine.specs.View.{branches_of_list, conditional_of, branches_of_row, if_of, repeat_of, sequence_of, statement_of, statements_of_row, truth_of, while_of}
+use Rattle.ob0_run_machine.specs.LoweredCodeViews.{branches_of_list, conditional_of, branches_of_row, if_of, repeat_of, sequence_of, statement_of, statements_of_row, truth_of, while_of}
 
 statements_listed : (n : _) (row : Row_of-Instruction n) → statements_of_row row ≡ sequence_of (items-the_row-Instruction n row)
 statements_listed _ end_of-Instruction = refl

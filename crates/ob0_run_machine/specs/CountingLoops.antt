@@ -7,9 +7,9 @@ use Rattle.ob0_run_machine.specs.declared.code.Truth.{Truth}
 use Rattle.ob0_run_machine.specs.declared.statements.CountingCondition.{CountingCondition}
 use Rattle.ob0_run_machine.specs.declared.statements.CountingLimit.{CountingLimit}
 use Rattle.ob0_run_machine.specs.declared.statements.CountingLimit.TheVariants as limit
-use Rattle.ob0_run_machine.specs.Evaluation.{Levels, cell_at, gives, number}
+use Rattle.ob0_run_machine.specs.Evaluation.{Levels, cell_at, gives, number_value}
 use Rattle.ob0_run_machine.specs.LoweredSyntax as lowered
-use Rattle.ob0_run_machine.specs.View.{truth_of, variable_comparison}
+use Rattle.ob0_run_machine.specs.LoweredCodeViews.{truth_of, variable_comparison}
 
 -- returns the value of a limit: its literal, or the number in the cell at its address
 abbrev pub limit_value : List ℤ → CountingLimit → ℤ
@@ -19,7 +19,7 @@ limit_value cells (limit.Address address) = cell_at cells address
 -- States that, in the activations `ls`, an expression has the value of this limit, whatever numbers
 -- the cells have.
 abbrev pub IsCountingLimit : Levels → lowered.Number → CountingLimit → Type 0
-IsCountingLimit ls n l = (cells : List ℤ) → number ls cells n ≡ gives (limit_value cells l)
+IsCountingLimit ls n l = (cells : List ℤ) → number_value ls cells n ≡ gives (limit_value cells l)
 
 -- States that the condition `t` compares the variable of `c` by `<` with an expression. This
 -- expression has the value of the limit of `c`.

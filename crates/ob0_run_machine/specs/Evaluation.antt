@@ -9,13 +9,13 @@ use Rattle.ob0_run_machine.specs.LoweredSyntax.{Place, in_module, in_own_activat
 
 infixl 20 ◌>>=◌
 -- The end of a run: Done, or the reason why the run ended before the end of the program.
-pub data Halt : Type 0 where
-  Done Overflow Divisor Index InputEnd CallBound TurnBound : Halt
+pub data MachineEnd : Type 0 where
+  Done Overflow Divisor Index InputEnd CallBound TurnBound : MachineEnd
 
 -- The outcome of an evaluation: a value, or the end of the run that the evaluation causes.
 pub data StepResult (A : Type 0) : Type 0 where
   gives : A → StepResult A
-  ends : Halt → StepResult A
+  ends : MachineEnd → StepResult A
 
 -- Applies `next` to the value of an evaluation. If the evaluation ends the run, returns this end.
 abbrev pub ◌>>=◌ : {A B : Type 0} → StepResult A → (A → StepResult B) → StepResult B
@@ -83,22 +83,22 @@ apply_operator remainder a b = division_outcome (checked_division division.remai
 abbrev mutual
   -- Returns the address of a place. The run ends with a fault if the evaluation of an index in the
   -- place fails, or if the index is outside its array.
-  pub address : Levels → List ℤ → Place → StepResult ℕ
-  address ls cells (in_module offset) = gives offset
-  address ls cells (in_own_activation offset) = gives (add_offset (innermost_level ls).base offset)
-  address ls cells (outside up offset) = gives (add_offset (level_at ls up).base offset)
-  address ls cells (passed up index offset) =
+  pub place_address : Levels → List ℤ → Place → StepResult ℕ
+  place_address ls cells (in_module offset) = gives offset
+  place_address ls cells (in_own_activation offset) = gives (add_offset (innermost_level ls).base offset)
+  place_address ls cells (outside up offset) = gives (add_offset (level_at ls up).base offset)
+  place_address ls cells (passed up index offset) =
       gives (add_offset (slice_index_or (level_at ls up).addresses index 0) offset)
-  address ls cells (element p i length stride offset) =
-      address ls cells p >>= (λ a. number ls cells i >>= element_address (add_offset a offset) length stride)
+  place_address ls cells (element p i length stride offset) =
+      place_address ls cells p >>= (λ a. number_value ls cells i >>= element_address (add_offset a offset) length stride)
 
   -- Returns the value of an expression that is a `Number`. If an operation or an index in the
   -- expression has a fault, the run ends with the first such fault.
-  pub number : Levels → List ℤ → Number → StepResult ℤ
-  number ls cells (literal n) = gives n
-  number ls cells (cell p) = address ls cells p >>= (λ a. gives (cell_at cells a))
-  number ls cells (negative n) = number ls cells n >>= (λ a. checked_number (neg_ℤ a))
-  number ls cells (operation o m n) = number ls cells m >>= (λ a. number ls cells n >>= apply_operator o a)
+  pub number_value : Levels → List ℤ → Number → StepResult ℤ
+  number_value ls cells (literal n) = gives n
+  number_value ls cells (cell p) = place_address ls cells p >>= (λ a. gives (cell_at cells a))
+  number_value ls cells (negative n) = number_value ls cells n >>= (λ a. checked_number (neg_ℤ a))
+  number_value ls cells (operation o m n) = number_value ls cells m >>= (λ a. number_value ls cells n >>= apply_operator o a)
 
 -- returns whether a relation holds between two numbers
 abbrev pub compare : Comparator → ℤ → ℤ → Bool
@@ -123,15 +123,15 @@ truth_as_cell true = pos 1
 -- Returns the value of an expression that is a `Truth`. The right side of `both` or `either` is
 -- evaluated only if the left side doesn't decide the value. The run ends with the first fault that
 -- occurs.
-abbrev pub truth : Levels → List ℤ → Truth → StepResult Bool
-truth ls cells (constant b) = gives b
-truth ls cells (flag p) = address ls cells p >>= (λ a. gives (is_cell_true (cell_at cells a)))
-truth ls cells (negation t) = truth ls cells t >>= (λ a. gives (not a))
-truth ls cells (both t u) = truth ls cells t >>= (λ a. if a then truth ls cells u else gives false)
-truth ls cells (either t u) = truth ls cells t >>= (λ a. if a then gives true else truth ls cells u)
-truth ls cells (related r m n) =
-    number ls cells m >>= (λ a. number ls cells n >>= (λ b. gives (compare r a b)))
-truth ls cells (same t u) =
-    truth ls cells t >>= (λ a. truth ls cells u >>= (λ b. gives (same_truth a b)))
-truth ls cells (different t u) =
-    truth ls cells t >>= (λ a. truth ls cells u >>= (λ b. gives (not (same_truth a b))))
+abbrev pub truth_value : Levels → List ℤ → Truth → StepResult Bool
+truth_value ls cells (constant b) = gives b
+truth_value ls cells (flag p) = place_address ls cells p >>= (λ a. gives (is_cell_true (cell_at cells a)))
+truth_value ls cells (negation t) = truth_value ls cells t >>= (λ a. gives (not a))
+truth_value ls cells (both t u) = truth_value ls cells t >>= (λ a. if a then truth_value ls cells u else gives false)
+truth_value ls cells (either t u) = truth_value ls cells t >>= (λ a. if a then gives true else truth_value ls cells u)
+truth_value ls cells (related r m n) =
+    number_value ls cells m >>= (λ a. number_value ls cells n >>= (λ b. gives (compare r a b)))
+truth_value ls cells (same t u) =
+    truth_value ls cells t >>= (λ a. truth_value ls cells u >>= (λ b. gives (same_truth a b)))
+truth_value ls cells (different t u) =
+    truth_value ls cells t >>= (λ a. truth_value ls cells u >>= (λ b. gives (not (same_truth a b))))

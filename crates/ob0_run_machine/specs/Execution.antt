@@ -4,8 +4,8 @@
 -- execution of a loop.
 -- Rule: docs/LANGUAGE.md, Runs 5 to 10.
 use Rattle.std.specs.Prelude.{ℕ, zero, suc, ◌+◌, ◌-◌, ◌^◌, Bool, true, false, ◌&&◌, List, [], ◌∷◌, ◌++◌, length, take, drop, replicate, ℤ, pos, Some, None, Option, if◌then◌else◌, nat_le, nat_lt, slice_get, slice_set}
-use Rattle.ob0_run_machine.specs.LoweredSyntax.{LoweredArgument, by_place, by_number, by_truth, by_block, Instruction, stores_number, stores_truth, copies, reads, writes, writes_line, chooses_branch, while_loop, repeat_loop, calls, Instructions, no_statement, next_statement, Branches, no_branch, branch, Routine, LoweredCode}
-use Rattle.ob0_run_machine.specs.Evaluation.{CallBound, Done, Halt, InputEnd, StepResult, Levels, TurnBound, address, truth_as_cell, ends, gives, innermost_level, number, truth, ◌>>=◌}
+use Rattle.ob0_run_machine.specs.LoweredSyntax.{LoweredArgument, by_place, by_number, by_truth, by_block, Instruction, stores_number, stores_truth, copies, reads, writes, writes_line, chooses_branch, while_loop, repeat_loop, calls, InstructionList, no_statement, next_statement, Branches, no_branch, branch, Routine, LoweredCode}
+use Rattle.ob0_run_machine.specs.Evaluation.{CallBound, Done, MachineEnd, InputEnd, StepResult, Levels, TurnBound, place_address, truth_as_cell, ends, gives, innermost_level, number_value, truth_value, ◌>>=◌}
 
 -- An item of output: a number, or the end of a line.
 pub data OutputItem : Type 0 where
@@ -24,7 +24,7 @@ pub record MachineState : Type 0 where
 -- `no_room`.
 pub data MachineProgress : Type 0 where
   running : MachineState → MachineProgress
-  stopped : Halt → List OutputItem → MachineProgress
+  stopped : MachineEnd → List OutputItem → MachineProgress
   no_room : MachineProgress
 
 -- Continues a run by applying `next` to the value of an evaluation. If the evaluation ends the run,
@@ -36,10 +36,10 @@ continue_with_result s (ends e) next = stopped e s.output
 
 -- Applies the step `next` to the state of a run. Changes nothing if the run has ended or is
 -- `no_room`.
-abbrev pub continue_with : MachineProgress → (MachineState → MachineProgress) → MachineProgress
-continue_with (running s) next = next s
-continue_with (stopped e out) next = stopped e out
-continue_with no_room next = no_room
+abbrev pub continue_run : MachineProgress → (MachineState → MachineProgress) → MachineProgress
+continue_run (running s) next = next s
+continue_run (stopped e out) next = stopped e out
+continue_run no_room next = no_room
 
 -- Continues a run with one of two steps, depending on the value of a condition. If the evaluation
 -- of the condition ends the run, the run ends, and both steps are skipped.
@@ -57,8 +57,8 @@ append_output s i = record s { output = s.output ++ i ∷ [] }
 
 -- Returns the state after a number was stored in the cell at an address. The state is unchanged if
 -- there is no such cell.
-abbrev pub store_at : MachineState → ℕ → ℤ → MachineState
-store_at s a n = record s { cells = slice_set s.cells a n }
+abbrev pub store_in_cell : MachineState → ℕ → ℤ → MachineState
+store_in_cell s a n = record s { cells = slice_set s.cells a n }
 
 -- Returns the cells after the `n` cells that begin at `from` were copied to `to`. The cells are
 -- unchanged if the list has fewer than `from + n` cells, or fewer than `to + n` cells.
@@ -74,8 +74,8 @@ zeros n = replicate n (pos 0)
 
 -- returns the `n` cells that begin at the address `from`, or `n` zeros if the list has fewer than
 -- `from + n` cells
-abbrev pub block_or_zeros_at : List ℤ → (from n : ℕ) → List ℤ
-block_or_zeros_at cells from n =
+abbrev pub block_or_zeros_at_address : List ℤ → (from n : ℕ) → List ℤ
+block_or_zeros_at_address cells from n =
     if nat_le (from + n) (length cells) then take n (drop from cells) else zeros n
 
 -- Returns the progress of a run after `Read`, which stores the next number of the input in the cell
@@ -83,7 +83,7 @@ block_or_zeros_at cells from n =
 -- InputEnd.
 abbrev pub read_number : MachineState → ℕ → List ℤ → MachineProgress
 read_number s a [] = stopped InputEnd s.output
-read_number s a (n ∷ rest) = running (store_at (record s { input = rest }) a n)
+read_number s a (n ∷ rest) = running (store_in_cell (record s { input = rest }) a n)
 
 -- The arguments of a call that have been passed so far. `cells` has all cells, with the passed
 -- values at the end. `addresses` has the addresses that were passed for VAR parameters. Both are in
@@ -93,8 +93,8 @@ pub record CallArguments : Type 0 where
   pub addresses : List ℕ
 
 -- returns the passed arguments `p` with the cells `more` added at the end of their cells
-abbrev pub with_passed_cells : CallArguments → List ℤ → CallArguments
-with_passed_cells p more = record p { cells = p.cells ++ more }
+abbrev pub add_passed_cells : CallArguments → List ℤ → CallArguments
+add_passed_cells p more = record p { cells = p.cells ++ more }
 
 -- Evaluates an argument over the cells before the call (`before`), and returns the passed arguments
 -- with this one added. An argument for a VAR parameter adds an address, any other argument adds the
@@ -102,13 +102,13 @@ with_passed_cells p more = record p { cells = p.cells ++ more }
 abbrev pub pass_argument : Levels → (before : List ℤ) → LoweredArgument → CallArguments
     → StepResult CallArguments
 pass_argument ls before (by_place p) done =
-    address ls before p >>= (λ a. gives record done { addresses = done.addresses ++ a ∷ [] })
+    place_address ls before p >>= (λ a. gives record done { addresses = done.addresses ++ a ∷ [] })
 pass_argument ls before (by_number n) done =
-    number ls before n >>= (λ a. gives (with_passed_cells done (a ∷ [])))
+    number_value ls before n >>= (λ a. gives (add_passed_cells done (a ∷ [])))
 pass_argument ls before (by_truth t) done =
-    truth ls before t >>= (λ a. gives (with_passed_cells done (truth_as_cell a ∷ [])))
+    truth_value ls before t >>= (λ a. gives (add_passed_cells done (truth_as_cell a ∷ [])))
 pass_argument ls before (by_block p n) done =
-    address ls before p >>= (λ a. gives (with_passed_cells done (block_or_zeros_at before a n)))
+    place_address ls before p >>= (λ a. gives (add_passed_cells done (block_or_zeros_at_address before a n)))
 
 -- Evaluates and passes a list of arguments, from left to right, and returns the passed arguments
 -- with these added. `before` has the cells before the call. If an evaluation ends the run, returns
@@ -128,7 +128,7 @@ abbrev pub execute_while : ℕ → (MachineState → StepResult Bool)
 execute_while zero condition statements s =
     choose_by_truth s (condition s) (λ s'. stopped TurnBound s'.output) running
 execute_while (suc t) condition statements s =
-    choose_by_truth s (condition s) (λ s'. continue_with (statements s') (execute_while t condition statements))
+    choose_by_truth s (condition s) (λ s'. continue_run (statements s') (execute_while t condition statements))
     running
 
 -- Returns the run of a REPEAT, with at most `t` iterations after the first. The condition is
@@ -139,10 +139,10 @@ abbrev pub execute_repeat : ℕ → (MachineState → StepResult Bool)
     → MachineState
     → MachineProgress
 execute_repeat zero condition turn s =
-    continue_with (turn s)
+    continue_run (turn s)
     (λ s'. choose_by_truth s' (condition s') running (λ s''. stopped TurnBound s''.output))
 execute_repeat (suc t) condition turn s =
-    continue_with (turn s) (λ s'. choose_by_truth s' (condition s') running (execute_repeat t condition turn))
+    continue_run (turn s) (λ s'. choose_by_truth s' (condition s') running (execute_repeat t condition turn))
 
 -- The type of the effect of a call whose arguments have been passed. The effect is a function of
 -- the procedure's index, of the activations that the procedure's body can see (its own first), and
@@ -163,33 +163,33 @@ unfoldable mutual
   -- make at most `t` iterations.
   pub execute : CallEffect → ℕ → Levels → Instruction → MachineState → MachineProgress
   execute enter t ls (stores_number p n) s =
-      continue_with_result s (address ls s.cells p)
-      (λ a. continue_with_result s (number ls s.cells n) (λ v. running (store_at s a v)))
+      continue_with_result s (place_address ls s.cells p)
+      (λ a. continue_with_result s (number_value ls s.cells n) (λ v. running (store_in_cell s a v)))
   execute enter t ls (stores_truth p u) s =
-      continue_with_result s (address ls s.cells p)
-      (λ a. continue_with_result s (truth ls s.cells u) (λ v. running (store_at s a (truth_as_cell v))))
+      continue_with_result s (place_address ls s.cells p)
+      (λ a. continue_with_result s (truth_value ls s.cells u) (λ v. running (store_in_cell s a (truth_as_cell v))))
   execute enter t ls (copies p q n) s =
-      continue_with_result s (address ls s.cells p) (λ to. continue_with_result s (address ls s.cells q)
+      continue_with_result s (place_address ls s.cells p) (λ to. continue_with_result s (place_address ls s.cells q)
       (λ from. running record s { cells = cells_after_copy s.cells to from n }))
-  execute enter t ls (reads p) s = continue_with_result s (address ls s.cells p) (λ a. read_number s a s.input)
+  execute enter t ls (reads p) s = continue_with_result s (place_address ls s.cells p) (λ a. read_number s a s.input)
   execute enter t ls (writes n) s =
-      continue_with_result s (number ls s.cells n) (λ v. running (append_output s (number_out v)))
+      continue_with_result s (number_value ls s.cells n) (λ v. running (append_output s (number_out v)))
   execute enter t ls writes_line s = running (append_output s line_out)
   execute enter t ls (chooses_branch bs otherwise) s =
       execute_branches enter t ls bs (execute_sequence enter t ls otherwise) s
   execute enter t ls (while_loop c body) s =
-      execute_while t (λ s'. truth ls s'.cells c) (execute_sequence enter t ls body) s
+      execute_while t (λ s'. truth_value ls s'.cells c) (execute_sequence enter t ls body) s
   execute enter t ls (repeat_loop body c) s =
-      execute_repeat (t - 1) (λ s'. truth ls s'.cells c) (execute_sequence enter t ls body) s
+      execute_repeat (t - 1) (λ s'. truth_value ls s'.cells c) (execute_sequence enter t ls body) s
   execute enter t ls (calls k up args) s =
       continue_with_result s (pass_arguments ls s.cells args record { cells = s.cells; addresses = [] })
       (λ p. enter k (levels_in_call ls (length s.cells) up p) record s { cells = p.cells })
 
   -- returns the run of a list of statements, one after the other
-  pub execute_sequence : CallEffect → ℕ → Levels → Instructions → MachineState → MachineProgress
+  pub execute_sequence : CallEffect → ℕ → Levels → InstructionList → MachineState → MachineProgress
   execute_sequence enter t ls no_statement s = running s
   execute_sequence enter t ls (next_statement a rest) s =
-      continue_with (execute enter t ls a s) (execute_sequence enter t ls rest)
+      continue_run (execute enter t ls a s) (execute_sequence enter t ls rest)
 
   -- returns the run of the first branch with a TRUE condition, or of `otherwise` if no condition is
   -- TRUE
@@ -199,7 +199,7 @@ unfoldable mutual
       → MachineProgress
   execute_branches enter t ls no_branch otherwise s = otherwise s
   execute_branches enter t ls (branch c body rest) otherwise s =
-      choose_by_truth s (truth ls s.cells c) (execute_sequence enter t ls body)
+      choose_by_truth s (truth_value ls s.cells c) (execute_sequence enter t ls body)
       (execute_branches enter t ls rest otherwise)
 
 -- Drops all cells of a run's state except the first `n`. Changes nothing if the run has ended or is
@@ -219,25 +219,25 @@ run_with_added_cells n next s =
 
 -- Returns the run of a procedure's body, after the cells of the variables that the procedure
 -- declares were added. If there is no procedure (None), the state is unchanged.
-unfoldable pub activate : CallEffect → ℕ → Levels → Option Routine → MachineState → MachineProgress
+unfoldable pub run_routine : CallEffect → ℕ → Levels → Option Routine → MachineState → MachineProgress
 unfolding execute_sequence
-activate enter t ls None s = running s
-activate enter t ls (Some p) s = run_with_added_cells p.cells (execute_sequence enter t ls p.body) s
+run_routine enter t ls None s = running s
+run_routine enter t ls (Some p) s = run_with_added_cells p.cells (execute_sequence enter t ls p.body) s
 
 -- Returns the effect of a call of one of the procedures in a list, if `c` calls may still be
 -- opened, including this call. The procedure's body runs, and then the cells of its activation are
 -- dropped. If `c` is 0, the run ends with CallBound.
 unfoldable pub call : List Routine → ℕ → ℕ → CallEffect
-unfolding activate
+unfolding run_routine
 call procedures zero t k ls s = stopped CallBound s.output
 call procedures (suc c) t k ls s =
     drop_variables (innermost_level ls).base
-    (activate (call procedures c t) t ls (slice_get procedures k) s)
+    (run_routine (call procedures c t) t ls (slice_get procedures k) s)
 
 -- The result of a whole run: its output, and how it ended.
 pub record MachineRun : Type 0 where
   pub output : List OutputItem
-  pub ending : Halt
+  pub ending : MachineEnd
 
 -- Returns the output and the end of a run. The end is Done if the run reached the end of the
 -- program. Returns None for `no_room`.

@@ -28,8 +28,8 @@ levels_of_option None = []
 levels_of_option (Some l) = levels_of l.now
 
 -- returns the addresses that a call passes for its VAR parameters, in the order of the parameters
-abbrev pub addresses_in : VarParameterAddresses → List ℕ
-addresses_in addresses.Empty = []
-addresses_in (addresses.One a) = a ∷ []
-addresses_in (addresses.Two a b) = a ∷ b ∷ []
-addresses_in (addresses.More all) = all.items
+abbrev pub address_list_of : VarParameterAddresses → List ℕ
+address_list_of addresses.Empty = []
+address_list_of (addresses.One a) = a ∷ []
+address_list_of (addresses.Two a b) = a ∷ b ∷ []
+address_list_of (addresses.More all) = all.items

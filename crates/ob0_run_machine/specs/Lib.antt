@@ -1,7 +1,7 @@
 pub mod LoweredSyntax
 pub mod Evaluation
 pub mod Execution
-pub mod View
+pub mod LoweredCodeViews
 pub mod Levels
 pub mod CountingLoops
 pub mod StepOutcomes

@@ -71,31 +71,31 @@ mutual
     writes : Number → Instruction
     writes_line : Instruction
     -- an IF: its conditions with their statements, and the statements if no condition is TRUE
-    chooses_branch : Branches → Instructions → Instruction
-    while_loop : Truth → Instructions → Instruction
-    repeat_loop : Instructions → Truth → Instruction
+    chooses_branch : Branches → InstructionList → Instruction
+    while_loop : Truth → InstructionList → Instruction
+    repeat_loop : InstructionList → Truth → Instruction
     -- calls the procedure with this index, which is declared in the activation `up` levels out
     calls : (procedure up : ℕ) → List LoweredArgument → Instruction
 
   -- A list of statements.
-  pub data Instructions : Type 0 where
-    no_statement : Instructions
-    next_statement : Instruction → Instructions → Instructions
+  pub data InstructionList : Type 0 where
+    no_statement : InstructionList
+    next_statement : Instruction → InstructionList → InstructionList
 
   -- A list of conditions, each with the statements that run if it is the first TRUE condition.
   pub data Branches : Type 0 where
     no_branch : Branches
-    branch : Truth → Instructions → Branches → Branches
+    branch : Truth → InstructionList → Branches → Branches
 
 -- Code of a procedure. `cells` is the number of cells of the variables that the procedure declares.
 -- The cells of its parameters aren't counted.
 pub record Routine : Type 0 where
   pub cells : ℕ
-  pub body : Instructions
+  pub body : InstructionList
 
 -- Code of a module. `cells` is the number of cells of the variables that the module declares
 -- outside its procedures. Calls refer to procedures by their indices in `procedures`.
 pub record LoweredCode : Type 0 where
   pub cells : ℕ
-  pub body : Instructions
+  pub body : InstructionList
   pub procedures : List Routine

@@ -19,11 +19,11 @@ use Rattle.ob0_run_machine.specs.declared.machine.Machine.{Machine}
 use Rattle.ob0_run_machine.specs.declared.memory.Memory.{Memory}
 use Rattle.ob0_run_machine.specs.Allocations.{has_failed}
 use Rattle.ob0_run_machine.specs.StepOutcomes.{end_of_stop_reason, end_of}
-use Rattle.ob0_run_machine.specs.Evaluation.{Halt, Levels, StepResult, ends, gives}
-use Rattle.ob0_run_machine.specs.Execution.{CallEffect, CallArguments, MachineProgress, MachineState, OutputItem, activate, call, levels_in_call, execute, execute_sequence, execute_branches, line_out, number_out, running, stopped}
+use Rattle.ob0_run_machine.specs.Evaluation.{MachineEnd, Levels, StepResult, ends, gives}
+use Rattle.ob0_run_machine.specs.Execution.{CallEffect, CallArguments, MachineProgress, MachineState, OutputItem, run_routine, call, levels_in_call, execute, execute_sequence, execute_branches, line_out, number_out, running, stopped}
 use Rattle.ob0_run_machine.specs.Levels.{levels_of}
-use Rattle.ob0_run_machine.specs.LoweredSyntax.{Branches, Routine, Instruction, Instructions}
-use Rattle.ob0_run_machine.specs.View.{program_of}
+use Rattle.ob0_run_machine.specs.LoweredSyntax.{Branches, Routine, Instruction, InstructionList}
+use Rattle.ob0_run_machine.specs.LoweredCodeViews.{program_of}
 use Rattle.ob0_run_machine.specs.declared.code.LoweredCode.{LoweredCode}
 
 -- converts an `Item` of the machine's output to an `OutputItem`
@@ -50,7 +50,7 @@ progress_after_step (Err e) m = stopped (end_of e) (output_items m.output.items)
 -- States that the progress `p` is a run that has ended with the given end and the output of the
 -- machine `m`. For None, states instead that an allocation has failed, and claims nothing about
 -- `p`.
-abbrev pub StopsRun : Option Halt → Machine → MachineProgress → Type 0
+abbrev pub StopsRun : Option MachineEnd → Machine → MachineProgress → Type 0
 StopsRun (Some e) m p = p ≡ stopped e (output_items m.output.items)
 StopsRun None m p = has_failed m.memory ≡ true
 
@@ -66,8 +66,8 @@ abbrev pub CallPostcondition : Type 1
 CallPostcondition = MutBor Machine → ℕ → Bor level.Level → Result (Unit {0}) StopReason → MutBor Machine → Type 0
 
 -- States that each call for which the postcondition `post` holds has the effect `enters`.
-abbrev pub PerformsCalls : CallPostcondition → CallEffect → Type 0
-PerformsCalls post enters =
+abbrev pub CallsHaveEffect : CallPostcondition → CallEffect → Type 0
+CallsHaveEffect post enters =
     (at : MutBor Machine) (k : ℕ) (l : Bor level.Level) (r : Result (Unit {0}) StopReason)
     (after : MutBor Machine)
     → post at k l r after → IsProgressAfterStep r after.now (enters k (levels_of l.now) (state_of at.now))
@@ -85,22 +85,22 @@ statement_effect t ls a enters s = execute enters t ls a s
 
 -- returns the effect of a list of statements, in the activations `ls`, with at most `t` iterations
 -- of each execution of a loop
-abbrev pub sequence_effect : ℕ → Levels → Instructions → CodeEffect
+abbrev pub sequence_effect : ℕ → Levels → InstructionList → CodeEffect
 sequence_effect t ls as_listed enters s = execute_sequence enters t ls as_listed s
 
 -- returns the effect of the first branch with a TRUE condition, or of the statements `otherwise` if
 -- no condition is TRUE
-abbrev pub elsifs_effect : ℕ → Levels → Branches → Instructions → CodeEffect
+abbrev pub elsifs_effect : ℕ → Levels → Branches → InstructionList → CodeEffect
 elsifs_effect t ls bs otherwise enters s =
     execute_branches enters t ls bs (execute_sequence enters t ls otherwise) s
 
 -- States that a step from the machine `m` to the machine `m'` with the result `r` has the effect
 -- `doing`. This has to hold for each effect of calls that agrees with `post`, the postcondition of
--- the closure that performs calls (`PerformsCalls`).
+-- the closure that performs calls (`CallsHaveEffect`).
 pub record StepHasEffect (post : CallPostcondition) (r : Result (Unit {0}) StopReason) (m m' : Machine) (doing : CodeEffect)
     : Type 0 where
   pub has_effect : (enters : CallEffect)
-      → PerformsCalls post enters
+      → CallsHaveEffect post enters
       → IsProgressAfterStep r m' (doing enters (state_of m))
 
 -- Returns the call arguments with these cells and addresses. The cells are all cells so far, with
@@ -118,7 +118,7 @@ procedure_entry_effect k up ls base addresses enters s =
 
 -- States that the outcome `o` of evaluating arguments is the given end of the run. For None, states
 -- instead that an allocation has failed, and claims nothing about `o`.
-abbrev pub StopsArgumentPassing : Option Halt → Memory → StepResult CallArguments → Type 0
+abbrev pub StopsArgumentPassing : Option MachineEnd → Memory → StepResult CallArguments → Type 0
 StopsArgumentPassing (Some e) memory o = o ≡ ends e
 StopsArgumentPassing None memory o = has_failed memory ≡ true
 
@@ -131,7 +131,7 @@ IsOutcomeOfArgumentPassing (Err s) memory cells addresses o = StopsArgumentPassi
 -- Returns the effect of a procedure's activation: the cells of the variables that the procedure
 -- declares are added, and then its body runs. If there is no procedure (None), nothing happens.
 abbrev pub activation_effect : Option Routine → ℕ → Levels → CodeEffect
-activation_effect o t ls enters s = activate enters t ls o s
+activation_effect o t ls enters s = run_routine enters t ls o s
 
 -- States that a call of a procedure leads from the machine `m` to the machine `m'` with the result
 -- `r`, as `call` defines it (`IsProgressAfterStep`). `k` is the procedure's index, and `l` is the

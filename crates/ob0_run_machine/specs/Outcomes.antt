@@ -1,5 +1,5 @@
 -- Converts the end and the outcome that the machine returns (`End`, `Outcome`) to the values that
--- the definitions of runs use (`Halt`, `MachineRun`).
+-- the definitions of runs use (`MachineEnd`, `MachineRun`).
 -- Rule: none; used in contracts to give values of the code a meaning.
 use Rattle.std.specs.Prelude.{◌≡◌, ℕ, IsErr, Ok, Err, None, Option, Result, Some}
 use Rattle.std.specs.declared.alloc.AllocError.{AllocError}
@@ -8,13 +8,13 @@ use Rattle.ob0_run_machine.specs.declared.program_runs.End.TheVariants as code
 use Rattle.ob0_run_machine.specs.declared.program_runs.Outcome.{Outcome}
 use Rattle.ob0_run_machine.specs.declared.stop_reasons.StopReason.{StopReason}
 use Rattle.ob0_run_machine.specs.StepOutcomes.{end_of_stop_reason}
-use Rattle.ob0_run_machine.specs.Evaluation.{CallBound, Divisor, Done, Halt, Index, InputEnd, Overflow, TurnBound}
+use Rattle.ob0_run_machine.specs.Evaluation.{CallBound, Divisor, Done, MachineEnd, Index, InputEnd, Overflow, TurnBound}
 use Rattle.ob0_run_machine.specs.Execution.{MachineProgress, MachineRun, MachineState, call, execute_sequence, module_levels}
 use Rattle.ob0_run_machine.specs.LoweredSyntax.{LoweredCode}
 use Rattle.ob0_run_machine.specs.Machines.{output_items}
 
--- converts an end of a run as the machine returns it (`End`) to an end as it is defined (`Halt`)
-abbrev pub meaning_of_end : End → Halt
+-- converts an end of a run as the machine returns it (`End`) to an end as it is defined (`MachineEnd`)
+abbrev pub meaning_of_end : End → MachineEnd
 meaning_of_end code.Done = Done
 meaning_of_end code.Overflow = Overflow
 meaning_of_end code.Divisor = Divisor
@@ -25,7 +25,7 @@ meaning_of_end code.TurnBound = TurnBound
 
 -- States that the result `r` is Ok with the given end of the run. For None, states that `r` is an
 -- error.
-abbrev pub ReturnsEnd : Option Halt → Result End AllocError → Type 0
+abbrev pub ReturnsEnd : Option MachineEnd → Result End AllocError → Type 0
 ReturnsEnd (Some e) r = (x : End) × (r ≡ Ok x) × (meaning_of_end x ≡ e)
 ReturnsEnd None r = IsErr r
 

@@ -1,5 +1,5 @@
 -- Converts the results of the machine's functions (`Result`, `FlatOutcome`, `StopReason`) to the
--- outcomes and ends of runs that the definitions use (`StepResult`, `Halt`).
+-- outcomes and ends of runs that the definitions use (`StepResult`, `MachineEnd`).
 -- Rule: none; used in contracts of the machine's steps.
 use Rattle.std.specs.Prelude.{ℤ, List, Option, Some, None, Ok, Err, Result}
 use Rattle.ob0_run_machine.specs.declared.stop_reasons.EvaluationFault.{EvaluationFault}
@@ -7,22 +7,22 @@ use Rattle.ob0_run_machine.specs.declared.stop_reasons.EvaluationFault.TheVarian
 use Rattle.ob0_run_machine.specs.declared.stop_reasons.StopReason.{StopReason}
 use Rattle.ob0_run_machine.specs.declared.stop_reasons.StopReason.TheVariants as stop
 use Rattle.ob0_run_machine.specs.Evaluation as evaluation
-use Rattle.ob0_run_machine.specs.Evaluation.{Halt, Levels, StepResult, ends, gives, number}
-use Rattle.ob0_run_machine.specs.declared.code.Link.{Link}
+use Rattle.ob0_run_machine.specs.Evaluation.{MachineEnd, Levels, StepResult, ends, gives, number_value}
+use Rattle.ob0_run_machine.specs.declared.code.ChainLink.{ChainLink}
 use Rattle.ob0_run_machine.specs.declared.flat_outcome.FlatOutcome.{FlatOutcome}
 use Rattle.ob0_run_machine.specs.declared.flat_outcome.FlatOutcome.TheVariants as flat_outcome
 use Rattle.ob0_run_machine.specs.LoweredSyntax.{literal}
-use Rattle.ob0_run_machine.specs.View.{operation_with_link}
+use Rattle.ob0_run_machine.specs.LoweredCodeViews.{operation_with_link}
 
 -- returns the end of a run that a fault of an expression causes
-abbrev pub end_of : EvaluationFault → Halt
+abbrev pub end_of : EvaluationFault → MachineEnd
 end_of ending.Overflow = evaluation.Overflow
 end_of ending.Divisor = evaluation.Divisor
 end_of ending.Index = evaluation.Index
 
 -- returns the end of the run for a statement's reason to stop, or None if the reason is a failed
 -- allocation
-abbrev pub end_of_stop_reason : StopReason → Option Halt
+abbrev pub end_of_stop_reason : StopReason → Option MachineEnd
 end_of_stop_reason stop.Overflow = Some evaluation.Overflow
 end_of_stop_reason stop.Divisor = Some evaluation.Divisor
 end_of_stop_reason stop.Index = Some evaluation.Index
@@ -53,5 +53,5 @@ number_or_overflow (Some n) = gives n
 
 -- Returns the outcome of applying a link to the number `left`, given the activations and the cells.
 -- A link is a binary operator with one of its operands, and `left` is the other operand.
-abbrev pub outcome_of_applied_link : Levels → List ℤ → Link → ℤ → StepResult ℤ
-outcome_of_applied_link ls cells l left = number ls cells (operation_with_link l (literal left))
+abbrev pub outcome_of_applied_link : Levels → List ℤ → ChainLink → ℤ → StepResult ℤ
+outcome_of_applied_link ls cells l left = number_value ls cells (operation_with_link l (literal left))

@@ -2,7 +2,7 @@
 
 ghost use Rattle.std.specs.Prelude.{◌≡◌, ◌++◌, ◌∷◌, [], IfOk, OnErr, OnOk, true};
 ghost use Rattle.ob0_run_machine.specs.Allocations.{has_failed};
-ghost use Rattle.ob0_run_machine.specs.Levels.{addresses_in};
+ghost use Rattle.ob0_run_machine.specs.Levels.{address_list_of};
 
 use crate::memory::Memory;
 use std::alloc::AllocError;
@@ -26,7 +26,7 @@ fn list_of_three_addresses(
     b: usize,
     c: usize,
 ) -> Result<VarParameterAddresses, AllocError>
-    ensures listed { IfOk result (λ r. addresses_in r ≡ a ∷ b ∷ c ∷ []) }
+    ensures listed { IfOk result (λ r. address_list_of r ≡ a ∷ b ∷ c ∷ []) }
     ensures failed { OnErr result (has_failed memory.new ≡ true) }
 {
     let mut all = memory.new_list();
@@ -42,7 +42,7 @@ impl VarParameterAddresses {
     #[inline(always)]
     pub(crate) fn push(&mut self, memory: &mut Memory, address: usize) -> Result<(), AllocError>
         ensures items { OnOk result
-            (addresses_in self.new ≡ addresses_in self.old ++ address ∷ []) }
+            (address_list_of self.new ≡ address_list_of self.old ++ address ∷ []) }
         ensures failed { OnErr result (has_failed memory.new ≡ true) }
     {
         match self {

@@ -4,9 +4,9 @@
 
 ghost use Rattle.std.specs.Prelude.{◌≡◌, ◌≤◌, OnOk, length, map, take};
 ghost use Rattle.ob0_run_machine.specs.Execution.{pass_argument, pass_arguments};
-ghost use Rattle.ob0_run_machine.specs.Levels.{addresses_in, levels_of};
+ghost use Rattle.ob0_run_machine.specs.Levels.{address_list_of, levels_of};
 ghost use Rattle.ob0_run_machine.specs.Machines.{IsOutcomeOfArgumentPassing, passed_arguments};
-ghost use Rattle.ob0_run_machine.specs.View.{argument_of};
+ghost use Rattle.ob0_run_machine.specs.LoweredCodeViews.{argument_of};
 
 use crate::addresses::VarParameterAddresses;
 use crate::code::Argument;
@@ -29,9 +29,9 @@ fn pass_argument(
     addresses: &mut VarParameterAddresses,
 ) -> Result<(), StopReason>
     requires { base ≤ length cells.old.items }
-    ensures passed { IsOutcomeOfArgumentPassing result memory.new cells.new.items (addresses_in addresses.new)
+    ensures passed { IsOutcomeOfArgumentPassing result memory.new cells.new.items (address_list_of addresses.new)
         (pass_argument (levels_of level.now) (take base cells.old.items) (argument_of argument.now)
-        (passed_arguments cells.old.items (addresses_in addresses.old))) }
+        (passed_arguments cells.old.items (address_list_of addresses.old))) }
     ensures kept { OnOk result (take base cells.new.items ≡ take base cells.old.items) }
 {
     let before = &cells.as_slice()[..base];
@@ -69,9 +69,9 @@ pub(crate) fn pass_arguments(
     addresses: &mut VarParameterAddresses,
 ) -> Result<(), StopReason>
     requires { base ≡ length cells.old.items }
-    ensures { IsOutcomeOfArgumentPassing result memory.new cells.new.items (addresses_in addresses.new)
+    ensures { IsOutcomeOfArgumentPassing result memory.new cells.new.items (address_list_of addresses.new)
         (pass_arguments (levels_of level.now) cells.old.items (map argument_of arguments.now)
-        (passed_arguments cells.old.items (addresses_in addresses.old))) }
+        (passed_arguments cells.old.items (address_list_of addresses.old))) }
 {
     for argument in arguments {
         pass_argument(memory, argument, level, base, cells, addresses)?;

@@ -5,7 +5,7 @@ ghost use Rattle.std.specs.Prelude.{◌≡◌, map, option_map, slice_get, take}
 ghost use Rattle.ob0_run_machine.specs.Evaluation.{innermost_level};
 ghost use Rattle.ob0_run_machine.specs.Levels.{levels_of};
 ghost use Rattle.ob0_run_machine.specs.Machines.{StepHasEffect, IsProgressAfterCall, activation_effect, state_of};
-ghost use Rattle.ob0_run_machine.specs.View.{procedure_of};
+ghost use Rattle.ob0_run_machine.specs.LoweredCodeViews.{procedure_of};
 
 use crate::code::{LoweredCode, Routine};
 use crate::level::Level;
@@ -16,7 +16,7 @@ use crate::stop_reasons::StopReason;
 /// Returns the procedure at the index `procedure` of `procedures`, or None if there is no procedure
 /// at this index.
 #[inline(always)]
-fn procedure_at<'p>(procedures: &'p [Routine], procedure: usize) -> Option<&'p Routine>
+fn procedure_at_index<'p>(procedures: &'p [Routine], procedure: usize) -> Option<&'p Routine>
     ensures { option_map (λ p. procedure_of p.now) result
         ≡ slice_get (map procedure_of procedures.now) procedure }
 {
@@ -29,7 +29,7 @@ fn procedure_at<'p>(procedures: &'p [Routine], procedure: usize) -> Option<&'p R
 /// Runs a procedure whose arguments have been passed. First adds the cells of the variables that it
 /// declares, with the value 0, then runs its body. Does nothing if `procedure` is None. The closure
 /// `enter` performs the calls in the body.
-fn activate<F: Fn(&mut Machine<'_>, usize, &Level<'_>) -> Result<(), StopReason>>(
+fn run_routine<F: Fn(&mut Machine<'_>, usize, &Level<'_>) -> Result<(), StopReason>>(
     procedure: Option<&Routine>,
     level: &Level<'_>,
     turns: u32,
@@ -84,8 +84,8 @@ pub(crate) fn call(
         ensures { IsProgressAfterCall result machine.old machine.new program.entry.now left turns procedure
             level.now }
     { call(program, left, turns, machine, procedure, level) };
-    let called = procedure_at(program.procedures.as_slice(), procedure);
-    activate(called, level, turns, machine, &enter)?;
+    let called = procedure_at_index(program.procedures.as_slice(), procedure);
+    run_routine(called, level, turns, machine, &enter)?;
     drop_variables(machine, level);
     Ok(())
 }

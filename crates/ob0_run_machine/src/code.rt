@@ -3,7 +3,7 @@
 //! the lengths of their arrays, and the offset of the selected part. A call refers to its procedure
 //! by the procedure's index.
 //!
-//! Some nodes are special forms of others. `View` gives both forms the same meaning, so the meaning
+//! Some nodes are special forms of others. `LoweredCodeViews` gives both forms the same meaning, so the meaning
 //! of lowered code is defined without the special forms. The machine takes fewer steps for these
 //! forms:
 //!
@@ -11,7 +11,7 @@
 //!   running activation, or a place at an offset from the address of a VAR parameter. A `Variable`
 //!   occurs as a place, a number, an operand of a link or a comparison, and the target of an
 //!   assignment. It also occurs as the array or the index of a `VariableElement`.
-//! - The operations of a chain are links, which are applied to the result so far. A `Link` has the
+//! - The operations of a chain are links, which are applied to the result so far. A `ChainLink` has the
 //!   operator and the kind of its operand, a literal or a variable, in one tag. Any other right
 //!   operand is evaluated by a called function (`apply_operator_to_expression`). `v + i * j` is also a chain
 //!   (`SumWithLeftVariable`), since `v` has the same value before and after the product is evaluated.
@@ -134,7 +134,7 @@ pub enum FirstOperand {
 #[derive(Drop)]
 pub struct Operation {
     pub first: FirstOperand,
-    pub link: Link,
+    pub link: ChainLink,
 }
 
 /// A chain of operations: a first operand, and the links that are applied to it in order, each to
@@ -143,7 +143,7 @@ pub struct Operation {
 #[derive(Drop)]
 pub struct Chain {
     pub first: FirstOperand,
-    pub rest: Vec<Link>,
+    pub rest: Vec<ChainLink>,
 }
 
 /// A binary operator with one of its two operands: a literal, a variable or another number. The
@@ -151,7 +151,7 @@ pub struct Chain {
 /// `DifferenceWithLeftVariable` and `ProductWithLeftVariable`. In these cases it is the right operand.
 #[cycle(numbers)]
 #[derive(Drop)]
-pub enum Link {
+pub enum ChainLink {
     SumWithLiteral(i32),
     SumWithVariable(Variable),
     DifferenceWithLiteral(i32),
@@ -250,7 +250,7 @@ pub enum Instruction {
     /// Assigns the result of a chain of operations to a variable.
     StoreChain(Variable, Box<Chain>),
     /// Assigns to a variable the result of an operation on this variable, as in `x := x * 2`.
-    Update(Variable, Link),
+    Update(Variable, ChainLink),
     /// Adds a literal to a variable, as in `x := x + 1`.
     Increase(Variable, i32),
     StoreTruth(Place, Truth),

@@ -4,15 +4,15 @@
 
 ghost use Rattle.std.specs.Prelude.{◌≡◌, List, ℤ, false, if◌then◌else◌, true};
 ghost use Rattle.ob0_run_machine.specs.StepOutcomes.{outcome_of_applied_link, outcome_of, outcome_of_result};
-ghost use Rattle.ob0_run_machine.specs.Evaluation.{address, cell_at, gives, number, truth};
+ghost use Rattle.ob0_run_machine.specs.Evaluation.{place_address, cell_at, gives, number_value, truth_value};
 ghost use Rattle.ob0_run_machine.specs.declared.code.TruthPair.{out-TruthPair};
 ghost use Rattle.ob0_run_machine.specs.LoweredSyntax as lowered;
 ghost use Rattle.ob0_run_machine.specs.Levels.{levels_of};
-ghost use Rattle.ob0_run_machine.specs.View.{conjunction_of, disjunction_of, operation_with_link, chain_of, variable_comparison, element_of, first_operand_of, number_of, operation_of, operator_of, place_of, operands_comparison, element_comparison, variable_element_of, truth_of, variable_of};
+ghost use Rattle.ob0_run_machine.specs.LoweredCodeViews.{conjunction_of, disjunction_of, operation_with_link, chain_of, variable_comparison, element_of, first_operand_of, number_of, operation_of, operator_of, place_of, operands_comparison, element_comparison, variable_element_of, truth_of, variable_of};
 
 use crate::code::{
-    Chain, Comparator, Element, FirstOperand, Link, Number, NumberPair, Operation, Operator, Place,
-    Truth, TruthList, TruthPair, Variable, VariableElement,
+    Chain, ChainLink, Comparator, Element, FirstOperand, Number, NumberPair, Operation, Operator,
+    Place, Truth, TruthList, TruthPair, Variable, VariableElement,
 };
 use crate::flat_outcome::{FlatOutcome, into_flat_outcome, into_result};
 use crate::level::{
@@ -39,7 +39,7 @@ pub(crate) fn cell_at(cells: &[i32], address: usize) -> i32
 #[inline(always)]
 pub(crate) fn variable_address(variable: Variable, level: &Level<'_>) -> usize
     ensures { (cells : List ℤ)
-        → address (levels_of level.now) cells (variable_of variable) ≡ gives result }
+        → place_address (levels_of level.now) cells (variable_of variable) ≡ gives result }
 {
     match variable {
         Variable::InModule(offset) => offset,
@@ -56,7 +56,7 @@ pub(crate) fn variable_address(variable: Variable, level: &Level<'_>) -> usize
 /// Returns the number in a variable's cell, or 0 if that cell doesn't exist.
 #[inline(always)]
 fn variable_value(variable: Variable, level: &Level<'_>, cells: &[i32]) -> i32
-    ensures { number (levels_of level.now) cells.now (lowered.cell (variable_of variable))
+    ensures { number_value (levels_of level.now) cells.now (lowered.cell (variable_of variable))
         ≡ gives result }
 {
     cell_at(cells, variable_address(variable, level))
@@ -70,7 +70,7 @@ pub(crate) fn variable_element_address(
     level: &Level<'_>,
     cells: &[i32],
 ) -> Result<usize, EvaluationFault>
-    ensures { outcome_of_result result ≡ address (levels_of level.now) cells.now (variable_element_of row.now) }
+    ensures { outcome_of_result result ≡ place_address (levels_of level.now) cells.now (variable_element_of row.now) }
 {
     let index = variable_value(row.index, level, cells);
     let array = add_offset(variable_address(row.array, level), row.offset);
@@ -87,7 +87,7 @@ pub(crate) fn locate_place(
     cells: &[i32],
 ) -> Result<usize, EvaluationFault>
     ensures { outcome_of_result result
-        ≡ address (levels_of level.now) cells.now (place_of place.now) }
+        ≡ place_address (levels_of level.now) cells.now (place_of place.now) }
 {
     match place {
         Place::Variable(variable) => Ok(variable_address(*variable, level)),
@@ -112,7 +112,7 @@ fn locate_element_as_flat_outcome(
     level: &Level<'_>,
     cells: &[i32],
 ) -> FlatOutcome<usize>
-    ensures { outcome_of result ≡ address (levels_of level.now) cells.now (element_of e.now) }
+    ensures { outcome_of result ≡ place_address (levels_of level.now) cells.now (element_of e.now) }
 {
     into_flat_outcome(locate_element(e, level, cells))
 }
@@ -121,7 +121,7 @@ fn locate_element_as_flat_outcome(
 #[cycle(evaluation)]
 fn locate_element(e: &Element, level: &Level<'_>, cells: &[i32]) -> Result<usize, EvaluationFault>
     ensures { outcome_of_result result
-        ≡ address (levels_of level.now) cells.now (element_of e.now) }
+        ≡ place_address (levels_of level.now) cells.now (element_of e.now) }
 {
     let a = locate_place(&e.array, level, cells)?;
     let i = evaluate_number(&e.index, level, cells)?;
@@ -136,7 +136,7 @@ pub(crate) fn evaluate_number(
     level: &Level<'_>,
     cells: &[i32],
 ) -> Result<i32, EvaluationFault>
-    ensures { outcome_of_result result ≡ number (levels_of level.now) cells.now (number_of n.now) }
+    ensures { outcome_of_result result ≡ number_value (levels_of level.now) cells.now (number_of n.now) }
 {
     match n {
         Number::Literal(n) => Ok(*n),
@@ -160,7 +160,7 @@ fn evaluate_first_operand(
     level: &Level<'_>,
     cells: &[i32],
 ) -> Result<i32, EvaluationFault>
-    ensures { outcome_of_result result ≡ number (levels_of level.now) cells.now (first_operand_of n.now) }
+    ensures { outcome_of_result result ≡ number_value (levels_of level.now) cells.now (first_operand_of n.now) }
 {
     match n {
         FirstOperand::Literal(n) => Ok(*n),
@@ -177,7 +177,7 @@ fn evaluate_first_operand(
 #[cycle(evaluation)]
 fn evaluate_unary_minus(operand: &Number, level: &Level<'_>, cells: &[i32]) -> FlatOutcome<i32>
     ensures { outcome_of result
-        ≡ number (levels_of level.now) cells.now (lowered.negative (number_of operand.now)) }
+        ≡ number_value (levels_of level.now) cells.now (lowered.negative (number_of operand.now)) }
 {
     match evaluate_number(operand, level, cells) {
         Ok(a) => into_flat_outcome(negate(a)),
@@ -191,7 +191,7 @@ fn evaluate_unary_minus(operand: &Number, level: &Level<'_>, cells: &[i32]) -> F
 #[inline(never)]
 #[cycle(evaluation)]
 fn evaluate_operation(o: &Operation, level: &Level<'_>, cells: &[i32]) -> FlatOutcome<i32>
-    ensures { outcome_of result ≡ number (levels_of level.now) cells.now (operation_of o.now) }
+    ensures { outcome_of result ≡ number_value (levels_of level.now) cells.now (operation_of o.now) }
 {
     match &o.first {
         FirstOperand::Variable(v) => into_flat_outcome(apply_link(
@@ -207,7 +207,7 @@ fn evaluate_operation(o: &Operation, level: &Level<'_>, cells: &[i32]) -> FlatOu
 #[inline(never)]
 #[cycle(evaluation)]
 fn evaluate_general_operation(o: &Operation, level: &Level<'_>, cells: &[i32]) -> FlatOutcome<i32>
-    ensures { outcome_of result ≡ number (levels_of level.now) cells.now (operation_of o.now) }
+    ensures { outcome_of result ≡ number_value (levels_of level.now) cells.now (operation_of o.now) }
 {
     match evaluate_first_operand(&o.first, level, cells) {
         Ok(left) => into_flat_outcome(apply_link(&o.link, left, level, cells)),
@@ -218,7 +218,7 @@ fn evaluate_general_operation(o: &Operation, level: &Level<'_>, cells: &[i32]) -
 #[inline(never)]
 #[cycle(evaluation)]
 fn evaluate_chain_as_flat_outcome(c: &Chain, level: &Level<'_>, cells: &[i32]) -> FlatOutcome<i32>
-    ensures { outcome_of result ≡ number (levels_of level.now) cells.now (chain_of c.now) }
+    ensures { outcome_of result ≡ number_value (levels_of level.now) cells.now (chain_of c.now) }
 {
     into_flat_outcome(evaluate_chain(c, level, cells))
 }
@@ -232,7 +232,7 @@ pub(crate) fn evaluate_chain(
     level: &Level<'_>,
     cells: &[i32],
 ) -> Result<i32, EvaluationFault>
-    ensures { outcome_of_result result ≡ number (levels_of level.now) cells.now (chain_of c.now) }
+    ensures { outcome_of_result result ≡ number_value (levels_of level.now) cells.now (chain_of c.now) }
 {
     let mut left = evaluate_first_operand(&c.first, level, cells)?;
     for link in &c.rest {
@@ -247,7 +247,7 @@ pub(crate) fn evaluate_chain(
 #[inline(always)]
 #[cycle(evaluation)]
 fn apply_link(
-    link: &Link,
+    link: &ChainLink,
     left: i32,
     level: &Level<'_>,
     cells: &[i32],
@@ -255,20 +255,25 @@ fn apply_link(
     ensures { outcome_of_result result ≡ outcome_of_applied_link (levels_of level.now) cells.now link.now left }
 {
     match link {
-        Link::SumWithLiteral(n) => add(left, *n),
-        Link::SumWithVariable(v) => add(left, variable_value(*v, level, cells)),
-        Link::DifferenceWithLiteral(n) => subtract(left, *n),
-        Link::DifferenceWithVariable(v) => subtract(left, variable_value(*v, level, cells)),
-        Link::ProductWithLiteral(n) => multiply(left, *n),
-        Link::ProductWithVariable(v) => multiply(left, variable_value(*v, level, cells)),
-        Link::QuotientWithLiteral(n) => divide(left, *n),
-        Link::QuotientWithVariable(v) => divide(left, variable_value(*v, level, cells)),
-        Link::RemainderWithLiteral(n) => modulo(left, *n),
-        Link::RemainderWithVariable(v) => modulo(left, variable_value(*v, level, cells)),
-        Link::SumWithLeftVariable(v) => add(variable_value(*v, level, cells), left),
-        Link::DifferenceWithLeftVariable(v) => subtract(variable_value(*v, level, cells), left),
-        Link::ProductWithLeftVariable(v) => multiply(variable_value(*v, level, cells), left),
-        Link::Other(o, n) => into_result(apply_operator_to_expression(*o, left, n, level, cells)),
+        ChainLink::SumWithLiteral(n) => add(left, *n),
+        ChainLink::SumWithVariable(v) => add(left, variable_value(*v, level, cells)),
+        ChainLink::DifferenceWithLiteral(n) => subtract(left, *n),
+        ChainLink::DifferenceWithVariable(v) => subtract(left, variable_value(*v, level, cells)),
+        ChainLink::ProductWithLiteral(n) => multiply(left, *n),
+        ChainLink::ProductWithVariable(v) => multiply(left, variable_value(*v, level, cells)),
+        ChainLink::QuotientWithLiteral(n) => divide(left, *n),
+        ChainLink::QuotientWithVariable(v) => divide(left, variable_value(*v, level, cells)),
+        ChainLink::RemainderWithLiteral(n) => modulo(left, *n),
+        ChainLink::RemainderWithVariable(v) => modulo(left, variable_value(*v, level, cells)),
+        ChainLink::SumWithLeftVariable(v) => add(variable_value(*v, level, cells), left),
+        ChainLink::DifferenceWithLeftVariable(v) => subtract(
+            variable_value(*v, level, cells),
+            left,
+        ),
+        ChainLink::ProductWithLeftVariable(v) => multiply(variable_value(*v, level, cells), left),
+        ChainLink::Other(o, n) => into_result(apply_operator_to_expression(
+            *o, left, n, level, cells,
+        )),
     }
 }
 
@@ -284,7 +289,7 @@ fn apply_operator_to_expression(
     cells: &[i32],
 ) -> FlatOutcome<i32>
     ensures { outcome_of result
-        ≡ number (levels_of level.now) cells.now
+        ≡ number_value (levels_of level.now) cells.now
         (lowered.operation (operator_of operator) (lowered.literal left) (number_of n.now)) }
 {
     match evaluate_number(n, level, cells) {
@@ -298,12 +303,12 @@ fn apply_operator_to_expression(
 #[inline(always)]
 pub(crate) fn evaluate_update(
     variable: Variable,
-    link: &Link,
+    link: &ChainLink,
     level: &Level<'_>,
     cells: &[i32],
 ) -> Result<i32, EvaluationFault>
     ensures { outcome_of_result result
-        ≡ number (levels_of level.now) cells.now
+        ≡ number_value (levels_of level.now) cells.now
         (operation_with_link link.now (lowered.cell (variable_of variable))) }
 {
     let left = variable_value(variable, level, cells);
@@ -314,7 +319,7 @@ pub(crate) fn evaluate_update(
 #[inline(never)]
 fn evaluate_flag(place: &Place, level: &Level<'_>, cells: &[i32]) -> FlatOutcome<bool>
     ensures { outcome_of result
-        ≡ truth (levels_of level.now) cells.now (lowered.flag (place_of place.now)) }
+        ≡ truth_value (levels_of level.now) cells.now (lowered.flag (place_of place.now)) }
 {
     match locate_place(place, level, cells) {
         Ok(a) => FlatOutcome::Value(is_cell_true(cell_at(cells, a))),
@@ -331,7 +336,7 @@ fn evaluate_negated_flag(
     cells: &[i32],
 ) -> Result<bool, EvaluationFault>
     ensures { outcome_of_result result
-        ≡ truth (levels_of level.now) cells.now
+        ≡ truth_value (levels_of level.now) cells.now
         (lowered.negation (lowered.flag (place_of place.now))) }
 {
     let a = into_result(evaluate_flag(place, level, cells))?;
@@ -347,7 +352,7 @@ pub(crate) fn evaluate_truth(
     level: &Level<'_>,
     cells: &[i32],
 ) -> Result<bool, EvaluationFault>
-    ensures { outcome_of_result result ≡ truth (levels_of level.now) cells.now (truth_of t.now) }
+    ensures { outcome_of_result result ≡ truth_value (levels_of level.now) cells.now (truth_of t.now) }
 {
     match t {
         Truth::Constant(b) => Ok(*b),
@@ -375,7 +380,7 @@ fn evaluate_truth_out_of_line(
     level: &Level<'_>,
     cells: &[i32],
 ) -> Result<bool, EvaluationFault>
-    ensures { outcome_of_result result ≡ truth (levels_of level.now) cells.now (truth_of t.now) }
+    ensures { outcome_of_result result ≡ truth_value (levels_of level.now) cells.now (truth_of t.now) }
 {
     into_result(evaluate_truth_as_flat_outcome(t, level, cells))
 }
@@ -383,7 +388,7 @@ fn evaluate_truth_out_of_line(
 #[inline(never)]
 #[cycle(truths)]
 fn evaluate_truth_as_flat_outcome(t: &Truth, level: &Level<'_>, cells: &[i32]) -> FlatOutcome<bool>
-    ensures { outcome_of result ≡ truth (levels_of level.now) cells.now (truth_of t.now) }
+    ensures { outcome_of result ≡ truth_value (levels_of level.now) cells.now (truth_of t.now) }
 {
     into_flat_outcome(evaluate_general_truth(t, level, cells))
 }
@@ -395,7 +400,7 @@ fn evaluate_general_truth(
     level: &Level<'_>,
     cells: &[i32],
 ) -> Result<bool, EvaluationFault>
-    ensures { outcome_of_result result ≡ truth (levels_of level.now) cells.now (truth_of t.now) }
+    ensures { outcome_of_result result ≡ truth_value (levels_of level.now) cells.now (truth_of t.now) }
 {
     match t {
         Truth::Constant(b) => Ok(*b),
@@ -437,7 +442,7 @@ fn compare_variable(
     level: &Level<'_>,
     cells: &[i32],
 ) -> bool
-    ensures { truth (levels_of level.now) cells.now
+    ensures { truth_value (levels_of level.now) cells.now
         (variable_comparison relation variable (lowered.literal right)) ≡ gives result }
 {
     compare(relation, variable_value(variable, level, cells), right)
@@ -454,7 +459,7 @@ fn compare_element(
     cells: &[i32],
 ) -> FlatOutcome<bool>
     ensures { outcome_of result
-        ≡ truth (levels_of level.now) cells.now (element_comparison relation left.now right) }
+        ≡ truth_value (levels_of level.now) cells.now (element_comparison relation left.now right) }
 {
     match variable_element_address(left, level, cells) {
         Ok(a) => {
@@ -475,7 +480,7 @@ fn compare_operands(
     cells: &[i32],
 ) -> Result<bool, EvaluationFault>
     ensures { outcome_of_result result
-        ≡ truth (levels_of level.now) cells.now (operands_comparison relation operands.now) }
+        ≡ truth_value (levels_of level.now) cells.now (operands_comparison relation operands.now) }
 {
     let left = evaluate_number(&operands.left, level, cells)?;
     let right = evaluate_number(&operands.right, level, cells)?;
@@ -489,7 +494,7 @@ fn evaluate_conjunction_pair(
     cells: &[i32],
 ) -> Result<bool, EvaluationFault>
     ensures { outcome_of_result result
-        ≡ truth (levels_of level.now) cells.now (lowered.both
+        ≡ truth_value (levels_of level.now) cells.now (lowered.both
         (truth_of (out-TruthPair operands.now).left) (truth_of (out-TruthPair operands.now).right)) }
 {
     if evaluate_truth_out_of_line(&operands.left, level, cells)? {
@@ -506,7 +511,7 @@ fn evaluate_disjunction_pair(
     cells: &[i32],
 ) -> Result<bool, EvaluationFault>
     ensures { outcome_of_result result
-        ≡ truth (levels_of level.now) cells.now (lowered.either
+        ≡ truth_value (levels_of level.now) cells.now (lowered.either
         (truth_of (out-TruthPair operands.now).left) (truth_of (out-TruthPair operands.now).right)) }
 {
     if evaluate_truth_out_of_line(&operands.left, level, cells)? {
@@ -523,7 +528,7 @@ fn evaluate_truth_equality(
     cells: &[i32],
 ) -> Result<bool, EvaluationFault>
     ensures { outcome_of_result result
-        ≡ truth (levels_of level.now) cells.now (lowered.same
+        ≡ truth_value (levels_of level.now) cells.now (lowered.same
         (truth_of (out-TruthPair operands.now).left) (truth_of (out-TruthPair operands.now).right)) }
 {
     let left = evaluate_truth_out_of_line(&operands.left, level, cells)?;
@@ -538,7 +543,7 @@ fn evaluate_truth_inequality(
     cells: &[i32],
 ) -> Result<bool, EvaluationFault>
     ensures { outcome_of_result result
-        ≡ truth (levels_of level.now) cells.now (lowered.different
+        ≡ truth_value (levels_of level.now) cells.now (lowered.different
         (truth_of (out-TruthPair operands.now).left) (truth_of (out-TruthPair operands.now).right)) }
 {
     let left = evaluate_truth_out_of_line(&operands.left, level, cells)?;
@@ -555,7 +560,7 @@ fn evaluate_conjunction_list(
     cells: &[i32],
 ) -> Result<bool, EvaluationFault>
     ensures { outcome_of_result result
-        ≡ truth (levels_of level.now) cells.now (conjunction_of several.now) }
+        ≡ truth_value (levels_of level.now) cells.now (conjunction_of several.now) }
 {
     let mut left = evaluate_truth_out_of_line(&several.first, level, cells)?;
     for t in &several.rest {
@@ -573,7 +578,7 @@ fn evaluate_and_with_left_value(
     cells: &[i32],
 ) -> Result<bool, EvaluationFault>
     ensures { outcome_of_result result
-        ≡ (if left then truth (levels_of level.now) cells.now (truth_of t.now) else gives false) }
+        ≡ (if left then truth_value (levels_of level.now) cells.now (truth_of t.now) else gives false) }
 {
     if left {
         evaluate_truth_out_of_line(t, level, cells)
@@ -591,7 +596,7 @@ fn evaluate_disjunction_list(
     cells: &[i32],
 ) -> Result<bool, EvaluationFault>
     ensures { outcome_of_result result
-        ≡ truth (levels_of level.now) cells.now (disjunction_of several.now) }
+        ≡ truth_value (levels_of level.now) cells.now (disjunction_of several.now) }
 {
     let mut left = evaluate_truth_out_of_line(&several.first, level, cells)?;
     for t in &several.rest {
@@ -609,7 +614,7 @@ fn evaluate_or_with_left_value(
     cells: &[i32],
 ) -> Result<bool, EvaluationFault>
     ensures { outcome_of_result result
-        ≡ (if left then gives true else truth (levels_of level.now) cells.now (truth_of t.now)) }
+        ≡ (if left then gives true else truth_value (levels_of level.now) cells.now (truth_of t.now)) }
 {
     if left {
         Ok(true)

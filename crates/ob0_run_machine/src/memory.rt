@@ -8,7 +8,7 @@
 //! the request.
 
 ghost use Rattle.std.specs.Prelude.{◌≡◌, ◌+◌, ◌++◌, ◌∷◌, ◌<◌, ◌≤◌, ◌^◌, [], OnErr, OnOk, false, length, take, true, vec_capacity, vec_len};
-ghost use Rattle.ob0_run_machine.specs.Execution.{block_or_zeros_at, zeros};
+ghost use Rattle.ob0_run_machine.specs.Execution.{block_or_zeros_at_address, zeros};
 ghost use Rattle.ob0_run_machine.specs.Allocations.{has_failed};
 
 use crate::cell_copies::copy_to_later_cells;
@@ -111,7 +111,7 @@ impl Memory {
     ) -> Result<(), AllocError>
         requires { base ≤ length cells.old.items }
         ensures items { OnOk result (cells.new.items
-            ≡ cells.old.items ++ block_or_zeros_at (take base cells.old.items) from count) }
+            ≡ cells.old.items ++ block_or_zeros_at_address (take base cells.old.items) from count) }
         ensures failed { OnErr result (has_failed self.new ≡ true) }
         ensures full { OnErr result (vec_capacity cells.old < vec_len cells.old + count) }
     {

@@ -5,7 +5,7 @@ ghost use Rattle.std.specs.Prelude.{◌≡◌, ◌+ℤ◌, FitsSigned, SomeIff, 
 ghost use Rattle.ob0_run_machine.specs.StepOutcomes.{number_or_overflow, outcome_of_result};
 ghost use Rattle.ob0_run_machine.specs.Evaluation.{compare, division_outcome, element_address, add_offset, checked_number, is_cell_true, truth_as_cell, apply_operator, same_truth};
 ghost use Rattle.ob0_run_machine.specs.LoweredSyntax.{difference, product, quotient, remainder, sum};
-ghost use Rattle.ob0_run_machine.specs.View.{operator_of, relation_of};
+ghost use Rattle.ob0_run_machine.specs.LoweredCodeViews.{operator_of, relation_of};
 
 use crate::code::{Comparator, Operator};
 use crate::stop_reasons::EvaluationFault;

@@ -4,7 +4,7 @@ ghost use Rattle.std.specs.Prelude.{◌≡◌, IfOk, Some};
 ghost use Rattle.ob0_run_machine.specs.Execution.{run};
 ghost use Rattle.ob0_run_machine.specs.Outcomes.{IsEndAfterExecution, progress_after_body, run_of};
 ghost use Rattle.ob0_run_machine.specs.Machines.{IsProgressAfterStep, state_of};
-ghost use Rattle.ob0_run_machine.specs.View.{program_of};
+ghost use Rattle.ob0_run_machine.specs.LoweredCodeViews.{program_of};
 
 use crate::calls::call;
 use crate::code::LoweredCode;

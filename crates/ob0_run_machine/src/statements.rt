@@ -3,7 +3,7 @@
 
 ghost use Rattle.std.specs.Prelude.{◌≡◌, ◌++◌, ◌∷◌, [], IfSome, List, ℕ, ℤ};
 ghost use Rattle.ob0_run_machine.specs.StepOutcomes.{outcome_of_result};
-ghost use Rattle.ob0_run_machine.specs.Evaluation.{Levels, address as address_of, gives, number, truth};
+ghost use Rattle.ob0_run_machine.specs.Evaluation.{Levels, place_address as address_of, gives, number_value, truth_value};
 ghost use Rattle.ob0_run_machine.specs.CountingLoops.{IsCountingLimit, IsCountingCondition, limit_value};
 ghost use Rattle.ob0_run_machine.specs.declared.code.Comparator.TheVariants.{Less};
 ghost use Rattle.ob0_run_machine.specs.declared.code.Instruction.{Increase};
@@ -11,13 +11,13 @@ ghost use Rattle.ob0_run_machine.specs.Execution.{CallEffect, execute};
 ghost use Rattle.ob0_run_machine.specs.Levels.{levels_of};
 ghost use Rattle.ob0_run_machine.specs.LoweredSyntax as lowered;
 ghost use Rattle.ob0_run_machine.specs.Machines.{StepHasEffect, IsProgressAfterStep, procedure_entry_effect, statement_effect, sequence_effect, elsifs_effect, progress_after_step, state_of};
-ghost use Rattle.ob0_run_machine.specs.View.{operation_with_link, conditional_of, call_of, chain_of, variable_comparison, variable_increase, number_of, elsif_branches, else_statements, place_of, repeat_of, variable_element_of, sequence_of, statement_of, truth_of, variable_of, while_of};
+ghost use Rattle.ob0_run_machine.specs.LoweredCodeViews.{operation_with_link, conditional_of, call_of, chain_of, variable_comparison, variable_increase, number_of, elsif_branches, else_statements, place_of, repeat_of, variable_element_of, sequence_of, statement_of, truth_of, variable_of, while_of};
 
 use crate::addresses::VarParameterAddresses;
 use crate::call_arguments::pass_arguments;
 use crate::code::{
-    Chain, Comparator, Conditional, Instruction, Link, Number, Place, ProcedureCall, RepeatLoop,
-    Truth, Variable, VariableElement, WhileLoop,
+    Chain, ChainLink, Comparator, Conditional, Instruction, Number, Place, ProcedureCall,
+    RepeatLoop, Truth, Variable, VariableElement, WhileLoop,
 };
 use crate::evaluator::{
     cell_at, evaluate_chain, evaluate_number, evaluate_truth, evaluate_update, locate_place,
@@ -93,7 +93,7 @@ fn store_chain(
 /// more than 32 bits.
 #[tactic(auto, unfolding(crate::specs::Execution::execute))]
 #[inline(always)]
-fn increase_at(address: usize, by: i32, machine: &mut Machine<'_>) -> Result<(), EvaluationFault>
+fn increase_cell(address: usize, by: i32, machine: &mut Machine<'_>) -> Result<(), EvaluationFault>
     ensures { (enters : CallEffect) (t : ℕ) (ls : Levels) (v : Variable)
         → address_of ls machine.old.cells.items (variable_of v) ≡ gives address
         → progress_after_step result machine.new
@@ -116,7 +116,7 @@ fn increase_variable(
         → progress_after_step result machine.new
         ≡ execute enters t (levels_of level.now) (variable_increase variable by) (state_of machine.old) }
 {
-    increase_at(variable_address(variable, level), by, machine)
+    increase_cell(variable_address(variable, level), by, machine)
 }
 
 /// Assigns to a variable the result of an operation on this variable, or returns the operation's
@@ -125,7 +125,7 @@ fn increase_variable(
 #[inline(never)]
 fn update_variable(
     variable: Variable,
-    link: &Link,
+    link: &ChainLink,
     level: &Level<'_>,
     machine: &mut Machine<'_>,
 ) -> Result<(), EvaluationFault>
@@ -307,7 +307,7 @@ fn evaluate_condition(
     machine: &Machine<'_>,
 ) -> Result<bool, EvaluationFault>
     ensures { outcome_of_result result
-        ≡ truth (levels_of level.now) machine.now.cells.items (truth_of condition.now) }
+        ≡ truth_value (levels_of level.now) machine.now.cells.items (truth_of condition.now) }
 {
     evaluate_truth(condition, level, machine.cells.as_slice())
 }
@@ -464,7 +464,7 @@ fn run_elsifs<F: Fn(&mut Machine<'_>, usize, &Level<'_>) -> Result<(), StopReaso
     run_sequence_unless_empty(&i.otherwise, level, turns, machine, enter)
 }
 
-/// Adds the number `by` to the variable at an address, as `increase_at` does. Returns a fault as a
+/// Adds the number `by` to the variable at an address, as `increase_cell` does. Returns a fault as a
 /// `StopReason`, the error type of a statement.
 #[tactic(auto, unfolding(crate::specs::Execution::execute))]
 #[inline(always)]
@@ -478,7 +478,7 @@ fn increase_cell_or_stop_run(
         → IsProgressAfterStep result machine.new
         (execute enters t ls (variable_increase v by) (state_of machine.old)) }
 {
-    Ok(increase_at(address, by, machine)?)
+    Ok(increase_cell(address, by, machine)?)
 }
 
 /// The limit of a counting loop: a literal, or the address of the variable that is the limit.
@@ -498,7 +498,7 @@ struct CountingCondition {
 /// Returns the variable and the limit of a condition that compares a variable by `<` with a literal
 /// or a variable. Returns None for any other condition.
 #[inline(always)]
-fn counting_condition(condition: &Truth, level: &Level<'_>) -> Option<CountingCondition>
+fn recognize_counting_condition(condition: &Truth, level: &Level<'_>) -> Option<CountingCondition>
     ensures { IfSome result (λ c. IsCountingCondition (levels_of level.now) condition.now c) }
 {
     match condition {
@@ -534,8 +534,8 @@ fn current_limit(limit: CountingLimit, cells: &[i32]) -> i32
 fn is_below_limit(address: usize, limit: CountingLimit, machine: &Machine<'_>) -> bool
     ensures { (ls : Levels) (v : Variable) (n : lowered.Number)
         → address_of ls machine.now.cells.items (variable_of v) ≡ gives address
-        → number ls machine.now.cells.items n ≡ gives (limit_value machine.now.cells.items limit)
-        → gives result ≡ truth ls machine.now.cells.items (variable_comparison Less v n) }
+        → number_value ls machine.now.cells.items n ≡ gives (limit_value machine.now.cells.items limit)
+        → gives result ≡ truth_value ls machine.now.cells.items (variable_comparison Less v n) }
 {
     let cells = machine.cells.as_slice();
     compare(
@@ -624,7 +624,7 @@ fn run_while<F: Fn(&mut Machine<'_>, usize, &Level<'_>) -> Result<(), StopReason
     ensures { StepHasEffect (F.post enter.now) result machine.old machine.new
         (statement_effect turns (levels_of level.now) (while_of w.now)) }
 {
-    if let Some(condition) = counting_condition(&w.condition, level)
+    if let Some(condition) = recognize_counting_condition(&w.condition, level)
         && let Some((Instruction::Increase(u, by), statements)) = w.body.as_slice().split_last()
     {
         return run_counting_loop(condition, statements, *u, *by, level, turns, machine, enter);

@@ -9,8 +9,8 @@ use Rattle.ob0_scan.specs.declared.lexeme.LexemeKind.{LexemeKind}
 use Rattle.ob0_scan.specs.declared.lexeme.LexemeKind.TheVariants as lexeme
 use Rattle.ob0_scan.specs.declared.lexeme.Span.{Span}
 use Rattle.ob0_scan.specs.declared.lexeme.Token.{Token}
-use Rattle.ob0_scan.specs.Lexed.{Lexeme, text_of_lexemes, AreLeadingLexemes}
-use Rattle.ob0_scan.specs.TextWithTokens.{span_from, tokens_of_lexeme, comments_of_lexeme, tokens_of_lexemes_from, comments_of_lexemes_from}
+use Rattle.ob0_scan.specs.TextLexemes.{Lexeme, text_of_lexemes, AreLeadingLexemes}
+use Rattle.ob0_scan.specs.TextWithTokens.{span_with_length, tokens_of_one_lexeme, comments_of_one_lexeme, tokens_of_lexemes_from, comments_of_lexemes_from}
 use Rattle.ob0_scan.specs.ReusedLexemes.{span_after_shift, token_after_shift}
 use Rattle.ob0_scan.proofs.Cuts.{nonempty}
 
@@ -22,36 +22,36 @@ pub record AtLexemes (X : Type 0) : Type 0 where
   pub all : ℕ → List Lexeme → List X
   pub none : (s : ℕ) → all s [] ≡ []
   pub step : (s : ℕ) (l : Lexeme) (ls : List Lexeme) → all s (l ∷ ls) ≡ head s l ++ all (s + length l.text) ls
-  pub one : (s : ℕ) (l : Lexeme) → (head s l ≡ []) ⊎ ((x : X) × (head s l ≡ x ∷ []) × (span x ≡ span_from s (length l.text)))
+  pub one : (s : ℕ) (l : Lexeme) → (head s l ≡ []) ⊎ ((x : X) × (head s l ≡ x ∷ []) × (span x ≡ span_with_length s (length l.text)))
 
-pub token_one : (k : LexemeKind) (place : Span) → (tokens_of_lexeme k place ≡ []) ⊎ ((x : Token) × (tokens_of_lexeme k place ≡ x ∷ []) × (x.span ≡ place))
-token_one lexeme.Space place = inl refl
+pub token_one : (k : LexemeKind) (place : Span) → (tokens_of_one_lexeme k place ≡ []) ⊎ ((x : Token) × (tokens_of_one_lexeme k place ≡ x ∷ []) × (x.span ≡ place))
+token_one lexeme.WhiteSpace place = inl refl
 token_one lexeme.Comment place = inl refl
 token_one (lexeme.Token k) place = inr (record { kind = k; span = place }, refl, refl)
 
-pub comment_one : (k : LexemeKind) (place : Span) → (comments_of_lexeme k place ≡ []) ⊎ ((x : Span) × (comments_of_lexeme k place ≡ x ∷ []) × (x ≡ place))
-comment_one lexeme.Space place = inl refl
+pub comment_one : (k : LexemeKind) (place : Span) → (comments_of_one_lexeme k place ≡ []) ⊎ ((x : Span) × (comments_of_one_lexeme k place ≡ x ∷ []) × (x ≡ place))
+comment_one lexeme.WhiteSpace place = inl refl
 comment_one lexeme.Comment place = inr (place, refl, refl)
 comment_one (lexeme.Token k) place = inl refl
 
 abbrev pub of_tokens : AtLexemes Token
 of_tokens = record {
   span = λ (t : Token). t.span;
-  head = λ s l. tokens_of_lexeme l.kind (span_from s (length l.text));
+  head = λ s l. tokens_of_one_lexeme l.kind (span_with_length s (length l.text));
   all = tokens_of_lexemes_from;
   none = λ s. refl;
   step = λ s l ls. refl;
-  one = λ s l. token_one l.kind (span_from s (length l.text));
+  one = λ s l. token_one l.kind (span_with_length s (length l.text));
 }
 
 abbrev pub of_comments : AtLexemes Span
 of_comments = record {
   span = λ (c : Span). c;
-  head = λ s l. comments_of_lexeme l.kind (span_from s (length l.text));
+  head = λ s l. comments_of_one_lexeme l.kind (span_with_length s (length l.text));
   all = comments_of_lexemes_from;
   none = λ s. refl;
   step = λ s l ls. refl;
-  one = λ s l. comment_one l.kind (span_from s (length l.text));
+  one = λ s l. comment_one l.kind (span_with_length s (length l.text));
 }
 
 -- Holds if each lexeme has at least one byte.
@@ -73,7 +73,7 @@ pub record Lies (low high : ℕ) (s : Span) : Type 0 where
   pub some : s.start < s.end
   pub ends : s.end ≤ high
 
-pub head_all : {X : Type 0} (g : AtLexemes X) (P : X → Type 0) (s : ℕ) (l : Lexeme) → ((x : X) → g.span x ≡ span_from s (length l.text) → P x) → All P (g.head s l)
+pub head_all : {X : Type 0} (g : AtLexemes X) (P : X → Type 0) (s : ℕ) (l : Lexeme) → ((x : X) → g.span x ≡ span_with_length s (length l.text) → P x) → All P (g.head s l)
 head_all g P s l h = ⊎_elim
     (λ nothing. All-same P (g.head s l) [] nothing (All-nil P))
     (λ one. All-same P (g.head s l) (one.0 ∷ []) one.1 (All-cons P one.0 [] (h one.0 one.2) (All-nil P)))
@@ -181,7 +181,7 @@ AreAscending start (x ∷ xs) = All (λ y. start x < start y) xs × AreAscending
 
 -- Holds if the key of a non-empty span is less than the key of every later span.
 abbrev pub ComesAfter : (Span → ℕ) → Type 0
-ComesAfter key = (s n high : ℕ) (v : Span) → 0 < n → Lies (s + n) high v → key (span_from s n) < key v
+ComesAfter key = (s n high : ℕ) (v : Span) → 0 < n → Lies (s + n) high v → key (span_with_length s n) < key v
 
 pub starts_after : ComesAfter (λ (v : Span). v.start)
 starts_after s n high v some w = omega (arith, some, w.starts)
@@ -267,30 +267,30 @@ make_span start end = record { start = start; end = end }
 
 -- Moving a lexeme moves its span by the same distance.
 module _ (removed added : ℕ) where
-  moved_span : (at place n : ℕ) → at + removed ≡ place + added → removed ≤ place → span_from at n ≡ span_after_shift removed added (span_from place n)
+  moved_span : (at place n : ℕ) → at + removed ≡ place + added → removed ≤ place → span_with_length at n ≡ span_after_shift removed added (span_with_length place n)
   moved_span at place n e h =
       let start : at ≡ place + added - removed = omega arith in
       let end : at + n ≡ place + n + added - removed = omega arith in
       ap₂ make_span start end
 
-  token_moved : (k : LexemeKind) (here there : Span) → here ≡ span_after_shift removed added there → tokens_of_lexeme k here ≡ map (token_after_shift removed added) (tokens_of_lexeme k there)
-  token_moved lexeme.Space here there e = refl
+  token_moved : (k : LexemeKind) (here there : Span) → here ≡ span_after_shift removed added there → tokens_of_one_lexeme k here ≡ map (token_after_shift removed added) (tokens_of_one_lexeme k there)
+  token_moved lexeme.WhiteSpace here there e = refl
   token_moved lexeme.Comment here there e = refl
-  token_moved (lexeme.Token k) here there e = ap (tokens_of_lexeme (lexeme.Token k)) e
+  token_moved (lexeme.Token k) here there e = ap (tokens_of_one_lexeme (lexeme.Token k)) e
 
-  comment_moved : (k : LexemeKind) (here there : Span) → here ≡ span_after_shift removed added there → comments_of_lexeme k here ≡ map (span_after_shift removed added) (comments_of_lexeme k there)
-  comment_moved lexeme.Space here there e = refl
-  comment_moved lexeme.Comment here there e = ap (comments_of_lexeme lexeme.Comment) e
+  comment_moved : (k : LexemeKind) (here there : Span) → here ≡ span_after_shift removed added there → comments_of_one_lexeme k here ≡ map (span_after_shift removed added) (comments_of_one_lexeme k there)
+  comment_moved lexeme.WhiteSpace here there e = refl
+  comment_moved lexeme.Comment here there e = ap (comments_of_one_lexeme lexeme.Comment) e
   comment_moved (lexeme.Token k) here there e = refl
 
   pub tokens_moved : (at place : ℕ) (ls : List Lexeme) → at + removed ≡ place + added → removed ≤ place → tokens_of_lexemes_from at ls ≡ map (token_after_shift removed added) (tokens_of_lexemes_from place ls)
   tokens_moved at place [] e h = refl
   tokens_moved at place (l ∷ ls) e h =
-      ap₂ (λ xs ys. xs ++ ys) (token_moved l.kind (span_from at (length l.text)) (span_from place (length l.text)) (moved_span at place (length l.text) e h)) (tokens_moved (at + length l.text) (place + length l.text) ls (omega arith) (omega arith))
-      ∙ sym (map-append (token_after_shift removed added) (tokens_of_lexeme l.kind (span_from place (length l.text))) (tokens_of_lexemes_from (place + length l.text) ls))
+      ap₂ (λ xs ys. xs ++ ys) (token_moved l.kind (span_with_length at (length l.text)) (span_with_length place (length l.text)) (moved_span at place (length l.text) e h)) (tokens_moved (at + length l.text) (place + length l.text) ls (omega arith) (omega arith))
+      ∙ sym (map-append (token_after_shift removed added) (tokens_of_one_lexeme l.kind (span_with_length place (length l.text))) (tokens_of_lexemes_from (place + length l.text) ls))
 
   pub comments_moved : (at place : ℕ) (ls : List Lexeme) → at + removed ≡ place + added → removed ≤ place → comments_of_lexemes_from at ls ≡ map (span_after_shift removed added) (comments_of_lexemes_from place ls)
   comments_moved at place [] e h = refl
   comments_moved at place (l ∷ ls) e h =
-      ap₂ (λ xs ys. xs ++ ys) (comment_moved l.kind (span_from at (length l.text)) (span_from place (length l.text)) (moved_span at place (length l.text) e h)) (comments_moved (at + length l.text) (place + length l.text) ls (omega arith) (omega arith))
-      ∙ sym (map-append (span_after_shift removed added) (comments_of_lexeme l.kind (span_from place (length l.text))) (comments_of_lexemes_from (place + length l.text) ls))
+      ap₂ (λ xs ys. xs ++ ys) (comment_moved l.kind (span_with_length at (length l.text)) (span_with_length place (length l.text)) (moved_span at place (length l.text) e h)) (comments_moved (at + length l.text) (place + length l.text) ls (omega arith) (omega arith))
+      ∙ sym (map-append (span_after_shift removed added) (comments_of_one_lexeme l.kind (span_with_length place (length l.text))) (comments_of_lexemes_from (place + length l.text) ls))

@@ -10,14 +10,14 @@ use Rattle.ob0_scan.specs.declared.lexeme.LexemeKind.{LexemeKind}
 use Rattle.ob0_scan.specs.declared.lexeme.LexemeKind.TheVariants as lexeme
 use Rattle.ob0_scan.specs.declared.lexeme.Span.{Span}
 use Rattle.ob0_scan.specs.declared.lexeme.Token.{Token}
-use Rattle.ob0_scan.specs.Lexed.{Lexeme, text_of_lexemes}
-use Rattle.ob0_scan.specs.TextWithTokens.{span_from, tokens_of_lexeme, comments_of_lexeme, tokens_of_lexemes_from, comments_of_lexemes_from}
+use Rattle.ob0_scan.specs.TextLexemes.{Lexeme, text_of_lexemes}
+use Rattle.ob0_scan.specs.TextWithTokens.{span_with_length, tokens_of_one_lexeme, comments_of_one_lexeme, tokens_of_lexemes_from, comments_of_lexemes_from}
 use Rattle.ob0_scan.specs.RescanState.{token_end_or_zero, comment_end_or_zero, end_of_last_lexeme}
 use Rattle.ob0_scan.proofs.Cuts.{joined_push, tokens_push, comments_push}
 use Rattle.ob0_scan.proofs.AtLexemes.{of_tokens, of_comments, Full, full_parts, Lies, lies, none_end}
 
-space_or_not : (k : LexemeKind) → (k ≡ lexeme.Space) ⊎ (k ≢ lexeme.Space)
-space_or_not lexeme.Space = inl refl
+space_or_not : (k : LexemeKind) → (k ≡ lexeme.WhiteSpace) ⊎ (k ≢ lexeme.WhiteSpace)
+space_or_not lexeme.WhiteSpace = inl refl
 space_or_not lexeme.Comment = inr (λ e. cc)
 space_or_not (lexeme.Token k) = inr (λ e. cc)
 
@@ -26,7 +26,7 @@ pub record Last (ls : List Lexeme) : Type 0 where
   pub init : List Lexeme
   pub last : Lexeme
   pub are : ls ≡ init ++ last ∷ []
-  pub black : last.kind ≢ lexeme.Space
+  pub black : last.kind ≢ lexeme.WhiteSpace
 
 pub record Front (place s : ℕ) (ls : List Lexeme) : Type 0 where
   pub front : List Lexeme
@@ -57,7 +57,7 @@ module _ (place s : ℕ) (l : Lexeme) (ls : List Lexeme) where
   no_bytes r e = let none : length (text_of_lexemes r.front) ≡ 0 = ap (λ t. length (text_of_lexemes t)) e in omega (arith, r.at_is, none)
 
   -- If the front has no lexeme, white space in front leaves it empty.
-  blank : (r : Front place (s + length l.text) ls) → r.front ≡ [] → l.kind ≡ lexeme.Space → Front place s (l ∷ ls)
+  blank : (r : Front place (s + length l.text) ls) → r.front ≡ [] → l.kind ≡ lexeme.WhiteSpace → Front place s (l ∷ ls)
   blank r e white =
       let rest : ls ≡ r.back = r.split ∙ ap (λ t. t ++ r.back) e in
       record {
@@ -68,9 +68,9 @@ module _ (place s : ℕ) (l : Lexeme) (ls : List Lexeme) where
         at_is = add-zero s;
         near = λ h. absurd (omega (arith, h));
         shape = inl refl;
-        tokens_done = ap (λ k. prefix_len (λ (t : Token). ltb t.span.end place) (tokens_of_lexeme k (span_from s (length l.text)) ++ tokens_of_lexemes_from (s + length l.text) ls)) white
+        tokens_done = ap (λ k. prefix_len (λ (t : Token). ltb t.span.end place) (tokens_of_one_lexeme k (span_with_length s (length l.text)) ++ tokens_of_lexemes_from (s + length l.text) ls)) white
             ∙ ap₂ (λ n t. prefix_len (λ (t : Token). ltb t.span.end place) (tokens_of_lexemes_from n t)) (no_bytes r e) rest ∙ r.tokens_done;
-        comments_done = ap (λ k. prefix_len (λ (c : Span). ltb c.end place) (comments_of_lexeme k (span_from s (length l.text)) ++ comments_of_lexemes_from (s + length l.text) ls)) white
+        comments_done = ap (λ k. prefix_len (λ (c : Span). ltb c.end place) (comments_of_one_lexeme k (span_with_length s (length l.text)) ++ comments_of_lexemes_from (s + length l.text) ls)) white
             ∙ ap₂ (λ n t. prefix_len (λ (c : Span). ltb c.end place) (comments_of_lexemes_from n t)) (no_bytes r e) rest ∙ r.comments_done;
       }
 
@@ -133,15 +133,15 @@ max_right a b h = omega arith
 max_left : (a b : ℕ) → b ≤ a → max a b ≡ a
 max_left a b h = omega arith
 
-one_further : (k : LexemeKind) (ts : List Token) (cs : List Span) (n len : ℕ) → k ≢ lexeme.Space → All (λ (t : Token). t.span.end ≤ n) ts → All (λ (c : Span). c.end ≤ n) cs → end_of_last_lexeme (ts ++ tokens_of_lexeme k (span_from n len)) (cs ++ comments_of_lexeme k (span_from n len)) ≡ n + len
-one_further lexeme.Space ts cs n len black ht hc = absurd (black refl)
+one_further : (k : LexemeKind) (ts : List Token) (cs : List Span) (n len : ℕ) → k ≢ lexeme.WhiteSpace → All (λ (t : Token). t.span.end ≤ n) ts → All (λ (c : Span). c.end ≤ n) cs → end_of_last_lexeme (ts ++ tokens_of_one_lexeme k (span_with_length n len)) (cs ++ comments_of_one_lexeme k (span_with_length n len)) ≡ n + len
+one_further lexeme.WhiteSpace ts cs n len black ht hc = absurd (black refl)
 one_further lexeme.Comment ts cs n len black ht hc =
     let low = tokens_low ts n ht in
-    ap₂ (λ (us : List Token) o. max (token_end_or_zero (slice_get us (length us - 1))) (comment_end_or_zero o)) (append-nil ts) (last_of cs (span_from n len))
+    ap₂ (λ (us : List Token) o. max (token_end_or_zero (slice_get us (length us - 1))) (comment_end_or_zero o)) (append-nil ts) (last_of cs (span_with_length n len))
     ∙ max_right (token_end_or_zero (slice_get ts (length ts - 1))) (n + len) (omega arith)
 one_further (lexeme.Token k) ts cs n len black ht hc =
     let low = comments_low cs n hc in
-    ap₂ (λ o (us : List Span). max (token_end_or_zero o) (comment_end_or_zero (slice_get us (length us - 1)))) (last_of ts (record { kind = k; span = span_from n len })) (append-nil cs)
+    ap₂ (λ o (us : List Span). max (token_end_or_zero o) (comment_end_or_zero (slice_get us (length us - 1)))) (last_of ts (record { kind = k; span = span_with_length n len })) (append-nil cs)
     ∙ max_left (n + len) (comment_end_or_zero (slice_get cs (length cs - 1))) (omega arith)
 
 pub front_end : (ls : List Lexeme) → Full ls → (ls ≡ []) ⊎ Last ls → end_of_last_lexeme (tokens_of_lexemes_from 0 ls) (comments_of_lexemes_from 0 ls) ≡ length (text_of_lexemes ls)

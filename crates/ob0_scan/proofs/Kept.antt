@@ -11,7 +11,7 @@ use Rattle.ob0_scan.specs.declared.lexeme.Span.{Span}
 use Rattle.ob0_scan.specs.declared.lexeme.Token.{Token}
 use Rattle.ob0_scan.specs.declared.scanner.Scanner.{Scanner}
 use Rattle.ob0_scan.specs.declared.incremental_scan.RescannedMiddle.{RescannedMiddle}
-use Rattle.ob0_scan.specs.Lexed.{Lexeme, text_of_lexemes}
+use Rattle.ob0_scan.specs.TextLexemes.{Lexeme, text_of_lexemes}
 use Rattle.ob0_scan.specs.TextWithTokens.{TextWithTokens, IsScan}
 use Rattle.ob0_scan.specs.ReusedLexemes.{span_after_shift, token_after_shift, tokens_ending_before, comments_ending_before, tokens_beginning_at_or_after}
 use Rattle.ob0_scan.specs.RescanState.{IsShiftable, IsRescannedMiddle, AddsNewLexemes, scan_with_new_middle}

@@ -5,10 +5,10 @@ use Rattle.std.proofs.lemmas.List.Elements.{All-nil, All-same, All-append, All-d
 use Rattle.ob0_scan.specs.declared.lexeme.Span.{Span}
 use Rattle.ob0_scan.specs.declared.lexeme.Token.{Token}
 use Rattle.ob0_scan.specs.declared.scanner.Scanner.{Scanner}
-use Rattle.ob0_scan.specs.TextWithTokens.{TextWithTokens, IsScan, max_text_length, span_from, tokens_of_lexeme, comments_of_lexeme, tokens_of_lexemes_from, comments_of_lexemes_from}
-use Rattle.ob0_scan.specs.ReusedLexemes.{ReplacesRange, NoLexemeBeginsAt, IsNewAfterChange, ReusesOldLexemes, span_after_shift, token_after_shift, tokens_ending_before, comments_ending_before, tokens_beginning_at_or_after, comments_beginning_at_or_after}
-use Rattle.ob0_scan.specs.RescanState.{first_token_begins_at, first_comment_begins_at, IsShiftable, AddsOneLexeme, AddsNewLexemes, CanStopRescanAt}
-use Rattle.ob0_scan.specs.Progress.{IsScannedUpTo}
+use Rattle.ob0_scan.specs.TextWithTokens.{TextWithTokens, IsScan, max_text_length, span_with_length, tokens_of_one_lexeme, comments_of_one_lexeme, tokens_of_lexemes_from, comments_of_lexemes_from}
+use Rattle.ob0_scan.specs.ReusedLexemes.{ReplacesRange, NoLexemeBeginsAt, MatchesNoOldLexemeAfterChange, ReusesOldLexemes, span_after_shift, token_after_shift, tokens_ending_before, comments_ending_before, tokens_beginning_at_or_after, comments_beginning_at_or_after}
+use Rattle.ob0_scan.specs.RescanState.{first_token_begins_at, first_comment_begins_at, IsShiftable, AddsOneLexeme, AddsNewLexemes, RescanCanStopAt}
+use Rattle.ob0_scan.specs.ScanProgress.{IsScannedUpToOffset}
 use Rattle.ob0_scan.specs.ScannerState.{IsConsistentScanner}
 use Rattle.ob0_scan.proofs.Spans.{token_with, comment_with}
 use Rattle.ob0_scan.proofs.AtLexemes.{of_tokens, of_comments, full, AreAscending, ascending, starts_after, first_at, none_at, at_first, Border, begin_at_borders}
@@ -36,20 +36,20 @@ reads_none old from removed added s = record {
   comments = [];
   tokens_are = sym (append-nil s.tokens.items);
   comments_are = sym (append-nil s.comments.items);
-  tokens_new_behind_change = All-nil (λ (t : Token). IsNewAfterChange old from removed added t.span);
-  comments_new_behind_change = All-nil (λ (c : Span). IsNewAfterChange old from removed added c);
+  tokens_new_behind_change = All-nil (λ (t : Token). MatchesNoOldLexemeAfterChange old from removed added t.span);
+  comments_new_behind_change = All-nil (λ (c : Span). MatchesNoOldLexemeAfterChange old from removed added c);
 }
 
 pub reads_more : (old : TextWithTokens) (from removed added : ℕ) (s t u : Scanner) → AddsNewLexemes old from removed added s t → AddsOneLexeme t u → (from + added ≤ t.at → NoLexemeBeginsAt old (t.at + removed - added)) → AddsNewLexemes old from removed added s u
 reads_more old from removed added s t u r w new =
-    let place = span_from t.at w.len in
+    let place = span_with_length t.at w.len in
     record {
-      tokens = r.tokens ++ tokens_of_lexeme w.kind place;
-      comments = r.comments ++ comments_of_lexeme w.kind place;
-      tokens_are = w.tokens ∙ ap (λ x. x ++ tokens_of_lexeme w.kind place) r.tokens_are ∙ append_assoc s.tokens.items r.tokens (tokens_of_lexeme w.kind place);
-      comments_are = w.comments ∙ ap (λ x. x ++ comments_of_lexeme w.kind place) r.comments_are ∙ append_assoc s.comments.items r.comments (comments_of_lexeme w.kind place);
-      tokens_new_behind_change = All-append (λ (x : Token). IsNewAfterChange old from removed added x.span) r.tokens (tokens_of_lexeme w.kind place) r.tokens_new_behind_change (token_with (λ (x : Token). IsNewAfterChange old from removed added x.span) w.kind place (λ kind. new));
-      comments_new_behind_change = All-append (λ (x : Span). IsNewAfterChange old from removed added x) r.comments (comments_of_lexeme w.kind place) r.comments_new_behind_change (comment_with (λ (x : Span). IsNewAfterChange old from removed added x) w.kind place new);
+      tokens = r.tokens ++ tokens_of_one_lexeme w.kind place;
+      comments = r.comments ++ comments_of_one_lexeme w.kind place;
+      tokens_are = w.tokens ∙ ap (λ x. x ++ tokens_of_one_lexeme w.kind place) r.tokens_are ∙ append_assoc s.tokens.items r.tokens (tokens_of_one_lexeme w.kind place);
+      comments_are = w.comments ∙ ap (λ x. x ++ comments_of_one_lexeme w.kind place) r.comments_are ∙ append_assoc s.comments.items r.comments (comments_of_one_lexeme w.kind place);
+      tokens_new_behind_change = All-append (λ (x : Token). MatchesNoOldLexemeAfterChange old from removed added x.span) r.tokens (tokens_of_one_lexeme w.kind place) r.tokens_new_behind_change (token_with (λ (x : Token). MatchesNoOldLexemeAfterChange old from removed added x.span) w.kind place (λ kind. new));
+      comments_new_behind_change = All-append (λ (x : Span). MatchesNoOldLexemeAfterChange old from removed added x) r.comments (comments_of_one_lexeme w.kind place) r.comments_new_behind_change (comment_with (λ (x : Span). MatchesNoOldLexemeAfterChange old from removed added x) w.kind place new);
     }
 
 module _ (old : TextWithTokens) (o : IsScan old) where
@@ -77,7 +77,7 @@ module _ (old : TextWithTokens) (o : IsScan old) where
         let same : length old.text - (from + removed) ≡ length new - (from + added) = sym (length-drop (from + removed) old.text) ∙ ap length r.behind ∙ length-drop (from + added) new in
         omega (arith, same, r.inside_old, r.inside_new)
 
-    pub end_met : (at : ℕ) → at ≡ length new → CanStopRescanAt old (length new) from removed added at [] []
+    pub end_met : (at : ℕ) → at ≡ length new → RescanCanStopAt old (length new) from removed added at [] []
     end_met at e =
         let place = end_place at e in
         let none = none_following old o new from removed added r in
@@ -88,7 +88,7 @@ module _ (old : TextWithTokens) (o : IsScan old) where
           border = inl e;
         }
 
-    pub met_border : (at : ℕ) (tokens : List Token) (comments : List Span) → CanStopRescanAt old (length new) from removed added at tokens comments → Border 0 o.lexemes (at + removed - added)
+    pub met_border : (at : ℕ) (tokens : List Token) (comments : List Span) → RescanCanStopAt old (length new) from removed added at tokens comments → Border 0 o.lexemes (at + removed - added)
     met_border at tokens comments m = ⊎_elim
         (λ end. subst (Border 0 o.lexemes) (sym (end_place at end)) (end_border old o new from removed added r))
         (λ begins. ⊎_elim
@@ -101,7 +101,7 @@ module _ (old : TextWithTokens) (o : IsScan old) where
 -- The old tokens and comments before the change, the newly read ones and the later old ones
 -- together meet `ReusesOldLexemes`.
 pub reused : (old new : TextWithTokens) (from removed added : ℕ) (s t : Scanner) (tokens : List Token) (comments : List Span) (end : ℕ) (fs : List Token) (gs : List Span) → fs ≡ tokens_ending_before from old.tokens → gs ≡ comments_ending_before from old.comments → s.tokens.items ≡ [] → s.comments.items ≡ []
-    → AddsNewLexemes old from removed added s t → CanStopRescanAt old end from removed added t.at tokens comments
+    → AddsNewLexemes old from removed added s t → RescanCanStopAt old end from removed added t.at tokens comments
     → new.tokens ≡ (fs ++ t.tokens.items) ++ map (token_after_shift removed added) tokens → new.comments ≡ (gs ++ t.comments.items) ++ map (span_after_shift removed added) comments
     → (read : ℕ) → read ≡ length t.tokens.items + length t.comments.items → ReusesOldLexemes old new from removed added read
 reused old new from removed added s t tokens comments end fs gs ft fc st sc r m et ec read e =
@@ -122,7 +122,7 @@ reused old new from removed added s t tokens comments end fs gs ft fc st sc r m 
 -- Holds if the scanner t has stopped without error, and its tokens and comments can be completed
 -- with the remaining old ones, shifted, to a scan of the new text.
 pub record Settled (old : TextWithTokens) (new : List ℕ) (from removed added : ℕ) (t : Scanner) (tokens : List Token) (comments : List Span) : Type 0 where
-  pub met : CanStopRescanAt old (length new) from removed added t.at tokens comments
+  pub met : RescanCanStopAt old (length new) from removed added t.at tokens comments
   pub tokens_are_movable : All (λ (x : Token). IsShiftable removed added x.span) tokens
   pub comments_are_movable : All (λ (x : Span). IsShiftable removed added x) comments
   pub scan : IsScan (record { text = new; tokens = (t.front.tokens.now ++ t.tokens.items) ++ map (token_after_shift removed added) tokens; comments = (t.front.comments.now ++ t.comments.items) ++ map (span_after_shift removed added) comments })
@@ -131,12 +131,12 @@ abbrev make_scan : List ℕ → List Token → List Span → TextWithTokens
 make_scan text tokens comments = record { text = text; tokens = tokens; comments = comments }
 
 pub settled : (old : TextWithTokens) (o : IsScan old) (new : List ℕ) (from removed added : ℕ) (r : ReplacesRange old.text new from removed added) (t : Scanner) (tokens : List Token) (comments : List Span) → t.text.now ≡ new → IsConsistentScanner t → length t.faults.items ≡ 0 → length new ≤ max_text_length
-    → (length t.faults.items ≡ 0 → CanStopRescanAt old (length t.text.now) from removed added t.at tokens comments) → Settled old new from removed added t tokens comments
+    → (length t.faults.items ≡ 0 → RescanCanStopAt old (length t.text.now) from removed added t.at tokens comments) → Settled old new from removed added t tokens comments
 settled old o new from removed added r t tokens comments text under none short found =
-    let met : CanStopRescanAt old (length new) from removed added t.at tokens comments = subst (λ x. CanStopRescanAt old (length x) from removed added t.at tokens comments) text (found none) in
+    let met : RescanCanStopAt old (length new) from removed added t.at tokens comments = subst (λ x. RescanCanStopAt old (length x) from removed added t.at tokens comments) text (found none) in
     let ts = t.front.tokens.now ++ t.tokens.items in
     let cs = t.front.comments.now ++ t.comments.items in
-    let p : IsScannedUpTo new t.at ts cs t.faults.items = subst (λ x. IsScannedUpTo x t.at ts cs t.faults.items) text under in
+    let p : IsScannedUpToOffset new t.at ts cs t.faults.items = subst (λ x. IsScannedUpToOffset x t.at ts cs t.faults.items) text under in
     let place : ℕ = t.at + removed - added in
     let border = met_border old o new from removed added r t.at tokens comments met in
     let low : removed ≤ place = omega (arith, met.behind_change) in

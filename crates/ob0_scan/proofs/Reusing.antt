@@ -7,11 +7,11 @@ use Rattle.std.proofs.lemmas.Str.{IsCharBoundary-start}
 use Rattle.ob0_scan.specs.declared.lexeme.Span.{Span}
 use Rattle.ob0_scan.specs.declared.lexeme.Token.{Token}
 use Rattle.ob0_scan.specs.declared.fault.Fault.{Fault}
-use Rattle.ob0_scan.specs.Lexed.{Lexeme, text_of_lexemes, IsFirstLexeme, AreLeadingLexemes}
+use Rattle.ob0_scan.specs.TextLexemes.{Lexeme, text_of_lexemes, IsFirstLexeme, AreLeadingLexemes}
 use Rattle.ob0_scan.specs.LexemeEnds.{EndsBeforeByte}
 use Rattle.ob0_scan.specs.TextWithTokens.{tokens_of_lexemes_from, comments_of_lexemes_from, IsRangeOf, TextWithTokens, IsScan, max_text_length}
-use Rattle.ob0_scan.specs.Faults.{AreFirstFaultsFrom, lexeme}
-use Rattle.ob0_scan.specs.Progress.{IsCutIntoLexemesUpTo, IsScannedUpTo}
+use Rattle.ob0_scan.specs.Faults.{AreFirstFaultsFromOffset, lexeme}
+use Rattle.ob0_scan.specs.ScanProgress.{IsCutIntoLexemesUpToOffset, IsScannedUpToOffset}
 use Rattle.ob0_scan.specs.ReusedLexemes.{ReplacesRange, span_after_shift, token_after_shift, tokens_ending_before, comments_ending_before, tokens_beginning_at_or_after, comments_beginning_at_or_after}
 use Rattle.ob0_scan.specs.RescanState.{end_of_last_lexeme, IsShiftable}
 use Rattle.ob0_scan.proofs.Borders.{first_from_end, end_from_first}
@@ -66,15 +66,15 @@ boundary_following text s (l ∷ ls) after h =
     let place : s + length l.text + length (text_of_lexemes ls) ≡ s + length (text_of_lexemes (l ∷ ls)) = omega (arith, length-append l.text (text_of_lexemes ls)) in
     subst (IsCharBoundary text) place (boundary_following text (s + length l.text) ls after (next_from text s l ls after h))
 
-reported_following : {room : ℕ} {faults : List Fault} (s : ℕ) (text : List ℕ) (ls : List Lexeme) (after : List ℕ) → AreLeadingLexemes ls after → text ≡ text_of_lexemes ls ++ after → AreFirstFaultsFrom room (s + length (text_of_lexemes ls)) after faults → AreFirstFaultsFrom room s text faults
-reported_following {room = room} {faults = faults} s text [] after f e h = subst (λ t. AreFirstFaultsFrom room s t faults) (sym e) (subst (λ n. AreFirstFaultsFrom room n after faults) (add-zero s) h)
+reported_following : {room : ℕ} {faults : List Fault} (s : ℕ) (text : List ℕ) (ls : List Lexeme) (after : List ℕ) → AreLeadingLexemes ls after → text ≡ text_of_lexemes ls ++ after → AreFirstFaultsFromOffset room (s + length (text_of_lexemes ls)) after faults → AreFirstFaultsFromOffset room s text faults
+reported_following {room = room} {faults = faults} s text [] after f e h = subst (λ t. AreFirstFaultsFromOffset room s t faults) (sym e) (subst (λ n. AreFirstFaultsFromOffset room n after faults) (add-zero s) h)
 reported_following {room = room} {faults = faults} s text (l ∷ ls) after f e h =
     let place : s + length (text_of_lexemes (l ∷ ls)) ≡ s + length l.text + length (text_of_lexemes ls) = omega (arith, length-append l.text (text_of_lexemes ls)) in
     lexeme l (text_of_lexemes ls ++ after) f.0 (e ∙ append_assoc l.text (text_of_lexemes ls) after)
-    (reported_following (s + length l.text) (text_of_lexemes ls ++ after) ls after f.1 refl (subst (λ n. AreFirstFaultsFrom room n after faults) place h))
+    (reported_following (s + length l.text) (text_of_lexemes ls ++ after) ls after f.1 refl (subst (λ n. AreFirstFaultsFromOffset room n after faults) place h))
 
 -- If a part of a text is already cut, a scanner can begin after that part.
-pub progress_following : (text : List ℕ) (at : ℕ) (tokens : List Token) (comments : List Span) → IsUtf8 text → length text ≤ max_text_length → at ≤ length text → IsCutIntoLexemesUpTo text at tokens comments → IsScannedUpTo text at tokens comments []
+pub progress_following : (text : List ℕ) (at : ℕ) (tokens : List Token) (comments : List Span) → IsUtf8 text → length text ≤ max_text_length → at ≤ length text → IsCutIntoLexemesUpToOffset text at tokens comments → IsScannedUpToOffset text at tokens comments []
 progress_following text at tokens comments utf8 short inside cut =
     let whole : text_of_lexemes cut.lexemes ++ drop at text ≡ text = ap (λ t. t ++ drop at text) cut.front ∙ take-append-drop at text in
     let place : 0 + length (text_of_lexemes cut.lexemes) ≡ at = omega (arith, ap length cut.front, length-take-le at text inside) in
@@ -85,7 +85,7 @@ progress_following text at tokens comments utf8 short inside cut =
       few = omega arith;
       room = λ more. omega arith;
       ranges = All-nil (λ (fault : Fault). IsRangeOf text fault.span);
-      reported = λ more h. reported_following 0 text cut.lexemes (drop at text) cut.each (sym whole) (subst (λ n. AreFirstFaultsFrom 100 n (drop at text) more) (sym place) h);
+      reported = λ more h. reported_following 0 text cut.lexemes (drop at text) cut.each (sym whole) (subst (λ n. AreFirstFaultsFromOffset 100 n (drop at text) more) (sym place) h);
       cut = λ none. cut;
       cannot_cut = λ some. absurd (omega (arith, some));
     }
@@ -96,7 +96,7 @@ module _ (old : TextWithTokens) (o : IsScan old) (new : List ℕ) (from removed 
 
   -- Up to the end of the last token or comment before the change, the new text has the tokens and
   -- comments of the old one.
-  pub front_cut : (end_of_last_lexeme (tokens_ending_before from old.tokens) (comments_ending_before from old.comments) ≤ length new) × IsCutIntoLexemesUpTo new (end_of_last_lexeme (tokens_ending_before from old.tokens) (comments_ending_before from old.comments)) (tokens_ending_before from old.tokens) (comments_ending_before from old.comments)
+  pub front_cut : (end_of_last_lexeme (tokens_ending_before from old.tokens) (comments_ending_before from old.comments) ≤ length new) × IsCutIntoLexemesUpToOffset new (end_of_last_lexeme (tokens_ending_before from old.tokens) (comments_ending_before from old.comments)) (tokens_ending_before from old.tokens) (comments_ending_before from old.comments)
   front_cut =
       let f = find_front from 0 o.lexemes some_each in
       let parts = full_parts f.front f.back (subst Full f.split some_each) in
@@ -149,7 +149,7 @@ module _ (old : TextWithTokens) (o : IsScan old) (new : List ℕ) (from removed 
 
   -- If a scan stopped at a border of the old lexemes, it can be completed with the old tokens and
   -- comments after that border, shifted. The result is a scan of the new text.
-  pub finished : (at p : ℕ) (tokens : List Token) (comments : List Span) → IsUtf8 new → length new ≤ max_text_length → at ≤ length new → from + added ≤ at → at + removed ≡ p + added → IsCutIntoLexemesUpTo new at tokens comments → Border 0 o.lexemes p
+  pub finished : (at p : ℕ) (tokens : List Token) (comments : List Span) → IsUtf8 new → length new ≤ max_text_length → at ≤ length new → from + added ≤ at → at + removed ≡ p + added → IsCutIntoLexemesUpToOffset new at tokens comments → Border 0 o.lexemes p
       → IsScan (record { text = new; tokens = tokens ++ map (token_after_shift removed added) (tokens_beginning_at_or_after p old.tokens); comments = comments ++ map (span_after_shift removed added) (comments_beginning_at_or_after p old.comments) })
   finished at p tokens comments utf8 short inside following e cut b =
       let facts = border_facts p b in

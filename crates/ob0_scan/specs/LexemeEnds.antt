@@ -8,7 +8,7 @@ use Rattle.ob0_scan.specs.declared.lexeme.TokenKind.TheVariants as token
 use Rattle.ob0_scan.specs.declared.lexeme.LexemeKind.{LexemeKind}
 use Rattle.ob0_scan.specs.declared.lexeme.LexemeKind.TheVariants as lexeme
 use Rattle.ob0_scan.specs.LexemeClasses.{is_white_space, IsLexemeOfKind}
-use Rattle.ob0_scan.specs.Lexed.{Lexeme, text_of_lexemes}
+use Rattle.ob0_scan.specs.TextLexemes.{Lexeme, text_of_lexemes}
 
 -- Returns whether the symbol and the next byte form a longer symbol or the beginning of a comment.
 -- 61 is `=` and 42 is `*`.
@@ -37,7 +37,7 @@ continues_symbol symbol.RightBracket byte = false
 -- Returns whether the next byte continues a lexeme of this kind. A letter also counts as continuing
 -- an integer, because no letter may directly follow one.
 abbrev pub continues_lexeme : LexemeKind → ℕ → Bool
-continues_lexeme lexeme.Space byte = is_white_space byte
+continues_lexeme lexeme.WhiteSpace byte = is_white_space byte
 continues_lexeme lexeme.Comment byte = false
 continues_lexeme (lexeme.Token token.Identifier) byte = is_ascii_alphanumeric byte
 continues_lexeme (lexeme.Token (token.ReservedWord word)) byte = is_ascii_alphanumeric byte

@@ -3,8 +3,8 @@
 use Rattle.std.specs.Prelude.{◌≡◌, ℕ, List, true}
 use Rattle.ob0_scan.specs.declared.tokens.RescanWithComparison.{RescanWithComparison}
 use Rattle.ob0_scan.specs.TextWithTokens.{TextWithTokens, IsScanOf}
-use Rattle.ob0_scan.specs.ReusedLexemes.{ReusesOldLexemes, kinds, spellings_of_identifiers_in, words_of_tokens}
-use Rattle.ob0_scan.specs.SameKinds.{PrefixAndSuffixHaveSameKinds, PrefixAndSuffixHaveSameWords}
+use Rattle.ob0_scan.specs.ReusedLexemes.{ReusesOldLexemes, token_kinds_without_values, spellings_of_identifiers_in, words_of_tokens}
+use Rattle.ob0_scan.specs.SamePrefixAndSuffix.{PrefixAndSuffixHaveSameKinds, PrefixAndSuffixHaveSameWords}
 
 -- States that `r` has the scan of the new text, reuses old tokens as `ReusesOldLexemes` says, and compares
 -- the tokens correctly with the old ones. If `same_kinds` is true, all tokens have the same kinds
@@ -15,7 +15,7 @@ pub record IsRescanOf (old : TextWithTokens) (new : List ℕ) (from removed adde
     : Type 0 where
   pub scan : IsScanOf new r.rescan.tokens
   pub reused : ReusesOldLexemes old r.rescan.tokens from removed added r.rescan.read
-  pub same_kinds : r.same_kinds ≡ true → kinds r.rescan.tokens.tokens ≡ kinds old.tokens
+  pub same_kinds : r.same_kinds ≡ true → token_kinds_without_values r.rescan.tokens.tokens ≡ token_kinds_without_values old.tokens
   pub same_names : r.same_names ≡ true
       → spellings_of_identifiers_in r.rescan.tokens.text r.rescan.tokens.tokens ≡ spellings_of_identifiers_in old.text old.tokens
   pub same_words : r.same_words ≡ true

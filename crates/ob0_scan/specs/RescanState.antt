@@ -8,8 +8,8 @@ use Rattle.ob0_scan.specs.declared.lexeme.Token.{Token}
 use Rattle.ob0_scan.specs.declared.lexeme.LexemeKind.{LexemeKind}
 use Rattle.ob0_scan.specs.declared.scanner.Scanner.{Scanner}
 use Rattle.ob0_scan.specs.declared.incremental_scan.RescannedMiddle.{RescannedMiddle}
-use Rattle.ob0_scan.specs.TextWithTokens.{TextWithTokens, IsScan, span_from, tokens_of_lexeme, comments_of_lexeme}
-use Rattle.ob0_scan.specs.ReusedLexemes.{tokens_beginning_at_or_after, comments_beginning_at_or_after, span_after_shift, token_after_shift, ReusesOldLexemes, IsNewAfterChange}
+use Rattle.ob0_scan.specs.TextWithTokens.{TextWithTokens, IsScan, span_with_length, tokens_of_one_lexeme, comments_of_one_lexeme}
+use Rattle.ob0_scan.specs.ReusedLexemes.{tokens_beginning_at_or_after, comments_beginning_at_or_after, span_after_shift, token_after_shift, ReusesOldLexemes, MatchesNoOldLexemeAfterChange}
 
 -- Returns the byte offset at which a token ends, or 0 for None.
 abbrev pub token_end_or_zero : Option Token → ℕ
@@ -61,8 +61,8 @@ pub record AddsOneLexeme (s t : Scanner) : Type 0 where
   pub kind : LexemeKind
   pub len : ℕ
   pub had_no_fault : length s.faults.items ≡ 0
-  pub tokens : t.tokens.items ≡ s.tokens.items ++ tokens_of_lexeme kind (span_from s.at len)
-  pub comments : t.comments.items ≡ s.comments.items ++ comments_of_lexeme kind (span_from s.at len)
+  pub tokens : t.tokens.items ≡ s.tokens.items ++ tokens_of_one_lexeme kind (span_with_length s.at len)
+  pub comments : t.comments.items ≡ s.comments.items ++ comments_of_one_lexeme kind (span_with_length s.at len)
 
 -- States that the scanner `t` has the tokens and comments of the scanner `s`, followed by newly
 -- read ones. If a newly read token or comment begins after the change, no old token or comment
@@ -73,14 +73,14 @@ pub record AddsNewLexemes (old : TextWithTokens) (from removed added : ℕ) (s t
   pub comments : List Span
   pub tokens_are : t.tokens.items ≡ s.tokens.items ++ tokens
   pub comments_are : t.comments.items ≡ s.comments.items ++ comments
-  pub tokens_new_behind_change : All (λ (t : Token). IsNewAfterChange old from removed added t.span) tokens
-  pub comments_new_behind_change : All (λ (c : Span). IsNewAfterChange old from removed added c) comments
+  pub tokens_new_behind_change : All (λ (t : Token). MatchesNoOldLexemeAfterChange old from removed added t.span) tokens
+  pub comments_new_behind_change : All (λ (c : Span). MatchesNoOldLexemeAfterChange old from removed added c) comments
 
 -- States that a scan of the new text can stop at the byte offset `at`, which is after the change.
 -- Either the new text ends there (`end` is its length in bytes), or an old token or comment begins
 -- at the corresponding offset in the old text. `tokens` and `comments` are the old tokens and
 -- comments that begin at this offset or later.
-pub record CanStopRescanAt (old : TextWithTokens) (end from removed added at : ℕ) (tokens : List Token)
+pub record RescanCanStopAt (old : TextWithTokens) (end from removed added at : ℕ) (tokens : List Token)
     (comments : List Span) : Type 0 where
   pub behind_change : from + added ≤ at
   pub tokens_are : tokens ≡ tokens_beginning_at_or_after (at + removed - added) old.tokens

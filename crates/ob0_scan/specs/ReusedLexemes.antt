@@ -24,8 +24,8 @@ kind_without_value (kind.Integer value) = kind.Integer 0
 kind_without_value k = k
 
 -- Returns the kinds of the tokens, in order, with the values of integers set to 0.
-abbrev pub kinds : List Token → List TokenKind
-kinds tokens = map (λ (t : Token). kind_without_value t.kind) tokens
+abbrev pub token_kinds_without_values : List Token → List TokenKind
+token_kinds_without_values tokens = map (λ (t : Token). kind_without_value t.kind) tokens
 
 -- Returns the spelling `text` of a token if the token is an identifier, or the empty text for any
 -- other kind of token.
@@ -81,8 +81,8 @@ pub record NoLexemeBeginsAt (s : TextWithTokens) (place : ℕ) : Type 0 where
 -- States about a span of the new text: if the span begins after the change, no token or comment
 -- begins at the corresponding offset in the old text. If the span begins before the end of the
 -- changed bytes, states nothing.
-abbrev pub IsNewAfterChange : TextWithTokens → ℕ → ℕ → ℕ → Span → Type 0
-IsNewAfterChange old from removed added span =
+abbrev pub MatchesNoOldLexemeAfterChange : TextWithTokens → ℕ → ℕ → ℕ → Span → Type 0
+MatchesNoOldLexemeAfterChange old from removed added span =
     from + added ≤ span.start → NoLexemeBeginsAt old (span.start + removed - added)
 
 -- States that the tokens and comments of the new text have three parts. The first part has the old
@@ -103,5 +103,5 @@ pub record ReusesOldLexemes (old new : TextWithTokens) (from removed added read 
       ≡ (comments_ending_before from old.comments ++ comments_between)
       ++ map (span_after_shift removed added) (comments_beginning_at_or_after place old.comments)
   pub read_count : read ≡ length tokens_between + length comments_between
-  pub tokens_new_behind_change : All (λ (t : Token). IsNewAfterChange old from removed added t.span) tokens_between
-  pub comments_new_behind_change : All (λ (c : Span). IsNewAfterChange old from removed added c) comments_between
+  pub tokens_new_behind_change : All (λ (t : Token). MatchesNoOldLexemeAfterChange old from removed added t.span) tokens_between
+  pub comments_new_behind_change : All (λ (c : Span). MatchesNoOldLexemeAfterChange old from removed added c) comments_between

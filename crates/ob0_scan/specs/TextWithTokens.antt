@@ -8,7 +8,7 @@ use Rattle.ob0_scan.specs.declared.lexeme.LexemeKind.{LexemeKind}
 use Rattle.ob0_scan.specs.declared.lexeme.LexemeKind.TheVariants as lexeme
 use Rattle.ob0_scan.specs.declared.lexeme.Span.{Span}
 use Rattle.ob0_scan.specs.declared.lexeme.Token.{Token}
-use Rattle.ob0_scan.specs.Lexed.{Lexeme, LexesInto}
+use Rattle.ob0_scan.specs.TextLexemes.{Lexeme, LexesInto}
 
 -- A token as the grammar sees it: its kind and its spelling.
 pub record Word : Type 0 where
@@ -17,15 +17,15 @@ pub record Word : Type 0 where
 
 -- If the lexeme is a token, returns a list with one word: the kind and the text of this token. For
 -- white space and comments the list is empty. The second argument is the lexeme's kind.
-abbrev pub words_of_lexeme : Lexeme → LexemeKind → List Word
-words_of_lexeme l lexeme.Space = []
-words_of_lexeme l lexeme.Comment = []
-words_of_lexeme l (lexeme.Token kind) = record { kind = kind; text = l.text } ∷ []
+abbrev pub words_of_one_lexeme : Lexeme → LexemeKind → List Word
+words_of_one_lexeme l lexeme.WhiteSpace = []
+words_of_one_lexeme l lexeme.Comment = []
+words_of_one_lexeme l (lexeme.Token kind) = record { kind = kind; text = l.text } ∷ []
 
 -- Returns the tokens among the lexemes, as kinds and spellings, in order. White space and comments
 -- are left out.
 abbrev pub words_of_lexemes : List Lexeme → List Word
-words_of_lexemes lexemes = flat_map (λ l. words_of_lexeme l l.kind) lexemes
+words_of_lexemes lexemes = flat_map (λ l. words_of_one_lexeme l l.kind) lexemes
 
 -- Returns the bytes of a text that are in a span.
 abbrev pub text_in_span : List ℕ → Span → List ℕ
@@ -36,35 +36,35 @@ abbrev pub word_of_token : List ℕ → Token → Word
 word_of_token text token = record { kind = token.kind; text = text_in_span text token.span }
 
 -- Returns the span of `len` bytes that starts at the byte offset `start`.
-abbrev pub span_from : ℕ → ℕ → Span
-span_from start len = record { start = start; end = start + len }
+abbrev pub span_with_length : ℕ → ℕ → Span
+span_with_length start len = record { start = start; end = start + len }
 
 -- If the lexeme is a token, returns a list with this token: its kind and span. For white space and
 -- comments the list is empty.
-abbrev pub tokens_of_lexeme : LexemeKind → Span → List Token
-tokens_of_lexeme lexeme.Space span = []
-tokens_of_lexeme lexeme.Comment span = []
-tokens_of_lexeme (lexeme.Token kind) span = record { kind = kind; span = span } ∷ []
+abbrev pub tokens_of_one_lexeme : LexemeKind → Span → List Token
+tokens_of_one_lexeme lexeme.WhiteSpace span = []
+tokens_of_one_lexeme lexeme.Comment span = []
+tokens_of_one_lexeme (lexeme.Token kind) span = record { kind = kind; span = span } ∷ []
 
 -- Returns a list with the lexeme's span if the lexeme is a comment, otherwise an empty list.
-abbrev pub comments_of_lexeme : LexemeKind → Span → List Span
-comments_of_lexeme lexeme.Space span = []
-comments_of_lexeme lexeme.Comment span = span ∷ []
-comments_of_lexeme (lexeme.Token kind) span = []
+abbrev pub comments_of_one_lexeme : LexemeKind → Span → List Span
+comments_of_one_lexeme lexeme.WhiteSpace span = []
+comments_of_one_lexeme lexeme.Comment span = span ∷ []
+comments_of_one_lexeme (lexeme.Token kind) span = []
 
 -- Returns the tokens among these lexemes, with their spans. The first lexeme begins at the byte
 -- offset `start`.
 abbrev pub tokens_of_lexemes_from : ℕ → List Lexeme → List Token
 tokens_of_lexemes_from start [] = []
 tokens_of_lexemes_from start (l ∷ lexemes) =
-    tokens_of_lexeme l.kind (span_from start (length l.text)) ++ tokens_of_lexemes_from (start + length l.text) lexemes
+    tokens_of_one_lexeme l.kind (span_with_length start (length l.text)) ++ tokens_of_lexemes_from (start + length l.text) lexemes
 
 -- Returns the spans of the comments among these lexemes. The first lexeme begins at the byte offset
 -- `start`.
 abbrev pub comments_of_lexemes_from : ℕ → List Lexeme → List Span
 comments_of_lexemes_from start [] = []
 comments_of_lexemes_from start (l ∷ lexemes) =
-    comments_of_lexeme l.kind (span_from start (length l.text))
+    comments_of_one_lexeme l.kind (span_with_length start (length l.text))
     ++ comments_of_lexemes_from (start + length l.text) lexemes
 
 -- The greatest length in bytes of a text that is scanned.

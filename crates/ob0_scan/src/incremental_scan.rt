@@ -9,7 +9,7 @@
 //!   change may continue with the inserted text.)
 //! - After the change, shifted by `added - removed` bytes: each token and comment that begins at a
 //!   certain place or later. This is the first place after the change at which a token or comment
-//!   begins in both texts (`IsNewAfterChange`).
+//!   begins in both texts (`MatchesNoOldLexemeAfterChange`).
 //!
 //! If `same_kinds` is true in the result, the new tokens have the same kinds as the old tokens. If
 //! `same_names` is true, the identifiers have the same spellings. If `same_words` is true, all
@@ -37,7 +37,7 @@
 //! begins and stops at character borders anyway. After a fault, the scanner doesn't look for
 //! reusable tokens but reads to the end. So the faults are the same as the faults that `scan`
 //! reports, each once. Spans fit in 32 bits, because a text has at most 1,048,576 bytes (the field
-//! `short` of `IsScannedUpTo`, and `IsShiftable` for shifted spans). Callers have to show
+//! `short` of `IsScannedUpToOffset`, and `IsShiftable` for shifted spans). Callers have to show
 //! `ReplacesRange`. The law `new_middle_replaces_range` proves this fact for texts joined from
 //! parts, and `Difference::between` of `ob0_analysis` ensures it for any two texts.
 //!
@@ -55,10 +55,10 @@ ghost use Rattle.ob0_scan.specs.declared.incremental_scan.RescanRefusal.TheVaria
 ghost use Rattle.ob0_scan.specs.TextWithTokens.{IsScanOf, word_of_token, text_in_span};
 ghost use Rattle.ob0_scan.specs.ScanRefusals.{IsRightScanRefusal, IsRightRescanRefusal};
 ghost use Rattle.ob0_scan.specs.ScannerState.{IsConsistentScanner};
-ghost use Rattle.ob0_scan.specs.ReusedLexemes.{ReplacesRange, ReusesOldLexemes, kinds, kind_without_value, name_or_empty, spellings_of_identifiers_in, words_of_tokens};
-ghost use Rattle.ob0_scan.specs.SameKinds.{PrefixAndSuffixHaveSameKinds, PrefixAndSuffixHaveSameWords};
+ghost use Rattle.ob0_scan.specs.ReusedLexemes.{ReplacesRange, ReusesOldLexemes, token_kinds_without_values, kind_without_value, name_or_empty, spellings_of_identifiers_in, words_of_tokens};
+ghost use Rattle.ob0_scan.specs.SamePrefixAndSuffix.{PrefixAndSuffixHaveSameKinds, PrefixAndSuffixHaveSameWords};
 ghost use Rattle.ob0_scan.specs.RescanResult.{IsRescanOf};
-ghost use Rattle.ob0_scan.specs.RescanState.{AddsNewLexemes, CanStopRescanAt, IsRescannedMiddle};
+ghost use Rattle.ob0_scan.specs.RescanState.{AddsNewLexemes, RescanCanStopAt, IsRescannedMiddle};
 
 use crate::fault::{Fault, ScanRefusal};
 use crate::lexeme::{Span, Token, TokenKind};
@@ -88,11 +88,11 @@ pub(crate) struct RescannedMiddle {
 
 impl RescannedMiddle {
     /// Returns whether the new tokens have the same kinds as the old tokens that they replace.
-    fn has_same_kinds_as_replaced(&self, old: &[Token]) -> bool
+    fn has_same_kinds_as_replaced_tokens(&self, old: &[Token]) -> bool
         requires ordered { self.now.old_start.tokens ≤ self.now.old_end.tokens }
         requires inside { self.now.old_end.tokens ≤ length old.now }
-        ensures { result ≡ true → kinds self.now.tokens.items
-            ≡ kinds (take (self.now.old_end.tokens - self.now.old_start.tokens)
+        ensures { result ≡ true → token_kinds_without_values self.now.tokens.items
+            ≡ token_kinds_without_values (take (self.now.old_end.tokens - self.now.old_start.tokens)
             (drop self.now.old_start.tokens old.now)) }
     {
         have_same_kinds(
@@ -103,7 +103,7 @@ impl RescannedMiddle {
 
     /// Returns whether the new tokens have the same names as the old tokens that they replace: both
     /// lists are equally long and have the same identifiers at the same indexes.
-    fn has_same_names_as_replaced(&self, new_text: &str, old: &Tokens) -> bool
+    fn has_same_names_as_replaced_tokens(&self, new_text: &str, old: &Tokens) -> bool
         requires ordered { self.now.old_start.tokens ≤ self.now.old_end.tokens }
         requires inside { self.now.old_end.tokens ≤ length old.now.tokens }
         ensures { result ≡ true → spellings_of_identifiers_in new_text.now self.now.tokens.items
@@ -121,7 +121,7 @@ impl RescannedMiddle {
 
     /// Returns whether the new tokens have the same kinds and spellings as the old tokens that they
     /// replace.
-    fn has_same_words_as_replaced(&self, new_text: &str, old: &Tokens) -> bool
+    fn has_same_words_as_replaced_tokens(&self, new_text: &str, old: &Tokens) -> bool
         requires ordered { self.now.old_start.tokens ≤ self.now.old_end.tokens }
         requires inside { self.now.old_end.tokens ≤ length old.now.tokens }
         ensures { result ≡ true → words_of_tokens new_text.now self.now.tokens.items
@@ -218,7 +218,7 @@ fn is_same_spelling(a: &[u8], in_a: Span, b: &[u8], in_b: Span) -> bool
 /// Returns whether two lists of tokens are equally long and have the same kinds at the same
 /// indexes. The values of integers may differ.
 fn have_same_kinds(new: &[Token], old: &[Token]) -> bool
-    ensures { result ≡ true → kinds new.now ≡ kinds old.now }
+    ensures { result ≡ true → token_kinds_without_values new.now ≡ token_kinds_without_values old.now }
 {
     if new.len() != old.len() {
         return false;
@@ -322,7 +322,7 @@ pub fn rescan_in_place(
     ensures reused { IfOk result
         (λ r. ReusesOldLexemes old r.rescan.tokens from removed added r.rescan.read) }
     ensures alike { IfOk result
-        (λ r. r.same_kinds ≡ true → kinds r.rescan.tokens.tokens ≡ kinds old.tokens) }
+        (λ r. r.same_kinds ≡ true → token_kinds_without_values r.rescan.tokens.tokens ≡ token_kinds_without_values old.tokens) }
     ensures same_names { IfOk result
         (λ r. r.same_names ≡ true → spellings_of_identifiers_in r.rescan.tokens.text r.rescan.tokens.tokens
         ≡ spellings_of_identifiers_in old.text old.tokens) }
@@ -341,9 +341,9 @@ pub fn rescan_in_place(
     match rescan_middle(alloc, &old, new_text, change) {
         Ok(between) => {
             let read = between.tokens.len() + between.comments.len();
-            let same_kinds = between.has_same_kinds_as_replaced(old.tokens());
-            let same_names = between.has_same_names_as_replaced(new_text, &old);
-            let same_words = between.has_same_words_as_replaced(new_text, &old);
+            let same_kinds = between.has_same_kinds_as_replaced_tokens(old.tokens());
+            let same_names = between.has_same_names_as_replaced_tokens(new_text, &old);
+            let same_words = between.has_same_words_as_replaced_tokens(new_text, &old);
             let (prefix, old_suffix) = (between.old_start.tokens, between.old_end.tokens);
             let suffix_len = old.tokens().len() - old_suffix;
             let tokens = old.replace_middle(new_text, between, change)?;
@@ -446,7 +446,7 @@ fn scan_until_old_lexeme<'o>(
     ensures reads { OnOk result (length scanner.new.faults.items ≡ 0
         → AddsNewLexemes old.now change.from change.removed change.added scanner.old scanner.new) }
     ensures met { IfOk result (λ rest. length scanner.new.faults.items ≡ 0
-        → CanStopRescanAt old.now (length scanner.new.text.now) change.from change.removed change.added
+        → RescanCanStopAt old.now (length scanner.new.text.now) change.from change.removed change.added
         scanner.new.at rest.tokens.now rest.comments.now) }
     ensures end { OnOk result
         (0 < length scanner.new.faults.items → length scanner.new.text.now ≤ scanner.new.at) }
@@ -462,7 +462,7 @@ fn scan_until_old_lexeme<'o>(
                 return Ok(rest);
             }
         }
-        scanner.step()?;
+        scanner.read_next_lexeme()?;
     }
     Ok(LexemeSlices {
         tokens: &[],

@@ -6,7 +6,7 @@ ghost use Rattle.std.specs.Char.{is_ascii_alphabetic, is_ascii_alphanumeric, is_
 ghost use Rattle.std.specs.Str.{IsCharBoundary};
 ghost use Rattle.ob0_scan.specs.Comments.{IsComment};
 ghost use Rattle.ob0_scan.specs.LexemeClasses.{is_white_space, max_integer, symbol_text, IsIdentifierOrReservedWord, IsLexemeOfKind, decimal_value};
-ghost use Rattle.ob0_scan.specs.TextStart.{IsLongestSymbol, StartsWithNoSymbol};
+ghost use Rattle.ob0_scan.specs.LeadingLexemes.{IsLongestSymbol, StartsWithNoSymbol};
 ghost use Rattle.ob0_scan.specs.LeadingLexemeOrFault.{StartsWithLexemeOrFault};
 ghost use Rattle.ob0_scan.specs.Faults.{IsFirstCharLength};
 
@@ -17,7 +17,7 @@ use crate::lexeme::{LexemeKind, ReservedWord, Symbol, TokenKind};
 const MAX_INTEGER: u64 = 2147483647;
 
 /// The beginning of a non-empty text: a lexeme or a fault.
-pub enum TextStart {
+pub enum LeadingLexemeOrFault {
     /// A lexeme, and its length in bytes.
     Lexeme(LexemeKind, usize),
     /// A fault, and its length in bytes.
@@ -78,7 +78,7 @@ fn integer_value(digits: &[u8]) -> Option<u32>
 
 /// Returns the length in bytes of the comment at the beginning of the bytes, or None if that
 /// comment isn't closed.
-fn comment_len(bytes: &[u8]) -> Option<usize>
+fn leading_comment_len(bytes: &[u8]) -> Option<usize>
     requires { take 2 bytes.now ≡ codes "(*" }
     ensures in_range { IfSome result (λ len. len ≤ length bytes.now) }
     ensures closed { IfSome result (λ len. IsComment (take len bytes.now)) }
@@ -160,58 +160,61 @@ fn word_kind(word: &[u8]) -> TokenKind
 
 /// Returns the word at the beginning of a text that begins with a letter.
 #[inline(always)]
-fn leading_word(text: &str) -> TextStart
+fn leading_word(text: &str) -> LeadingLexemeOrFault
     requires { IsTrue (is_ascii_alphabetic (slice_index text.now 0)) }
     ensures { StartsWithLexemeOrFault text.now result }
 {
     let bytes = text.as_bytes();
     let len = leading_alphanumeric_len(bytes);
-    TextStart::Lexeme(LexemeKind::Token(word_kind(&bytes[..len])), len)
+    LeadingLexemeOrFault::Lexeme(LexemeKind::Token(word_kind(&bytes[..len])), len)
 }
 
 /// Returns the integer at the beginning of a text that begins with a digit. If a letter directly
 /// follows the digits, or the value is too large, returns the fault instead.
 #[inline(always)]
-fn leading_integer(text: &str) -> TextStart
+fn leading_integer(text: &str) -> LeadingLexemeOrFault
     requires { IsTrue (is_ascii_digit (slice_index text.now 0)) }
     ensures { StartsWithLexemeOrFault text.now result }
 {
     let bytes = text.as_bytes();
     let len = leading_digits_len(bytes);
     if len < bytes.len() && bytes[len].is_ascii_alphabetic() {
-        return TextStart::Fault(
+        return LeadingLexemeOrFault::Fault(
             FaultCode::NumberJoinsLetter,
             leading_alphanumeric_len(bytes),
         );
     }
     match integer_value(&bytes[..len]) {
-        Some(value) => TextStart::Lexeme(LexemeKind::Token(TokenKind::Integer(value)), len),
-        None => TextStart::Fault(FaultCode::NumberTooLarge, len),
+        Some(value) => LeadingLexemeOrFault::Lexeme(
+            LexemeKind::Token(TokenKind::Integer(value)),
+            len,
+        ),
+        None => LeadingLexemeOrFault::Fault(FaultCode::NumberTooLarge, len),
     }
 }
 
 /// Returns the comment at the beginning of a text that begins with `(*`. If the comment isn't
 /// closed, returns the fault instead.
-fn leading_comment(text: &str) -> TextStart
+fn leading_comment(text: &str) -> LeadingLexemeOrFault
     requires { take 2 text.now ≡ codes "(*" }
     ensures { StartsWithLexemeOrFault text.now result }
 {
-    match comment_len(text.as_bytes()) {
-        Some(len) => TextStart::Lexeme(LexemeKind::Comment, len),
-        None => TextStart::Fault(FaultCode::OpenComment, 2),
+    match leading_comment_len(text.as_bytes()) {
+        Some(len) => LeadingLexemeOrFault::Lexeme(LexemeKind::Comment, len),
+        None => LeadingLexemeOrFault::Fault(FaultCode::OpenComment, 2),
     }
 }
 
 /// Returns the lexeme or the fault at the beginning of a non-empty text.
 #[inline(always)]
-pub fn leading_lexeme(text: &str) -> TextStart
+pub fn leading_lexeme(text: &str) -> LeadingLexemeOrFault
     requires { 0 < length text.now }
     ensures { StartsWithLexemeOrFault text.now result }
 {
     let bytes = text.as_bytes();
     let byte = bytes[0];
     if is_white_space(byte) {
-        TextStart::Lexeme(LexemeKind::Space, leading_white_space_len(bytes))
+        LeadingLexemeOrFault::Lexeme(LexemeKind::WhiteSpace, leading_white_space_len(bytes))
     } else if byte.is_ascii_alphabetic() {
         leading_word(text)
     } else if byte.is_ascii_digit() {
@@ -219,9 +222,9 @@ pub fn leading_lexeme(text: &str) -> TextStart
     } else if bytes.starts_with(b"(*") {
         leading_comment(text)
     } else if let Some((symbol, len)) = leading_symbol(bytes) {
-        TextStart::Lexeme(LexemeKind::Token(TokenKind::Symbol(symbol)), len)
+        LeadingLexemeOrFault::Lexeme(LexemeKind::Token(TokenKind::Symbol(symbol)), len)
     } else {
-        TextStart::Fault(FaultCode::BadChar, first_char_len(text))
+        LeadingLexemeOrFault::Fault(FaultCode::BadChar, first_char_len(text))
     }
 }
 

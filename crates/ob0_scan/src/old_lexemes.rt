@@ -136,7 +136,7 @@ impl<'t> LexemeSlices<'t> {
 
     /// Returns the byte offset at which the last token ends or the last comment ends, whichever is
     /// greater. Returns 0 if there are neither tokens nor comments.
-    pub(crate) fn end(self) -> usize
+    pub(crate) fn end_of_last_lexeme(self) -> usize
         ensures { result ≡ end_of_last_lexeme self.entry.tokens.now self.entry.comments.now }
     {
         token_end_or_zero(self.tokens.last()).max(comment_end_or_zero(self.comments.last()))

@@ -8,7 +8,7 @@ use Rattle.ob0_tree.specs.ParsedModule.{ParsedModule, tree_of}
 use Rattle.ob0_language_names.specs.Names.{naming_by_spelling}
 use Rattle.ob0_language_names.specs.Scopes.{label_from_ordinal}
 use Rattle.ob0_scope_table.specs.Bindings.{resolution_with_bindings}
-use Rattle.ob0_scope_table.specs.OneBody.{ChangesSpellingsInOneBody, is_outside_range}
+use Rattle.ob0_scope_table.specs.SpellingChangesInOneBody.{ChangesSpellingsInOneBody, is_outside_range}
 use Rattle.ob0_scope_table.specs.Resolution.{IsResolution, ordinal_in}
 use Rattle.ob0_scope_table.specs.declared.resolved.Bindings.{Bindings}
 use Rattle.ob0_scope_numbering.specs.MarkWalk.{initial_walk_state}

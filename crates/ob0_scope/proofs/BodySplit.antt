@@ -5,7 +5,7 @@ use Rattle.std.proofs.Common.{◌≡◌, ℕ, zero, suc, List, [], ◌∷◌, �
 use Rattle.ob0_tree.specs.declared.tree.Role.{Role}
 use Rattle.ob0_tree.specs.declared.tree.Role.TheVariants as role
 use Rattle.ob0_tree.specs.Tree.{Tree, block, declares, declares_procedure, end, forms_block, identifiers, forms_module, item, items, module_text, more, procedure}
-use Rattle.ob0_scope_table.specs.BodyReplacement.{PathToBody, block_without_body, body_at_path_in_procedures, body_at_path, body_at_path_in_block, body_at_path_in_procedure, closing_name_at_path_in_procedures, closing_name_at_path, closing_name_at_path_in_block, closing_name_at_path_in_procedure, procedure_without_body, procedures_without_body, module_without_body}
+use Rattle.ob0_scope_table.specs.BodyReplacement.{PathToBody, block_without_body, body_at_path_in_procedure_list, body_at_path, body_at_path_in_block, body_at_path_in_procedure, closing_name_at_path_in_procedure_list, closing_name_at_path, closing_name_at_path_in_block, closing_name_at_path_in_procedure, procedure_without_body, procedure_list_without_body, module_without_body}
 
 -- states that `whole` is `rest` with the identifiers of a body inserted; the closing name comes
 -- first after the body
@@ -41,10 +41,10 @@ in_procedure x f b rest last = simp (append_assoc)
 mutual
   -- Splits the identifiers of a block with this closing name, and others after it.
   pub split_block : {N : Type 0} (path : PathToBody) (closes : Role) (own : N) (rest : List (Role × N)) (b : Tree N block)
-      → Split (identifiers role.Declaring b ++ ((closes, own) ∷ rest)) (identifiers role.Declaring (block_without_body path b) ++ ((closes, own) ∷ rest)) (identifiers role.Declaring (body_at_path_in_block path b)) (closing_name_at_path_in_block path own b)
+      → Split (identifiers role.DeclaringName b ++ ((closes, own) ∷ rest)) (identifiers role.DeclaringName (block_without_body path b) ++ ((closes, own) ∷ rest)) (identifiers role.DeclaringName (body_at_path_in_block path b)) (closing_name_at_path_in_block path own b)
   split_block [] closes own rest (forms_block ds statements) =
-      let d = identifiers role.Declaring ds in
-      let s = identifiers role.Declaring statements in
+      let d = identifiers role.DeclaringName ds in
+      let s = identifiers role.DeclaringName statements in
       record {
         before = d;
         closes = closes;
@@ -53,36 +53,36 @@ mutual
         rest_is = ap (λ z. z ++ ((closes, own) ∷ rest)) (append-nil d);
       }
   split_block (k ∷ path) closes own rest (forms_block (declares cs ts vs ps) statements) =
-      let c = identifiers role.Declaring cs in
-      let t = identifiers role.Declaring ts in
-      let v = identifiers role.Declaring vs in
-      let s = identifiers role.Declaring statements in
-      split_is (in_block c t v (identifiers role.Declaring ps) s ((closes, own) ∷ rest)) (in_block c t v (identifiers role.Declaring (procedures_without_body k path ps)) s ((closes, own) ∷ rest))
+      let c = identifiers role.DeclaringName cs in
+      let t = identifiers role.DeclaringName ts in
+      let v = identifiers role.DeclaringName vs in
+      let s = identifiers role.DeclaringName statements in
+      split_is (in_block c t v (identifiers role.DeclaringName ps) s ((closes, own) ∷ rest)) (in_block c t v (identifiers role.DeclaringName (procedure_list_without_body k path ps)) s ((closes, own) ∷ rest))
       (prepend (c ++ (t ++ v)) (split_among k path closes own s rest ps))
 
   -- Splits the identifiers of procedures, and others after them.
   pub split_among : {N : Type 0} (k : ℕ) (path : PathToBody) (closes : Role) (own : N) (following rest : List (Role × N)) (ps : Tree N (items procedure))
-      → Split (identifiers role.Declaring ps ++ (following ++ ((closes, own) ∷ rest))) (identifiers role.Declaring (procedures_without_body k path ps) ++ (following ++ ((closes, own) ∷ rest))) (identifiers role.Declaring (body_at_path_in_procedures k path ps)) (closing_name_at_path_in_procedures k path own ps)
+      → Split (identifiers role.DeclaringName ps ++ (following ++ ((closes, own) ∷ rest))) (identifiers role.DeclaringName (procedure_list_without_body k path ps) ++ (following ++ ((closes, own) ∷ rest))) (identifiers role.DeclaringName (body_at_path_in_procedure_list k path ps)) (closing_name_at_path_in_procedure_list k path own ps)
   split_among zero path closes own following rest end = record { before = following; closes = closes; after = rest; whole_is = refl; rest_is = refl }
   split_among (suc k) path closes own following rest end = record { before = following; closes = closes; after = rest; whole_is = refl; rest_is = refl }
   split_among zero path closes own following rest (more p ps) =
-      let others = identifiers role.Declaring ps ++ (following ++ ((closes, own) ∷ rest)) in
-      split_is (append_assoc (identifiers role.Declaring p) (identifiers role.Declaring ps) (following ++ ((closes, own) ∷ rest)))
-      (append_assoc (identifiers role.Declaring (procedure_without_body path p)) (identifiers role.Declaring ps) (following ++ ((closes, own) ∷ rest)))
+      let others = identifiers role.DeclaringName ps ++ (following ++ ((closes, own) ∷ rest)) in
+      split_is (append_assoc (identifiers role.DeclaringName p) (identifiers role.DeclaringName ps) (following ++ ((closes, own) ∷ rest)))
+      (append_assoc (identifiers role.DeclaringName (procedure_without_body path p)) (identifiers role.DeclaringName ps) (following ++ ((closes, own) ∷ rest)))
       (split_inside path others p)
   split_among (suc k) path closes own following rest (more p ps) =
-      split_is (append_assoc (identifiers role.Declaring p) (identifiers role.Declaring ps) (following ++ ((closes, own) ∷ rest)))
-      (append_assoc (identifiers role.Declaring p) (identifiers role.Declaring (procedures_without_body k path ps)) (following ++ ((closes, own) ∷ rest)))
-      (prepend (identifiers role.Declaring p) (split_among k path closes own following rest ps))
+      split_is (append_assoc (identifiers role.DeclaringName p) (identifiers role.DeclaringName ps) (following ++ ((closes, own) ∷ rest)))
+      (append_assoc (identifiers role.DeclaringName p) (identifiers role.DeclaringName (procedure_list_without_body k path ps)) (following ++ ((closes, own) ∷ rest)))
+      (prepend (identifiers role.DeclaringName p) (split_among k path closes own following rest ps))
 
   -- Splits the identifiers of a procedure, and others after it.
   pub split_inside : {N : Type 0} (path : PathToBody) (rest : List (Role × N)) (p : Tree N (item procedure))
-      → Split (identifiers role.Declaring p ++ rest) (identifiers role.Declaring (procedure_without_body path p) ++ rest) (identifiers role.Declaring (body_at_path_in_procedure path p)) (closing_name_at_path_in_procedure path p)
+      → Split (identifiers role.DeclaringName p ++ rest) (identifiers role.DeclaringName (procedure_without_body path p) ++ rest) (identifiers role.DeclaringName (body_at_path_in_procedure path p)) (closing_name_at_path_in_procedure path p)
   split_inside path rest (declares_procedure x fs b closing) =
-      let f = identifiers role.Declaring fs in
-      split_is (in_procedure (role.Declaring, x) f (identifiers role.Declaring b) rest (role.ClosingName, closing)) (in_procedure (role.Declaring, x) f (identifiers role.Declaring (block_without_body path b)) rest (role.ClosingName, closing))
-      (prepend ((role.Declaring, x) ∷ f) (split_block path role.ClosingName closing rest b))
+      let f = identifiers role.DeclaringName fs in
+      split_is (in_procedure (role.DeclaringName, x) f (identifiers role.DeclaringName b) rest (role.ClosingName, closing)) (in_procedure (role.DeclaringName, x) f (identifiers role.DeclaringName (block_without_body path b)) rest (role.ClosingName, closing))
+      (prepend ((role.DeclaringName, x) ∷ f) (split_block path role.ClosingName closing rest b))
 
 -- Splits the identifiers of a module.
-pub split_module : {N : Type 0} (path : PathToBody) (t : Tree N module_text) → Split (identifiers role.Declaring t) (identifiers role.Declaring (module_without_body path t)) (identifiers role.Declaring (body_at_path path t)) (closing_name_at_path path t)
+pub split_module : {N : Type 0} (path : PathToBody) (t : Tree N module_text) → Split (identifiers role.DeclaringName t) (identifiers role.DeclaringName (module_without_body path t)) (identifiers role.DeclaringName (body_at_path path t)) (closing_name_at_path path t)
 split_module path (forms_module x b closing) = prepend ((role.ModuleName, x) ∷ []) (split_block path role.ModuleName closing [] b)

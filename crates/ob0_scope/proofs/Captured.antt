@@ -8,7 +8,7 @@ use Rattle.ob0_scope.specs.declared.name_conflicts.FirstConflict.TheVariants as 
 use Rattle.ob0_language_names.specs.Names.{Name, same_name}
 use Rattle.ob0_language_names.specs.Occurrences.{IsFreeName, at_declaration, at_occurrence, bindings, scopes_in_block, declares_ordinal, first_name_conflict, first_binding_difference, is_duplicate_name, another_declaration_has_name}
 use Rattle.ob0_language_names.specs.BlockParts.{module_block}
-use Rattle.ob0_scope.specs.Renames.{namesake, namesake_in_scopes, other_declaration_with_name, conflict_of}
+use Rattle.ob0_scope.specs.Renames.{namesake_ordinal, namesake_in_scopes, other_declaration_with_name, conflict_of}
 use Rattle.ob0_language_names.specs.Scopes.{Scope, renamed}
 use Rattle.ob0_scope.proofs.FirstCaptures.{name_is_free_iff_no_conflict-holds}
 
@@ -34,14 +34,14 @@ namesake_is (own ∷ blocks) d new =
     here true = refl
     here false = refl
 
-duplicate_is : (m : Tree Name module_text) (d : ℕ) (new : Name) (o : Option ℕ) → o ≡ namesake m d new → is_duplicate_name m d new ≡ is_some o
+duplicate_is : (m : Tree Name module_text) (d : ℕ) (new : Name) (o : Option ℕ) → o ≡ namesake_ordinal m d new → is_duplicate_name m d new ≡ is_some o
 duplicate_is m d new o e = sym (namesake_is (scopes_in_block 7 [] (module_block m)) d new) ∙ ap is_some (sym e)
 
-pub captured_there : (m : Tree Name module_text) (d : ℕ) (new : Name) (other : ℕ) → Some other ≡ namesake m d new → Some at_declaration ≡ first_name_conflict m d new
+pub captured_there : (m : Tree Name module_text) (d : ℕ) (new : Name) (other : ℕ) → Some other ≡ namesake_ordinal m d new → Some at_declaration ≡ first_name_conflict m d new
 captured_there m d new other e =
     sym (ap (λ b. if b then Some at_declaration else option_map at_occurrence (first_binding_difference (bindings (renamed m d new)) (bindings m))) (duplicate_is m d new (Some other) e))
 
-pub captured_later : (m : Tree Name module_text) (d : ℕ) (new : Name) (found : Option reported.FirstConflict) → None ≡ namesake m d new
+pub captured_later : (m : Tree Name module_text) (d : ℕ) (new : Name) (found : Option reported.FirstConflict) → None ≡ namesake_ordinal m d new
     → found ≡ option_map reports.Occurrence (first_binding_difference (bindings (renamed m d new)) (bindings m)) → option_map conflict_of found ≡ first_name_conflict m d new
 captured_later m d new found e f =
     ap (option_map conflict_of) f
@@ -63,8 +63,8 @@ free_where_none m d new found e = (
     nothing (Some c) h = absurd (cc)
 
 -- If no other declaration of the block has the name, the search finds none.
-pub no_namesake : (m : Tree Name module_text) (d : ℕ) (new : Name) → is_duplicate_name m d new ≡ false → None ≡ namesake m d new
-no_namesake m d new e = nothing (namesake m d new) (sym (duplicate_is m d new (namesake m d new) refl) ∙ e)
+pub no_namesake : (m : Tree Name module_text) (d : ℕ) (new : Name) → is_duplicate_name m d new ≡ false → None ≡ namesake_ordinal m d new
+no_namesake m d new e = nothing (namesake_ordinal m d new) (sym (duplicate_is m d new (namesake_ordinal m d new) refl) ∙ e)
   where
     nothing : (o : Option ℕ) → is_some o ≡ false → None ≡ o
     nothing None h = refl

@@ -14,7 +14,7 @@ use Rattle.ob0_tree.proofs.MappedIdentifiers.{beside_role}
 use Rattle.ob0_scope_table.specs.Resolution.{declaring_names, ordinal_in}
 use Rattle.ob0_scope_table.proofs.Plain.{declaring_names-append}
 use Rattle.ob0_scope_numbering.proofs.Tables.{none_at}
-use Rattle.ob0_scope.specs.BindingsOutsideBody.{tokens_after_body, tokens_before_body, tokens_in_changed_text, ordinals_in_changed_text, shifted_token}
+use Rattle.ob0_scope.specs.BindingsOutsideBody.{shifted_tokens_after_body, tokens_before_body, tokens_in_changed_text, ordinals_in_changed_text, shifted_token}
 use Rattle.ob0_scope.specs.declared.body_range.BodyRange.{BodyRange}
 
 -- ---- identifiers in three parts
@@ -81,48 +81,48 @@ pub record Picks (pick : List (Role × ℕ) → List ℕ) : Type 0 where
 
 declaring_renamed : (f : ℕ → ℕ) (xs : List (Role × ℕ)) → declaring_names (map (beside_role f) xs) ≡ map f (declaring_names xs)
 declaring_renamed f [] = refl
-declaring_renamed f ((role.Declaring, n) ∷ xs) = λ i. f n ∷ declaring_renamed f xs i
-declaring_renamed f ((role.LookedUp, n) ∷ xs) = declaring_renamed f xs
+declaring_renamed f ((role.DeclaringName, n) ∷ xs) = λ i. f n ∷ declaring_renamed f xs i
+declaring_renamed f ((role.LookedUpName, n) ∷ xs) = declaring_renamed f xs
 declaring_renamed f ((role.ClosingName, n) ∷ xs) = declaring_renamed f xs
 declaring_renamed f ((role.FieldName, n) ∷ xs) = declaring_renamed f xs
 declaring_renamed f ((role.ModuleName, n) ∷ xs) = declaring_renamed f xs
 
 declaring_below : (n : ℕ) (xs : List (Role × ℕ)) → AllBelow n (names_without_roles xs) → AllBelow n (declaring_names xs)
 declaring_below n [] h = tt
-declaring_below n ((role.Declaring, x) ∷ xs) h = (h.0, declaring_below n xs h.1)
-declaring_below n ((role.LookedUp, x) ∷ xs) h = declaring_below n xs h.1
+declaring_below n ((role.DeclaringName, x) ∷ xs) h = (h.0, declaring_below n xs h.1)
+declaring_below n ((role.LookedUpName, x) ∷ xs) h = declaring_below n xs h.1
 declaring_below n ((role.ClosingName, x) ∷ xs) h = declaring_below n xs h.1
 declaring_below n ((role.FieldName, x) ∷ xs) h = declaring_below n xs h.1
 declaring_below n ((role.ModuleName, x) ∷ xs) h = declaring_below n xs h.1
 
 declaring_from : (n : ℕ) (xs : List (Role × ℕ)) → AllFrom n (names_without_roles xs) → AllFrom n (declaring_names xs)
 declaring_from n [] h = tt
-declaring_from n ((role.Declaring, x) ∷ xs) h = (h.0, declaring_from n xs h.1)
-declaring_from n ((role.LookedUp, x) ∷ xs) h = declaring_from n xs h.1
+declaring_from n ((role.DeclaringName, x) ∷ xs) h = (h.0, declaring_from n xs h.1)
+declaring_from n ((role.LookedUpName, x) ∷ xs) h = declaring_from n xs h.1
 declaring_from n ((role.ClosingName, x) ∷ xs) h = declaring_from n xs h.1
 declaring_from n ((role.FieldName, x) ∷ xs) h = declaring_from n xs h.1
 declaring_from n ((role.ModuleName, x) ∷ xs) h = declaring_from n xs h.1
 
 looked_up_renamed : (f : ℕ → ℕ) (xs : List (Role × ℕ)) → looked_up_only (map (beside_role f) xs) ≡ map f (looked_up_only xs)
 looked_up_renamed f [] = refl
-looked_up_renamed f ((role.LookedUp, n) ∷ xs) = λ i. f n ∷ looked_up_renamed f xs i
-looked_up_renamed f ((role.Declaring, n) ∷ xs) = looked_up_renamed f xs
+looked_up_renamed f ((role.LookedUpName, n) ∷ xs) = λ i. f n ∷ looked_up_renamed f xs i
+looked_up_renamed f ((role.DeclaringName, n) ∷ xs) = looked_up_renamed f xs
 looked_up_renamed f ((role.ClosingName, n) ∷ xs) = looked_up_renamed f xs
 looked_up_renamed f ((role.FieldName, n) ∷ xs) = looked_up_renamed f xs
 looked_up_renamed f ((role.ModuleName, n) ∷ xs) = looked_up_renamed f xs
 
 looked_up_below : (n : ℕ) (xs : List (Role × ℕ)) → AllBelow n (names_without_roles xs) → AllBelow n (looked_up_only xs)
 looked_up_below n [] h = tt
-looked_up_below n ((role.LookedUp, x) ∷ xs) h = (h.0, looked_up_below n xs h.1)
-looked_up_below n ((role.Declaring, x) ∷ xs) h = looked_up_below n xs h.1
+looked_up_below n ((role.LookedUpName, x) ∷ xs) h = (h.0, looked_up_below n xs h.1)
+looked_up_below n ((role.DeclaringName, x) ∷ xs) h = looked_up_below n xs h.1
 looked_up_below n ((role.ClosingName, x) ∷ xs) h = looked_up_below n xs h.1
 looked_up_below n ((role.FieldName, x) ∷ xs) h = looked_up_below n xs h.1
 looked_up_below n ((role.ModuleName, x) ∷ xs) h = looked_up_below n xs h.1
 
 looked_up_from : (n : ℕ) (xs : List (Role × ℕ)) → AllFrom n (names_without_roles xs) → AllFrom n (looked_up_only xs)
 looked_up_from n [] h = tt
-looked_up_from n ((role.LookedUp, x) ∷ xs) h = (h.0, looked_up_from n xs h.1)
-looked_up_from n ((role.Declaring, x) ∷ xs) h = looked_up_from n xs h.1
+looked_up_from n ((role.LookedUpName, x) ∷ xs) h = (h.0, looked_up_from n xs h.1)
+looked_up_from n ((role.DeclaringName, x) ∷ xs) h = looked_up_from n xs h.1
 looked_up_from n ((role.ClosingName, x) ∷ xs) h = looked_up_from n xs h.1
 looked_up_from n ((role.FieldName, x) ∷ xs) h = looked_up_from n xs h.1
 looked_up_from n ((role.ModuleName, x) ∷ xs) h = looked_up_from n xs h.1
@@ -176,23 +176,23 @@ module _ (range : BodyRange) where
   before_none [] h = refl
   before_none (x ∷ xs) h = ap (λ b. if b then x ∷ tokens_before_body range xs else tokens_before_body range xs) (le-ltb x range.first h.0) ∙ before_none xs h.1
 
-  after_append : (xs ys : List ℕ) → tokens_after_body range (xs ++ ys) ≡ tokens_after_body range xs ++ tokens_after_body range ys
+  after_append : (xs ys : List ℕ) → shifted_tokens_after_body range (xs ++ ys) ≡ shifted_tokens_after_body range xs ++ shifted_tokens_after_body range ys
   after_append [] ys = refl
   after_append (x ∷ xs) ys = one (after_append xs ys) (nat_lt x range.old_closing)
     where
-      one : tokens_after_body range (xs ++ ys) ≡ tokens_after_body range xs ++ tokens_after_body range ys → (b : Bool) → (if b then tokens_after_body range (xs ++ ys) else shifted_token range x ∷ tokens_after_body range (xs ++ ys)) ≡ (if b then tokens_after_body range xs else shifted_token range x ∷ tokens_after_body range xs) ++ tokens_after_body range ys
+      one : shifted_tokens_after_body range (xs ++ ys) ≡ shifted_tokens_after_body range xs ++ shifted_tokens_after_body range ys → (b : Bool) → (if b then shifted_tokens_after_body range (xs ++ ys) else shifted_token range x ∷ shifted_tokens_after_body range (xs ++ ys)) ≡ (if b then shifted_tokens_after_body range xs else shifted_token range x ∷ shifted_tokens_after_body range xs) ++ shifted_tokens_after_body range ys
       one rest true = rest
       one rest false = ap (λ z. shifted_token range x ∷ z) rest
 
-  after_none : (xs : List ℕ) → AllBelow range.old_closing xs → tokens_after_body range xs ≡ []
+  after_none : (xs : List ℕ) → AllBelow range.old_closing xs → shifted_tokens_after_body range xs ≡ []
   after_none [] h = refl
-  after_none (x ∷ xs) h = ap (λ b. if b then tokens_after_body range xs else shifted_token range x ∷ tokens_after_body range xs) (lt-ltb x range.old_closing h.0) ∙ after_none xs h.1
+  after_none (x ∷ xs) h = ap (λ b. if b then shifted_tokens_after_body range xs else shifted_token range x ∷ shifted_tokens_after_body range xs) (lt-ltb x range.old_closing h.0) ∙ after_none xs h.1
 
-  after_all : (high : ℕ) (xs : List ℕ) → high + range.closing ≤ 2 ^ 64 - 1 → AllFrom range.old_closing xs → AllBelow high xs → tokens_after_body range xs ≡ map far xs
+  after_all : (high : ℕ) (xs : List ℕ) → high + range.closing ≤ 2 ^ 64 - 1 → AllFrom range.old_closing xs → AllBelow high xs → shifted_tokens_after_body range xs ≡ map far xs
   after_all high [] few h k = refl
   after_all high (x ∷ xs) few h k =
       let here : shifted_token range x ≡ far x = min-eq_left (let small : x - range.old_closing + range.closing ≤ 2 ^ 64 - 1 = omega (arith, few, k.0) in small) in
-      ap (λ b. if b then tokens_after_body range xs else shifted_token range x ∷ tokens_after_body range xs) (le-ltb x range.old_closing h.0) ∙ (λ i. here i ∷ after_all high xs few h.1 k.1 i)
+      ap (λ b. if b then shifted_tokens_after_body range xs else shifted_token range x ∷ shifted_tokens_after_body range xs) (le-ltb x range.old_closing h.0) ∙ (λ i. here i ∷ after_all high xs few h.1 k.1 i)
 
   -- Keeping a selection of the old identifiers, with a selection of the new body's, gives the
   -- selection of all new identifiers.
@@ -209,7 +209,7 @@ module _ (range : BodyRange) where
       let before_is = after_none (pick before) (below_more range.first range.old_closing (pick before) (omega (arith, less)) (p.below range.first before parts.before_below)) in
       let body_is = after_none (pick own) (p.below range.old_closing own parts.own_below) in
       let last_is = after_all high (pick after) few (p.from range.old_closing after parts.after_from) (p.below high after parts.after_below) in
-      let last : tokens_after_body range (pick before ++ (pick own ++ pick after)) ≡ map far (pick after) =
+      let last : shifted_tokens_after_body range (pick before ++ (pick own ++ pick after)) ≡ map far (pick after) =
       after_append (pick before) (pick own ++ pick after) ∙ (λ i. before_is i ++ (after_append (pick own) (pick after) ∙ (λ i. body_is i ++ last_is i)) i) in
       ap (λ tokens. tokens_in_changed_text range tokens (pick others)) all
       ∙ ((λ i. first i ++ (pick others ++ last i))

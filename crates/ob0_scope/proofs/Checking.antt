@@ -11,11 +11,11 @@ use Rattle.ob0_tree.specs.declared.tree.OptionalFieldGroup.{OptionalFieldGroup}
 use Rattle.ob0_tree.specs.Tree.{Tree, block, body, constants, declares, declares_procedure, formals, forms_block, items, maybe, procedure, type_definitions, variables}
 use Rattle.ob0_tree.specs.View.{optional_field_group_of, field_group_after_semicolon_of, items_of, record_type_of_list}
 use Rattle.ob0_language_names.specs.ConsistentNames.{names_declared_in_block, field_names_after_first_group, is_among, procedure_names}
-use Rattle.ob0_scope_table.specs.DuplicatesAndEndNames.{duplicate_faults, block_declaration_faults, closing_name_faults, duplicate_field_faults, duplicate_field_faults_in_formals, duplicate_field_faults_in_group, duplicate_field_faults_in_groups, procedure_declaration_faults, procedures_declaration_faults, duplicate_field_faults_in_types, fault_unless, duplicate_field_faults_in_variables}
+use Rattle.ob0_scope_table.specs.DuplicatesAndEndNames.{duplicate_faults, block_declaration_faults, closing_name_faults, duplicate_field_faults, duplicate_field_faults_in_formals, duplicate_field_faults_in_group, duplicate_field_faults_in_further_groups, procedure_declaration_faults, procedure_list_declaration_faults, duplicate_field_faults_in_types, fault_unless, duplicate_field_faults_in_variables}
 use Rattle.ob0_scope_table.specs.FaultsAtTokens.{fault_at_token}
 use Rattle.ob0_scope_table.specs.declared.faults.FaultAtTokens.{FaultAtTokens}
 use Rattle.ob0_language_names.specs.Names.{Name, same_name}
-use Rattle.ob0_language_names.specs.BlockParts.{constant_names, formal_names, formal_sections, declared_type_names, section_constants, section_types, section_variables, variable_names}
+use Rattle.ob0_language_names.specs.BlockParts.{constant_names, formal_parameter_names, formal_parameter_sections, declared_type_names, section_constants, section_types, section_variables, variable_names}
 use Rattle.ob0_language_names.proofs.NameEquality.{same_name-comm}
 
 -- states that what was collected, with the items still to collect, is what all items give
@@ -94,11 +94,11 @@ one_further text (x ∷ xs) (suc done) d less q =
 
 -- The faults of a record's fields are reported, whichever group is the first.
 pub record_reported : (text : ℕ → Name) (start own after : List FaultAtTokens) (gs : List OptionalFieldGroup) (fs : List ℕ) → fs ≡ field_names_after_first_group (items_of field_group_after_semicolon_of gs) → own ≡ start ++ duplicate_faults text [] fs
-    → after ≡ own ++ duplicate_field_faults_in_groups text (items_of field_group_after_semicolon_of gs) → after ≡ start ++ duplicate_field_faults text (record_type_of_list gs)
+    → after ≡ own ++ duplicate_field_faults_in_further_groups text (items_of field_group_after_semicolon_of gs) → after ≡ start ++ duplicate_field_faults text (record_type_of_list gs)
 record_reported text start own after [] fs are e f = f ∙ (append-nil own ∙ (e ∙ ap (λ ns. start ++ duplicate_faults text [] ns) are))
 record_reported text start own after (g ∷ gs) fs are e f =
     let rest = items_of field_group_after_semicolon_of gs in
-    let inner = duplicate_field_faults_in_group text (optional_field_group_of g) ++ duplicate_field_faults_in_groups text rest in
+    let inner = duplicate_field_faults_in_group text (optional_field_group_of g) ++ duplicate_field_faults_in_further_groups text rest in
     let names = field_names_after_first_group (items_of field_group_after_semicolon_of (g ∷ gs)) in
     f ∙ (ap (λ d. d ++ inner) (e ∙ ap (λ ns. start ++ duplicate_faults text [] ns) are) ∙ append_assoc start (duplicate_faults text [] names) inner)
 
@@ -109,12 +109,12 @@ five_names a b c d e = append_assoc ((a ++ b) ++ c) d e ∙ (append_assoc (a ++ 
 pub block_reported : (text : ℕ → Name) (start : List FaultAtTokens) (own : List ℕ) (cs : Tree ℕ (maybe constants)) (ts : Tree ℕ (maybe type_definitions)) (vs : Tree ℕ (maybe variables)) (ps : Tree ℕ (items procedure)) (statements : Tree ℕ (maybe body))
     (all : List ℕ) (named typed varied after : List FaultAtTokens) → all ≡ (((own ++ constant_names (section_constants cs)) ++ declared_type_names (section_types ts)) ++ variable_names (section_variables vs)) ++ procedure_names ps
     → named ≡ start ++ duplicate_faults text [] all → typed ≡ named ++ duplicate_field_faults_in_types text (section_types ts) → varied ≡ typed ++ duplicate_field_faults_in_variables text (section_variables vs)
-    → after ≡ varied ++ procedures_declaration_faults text ps → after ≡ start ++ block_declaration_faults text own (forms_block (declares cs ts vs ps) statements)
+    → after ≡ varied ++ procedure_list_declaration_faults text ps → after ≡ start ++ block_declaration_faults text own (forms_block (declares cs ts vs ps) statements)
 block_reported text start own cs ts vs ps statements all named typed varied after are d t v p =
     let names = are ∙ five_names own (constant_names (section_constants cs)) (declared_type_names (section_types ts)) (variable_names (section_variables vs)) (procedure_names ps) in
     let T = duplicate_field_faults_in_types text (section_types ts) in
     let V = duplicate_field_faults_in_variables text (section_variables vs) in
-    let P = procedures_declaration_faults text ps in
+    let P = procedure_list_declaration_faults text ps in
     let D = duplicate_faults text [] (own ++ names_declared_in_block (forms_block (declares cs ts vs ps) statements)) in
     let first : named ≡ start ++ D = d ∙ ap (λ xs. start ++ duplicate_faults text [] xs) names in
     p ∙ (ap (λ z. z ++ P) (v ∙ ap (λ z. z ++ V) (t ∙ ap (λ z. z ++ T) first))
@@ -122,10 +122,10 @@ block_reported text start own cs ts vs ps statements all named typed varied afte
 
 -- The faults of a procedure are reported for its closing name, its parameters' types and its block.
 pub procedure_reported : (text : ℕ → Name) (start closed typed : List FaultAtTokens) (x : ℕ) (fs : Tree ℕ (maybe formals)) (b : Tree ℕ block) (closing : ℕ) (own : List ℕ) → closed ≡ start ++ closing_name_faults text x closing
-    → typed ≡ closed ++ duplicate_field_faults_in_formals text (formal_sections fs) → own ≡ formal_names (formal_sections fs)
+    → typed ≡ closed ++ duplicate_field_faults_in_formals text (formal_parameter_sections fs) → own ≡ formal_parameter_names (formal_parameter_sections fs)
     → typed ++ block_declaration_faults text own b ≡ start ++ procedure_declaration_faults text (declares_procedure x fs b closing)
 procedure_reported text start closed typed x fs b closing own c t are =
-    let F = duplicate_field_faults_in_formals text (formal_sections fs) in
+    let F = duplicate_field_faults_in_formals text (formal_parameter_sections fs) in
     let C = closing_name_faults text x closing in
-    let B = block_declaration_faults text (formal_names (formal_sections fs)) b in
+    let B = block_declaration_faults text (formal_parameter_names (formal_parameter_sections fs)) b in
     (λ i. (t ∙ ap (λ z. z ++ F) c) i ++ block_declaration_faults text (are i) b) ∙ (append_assoc (start ++ C) F B ∙ append_assoc start C (F ++ B))

@@ -4,15 +4,15 @@ use Rattle.std.proofs.Common.{◌≡◌, ℕ, suc, ◌∷◌, Some, None, refl, 
 use Rattle.ob0_tree.specs.Tree.{Sort, Tree, mapped_tree, block, constant, constants, formals, name_after_comma, section_after_semicolon, item, items, maybe, module_text, names, procedure, section, type_definition, type_definitions, variable, variables, declares, declares_constant, declares_const_section, declares_procedure, declares_type, declares_type_section, declares_variable, declares_var_section, end, forms_block, forms_module, listed, more, no_formals, none, one, some_formals, comma_then_name, semicolon_then_section, value_section, variable_section}
 use Rattle.ob0_tree.proofs.Mapped.{mapped_twice}
 use Rattle.ob0_language_names.specs.Names.{Naming}
-use Rattle.ob0_language_names.specs.BlockParts.{formal_names, formal_sections, names_in_list, procedure_name, parameter_section_names}
-use Rattle.ob0_language_names.specs.Scopes.{Labelling, Scope, ordinal_after_names, ordinal_after_procedure, body_scope, declare_names, first_procedure_ordinal, first_type_ordinal, first_variable_ordinal, label_of, predeclared_scope, scope_before_procedures, relabel_block, relabel_constant_section, relabel_constants, relabel_formals, relabel_names_after_first, relabel_names, relabel_procedure, relabel_procedure_list, relabel_parameter_section, relabel_parameter_section_list, relabel_type_section, relabel_types, relabel_uses, relabel_variable_section, relabel_variables, relabel_module, scope_before_types, scope_before_variables}
+use Rattle.ob0_language_names.specs.BlockParts.{formal_parameter_names, formal_parameter_sections, names_in_list, procedure_name, parameter_section_names}
+use Rattle.ob0_language_names.specs.Scopes.{Labelling, Scope, ordinal_after_names, ordinal_after_procedure, body_scope, declare_names, first_procedure_ordinal, first_type_ordinal, first_variable_ordinal, label_in_scope, predeclared_scope, scope_before_procedures, relabel_block, relabel_constant_section, relabel_constants, relabel_formals, relabel_names_after_first, relabel_names, relabel_procedure, relabel_procedure_list, relabel_parameter_section, relabel_parameter_section_list, relabel_type_section, relabel_types, relabel_uses, relabel_variable_section, relabel_variables, relabel_module, scope_before_types, scope_before_variables}
 
 module _ {N M K : Type 0} (naming : Naming N) (f : M → K) (label : Labelling N M) where
   abbrev then_f : Labelling N K
   then_f ordinal x = f (label ordinal x)
 
   uses-mapped_tree : {s : Sort} (scope : Scope N) (t : Tree N s) → relabel_uses naming then_f scope t ≡ mapped_tree f (λ n. n) (relabel_uses naming label scope t)
-  uses-mapped_tree scope t = sym (mapped_twice f f (λ n. n) (label_of naming label scope) (label None) (λ n. n) t)
+  uses-mapped_tree scope t = sym (mapped_twice f f (λ n. n) (label_in_scope naming label scope) (label None) (λ n. n) t)
 
   further-mapped_tree : (k : ℕ) (ns : Tree N (items name_after_comma)) → relabel_names_after_first then_f k ns ≡ mapped_tree f (λ n. n) (relabel_names_after_first label k ns)
   further-mapped_tree k end = refl
@@ -78,7 +78,7 @@ module _ {N M K : Type 0} (naming : Naming N) (f : M → K) (label : Labelling N
     procedure-mapped_tree : (scope : Scope N) (k : ℕ) (p : Tree N (item procedure)) → relabel_procedure naming then_f scope k p ≡ mapped_tree f (λ n. n) (relabel_procedure naming label scope k p)
     procedure-mapped_tree scope k (declares_procedure x fs b closing) = λ i.
         declares_procedure (f (label (Some k) x)) (formals-mapped_tree scope (suc k) fs i)
-        (block-mapped_tree (declare_names (suc k) (formal_names (formal_sections fs)) ((x, k) ∷ scope)) (ordinal_after_names (suc k) (formal_names (formal_sections fs))) b i)
+        (block-mapped_tree (declare_names (suc k) (formal_parameter_names (formal_parameter_sections fs)) ((x, k) ∷ scope)) (ordinal_after_names (suc k) (formal_parameter_names (formal_parameter_sections fs))) b i)
         (f (label (Some k) closing))
 
   -- Mapping the labels of a tree is the same as mapping the tree.

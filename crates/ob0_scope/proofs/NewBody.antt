@@ -16,7 +16,7 @@ use Rattle.ob0_tree.specs.declared.tree.Role.{Role}
 use Rattle.ob0_tree.specs.declared.tree.Role.TheVariants as role
 use Rattle.ob0_tree.specs.IdentifierIndexes.{AreAscendingWithin, identifier_names, names_without_roles}
 use Rattle.ob0_tree.specs.ParsedModule.{ParsedModule, named_tree_of, tree_of}
-use Rattle.ob0_tree.specs.Places.{tree_with_names, token_text_at, token_value_at}
+use Rattle.ob0_tree.specs.TokenIndexLeaves.{tree_with_names, token_text_at, token_value_at}
 use Rattle.ob0_tree.specs.Tree.{identifiers, mapped_tree, occurrences}
 use Rattle.ob0_tree.specs.VisitorStates.{state_after_identifiers}
 use Rattle.ob0_tree.proofs.Leaves.{leaves_ascend}
@@ -28,8 +28,8 @@ use Rattle.ob0_tree.proofs.AscendingNumbers.{AllBelow, AllFrom, below_more, from
 use Rattle.ob0_tree.proofs.MappedIdentifiers.{beside_role, identifiers-mapped_tree, leaves_mapped}
 use Rattle.ob0_scope_table.specs.BodyReplacement.{ReplacesStatementsOfOneBody, PathToBody, body_at_path, closing_name_at_path, shifted_token_index, path_to_body_in_module, module_without_body}
 use Rattle.ob0_scope_table.specs.DuplicatesAndEndNames.{declaration_faults}
-use Rattle.ob0_scope_table.specs.OneBody.{is_outside_range}
-use Rattle.ob0_scope_table.specs.Resolution.{IsBindingTable, IsResolution, ordinal_and_spelling_at, declaring_names, ordinal_in, undeclared_faults_from_table, ordinal_and_spelling}
+use Rattle.ob0_scope_table.specs.SpellingChangesInOneBody.{is_outside_range}
+use Rattle.ob0_scope_table.specs.Resolution.{IsBindingTable, IsResolution, ordinal_and_spelling_at_token, declaring_names, ordinal_in, undeclared_faults_from_table, ordinal_and_spelling}
 use Rattle.ob0_scope_table.specs.declared.faults.FaultAtTokens.{FaultAtTokens}
 use Rattle.ob0_scope_table.specs.declared.resolved.Bindings.{Bindings}
 use Rattle.ob0_scope_table.proofs.BodyReplacement.{names_outside, without_mapped}
@@ -37,8 +37,8 @@ use Rattle.ob0_scope_table.proofs.Moved.{moved_above, moved_below}
 use Rattle.ob0_scope_table.proofs.Plain.{declares_nothing}
 use Rattle.ob0_scope_numbering.specs.MarkWalk.{initial_walk_state}
 use Rattle.ob0_scope_numbering.specs.IdentifierWalk.{visit_module}
-use Rattle.ob0_scope_numbering.specs.OrdinalMarks.{OrdinalMark, with_marks}
-use Rattle.ob0_scope_numbering.specs.BodyWalk.{renumber_module, initial_walk_state_with_table}
+use Rattle.ob0_scope_numbering.specs.OrdinalMarks.{OrdinalMark, table_with_marks}
+use Rattle.ob0_scope_numbering.specs.BodyWalk.{renumber_body_in_module, initial_walk_state_with_table}
 use Rattle.ob0_scope_numbering.specs.IdentifierSpellings.{original_spellings}
 use Rattle.ob0_scope_numbering.proofs.BodyTables.{HasMarksAt, body_renumbered}
 use Rattle.ob0_scope_table.proofs.FewTokens.{few_tokens}
@@ -56,16 +56,16 @@ use Rattle.ob0_scope.proofs.WithoutRelabelled.{without_relabelled}
 
 later_names : (xs : List (Role × ℕ)) (f : ℕ) (us : List ℕ) → state_after_identifiers with_identifier xs (record { first = Some f; uses = us }) ≡ record { first = Some f; uses = us ++ looked_up_only xs }
 later_names [] f us = ap (λ l. record { first = Some f; uses = l }) (sym (append-nil us))
-later_names ((role.LookedUp, i) ∷ xs) f us = later_names xs f (us ++ (i ∷ [])) ∙ ap (λ l. record { first = Some f; uses = l }) (append_assoc us (i ∷ []) (looked_up_only xs))
-later_names ((role.Declaring, i) ∷ xs) f us = later_names xs f us
+later_names ((role.LookedUpName, i) ∷ xs) f us = later_names xs f (us ++ (i ∷ [])) ∙ ap (λ l. record { first = Some f; uses = l }) (append_assoc us (i ∷ []) (looked_up_only xs))
+later_names ((role.DeclaringName, i) ∷ xs) f us = later_names xs f us
 later_names ((role.ClosingName, i) ∷ xs) f us = later_names xs f us
 later_names ((role.FieldName, i) ∷ xs) f us = later_names xs f us
 later_names ((role.ModuleName, i) ∷ xs) f us = later_names xs f us
 
 pub names_walked : (xs : List (Role × ℕ)) → state_after_identifiers with_identifier xs no_names_seen ≡ record { first = token_of_first_identifier xs; uses = looked_up_only xs }
 names_walked [] = refl
-names_walked ((role.LookedUp, i) ∷ xs) = later_names xs i (i ∷ [])
-names_walked ((role.Declaring, i) ∷ xs) = later_names xs i []
+names_walked ((role.LookedUpName, i) ∷ xs) = later_names xs i (i ∷ [])
+names_walked ((role.DeclaringName, i) ∷ xs) = later_names xs i []
 names_walked ((role.ClosingName, i) ∷ xs) = later_names xs i []
 names_walked ((role.FieldName, i) ∷ xs) = later_names xs i []
 names_walked ((role.ModuleName, i) ∷ xs) = later_names xs i []
@@ -100,11 +100,11 @@ record Known (old new : ParsedModule) (path : PathToBody) (range : BodyRange) : 
   others : List (Role × ℕ)
   after : List (Role × ℕ)
   high : ℕ
-  olds : identifiers role.Declaring (tree_of old) ≡ before ++ (own ++ after)
-  news : identifiers role.Declaring (tree_of new) ≡ before ++ (others ++ map (beside_role (far range)) after)
-  old_rest : identifiers role.Declaring (module_without_body path (tree_of old)) ≡ before ++ after
-  new_rest : identifiers role.Declaring (module_without_body path (tree_of new)) ≡ before ++ map (beside_role (far range)) after
-  others_are : others ≡ identifiers role.Declaring (body_at_path path (tree_of new))
+  olds : identifiers role.DeclaringName (tree_of old) ≡ before ++ (own ++ after)
+  news : identifiers role.DeclaringName (tree_of new) ≡ before ++ (others ++ map (beside_role (far range)) after)
+  old_rest : identifiers role.DeclaringName (module_without_body path (tree_of old)) ≡ before ++ after
+  new_rest : identifiers role.DeclaringName (module_without_body path (tree_of new)) ≡ before ++ map (beside_role (far range)) after
+  others_are : others ≡ identifiers role.DeclaringName (body_at_path path (tree_of new))
   old_parts : Parted before own after range.first range.old_closing high
   new_parts : Parted before others (map (beside_role (far range)) after) range.first range.closing (length new.source.tokens)
   few : high + range.closing ≤ 2 ^ 64 - 1
@@ -123,8 +123,8 @@ module _ (old new : ParsedModule) (path : PathToBody) (s : CommonPrefixAndSuffix
   known =
       let so = split_module path (tree_of old) in
       let sn = split_module path (tree_of new) in
-      let own = identifiers role.Declaring (body_at_path path (tree_of old)) in
-      let others = identifiers role.Declaring (body_at_path path (tree_of new)) in
+      let own = identifiers role.DeclaringName (body_at_path path (tree_of old)) in
+      let others = identifiers role.DeclaringName (body_at_path path (tree_of new)) in
       let po = parted so.before own so.after so.closes r.first old_closing (length old.source.tokens) r.first_identifier_of_old_body (subst (λ l. AreAscendingWithin 0 (names_without_roles l) (length old.source.tokens)) so.whole_is (leaves_ascend old r.old_parsed)) in
       let pn = parted sn.before others sn.after sn.closes r.first new_closing (length new.source.tokens) r.first_identifier_of_new_body (subst (λ l. AreAscendingWithin 0 (names_without_roles l) (length new.source.tokens)) sn.whole_is (leaves_ascend new r.new_parsed)) in
       let old_tail : List (Role × ℕ) = (so.closes, old_closing) ∷ so.after in
@@ -136,8 +136,8 @@ module _ (old new : ParsedModule) (path : PathToBody) (s : CommonPrefixAndSuffix
       let closing : new_closing ≡ s.new_suffix + (old_closing - s.old_suffix) = r.closing ∙ moved_above s old_closing old_range (omega (arith, back)) in
       let same : sn.before ++ new_tail ≡ so.before ++ map (beside_role (far exact)) old_tail =
       sym sn.rest_is
-      ∙ (ap (identifiers role.Declaring) r.outside
-      ∙ (identifiers-mapped_tree (shifted_token_index s) (shifted_token_index s) role.Declaring (module_without_body path (tree_of old))
+      ∙ (ap (identifiers role.DeclaringName) r.outside
+      ∙ (identifiers-mapped_tree (shifted_token_index s) (shifted_token_index s) role.DeclaringName (module_without_body path (tree_of old))
       ∙ (ap (map (beside_role (shifted_token_index s))) so.rest_is
       ∙ (map-append (beside_role (shifted_token_index s)) so.before old_tail
       ∙ (λ i. stays s so.before (below_more r.first s.prefix (names_without_roles so.before) (omega (arith, front)) po.before_below) i ++ goes_far s exact old_tail old_range back closing po.after_from i))))) in
@@ -165,7 +165,7 @@ module _ (old new : ParsedModule) (path : PathToBody) (s : CommonPrefixAndSuffix
   old_inside : old_closing < length old.source.tokens
   old_inside =
       let so = split_module path (tree_of old) in
-      (parted so.before (identifiers role.Declaring (body_at_path path (tree_of old))) so.after so.closes r.first old_closing (length old.source.tokens) r.first_identifier_of_old_body
+      (parted so.before (identifiers role.DeclaringName (body_at_path path (tree_of old))) so.after so.closes r.first old_closing (length old.source.tokens) r.first_identifier_of_old_body
       (subst (λ l. AreAscendingWithin 0 (names_without_roles l) (length old.source.tokens)) so.whole_is (leaves_ascend old r.old_parsed))).few
 
   -- The old index of the closing name follows from the new one.
@@ -199,7 +199,7 @@ both_each : (f g : ℕ → Option ℕ) (h : ℕ → ℕ) (xs ys : List ℕ) → 
 both_each f g h [] ys e = (tt, each_of f g h ys e)
 both_each f g h (x ∷ xs) ys e = let rest = both_each f g h xs ys (ap (drop 1) e) in ((ap (λ l. get_or l 0 None) e, rest.0), rest.1)
 
-ordinals_at_tokens : (source : TextWithTokens) (ordinals : List (Option ℕ)) (xs : List ℕ) → map (λ (p : Option ℕ × List ℕ). p.0) (map (ordinal_and_spelling_at source ordinals) xs) ≡ map (ordinal_in ordinals) xs
+ordinals_at_tokens : (source : TextWithTokens) (ordinals : List (Option ℕ)) (xs : List ℕ) → map (λ (p : Option ℕ × List ℕ). p.0) (map (ordinal_and_spelling_at_token source ordinals) xs) ≡ map (ordinal_in ordinals) xs
 ordinals_at_tokens source ordinals [] = refl
 ordinals_at_tokens source ordinals (x ∷ xs) = ap (λ l. ordinal_in ordinals x ∷ l) (ordinals_at_tokens source ordinals xs)
 
@@ -207,13 +207,13 @@ ordinals_at_tokens source ordinals (x ∷ xs) = ap (λ l. ordinal_in ordinals x 
 same_outside : (old new : ParsedModule) (path : PathToBody) (s : CommonPrefixAndSuffix) (before now : List (Option ℕ)) → ReplacesStatementsOfOneBody old new path s → IsBindingTable old before → IsBindingTable new now
     → map (ordinal_in now) (identifier_names (module_without_body path (tree_of new))) ≡ map (ordinal_in before) (identifier_names (module_without_body path (tree_of old)))
 same_outside old new path s before now r was is =
-    let outside : (m : ParsedModule) (ordinals : List (Option ℕ)) → IsBindingTable m ordinals → relabel_module naming_by_spelling ordinal_and_spelling (tree_with_names m.source (module_without_body path (tree_of m))) ≡ mapped_tree (ordinal_and_spelling_at m.source ordinals) (token_value_at m.source) (module_without_body path (tree_of m)) =
+    let outside : (m : ParsedModule) (ordinals : List (Option ℕ)) → IsBindingTable m ordinals → relabel_module naming_by_spelling ordinal_and_spelling (tree_with_names m.source (module_without_body path (tree_of m))) ≡ mapped_tree (ordinal_and_spelling_at_token m.source ordinals) (token_value_at m.source) (module_without_body path (tree_of m)) =
     λ m ordinals bound.
     ap (relabel_module naming_by_spelling ordinal_and_spelling) (sym (without_mapped (token_text_at m.source) (token_value_at m.source) path (tree_of m)))
     ∙ (sym (without_relabelled naming_by_spelling ordinal_and_spelling path (named_tree_of m))
-    ∙ (ap (module_without_body path) bound ∙ without_mapped (ordinal_and_spelling_at m.source ordinals) (token_value_at m.source) path (tree_of m))) in
-    let listed : (m : ParsedModule) (ordinals : List (Option ℕ)) → map (λ (p : Option ℕ × List ℕ). p.0) (identifier_names (mapped_tree (ordinal_and_spelling_at m.source ordinals) (token_value_at m.source) (module_without_body path (tree_of m)))) ≡ map (ordinal_in ordinals) (identifier_names (module_without_body path (tree_of m))) =
-    λ m ordinals. ap (map (λ (p : Option ℕ × List ℕ). p.0)) (leaves_mapped (ordinal_and_spelling_at m.source ordinals) (token_value_at m.source) (module_without_body path (tree_of m))) ∙ ordinals_at_tokens m.source ordinals (identifier_names (module_without_body path (tree_of m))) in
+    ∙ (ap (module_without_body path) bound ∙ without_mapped (ordinal_and_spelling_at_token m.source ordinals) (token_value_at m.source) path (tree_of m))) in
+    let listed : (m : ParsedModule) (ordinals : List (Option ℕ)) → map (λ (p : Option ℕ × List ℕ). p.0) (identifier_names (mapped_tree (ordinal_and_spelling_at_token m.source ordinals) (token_value_at m.source) (module_without_body path (tree_of m)))) ≡ map (ordinal_in ordinals) (identifier_names (module_without_body path (tree_of m))) =
+    λ m ordinals. ap (map (λ (p : Option ℕ × List ℕ). p.0)) (leaves_mapped (ordinal_and_spelling_at_token m.source ordinals) (token_value_at m.source) (module_without_body path (tree_of m))) ∙ ordinals_at_tokens m.source ordinals (identifier_names (module_without_body path (tree_of m))) in
     sym (listed new now)
     ∙ (ap (λ t. map (λ (p : Option ℕ × List ℕ). p.0) (identifier_names t)) (sym (outside new now is) ∙ (ap (relabel_module naming_by_spelling ordinal_and_spelling) (names_outside old new path s r) ∙ outside old before was))
     ∙ listed old before)
@@ -348,7 +348,7 @@ module _ (old new : ParsedModule) (path : PathToBody) (range : BodyRange) (known
 
 pub new_body_bound : (m : ParsedModule) (b : Bindings) (range : BodyRange) (own : List ℕ) (ordinals : List (Option ℕ)) (declaration_tokens uses : List ℕ) (once faults : List FaultAtTokens) → IsRangeOfNewBody m b range own
     → length m.source.tokens ≤ length (ordinals_in_changed_text range b.ordinals.items) → declaration_tokens ≡ tokens_in_changed_text range b.declaration_tokens.items []
-    → ordinals ≡ (renumber_module declaration_tokens range.first (tree_of m) (initial_walk_state_with_table (original_spellings m.source) (ordinals_in_changed_text range b.ordinals.items))).marks → uses ≡ tokens_in_changed_text range b.occurrences.items own
+    → ordinals ≡ (renumber_body_in_module declaration_tokens range.first (tree_of m) (initial_walk_state_with_table (original_spellings m.source) (ordinals_in_changed_text range b.ordinals.items))).marks → uses ≡ tokens_in_changed_text range b.occurrences.items own
     → once ≡ declaration_faults m → faults ≡ once ++ undeclared_faults_from_table ordinals uses
     → IsResolution (record { module_read = m; ordinals = ordinals; declaration_tokens = declaration_tokens; uses = uses; faults = faults })
 new_body_bound m b range own ordinals declaration_tokens uses once faults n long declared numbered used twice all =
@@ -360,14 +360,14 @@ new_body_bound m b range own ordinals declaration_tokens uses once faults n long
     let res = was.resolved in
     let w = original_spellings m.source in
     let there : path_to_body_in_module s.prefix (tree_of m) ≡ path = r.new_path in
-    let first : range.first ≡ r.first = some_first (sym n.first ∙ (ap (λ y. token_of_first_identifier (identifiers role.Declaring (body_at_path y (tree_of m)))) there ∙ r.first_identifier_of_new_body)) in
+    let first : range.first ≡ r.first = some_first (sym n.first ∙ (ap (λ y. token_of_first_identifier (identifiers role.DeclaringName (body_at_path y (tree_of m)))) there ∙ r.first_identifier_of_new_body)) in
     let front = r.front in
     let lies = module_exact s.prefix s.new_suffix range.first range.closing (omega (arith, first, front)) (tree_of m) (length m.source.tokens) r.new_in_body (leaves_ascend m r.new_parsed) n.first n.closing in
     let known = known_in old m path s range r first (n.closing ∙ ap (λ y. closing_name_at_path y (tree_of m)) there) n.old_closing in
     let table = b.ordinals.items in
     let kept_table = ordinals_in_changed_text range table in
     let marks = (visit_module (tree_of m) (initial_walk_state w)).marks in
-    let full = with_marks (replicate (length m.source.tokens) None) marks in
+    let full = table_with_marks (replicate (length m.source.tokens) None) marks in
     let has : HasMarks (ordinal_in full) marks = marks_in_table m w (visit_module (tree_of m) (initial_walk_state w)) full r.new_parsed refl refl in
     let paired = module_passed (ordinal_in full) ordinal_and_spelling w (tree_of m) (initial_walk_state w) (at_start w) in
     let binding : IsBindingTable m full = (paired.agree has).1 in
@@ -386,17 +386,17 @@ new_body_bound m b range own ordinals declaration_tokens uses once faults n long
     let tokens : tokens_of marks ≡ before ++ (names_without_roles known.others ++ map (far range) after) = paired.tokens ∙ new_names old m path range known table res.ordinals_only_at_names in
     let outside = marks_at out (ordinal_in kept_table) (ordinal_in full) marks has (subst (AgreeAt out (ordinal_in kept_table) (ordinal_in full)) (sym tokens) agree) in
     let nothing : declaring_names known.others ≡ [] = ap declaring_names known.others_are ∙ (declares_nothing tt (body_at_path path (tree_of m))).plain in
-    let declaring : declaration_tokens ≡ declaring_names (identifiers role.Declaring (tree_of m)) =
+    let declaring : declaration_tokens ≡ declaring_names (identifiers role.DeclaringName (tree_of m)) =
     declared
     ∙ ((λ i. tokens_in_changed_text range ((res.declaring ∙ ap declaring_names known.olds) i) (sym nothing i))
     ∙ (carried_picked range declaring_names known.before known.own known.after known.others known.high picks_declaring known.old_parts known.few ∙ ap declaring_names (sym known.news))) in
-    let own_is : own ≡ looked_up_only known.others = n.uses ∙ (ap (λ y. occurrences (body_at_path y (tree_of m))) there ∙ (sym (looked_up-occurrences role.Declaring (λ n xs. refl) (body_at_path path (tree_of m))) ∙ ap looked_up_only (sym known.others_are))) in
-    let old_uses : b.occurrences.items ≡ looked_up_only (known.before ++ (known.own ++ known.after)) = res.occurring ∙ (sym (looked_up-occurrences role.Declaring (λ n xs. refl) (tree_of old)) ∙ ap looked_up_only known.olds) in
+    let own_is : own ≡ looked_up_only known.others = n.uses ∙ (ap (λ y. occurrences (body_at_path y (tree_of m))) there ∙ (sym (looked_up-occurrences role.DeclaringName (λ n xs. refl) (body_at_path path (tree_of m))) ∙ ap looked_up_only (sym known.others_are))) in
+    let old_uses : b.occurrences.items ≡ looked_up_only (known.before ++ (known.own ++ known.after)) = res.occurring ∙ (sym (looked_up-occurrences role.DeclaringName (λ n xs. refl) (tree_of old)) ∙ ap looked_up_only known.olds) in
     let occurring : uses ≡ occurrences (tree_of m) =
     used
     ∙ ((λ i. tokens_in_changed_text range (old_uses i) (own_is i))
     ∙ (carried_picked range looked_up_only known.before known.own known.after known.others known.high picks_looked_up known.old_parts known.few
-    ∙ (ap looked_up_only (sym known.news) ∙ looked_up-occurrences role.Declaring (λ n xs. refl) (tree_of m)))) in
+    ∙ (ap looked_up_only (sym known.news) ∙ looked_up-occurrences role.DeclaringName (λ n xs. refl) (tree_of m)))) in
     let renumbered = body_renumbered m range.first range.closing kept_table declaration_tokens r.new_parsed r.new_scan lies outside declaring long in
     resolution_marked m ordinals declaration_tokens uses once faults r.new_parsed
     (subst (λ (os : List (Option ℕ)). HasMarks (ordinal_in os) marks) (sym numbered) renumbered.marks)

@@ -12,8 +12,8 @@ use Rattle.ob0_tree.proofs.Mapped.{mapped_twice}
 use Rattle.ob0_language_names.specs.MappedNames.{map_names}
 use Rattle.ob0_language_names.specs.Names.{Label, Name, naming_by_spelling, as_written, declared, same_name}
 use Rattle.ob0_language_names.specs.Occurrences.{IsFreeName, bindings, scopes_in_block, scopes_in_procedure, scopes_in_procedure_list, declares_ordinal, another_declaration_has_name}
-use Rattle.ob0_language_names.specs.BlockParts.{constant_names, formal_names, formal_sections, names_after_first, declared_type_names, names_in_list, procedure_name, section_constants, parameter_section_names, section_types, section_variables, variable_names}
-use Rattle.ob0_language_names.specs.Scopes.{Labelling, Scope, ordinal_after_names, ordinal_after_procedure, label_from_ordinal, body_scope, declare_names, declare_procedure_names, first_procedure_ordinal, first_type_ordinal, first_variable_ordinal, labels_of_declared_names, label_of, ordinal_in_scope, predeclared_scope, scope_before_procedures, relabel_block, relabel_constant_section, relabel_constants, relabel_formals, relabel_names, relabel_procedure, relabel_procedure_list, relabel_parameter_section, relabel_parameter_section_list, relabel_type_section, relabel_types, relabel_uses, relabel_variable_section, relabel_variables, renamed, same_ordinal, scope_before_types, scope_before_variables}
+use Rattle.ob0_language_names.specs.BlockParts.{constant_names, formal_parameter_names, formal_parameter_sections, names_after_first, declared_type_names, names_in_list, procedure_name, section_constants, parameter_section_names, section_types, section_variables, variable_names}
+use Rattle.ob0_language_names.specs.Scopes.{Labelling, Scope, ordinal_after_names, ordinal_after_procedure, label_from_ordinal, body_scope, declare_names, declare_procedure_names, first_procedure_ordinal, first_type_ordinal, first_variable_ordinal, labels_of_declared_names, label_in_scope, ordinal_in_scope, predeclared_scope, scope_before_procedures, relabel_block, relabel_constant_section, relabel_constants, relabel_formals, relabel_names, relabel_procedure, relabel_procedure_list, relabel_parameter_section, relabel_parameter_section_list, relabel_type_section, relabel_types, relabel_uses, relabel_variable_section, relabel_variables, renamed, same_ordinal, scope_before_types, scope_before_variables}
 use Rattle.ob0_language_names.proofs.DistinctNames.{new_name}
 use Rattle.ob0_language_names.proofs.Relabelled.{constants-section, formals-section, names-relabel, parameter_section_names-relabel, types-section, variables-section}
 use Rattle.ob0_language_names.proofs.RenamedDeclarations.{constants-labels, sections-labels, types-labels, variables-labels}
@@ -129,10 +129,10 @@ module _ (d : ℕ) (new : Name) (f : ℕ → Name) (g : ℕ → ℕ) (fresh : (i
   new_section (value_section ns t) = new_listed ns
   new_section (variable_section ns t) = new_listed ns
 
-  new_sections : (fs : Tree ℕ (items section_after_semicolon)) → AllNew (formal_names (mapped_tree f g fs))
+  new_sections : (fs : Tree ℕ (items section_after_semicolon)) → AllNew (formal_parameter_names (mapped_tree f g fs))
   new_sections end = tt
   new_sections (more (semicolon_then_section s) fs) =
-      all_new-append (parameter_section_names (mapped_tree f g s)) (formal_names (mapped_tree f g fs)) (new_section s) (new_sections fs)
+      all_new-append (parameter_section_names (mapped_tree f g s)) (formal_parameter_names (mapped_tree f g fs)) (new_section s) (new_sections fs)
 
   new_constant_section : (cs : Tree ℕ (maybe constants)) → AllNew (constant_names (section_constants (mapped_tree f g cs)))
   new_constant_section none = tt
@@ -146,7 +146,7 @@ module _ (d : ℕ) (new : Name) (f : ℕ → Name) (g : ℕ → ℕ) (fresh : (i
   new_variable_section none = tt
   new_variable_section (one (declares_var_section vs)) = new_variables vs
 
-  new_formals : (fs : Tree ℕ (maybe formals)) → AllNew (formal_names (formal_sections (mapped_tree f g fs)))
+  new_formals : (fs : Tree ℕ (maybe formals)) → AllNew (formal_parameter_names (formal_parameter_sections (mapped_tree f g fs)))
   new_formals none = tt
   new_formals (one no_formals) = tt
   new_formals (one (some_formals s fs)) = new_sections (more (semicolon_then_section s) fs)
@@ -205,7 +205,7 @@ module _ (d : ℕ) (new : Name) (f : ℕ → Name) (g : ℕ → ℕ) (fresh : (i
   uses_same : (there here : Scope Name) → Agrees there here → {s : Sort} (t : Tree ℕ s)
       → relabel_uses naming_by_spelling label there (relabel_uses naming_by_spelling ren here (mapped_tree f g t)) ≡ relabel_uses naming_by_spelling label here (mapped_tree f g t)
   uses_same there here agrees t =
-      twice f g (label_of naming_by_spelling ren here) (ren None) (label_of naming_by_spelling label there) (label None) (label_of naming_by_spelling label here) (label None)
+      twice f g (label_in_scope naming_by_spelling ren here) (ren None) (label_in_scope naming_by_spelling label there) (label None) (label_in_scope naming_by_spelling label here) (label None)
       (λ i. ap (λ o. label o (ren (ordinal_in_scope naming_by_spelling here (f i)) (f i))) (agrees (f i) (fresh i)) ∙ label-kept (ordinal_in_scope naming_by_spelling here (f i)) (f i)) (λ i. refl) t
 
   constants_same : (there here : Scope Name) (j k : ℕ) → j ≡ k → Agrees there here → (cs : Tree ℕ (items constant))
@@ -304,12 +304,12 @@ module _ (d : ℕ) (new : Name) (f : ℕ → Name) (g : ℕ → ℕ) (fresh : (i
         → relabel_procedure naming_by_spelling label there j (relabel_procedure naming_by_spelling ren here k (mapped_tree f g p)) ≡ relabel_procedure naming_by_spelling label here k (mapped_tree f g p)
     procedure_same there here j k jk agrees (declares_procedure x fs b closing) =
         let fs₁ : Tree Name (maybe formals) = mapped_tree f g fs in
-        let own : List Name = formal_names (formal_sections fs₁) in
+        let own : List Name = formal_parameter_names (formal_parameter_sections fs₁) in
         let fs' : Tree Name (maybe formals) = relabel_formals naming_by_spelling ren here (suc k) fs₁ in
-        let own' : List Name = formal_names (formal_sections fs') in
-        let labelled : own' ≡ labels_of_declared_names ren (suc k) own = ap formal_names (formals-section naming_by_spelling ren here (suc k) fs₁) ∙ sections-labels naming_by_spelling ren here (suc k) (formal_sections fs₁) in
+        let own' : List Name = formal_parameter_names (formal_parameter_sections fs') in
+        let labelled : own' ≡ labels_of_declared_names ren (suc k) own = ap formal_parameter_names (formals-section naming_by_spelling ren here (suc k) fs₁) ∙ sections-labels naming_by_spelling ren here (suc k) (formal_parameter_sections fs₁) in
         let after : ordinal_after_names (suc j) own' ≡ ordinal_after_names (suc k) own =
-        ap (λ l. ordinal_after_names (suc j) (formal_names l)) (formals-section naming_by_spelling ren here (suc k) fs₁) ∙ after_sections naming_by_spelling ren here (suc j) (suc k) (formal_sections fs₁) (ap suc jk) in λ i.
+        ap (λ l. ordinal_after_names (suc j) (formal_parameter_names l)) (formals-section naming_by_spelling ren here (suc k) fs₁) ∙ after_sections naming_by_spelling ren here (suc j) (suc k) (formal_parameter_sections fs₁) (ap suc jk) in λ i.
         declares_procedure (declared (jk i)) (formals_same there here (suc j) (suc k) (ap suc jk) agrees fs i)
         (block_same (declare_names (suc j) own' ((ren (Some k) (f x), j) ∷ there)) (declare_names (suc k) own ((f x, k) ∷ here)) (ordinal_after_names (suc j) own') (ordinal_after_names (suc k) own) after
         (agrees_listed (suc j) (suc k) (ap suc jk) _ _ labelled (new_formals fs) ((ren (Some k) (f x), j) ∷ there) ((f x, k) ∷ here) (agrees_one there here (f x) j k (fresh x) jk agrees)) b i)
@@ -381,7 +381,7 @@ module _ (d : ℕ) (new : Name) (f : ℕ → Name) (g : ℕ → ℕ) (fresh : (i
     no_clash-procedures k (more (declares_procedure x fs b closing) ps) =
         let p : Tree Name (item procedure) = mapped_tree f g (declares_procedure x fs b closing) in
         list_any-append clashes (scopes_in_procedure (suc k) p) (scopes_in_procedure_list (ordinal_after_procedure (suc k) p) (mapped_tree f g ps))
-        ∙ (λ i. no_clash-block (ordinal_after_names (suc k) (formal_names (formal_sections (mapped_tree f g fs)))) (declare_names (suc k) (formal_names (formal_sections (mapped_tree f g fs))) []) (new_names (suc k) (formal_names (formal_sections (mapped_tree f g fs))) [] (new_formals fs) tt) b i
+        ∙ (λ i. no_clash-block (ordinal_after_names (suc k) (formal_parameter_names (formal_parameter_sections (mapped_tree f g fs)))) (declare_names (suc k) (formal_parameter_names (formal_parameter_sections (mapped_tree f g fs))) []) (new_names (suc k) (formal_parameter_names (formal_parameter_sections (mapped_tree f g fs))) [] (new_formals fs) tt) b i
         || no_clash-procedures (ordinal_after_procedure (suc k) p) ps i)
 
   -- A name that no token has is free.

@@ -5,11 +5,11 @@ use Rattle.std.proofs.lemmas.Bool.{cases_lt}
 use Rattle.std.proofs.lemmas.Option.{slice_get_past}
 use Rattle.ob0_scan.specs.TextWithTokens.{TextWithTokens}
 use Rattle.ob0_tree.specs.ParsedModule.{ParsedModule, named_tree_of, tree_of}
-use Rattle.ob0_tree.specs.Places.{token_text_at, token_text_or_empty, token_value_at}
+use Rattle.ob0_tree.specs.TokenIndexLeaves.{token_text_at, token_text_or_empty, token_value_at}
 use Rattle.ob0_language_names.specs.Names.{Name, same_name}
 use Rattle.ob0_language_names.specs.Occurrences.{IsFreeName, first_name_conflict}
 use Rattle.ob0_scope.specs.declared.name_conflicts.FirstConflict as reported
-use Rattle.ob0_scope.specs.Renames.{OccursNowhere, namesake}
+use Rattle.ob0_scope.specs.Renames.{OccursNowhere, namesake_ordinal}
 use Rattle.ob0_scope.proofs.Captured.{free_where_none, no_namesake}
 use Rattle.ob0_scope.proofs.FirstCaptures.{name_is_free_iff_no_conflict-holds}
 use Rattle.ob0_scope.proofs.NewNames.{new_is_free}
@@ -41,7 +41,7 @@ nowhere_is_free m source d new h is all =
 pub nowhere_captured : (m : ParsedModule) (source : TextWithTokens) (d : ℕ) (new : Name) → 7 ≤ d → source ≡ m.source → OccursNowhere source new → None ≡ first_name_conflict (named_tree_of m) d new
 nowhere_captured m source d new h is all = sym ((name_is_free_iff_no_conflict-holds (named_tree_of m) d new).1 (nowhere_is_free m source d new h is all))
 
-pub nowhere_namesake : (m : ParsedModule) (source : TextWithTokens) (d : ℕ) (new : Name) → 7 ≤ d → source ≡ m.source → OccursNowhere source new → None ≡ namesake (named_tree_of m) d new
+pub nowhere_namesake : (m : ParsedModule) (source : TextWithTokens) (d : ℕ) (new : Name) → 7 ≤ d → source ≡ m.source → OccursNowhere source new → None ≡ namesake_ordinal (named_tree_of m) d new
 nowhere_namesake m source d new h is all = no_namesake (named_tree_of m) d new (nowhere_is_free m source d new h is all).0
 
 pub free_nowhere : (m : ParsedModule) (source : TextWithTokens) (d : ℕ) (new : Name) → 7 ≤ d → source ≡ m.source → OccursNowhere source new

@@ -9,23 +9,23 @@ use Rattle.ob0_scan.specs.declared.lexeme.TokenKind.{TokenKind}
 use Rattle.ob0_scan.specs.declared.lexeme.TokenKind.TheVariants as kind
 use Rattle.ob0_tree.proofs.Leaves.{leaves_parsed, leaves_spelled, lexeme_names}
 use Rattle.ob0_tree.proofs.Mapped.{spell_mapped}
-use Rattle.ob0_tree.specs.Lexeme.{EndOfText, Terminal, WordOrSymbol, Name, Number, mapped_terminal}
+use Rattle.ob0_tree.specs.Terminals.{EndOfText, Terminal, WordOrSymbol, Name, Number, mapped_terminal}
 use Rattle.ob0_tree.specs.IdentifierIndexes.{index_if_identifier, identifier_indexes_from, identifier_names, names_without_roles}
 use Rattle.ob0_tree.specs.ParsedModule.{tree_of}
-use Rattle.ob0_tree.specs.Places.{token_text_at, token_value_at}
+use Rattle.ob0_tree.specs.TokenIndexLeaves.{token_text_at, token_value_at}
 use Rattle.ob0_tree.specs.Tree.{Sort, Tree, identifiers, mapped_tree, spell}
 use Rattle.ob0_tree.specs.declared.tree.Role.{Role}
 use Rattle.ob0_tree.specs.declared.tree.Role.TheVariants as role
 use Rattle.ob0_tree.proofs.MappedIdentifiers.{leaves_mapped}
-use Rattle.ob0_language_names.specs.Names.{Label, naming_by_spelling, declared, same_label}
+use Rattle.ob0_language_names.specs.Names.{Label, naming_by_spelling, declared, same_ordinal_label}
 use Rattle.ob0_language_names.specs.Occurrences.{label_ordinal}
-use Rattle.ob0_scope_table.specs.Resolution.{IsResolution, Resolution, label_from_table, ordinal_in, span_at}
+use Rattle.ob0_scope_table.specs.Resolution.{IsResolution, Resolution, label_from_table, ordinal_in, token_span}
 use Rattle.ob0_scope_table.specs.Spans.{span_or_empty}
 use Rattle.ob0_language_names.specs.Scopes.{label_from_ordinal, same_ordinal}
 use Rattle.ob0_scope.specs.declared.bound_names.BoundName as named
 use Rattle.ob0_scope.specs.BoundTokens.{is_identifier, is_identifier_at_offset}
 use Rattle.ob0_scope_table.specs.Spans.{is_in_span_or_at_end}
-use Rattle.ob0_scope.specs.NamesAtPlaces.{LabelledIdentifier, is_declaring, name_at_offset, bound_name_of, is_bound_to, labelled_identifiers, tokens_bound_to}
+use Rattle.ob0_scope.specs.NamesAtPlaces.{LabelledIdentifier, is_declaring_role, name_at_offset, bound_name_of, identifier_is_bound_to_declaration, labelled_identifiers, tokens_bound_to_declaration}
 
 -- returns an identifier with the label of its token
 abbrev bound_by : (ℕ → Label) → Role × ℕ → LabelledIdentifier
@@ -35,25 +35,25 @@ zipped : (label : ℕ → Label) (xs : List (Role × ℕ)) → zip xs (map label
 zipped label [] = refl
 zipped label (x ∷ xs) = λ i. bound_by label x ∷ zipped label xs i
 
-pub bound_by_table : (r : Resolution) → IsResolution r → labelled_identifiers r.module_read ≡ map (bound_by (label_from_table r.module_read.source r.ordinals)) (identifiers role.Declaring (tree_of r.module_read))
+pub bound_by_table : (r : Resolution) → IsResolution r → labelled_identifiers r.module_read ≡ map (bound_by (label_from_table r.module_read.source r.ordinals)) (identifiers role.DeclaringName (tree_of r.module_read))
 bound_by_table r is =
     let m = r.module_read in
-    let ids = identifiers role.Declaring (tree_of m) in
+    let ids = identifiers role.DeclaringName (tree_of m) in
     ap (zip ids) (ap identifier_names is.numbering ∙ leaves_mapped (label_from_table m.source r.ordinals) (token_value_at m.source) (tree_of m))
     ∙ zipped (label_from_table m.source r.ordinals) ids
 
 -- references
 
-bound_to : (source : TextWithTokens) (ordinals : List (Option ℕ)) (d i : ℕ) → same_label (label_from_table source ordinals i) (declared d) ≡ same_ordinal (ordinal_in ordinals i) d
+bound_to : (source : TextWithTokens) (ordinals : List (Option ℕ)) (d i : ℕ) → same_ordinal_label (label_from_table source ordinals i) (declared d) ≡ same_ordinal (ordinal_in ordinals i) d
 bound_to source ordinals d i = one (ordinal_in ordinals i)
   where
-    one : (o : Option ℕ) → same_label (label_from_ordinal naming_by_spelling o (token_text_at source i)) (declared d) ≡ same_ordinal o d
+    one : (o : Option ℕ) → same_ordinal_label (label_from_ordinal naming_by_spelling o (token_text_at source i)) (declared d) ≡ same_ordinal o d
     one None = refl
     one (Some k) = refl
 
 -- true for an identifier with this ordinal; the declaring one counts only if it is requested
 abbrev pub is_listed : List (Option ℕ) → Bool → ℕ → Role × ℕ → Bool
-is_listed ordinals include d x = same_ordinal (ordinal_in ordinals x.1) d && (include || not (is_declaring x.0))
+is_listed ordinals include d x = same_ordinal (ordinal_in ordinals x.1) d && (include || not (is_declaring_role x.0))
 
 -- returns the identifiers of a declaration by the table, with or without the declaring one
 abbrev pub tokens_listed : List (Option ℕ) → Bool → ℕ → List (Role × ℕ) → List ℕ
@@ -61,12 +61,12 @@ tokens_listed ordinals include d xs = map (λ x. x.1) (filter (is_listed ordinal
 
 -- Filtering the identifiers and filtering the labelled identifiers give the same tokens.
 listed : (source : TextWithTokens) (ordinals : List (Option ℕ)) (include : Bool) (d : ℕ) (xs : List (Role × ℕ))
-    → tokens_listed ordinals include d xs ≡ map (λ (s : LabelledIdentifier). s.0.1) (filter (is_bound_to include d) (map (bound_by (label_from_table source ordinals)) xs))
+    → tokens_listed ordinals include d xs ≡ map (λ (s : LabelledIdentifier). s.0.1) (filter (identifier_is_bound_to_declaration include d) (map (bound_by (label_from_table source ordinals)) xs))
 listed source ordinals include d [] = refl
 listed source ordinals include d (x ∷ xs) =
-    let found = filter (is_bound_to include d) (map (bound_by (label_from_table source ordinals)) xs) in
+    let found = filter (identifier_is_bound_to_declaration include d) (map (bound_by (label_from_table source ordinals)) xs) in
     one (is_listed ordinals include d x) (filter (is_listed ordinals include d) xs) found (listed source ordinals include d xs)
-    ∙ ap (λ b. map (λ (s : LabelledIdentifier). s.0.1) (cond (b && (include || not (is_declaring x.0))) (bound_by (label_from_table source ordinals) x ∷ found) found)) (sym (bound_to source ordinals d x.1))
+    ∙ ap (λ b. map (λ (s : LabelledIdentifier). s.0.1) (cond (b && (include || not (is_declaring_role x.0))) (bound_by (label_from_table source ordinals) x ∷ found) found)) (sym (bound_to source ordinals d x.1))
   where
     one : (b : Bool) (later : List (Role × ℕ)) (found : List LabelledIdentifier) → map (λ (x : Role × ℕ). x.1) later ≡ map (λ (s : LabelledIdentifier). s.0.1) found
         → map (λ (x : Role × ℕ). x.1) (cond b (x ∷ later) later) ≡ map (λ (s : LabelledIdentifier). s.0.1) (cond b (bound_by (label_from_table source ordinals) x ∷ found) found)
@@ -74,11 +74,11 @@ listed source ordinals include d (x ∷ xs) =
     one false later found e = e
 
 pub bound_listed : (r : Resolution) (d : ℕ) (include : Bool) → IsResolution r
-    → tokens_listed r.ordinals include d (identifiers role.Declaring (tree_of r.module_read)) ≡ tokens_bound_to r.module_read d include
+    → tokens_listed r.ordinals include d (identifiers role.DeclaringName (tree_of r.module_read)) ≡ tokens_bound_to_declaration r.module_read d include
 bound_listed r d include is =
     let m = r.module_read in
-    listed m.source r.ordinals include d (identifiers role.Declaring (tree_of m))
-    ∙ ap (λ xs. map (λ (s : LabelledIdentifier). s.0.1) (filter (is_bound_to include d) xs)) (sym (bound_by_table r is))
+    listed m.source r.ordinals include d (identifiers role.DeclaringName (tree_of m))
+    ∙ ap (λ xs. map (λ (s : LabelledIdentifier). s.0.1) (filter (identifier_is_bound_to_declaration include d) xs)) (sym (bound_by_table r is))
 
 -- places
 
@@ -130,10 +130,10 @@ label_back source ordinals x = one (ordinal_in ordinals x.1)
     one (Some k) = refl
 
 found_named : (source : TextWithTokens) (ordinals : List (Option ℕ)) (offset : ℕ) (xs : List (Role × ℕ))
-    → option_and_then bound_name_of (find (λ (s : LabelledIdentifier). is_in_span_or_at_end offset (span_at source s.0.1)) (map (bound_by (label_from_table source ordinals)) xs))
-    ≡ option_and_then (named_so ordinals) (find (λ i. is_in_span_or_at_end offset (span_at source i)) (names_without_roles xs))
+    → option_and_then bound_name_of (find (λ (s : LabelledIdentifier). is_in_span_or_at_end offset (token_span source s.0.1)) (map (bound_by (label_from_table source ordinals)) xs))
+    ≡ option_and_then (named_so ordinals) (find (λ i. is_in_span_or_at_end offset (token_span source i)) (names_without_roles xs))
 found_named source ordinals offset [] = refl
-found_named source ordinals offset (x ∷ xs) = one (is_in_span_or_at_end offset (span_at source x.1)) _ _ (found_named source ordinals offset xs)
+found_named source ordinals offset (x ∷ xs) = one (is_in_span_or_at_end offset (token_span source x.1)) _ _ (found_named source ordinals offset xs)
   where
     one : (b : Bool) (found : Option LabelledIdentifier) (later : Option ℕ) → option_and_then bound_name_of found ≡ option_and_then (named_so ordinals) later
         → option_and_then bound_name_of (cond b (Some (bound_by (label_from_table source ordinals) x)) found) ≡ option_and_then (named_so ordinals) (cond b (Some x.1) later)
@@ -145,6 +145,6 @@ pub name_found : (r : Resolution) (offset : ℕ) → IsResolution r → option_a
 name_found r offset is =
     let m = r.module_read in
     let spans = all_spans [] m.source.tokens in
-    sym (ap (λ xs. option_and_then bound_name_of (find (λ (s : LabelledIdentifier). is_in_span_or_at_end offset (span_at m.source s.0.1)) xs)) (bound_by_table r is)
-    ∙ (found_named m.source r.ordinals offset (identifiers role.Declaring (tree_of m))
-    ∙ ap (option_and_then (named_so r.ordinals)) (ap (find (λ i. is_in_span_or_at_end offset (span_at m.source i))) (leaves_parsed m is.parsed) ∙ found_from offset (span_at m.source) 0 m.source.tokens spans)))
+    sym (ap (λ xs. option_and_then bound_name_of (find (λ (s : LabelledIdentifier). is_in_span_or_at_end offset (token_span m.source s.0.1)) xs)) (bound_by_table r is)
+    ∙ (found_named m.source r.ordinals offset (identifiers role.DeclaringName (tree_of m))
+    ∙ ap (option_and_then (named_so r.ordinals)) (ap (find (λ i. is_in_span_or_at_end offset (token_span m.source i))) (leaves_parsed m is.parsed) ∙ found_from offset (token_span m.source) 0 m.source.tokens spans)))

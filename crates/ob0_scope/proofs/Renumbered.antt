@@ -3,17 +3,17 @@
 use Rattle.std.proofs.Common.{◌≡◌, ℕ, suc, ◌+◌, Bool, true, false, not, cond, if◌then◌else◌, Option, Some, None, List, [], ◌∷◌, map, length, replicate, refl, sym, ap, ◌∙◌, option_map, arith}
 use Rattle.std.specs.List.{position_from}
 use Rattle.ob0_tree.specs.ParsedModule.{named_tree_of, tree_of}
-use Rattle.ob0_tree.specs.Places.{token_text_at, token_value_at}
+use Rattle.ob0_tree.specs.TokenIndexLeaves.{token_text_at, token_value_at}
 use Rattle.ob0_tree.specs.Tree.{mapped_tree, occurrences}
 use Rattle.ob0_language_names.specs.Names.{Label, Name, naming_by_spelling, as_written}
 use Rattle.ob0_language_names.specs.Occurrences.{bindings, first_binding_difference, label_ordinal, same_binding}
 use Rattle.ob0_scope.specs.Renames.{AreOrdinalsAfterRename, have_same_binding, spellings_after_rename}
-use Rattle.ob0_scope_table.specs.Resolution.{IsResolution, Resolution, ordinal_and_spelling_at, label_from_table, ordinal_in, ordinal_and_spelling}
+use Rattle.ob0_scope_table.specs.Resolution.{IsResolution, Resolution, ordinal_and_spelling_at_token, label_from_table, ordinal_in, ordinal_and_spelling}
 use Rattle.ob0_language_names.specs.Scopes.{label_from_ordinal, numbered, renamed, same_ordinal}
-use Rattle.ob0_scope_numbering.specs.OrdinalMarks.{with_marks}
+use Rattle.ob0_scope_numbering.specs.OrdinalMarks.{table_with_marks}
 use Rattle.ob0_scope_numbering.specs.MarkWalk.{WalkState, initial_walk_state}
 use Rattle.ob0_scope_numbering.specs.IdentifierWalk.{visit_module}
-use Rattle.ob0_scope_numbering.specs.IdentifierSpellings.{spelling_at, tree_with_spellings}
+use Rattle.ob0_scope_numbering.specs.IdentifierSpellings.{spelling_at_token, tree_with_spellings}
 use Rattle.ob0_scope_table.proofs.Bound.{bindings_by_table}
 use Rattle.ob0_scope.proofs.FirstCaptures.{same_binding-refl}
 use Rattle.ob0_scope.proofs.Fused.{relabel_module-mapped_tree}
@@ -30,10 +30,10 @@ pub renamed_spelled : (r : Resolution) (d : ℕ) (new : Name) → IsResolution r
 renamed_spelled r d new is =
     let m = r.module_read in
     relabel_module-mapped_tree naming_by_spelling (new_or d new) ordinal_and_spelling (named_tree_of m)
-    ∙ (ap (mapped_tree (new_or d new) (λ n. n)) is.binding ∙ mapped_twice (new_or d new) (new_or d new) (λ n. n) (ordinal_and_spelling_at m.source r.ordinals) (ordinal_and_spelling_at m.source r.ordinals) (token_value_at m.source) (tree_of m))
+    ∙ (ap (mapped_tree (new_or d new) (λ n. n)) is.binding ∙ mapped_twice (new_or d new) (new_or d new) (λ n. n) (ordinal_and_spelling_at_token m.source r.ordinals) (ordinal_and_spelling_at_token m.source r.ordinals) (token_value_at m.source) (tree_of m))
 
 pub renumbered : (r : Resolution) (d : ℕ) (new : Name) (v : WalkState) (ordinals : List (Option ℕ)) → IsResolution r → v ≡ visit_module (tree_of r.module_read) (initial_walk_state (spellings_after_rename r d new))
-    → ordinals ≡ with_marks (replicate (length r.module_read.source.tokens) None) v.marks → AreOrdinalsAfterRename r d new ordinals
+    → ordinals ≡ table_with_marks (replicate (length r.module_read.source.tokens) None) v.marks → AreOrdinalsAfterRename r d new ordinals
 renumbered r d new v ordinals is gone tabled =
     let m = r.module_read in
     let w = spellings_after_rename r d new in
@@ -42,10 +42,10 @@ renumbered r d new v ordinals is gone tabled =
 
 -- The bindings of the renamed module are the table's labels at the occurrences.
 renamed_bindings : (r : Resolution) (d : ℕ) (new : Name) (ordinals : List (Option ℕ)) → IsResolution r → AreOrdinalsAfterRename r d new ordinals
-    → bindings (renamed (named_tree_of r.module_read) d new) ≡ map (λ i. label_from_ordinal naming_by_spelling (ordinal_in ordinals i) (spelling_at (spellings_after_rename r d new) i)) r.uses
+    → bindings (renamed (named_tree_of r.module_read) d new) ≡ map (λ i. label_from_ordinal naming_by_spelling (ordinal_in ordinals i) (spelling_at_token (spellings_after_rename r d new) i)) r.uses
 renamed_bindings r d new ordinals is numbering =
     let m = r.module_read in
-    let label : ℕ → Label = λ i. label_from_ordinal naming_by_spelling (ordinal_in ordinals i) (spelling_at (spellings_after_rename r d new) i) in
+    let label : ℕ → Label = λ i. label_from_ordinal naming_by_spelling (ordinal_in ordinals i) (spelling_at_token (spellings_after_rename r d new) i) in
     ap occurrences numbering ∙ (occurrences-mapped label label (token_value_at m.source) (tree_of m) ∙ ap (map label) (sym is.occurring))
 
 pub ordinals_back : (written : ℕ → Name) (ordinals : List (Option ℕ)) (is : List ℕ) → map label_ordinal (map (λ i. label_from_ordinal naming_by_spelling (ordinal_in ordinals i) (written i)) is) ≡ map (ordinal_in ordinals) is
@@ -60,7 +60,7 @@ ordinals_back written ordinals (i ∷ is) = λ j. back (ordinal_in ordinals i) (
 pub ordinals_renamed : (r : Resolution) (d : ℕ) (new : Name) (ordinals : List (Option ℕ)) → IsResolution r → AreOrdinalsAfterRename r d new ordinals
     → map (ordinal_in ordinals) r.uses ≡ map label_ordinal (bindings (renamed (named_tree_of r.module_read) d new))
 ordinals_renamed r d new ordinals is numbering =
-    sym (ap (map label_ordinal) (renamed_bindings r d new ordinals is numbering) ∙ ordinals_back (spelling_at (spellings_after_rename r d new)) ordinals r.uses)
+    sym (ap (map label_ordinal) (renamed_bindings r d new ordinals is numbering) ∙ ordinals_back (spelling_at_token (spellings_after_rename r d new)) ordinals r.uses)
 
 alike : (d : ℕ) (new x : Name) (o old : Option ℕ) → same_binding (label_from_ordinal naming_by_spelling o (if same_ordinal old d then new else x)) (label_from_ordinal naming_by_spelling old x) ≡ have_same_binding o old
 alike d new x None None = same_binding-refl (as_written x)

@@ -7,14 +7,14 @@ use Rattle.std.specs.List.{HoldsAt, filter, list_any}
 use Rattle.ob0_scan.specs.declared.lexeme.Token.{Token}
 use Rattle.ob0_scan.specs.declared.lexeme.TokenKind.{TokenKind}
 use Rattle.ob0_scan.specs.declared.lexeme.TokenKind.TheVariants as kind
-use Rattle.ob0_scan.specs.ReusedLexemes.{kinds, name_or_empty, spellings_of_identifiers_in, kind_without_value}
+use Rattle.ob0_scan.specs.ReusedLexemes.{token_kinds_without_values, name_or_empty, spellings_of_identifiers_in, kind_without_value}
 use Rattle.ob0_scan.specs.TextWithTokens.{TextWithTokens, text_in_span}
 use Rattle.ob0_tree.specs.declared.tree.ModuleTree.{ModuleTree}
 use Rattle.ob0_tree.specs.declared.tree.Role.{Role}
 use Rattle.ob0_tree.specs.declared.tree.Role.TheVariants as role
 use Rattle.ob0_tree.specs.IdentifierIndexes.{AreIdentifierTokens, names_without_roles}
 use Rattle.ob0_tree.specs.ParsedModule.{named_tree_of, parsed_module, tree_of}
-use Rattle.ob0_tree.specs.Places.{token_text_at, token_text_or_empty, token_value_at}
+use Rattle.ob0_tree.specs.TokenIndexLeaves.{token_text_at, token_text_or_empty, token_value_at}
 use Rattle.ob0_tree.specs.Tree.{Tree, identifiers, mapped_tree, module_text, occurrences}
 use Rattle.ob0_tree.proofs.Leaves.{leaves_are_identifiers}
 use Rattle.ob0_scope_table.specs.Bindings.{resolution_with_bindings}
@@ -23,7 +23,7 @@ use Rattle.ob0_language_names.specs.ConsistentNames.{has_consistent_names}
 use Rattle.ob0_scope_table.specs.DuplicatesAndEndNames.{declaration_faults, tree_declaration_faults}
 use Rattle.ob0_language_names.specs.Names.{Name, naming_by_spelling}
 use Rattle.ob0_language_names.specs.Occurrences.{bindings}
-use Rattle.ob0_scope_table.specs.Resolution.{AreNameFaultsOf, IsNumberingTable, IsResolution, is_duplicate_or_end_name, is_undeclared_fault, ordinal_in, undeclared_faults_from_labels, undeclared_faults_from_table, ordinal_and_spelling}
+use Rattle.ob0_scope_table.specs.Resolution.{AreNameFaultsOf, IsNumberingTable, IsResolution, is_duplicate_or_end_name_fault, is_undeclared_fault, ordinal_in, undeclared_faults_from_labels, undeclared_faults_from_table, ordinal_and_spelling}
 use Rattle.ob0_language_names.specs.Scopes.{Labelling, label_from_ordinal, numbered, relabel_module}
 use Rattle.ob0_scope_table.specs.declared.resolved.Bindings.{Bindings}
 use Rattle.ob0_scope_numbering.specs.MarkWalk.{initial_walk_state}
@@ -49,7 +49,7 @@ same_text u t x y k e n =
     let other : u.kind ≡ kind.Identifier = is_identifier u.kind (k ∙ ap kind_without_value e) in
     sym (ap (λ z. name_or_empty z x) other) ∙ (n ∙ ap (λ z. name_or_empty z y) e)
 
-texts : (a b : List ℕ) (ts us : List Token) (i : ℕ) → kinds us ≡ kinds ts → spellings_of_identifiers_in b us ≡ spellings_of_identifiers_in a ts → i < length ts → HoldsAt (λ (t : Token). t.kind ≡ kind.Identifier) ts i → token_text_or_empty b (slice_get us i) ≡ token_text_or_empty a (slice_get ts i)
+texts : (a b : List ℕ) (ts us : List Token) (i : ℕ) → token_kinds_without_values us ≡ token_kinds_without_values ts → spellings_of_identifiers_in b us ≡ spellings_of_identifiers_in a ts → i < length ts → HoldsAt (λ (t : Token). t.kind ≡ kind.Identifier) ts i → token_text_or_empty b (slice_get us i) ≡ token_text_or_empty a (slice_get ts i)
 texts a b [] us i k n less h = absurd (omega (arith, less))
 texts a b (t ∷ ts) [] i k n less h = absurd (omega (arith, ap length k))
 texts a b (t ∷ ts) (u ∷ us) zero k n less h = same_text u t (text_in_span b u.span) (text_in_span a t.span) (ap (λ l. get_or l 0 kind.Identifier) k) (h t) (ap (λ l. get_or l 0 []) n)
@@ -70,11 +70,11 @@ module _ (old new : TextWithTokens) (tree : ModuleTree) (b : Bindings) (w : Have
   abbrev read : Tree ℕ module_text
   read = tree_of (parsed_module old tree)
 
-  written_alike : AllAlike (token_text_at new) (token_text_at old) (token_value_at new) (identifiers role.Declaring read)
-  written_alike = all_texts old new w (token_value_at new) (identifiers role.Declaring read) (leaves_are_identifiers (parsed_module old tree) r.parsed)
+  written_alike : AllAlike (token_text_at new) (token_text_at old) (token_value_at new) (identifiers role.DeclaringName read)
+  written_alike = all_texts old new w (token_value_at new) (identifiers role.DeclaringName read) (leaves_are_identifiers (parsed_module old tree) r.parsed)
 
   same_names : named_tree_of (parsed_module new tree) ≡ mapped_tree (token_text_at old) (token_value_at new) read
-  same_names = (alike (token_text_at new) (token_text_at old) (token_value_at new) role.Declaring read).reads written_alike
+  same_names = (alike (token_text_at new) (token_text_at old) (token_value_at new) role.DeclaringName read).reads written_alike
 
   labelled : {M : Type 0} (label : Labelling Name M) → relabel_module naming_by_spelling label (named_tree_of (parsed_module new tree)) ≡ mapped_tree (λ i. label (ordinal_in b.ordinals.items i) (token_text_at new i)) (token_value_at new) read
   labelled {M} label =
@@ -82,7 +82,7 @@ module _ (old new : TextWithTokens) (tree : ModuleTree) (b : Bindings) (w : Have
       let passed = module_passed_with (ordinal_in b.ordinals.items) label (original_spellings old) (token_value_at new) read (initial_walk_state (original_spellings old)) (at_start (original_spellings old)) in
       ap (relabel_module naming_by_spelling label) same_names
       ∙ ((passed.agree (marks_resolved (resolution_with_bindings (parsed_module old tree) b) r)).1
-      ∙ (alike (λ i. by i (token_text_at old i)) (λ i. by i (token_text_at new i)) (token_value_at new) role.Declaring read).reads (all_through by (token_text_at new) (token_text_at old) (token_value_at new) (identifiers role.Declaring read) written_alike))
+      ∙ (alike (λ i. by i (token_text_at old i)) (λ i. by i (token_text_at new i)) (token_value_at new) role.DeclaringName read).reads (all_through by (token_text_at new) (token_text_at old) (token_value_at new) (identifiers role.DeclaringName read) written_alike))
 
   numbering : IsNumberingTable (parsed_module new tree) b.ordinals.items
   numbering = labelled (label_from_ordinal naming_by_spelling)
@@ -92,7 +92,7 @@ module _ (old new : TextWithTokens) (tree : ModuleTree) (b : Bindings) (w : Have
     none_twice =
         let once : has_consistent_names (named_tree_of (parsed_module new tree)) ≡ has_consistent_names (named_tree_of (parsed_module old tree)) =
         ap has_consistent_names same_names ∙ once_with (token_text_at old) (token_value_at new) (token_value_at old) read in
-        nothing_twice (parsed_module new tree) b.faults.items (r.reported.declared_twice ∙ ap not (sym once)) (ap (list_any is_duplicate_or_end_name) none)
+        nothing_twice (parsed_module new tree) b.faults.items (r.reported.declared_twice ∙ ap not (sym once)) (ap (list_any is_duplicate_or_end_name_fault) none)
 
     nothing_unbound : undeclared_faults_from_table b.ordinals.items (occurrences read) ≡ []
     nothing_unbound = undeclared_unbound (parsed_module old tree) b.ordinals.items r.numbering ∙ (sym r.reported.undeclared ∙ ap (filter is_undeclared_fault) none)

@@ -4,16 +4,16 @@ use Rattle.std.proofs.lemmas.List.{map-append}
 use Rattle.std.specs.List.{list_any}
 use Rattle.std.specs.Option.{option_or}
 use Rattle.ob0_tree.specs.ParsedModule.{named_tree_of, tree_of}
-use Rattle.ob0_tree.specs.Places.{token_value_at}
+use Rattle.ob0_tree.specs.TokenIndexLeaves.{token_value_at}
 use Rattle.ob0_tree.specs.Tree.{Tree, block, constant, constants, declares, declares_constant, declares_const_section, declares_procedure, declares_type, declares_type_section, declares_variable, declares_var_section, end, formals, name_after_comma, section_after_semicolon, forms_block, forms_module, item, items, listed, mapped_tree, maybe, module_text, more, names, no_formals, none, one, procedure, section, some_formals, comma_then_name, semicolon_then_section, type_definition, type_definitions, value_section, variable, variable_section, variables}
 use Rattle.ob0_language_names.specs.ConsistentNames.{names_declared_in_block, procedure_names}
 use Rattle.ob0_language_names.specs.Names.{Name, naming_by_spelling, same_name}
 use Rattle.ob0_language_names.specs.Occurrences.{scopes_in_block, scopes_in_procedure, scopes_in_procedure_list, declares_ordinal}
-use Rattle.ob0_language_names.specs.BlockParts.{constant_names, formal_names, formal_sections, names_after_first, module_block, declared_type_names, names_in_list, procedure_name, section_constants, parameter_section_names, section_types, section_variables, variable_names}
-use Rattle.ob0_scope.specs.Renames.{namesake, namesake_in_scopes, other_declaration_with_name}
-use Rattle.ob0_scope_table.specs.Resolution.{IsResolution, Resolution, ordinal_and_spelling_at, ordinal_in, ordinal_and_spelling}
+use Rattle.ob0_language_names.specs.BlockParts.{constant_names, formal_parameter_names, formal_parameter_sections, names_after_first, module_block, declared_type_names, names_in_list, procedure_name, section_constants, parameter_section_names, section_types, section_variables, variable_names}
+use Rattle.ob0_scope.specs.Renames.{namesake_ordinal, namesake_in_scopes, other_declaration_with_name}
+use Rattle.ob0_scope_table.specs.Resolution.{IsResolution, Resolution, ordinal_and_spelling_at_token, ordinal_in, ordinal_and_spelling}
 use Rattle.ob0_language_names.specs.Scopes.{Scope, ordinal_after_names, ordinal_after_procedure, body_scope, declare_names, first_procedure_ordinal, predeclared_scope, scope_before_procedures, relabel_block, relabel_formals, relabel_procedure, relabel_procedure_list, relabel_module, same_ordinal}
-use Rattle.ob0_scope.specs.NamesakeSearches.{NamesakeSearchView, namesake_in_block, namesake_in_procedure, namesake_in_procedures, is_bound_to_declaration, last_namesake, namesake_among}
+use Rattle.ob0_scope.specs.NamesakeSearches.{NamesakeSearchView, namesake_in_block, namesake_in_procedure, namesake_in_procedure_list, is_bound_to_declaration, last_namesake, namesake_among}
 use Rattle.ob0_scope.proofs.Finding.{or_assoc}
 use Rattle.ob0_language_names.proofs.DistinctNames.{labels_in, onto, onto-append}
 use Rattle.ob0_language_names.proofs.RenamedDeclarations.{labels_in-block, labels_in-names, sections-labels}
@@ -61,12 +61,12 @@ section-with : {N M : Type 0} (f : N → M) (g : ℕ → ℕ) (s : Tree N sectio
 section-with f g (value_section ns t) = listed-with f g ns
 section-with f g (variable_section ns t) = listed-with f g ns
 
-sections-with : {N M : Type 0} (f : N → M) (g : ℕ → ℕ) (fs : Tree N (items section_after_semicolon)) → formal_names (mapped_tree f g fs) ≡ map f (formal_names fs)
+sections-with : {N M : Type 0} (f : N → M) (g : ℕ → ℕ) (fs : Tree N (items section_after_semicolon)) → formal_parameter_names (mapped_tree f g fs) ≡ map f (formal_parameter_names fs)
 sections-with f g end = refl
 sections-with f g (more (semicolon_then_section s) fs) =
-    (λ i. section-with f g s i ++ sections-with f g fs i) ∙ sym (map-append f (parameter_section_names s) (formal_names fs))
+    (λ i. section-with f g s i ++ sections-with f g fs i) ∙ sym (map-append f (parameter_section_names s) (formal_parameter_names fs))
 
-pub formals-with : {N M : Type 0} (f : N → M) (g : ℕ → ℕ) (fs : Tree N (maybe formals)) → formal_names (formal_sections (mapped_tree f g fs)) ≡ map f (formal_names (formal_sections fs))
+pub formals-with : {N M : Type 0} (f : N → M) (g : ℕ → ℕ) (fs : Tree N (maybe formals)) → formal_parameter_names (formal_parameter_sections (mapped_tree f g fs)) ≡ map f (formal_parameter_names (formal_parameter_sections fs))
 formals-with f g none = refl
 formals-with f g (one no_formals) = refl
 formals-with f g (one (some_formals s fs)) = sections-with f g (more (semicolon_then_section s) fs)
@@ -113,11 +113,11 @@ module _ (d : ℕ) (new : Name) where
     new_in_procedures (more p rest) = option_or (new_in_procedure p) (new_in_procedures rest)
 
     new_in_procedure : Tree Bound (item procedure) → Option ℕ
-    new_in_procedure (declares_procedure x fs b closing) = new_in_block (formal_names (formal_sections fs)) b
+    new_in_procedure (declares_procedure x fs b closing) = new_in_block (formal_parameter_names (formal_parameter_sections fs)) b
 
   module _ (r : Resolution) where
     abbrev bound : ℕ → Bound
-    bound i = ordinal_and_spelling_at r.module_read.source r.ordinals i
+    bound i = ordinal_and_spelling_at_token r.module_read.source r.ordinals i
 
     abbrev value : ℕ → ℕ
     value i = token_value_at r.module_read.source i
@@ -143,13 +143,13 @@ module _ (d : ℕ) (new : Name) where
           let here = among_bound (own ++ names_declared_in_block b) ∙ ap new_among (map-append bound own (names_declared_in_block b) ∙ ap (λ xs. map bound own ++ xs) (sym (block-with bound value b))) in
           λ j. option_or (here j) (procedures_bound ps j)
 
-      procedures_bound : (ps : Tree ℕ (items procedure)) → namesake_in_procedures sought ps ≡ new_in_procedures (mapped_tree bound value ps)
+      procedures_bound : (ps : Tree ℕ (items procedure)) → namesake_in_procedure_list sought ps ≡ new_in_procedures (mapped_tree bound value ps)
       procedures_bound end = refl
       procedures_bound (more p rest) = λ j. option_or (procedure_bound p j) (procedures_bound rest j)
 
       procedure_bound : (p : Tree ℕ (item procedure)) → namesake_in_procedure sought p ≡ new_in_procedure (mapped_tree bound value p)
       procedure_bound (declares_procedure x fs b closing) =
-          block_bound (formal_names (formal_sections fs)) b ∙ ap (λ own. new_in_block own (mapped_tree bound value b)) (sym (formals-with bound value fs))
+          block_bound (formal_parameter_names (formal_parameter_sections fs)) b ∙ ap (λ own. new_in_block own (mapped_tree bound value b)) (sym (formals-with bound value fs))
 
   -- a scope's bindings, newest first
 
@@ -185,11 +185,11 @@ module _ (d : ℕ) (new : Name) where
       let named = other_first own ∙ (ap first_new e ∙ first-onto ps []) in
       λ i. if declared i then named i else None
 
-  namesake-append : (xs ys : List (Scope Name)) → namesake_in_scopes (xs ++ ys) d new ≡ option_or (namesake_in_scopes xs d new) (namesake_in_scopes ys d new)
-  namesake-append [] ys = refl
-  namesake-append (own ∷ xs) ys =
+  namesake_ordinal-append : (xs ys : List (Scope Name)) → namesake_in_scopes (xs ++ ys) d new ≡ option_or (namesake_in_scopes xs d new) (namesake_in_scopes ys d new)
+  namesake_ordinal-append [] ys = refl
+  namesake_ordinal-append (own ∷ xs) ys =
       let here : Option ℕ = if declares_ordinal own d then other_declaration_with_name own d new else None in
-      ap (option_or here) (namesake-append xs ys) ∙ sym (or_assoc here (namesake_in_scopes xs d new) (namesake_in_scopes ys d new))
+      ap (option_or here) (namesake_ordinal-append xs ys) ∙ sym (or_assoc here (namesake_in_scopes xs d new) (namesake_in_scopes ys d new))
 
   mutual
     block_scopes : (visible : Scope Name) (k : ℕ) (own : Scope Name) (ps : List Bound) (b : Tree Name block) → labels_in ordinal_and_spelling own ≡ onto ps []
@@ -204,20 +204,20 @@ module _ (d : ℕ) (new : Name) where
     procedures_scopes visible k end = refl
     procedures_scopes visible k (more p rest) =
         (λ i. option_or (procedure_scopes visible k p i) (procedures_scopes ((procedure_name p, k) ∷ visible) (ordinal_after_procedure (suc k) p) rest i))
-        ∙ sym (namesake-append (scopes_in_procedure (suc k) p) (scopes_in_procedure_list (ordinal_after_procedure (suc k) p) rest))
+        ∙ sym (namesake_ordinal-append (scopes_in_procedure (suc k) p) (scopes_in_procedure_list (ordinal_after_procedure (suc k) p) rest))
 
     procedure_scopes : (visible : Scope Name) (k : ℕ) (p : Tree Name (item procedure)) → new_in_procedure (relabel_procedure naming_by_spelling ordinal_and_spelling visible k p) ≡ namesake_in_scopes (scopes_in_procedure (suc k) p) d new
     procedure_scopes visible k (declares_procedure x fs b closing) =
-        let own = formal_names (formal_sections fs) in
-        let labelled = ap formal_names (formals-section naming_by_spelling ordinal_and_spelling visible (suc k) fs) ∙ sections-labels naming_by_spelling ordinal_and_spelling visible (suc k) (formal_sections fs) in
-        block_scopes (declare_names (suc k) own ((x, k) ∷ visible)) (ordinal_after_names (suc k) own) (declare_names (suc k) own []) (formal_names (formal_sections (relabel_formals naming_by_spelling ordinal_and_spelling visible (suc k) fs))) b
+        let own = formal_parameter_names (formal_parameter_sections fs) in
+        let labelled = ap formal_parameter_names (formals-section naming_by_spelling ordinal_and_spelling visible (suc k) fs) ∙ sections-labels naming_by_spelling ordinal_and_spelling visible (suc k) (formal_parameter_sections fs) in
+        block_scopes (declare_names (suc k) own ((x, k) ∷ visible)) (ordinal_after_names (suc k) own) (declare_names (suc k) own []) (formal_parameter_names (formal_parameter_sections (relabel_formals naming_by_spelling ordinal_and_spelling visible (suc k) fs))) b
         (labels_in-names ordinal_and_spelling (suc k) own [] ∙ ap (λ xs. onto xs []) (sym labelled))
 
-  module_scopes : (m : Tree Name module_text) → new_in_block [] (module_block (relabel_module naming_by_spelling ordinal_and_spelling m)) ≡ namesake m d new
+  module_scopes : (m : Tree Name module_text) → new_in_block [] (module_block (relabel_module naming_by_spelling ordinal_and_spelling m)) ≡ namesake_ordinal m d new
   module_scopes (forms_module x b closing) = block_scopes (predeclared_scope naming_by_spelling) 7 [] [] b refl
 
 -- The search in a module's block finds the other declaration with the name.
-pub namesake_found : (r : Resolution) (d : ℕ) (new : Name) → IsResolution r → namesake_in_block (record { source = r.module_read.source; ordinals = r.ordinals; declaration = d; new = new }) [] (module_block (tree_of r.module_read)) ≡ namesake (named_tree_of r.module_read) d new
+pub namesake_found : (r : Resolution) (d : ℕ) (new : Name) → IsResolution r → namesake_in_block (record { source = r.module_read.source; ordinals = r.ordinals; declaration = d; new = new }) [] (module_block (tree_of r.module_read)) ≡ namesake_ordinal (named_tree_of r.module_read) d new
 namesake_found r d new is =
     block_bound d new r [] (module_block (tree_of r.module_read))
     ∙ (ap (λ t. new_in_block d new [] (module_block t)) (sym is.binding) ∙ module_scopes d new (named_tree_of r.module_read))

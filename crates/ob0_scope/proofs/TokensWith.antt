@@ -12,7 +12,7 @@ use Rattle.ob0_tree.specs.declared.tree.Role.{Role}
 use Rattle.ob0_tree.specs.declared.tree.Role.TheVariants as role
 use Rattle.ob0_tree.specs.IdentifierIndexes.{AreAscendingWithin, identifier_names, names_without_roles}
 use Rattle.ob0_tree.specs.ParsedModule.{tree_of}
-use Rattle.ob0_tree.specs.Places.{token_text_at, token_value_at}
+use Rattle.ob0_tree.specs.TokenIndexLeaves.{token_text_at, token_value_at}
 use Rattle.ob0_tree.specs.Tree.{identifiers, mapped_tree}
 use Rattle.ob0_tree.proofs.Leaves.{leaves_ascend}
 use Rattle.ob0_tree.proofs.MappedIdentifiers.{leaves_mapped}
@@ -20,11 +20,11 @@ use Rattle.ob0_language_names.specs.Names.{naming_by_spelling}
 use Rattle.ob0_language_names.specs.Occurrences.{label_ordinal}
 use Rattle.ob0_scope_table.specs.Resolution.{IsResolution, Resolution, declaring_names, label_from_table, ordinal_in, declaration_token}
 use Rattle.ob0_language_names.specs.Scopes.{label_from_ordinal, same_ordinal}
-use Rattle.ob0_scope.specs.BoundTokens.{first_bound_token, omitted_token, tokens_bound_from, tokens_with_ordinal}
+use Rattle.ob0_scope.specs.BoundTokens.{first_bound_token, omitted_token, tokens_bound_in_table, tokens_with_ordinal}
 use Rattle.ob0_scope_numbering.specs.MarkWalk.{initial_walk_state}
 use Rattle.ob0_scope_numbering.specs.IdentifierWalk.{visit_module}
-use Rattle.ob0_scope_numbering.specs.OrdinalMarks.{OrdinalMark, with_marks}
-use Rattle.ob0_scope.specs.NamesAtPlaces.{is_declaring, tokens_bound_to}
+use Rattle.ob0_scope_numbering.specs.OrdinalMarks.{OrdinalMark, table_with_marks}
+use Rattle.ob0_scope.specs.NamesAtPlaces.{is_declaring_role, tokens_bound_to_declaration}
 use Rattle.ob0_scope_numbering.specs.IdentifierSpellings.{original_spellings}
 use Rattle.ob0_scope_numbering.proofs.Passing.{AreInOrder, HasMarks, IsBefore, at_start, module_passed, tokens_of}
 use Rattle.ob0_scope.proofs.Placed.{bound_listed, is_listed, tokens_listed}
@@ -43,7 +43,7 @@ marks_resolved r is =
     let m = r.module_read in
     let w = original_spellings m.source in
     let marks = (visit_module (tree_of m) (initial_walk_state w)).marks in
-    let made = with_marks (replicate (length m.source.tokens) None) marks in
+    let made = table_with_marks (replicate (length m.source.tokens) None) marks in
     let are_there = marks_in_table m w (visit_module (tree_of m) (initial_walk_state w)) made is.parsed refl refl in
     let passed = module_passed (ordinal_in made) (label_from_ordinal naming_by_spelling) w (tree_of m) (initial_walk_state w) (at_start w) in
     let same : mapped_tree (label_from_table m.source made) (token_value_at m.source) (tree_of m) ≡ mapped_tree (label_from_table m.source r.ordinals) (token_value_at m.source) (tree_of m) = sym (passed.agree are_there).1 ∙ is.numbering in
@@ -52,11 +52,11 @@ marks_resolved r is =
     let each : map (ordinal_in made) (identifier_names (tree_of m)) ≡ map (ordinal_in r.ordinals) (identifier_names (tree_of m)) = sym (read made) ∙ (ap (λ t. map label_ordinal (identifier_names t)) same ∙ read r.ordinals) in
     marks_same (ordinal_in made) (ordinal_in r.ordinals) marks (subst (λ ts. map (ordinal_in made) ts ≡ map (ordinal_in r.ordinals) ts) (sym passed.tokens) each) are_there
 
-in_order : (r : Resolution) → IsResolution r → AreInOrder (ordinal_in r.ordinals) 7 (identifiers role.Declaring (tree_of r.module_read))
+in_order : (r : Resolution) → IsResolution r → AreInOrder (ordinal_in r.ordinals) 7 (identifiers role.DeclaringName (tree_of r.module_read))
 in_order r is =
     let m = r.module_read in
     let w = original_spellings m.source in
-    let ids = identifiers role.Declaring (tree_of m) in
+    let ids = identifiers role.DeclaringName (tree_of m) in
     let all = (module_passed (ordinal_in r.ordinals) (label_from_ordinal naming_by_spelling) w (tree_of m) (initial_walk_state w) (at_start w)).in_order (marks_resolved r is) [] tt in
     subst (AreInOrder (ordinal_in r.ordinals) 7) (append-nil ids) all
 
@@ -128,7 +128,7 @@ module _ (ordinals : List (Option ℕ)) (d : ℕ) where
   passed_over : (include : Bool) (x : Role × ℕ) (xs : List (Role × ℕ)) → same_ordinal (ordinal_in ordinals x.1) d ≡ false → tokens_listed ordinals include d (x ∷ xs) ≡ tokens_listed ordinals include d xs
   passed_over include x xs e =
       let kept = filter (is_listed ordinals include d) xs in
-      ap (λ b. map (λ (x : Role × ℕ). x.1) (cond (b && (include || not (is_declaring x.0))) (x ∷ kept) kept)) e
+      ap (λ b. map (λ (x : Role × ℕ). x.1) (cond (b && (include || not (is_declaring_role x.0))) (x ∷ kept) kept)) e
 
   all_none : (i : ℕ) (xs : List (Role × ℕ)) → Are i [] → Rising i (names_without_roles xs) → [] ≡ tokens_listed ordinals true d xs
   all_none i [] h rise = refl
@@ -181,7 +181,7 @@ module _ (ordinals : List (Option ℕ)) (d : ℕ) where
       one false e = refl
       one true e = absurd (omega (arith, le, h, eqb-true j d e))
 
-  same_but : (x : Role × ℕ) (xs : List (Role × ℕ)) → is_declaring x.0 ≡ false → tokens_listed ordinals false d xs ≡ tokens_listed ordinals true d xs → tokens_listed ordinals false d (x ∷ xs) ≡ tokens_listed ordinals true d (x ∷ xs)
+  same_but : (x : Role × ℕ) (xs : List (Role × ℕ)) → is_declaring_role x.0 ≡ false → tokens_listed ordinals false d xs ≡ tokens_listed ordinals true d xs → tokens_listed ordinals false d (x ∷ xs) ≡ tokens_listed ordinals true d (x ∷ xs)
   same_but x xs e later =
       let without = filter (is_listed ordinals false d) xs in
       ap (λ b. map (λ (x : Role × ℕ). x.1) (cond (same_ordinal (ordinal_in ordinals x.1) d && not b) (x ∷ without) without)) e ∙ one (same_ordinal (ordinal_in ordinals x.1) d)
@@ -193,18 +193,18 @@ module _ (ordinals : List (Option ℕ)) (d : ℕ) where
   -- If no identifier declares d, the list is the same with and without the declaring one.
   none_declares : (k : ℕ) (xs : List (Role × ℕ)) → AreInOrder (ordinal_in ordinals) k xs → ((i : ℕ) → k + i ≡ d → slice_get (declaring_names xs) i ≡ None) → tokens_listed ordinals false d xs ≡ tokens_listed ordinals true d xs
   none_declares k [] h none = refl
-  none_declares k ((role.LookedUp, x) ∷ xs) h none = same_but (role.LookedUp, x) xs refl (none_declares k xs h.1 none)
+  none_declares k ((role.LookedUpName, x) ∷ xs) h none = same_but (role.LookedUpName, x) xs refl (none_declares k xs h.1 none)
   none_declares k ((role.ClosingName, x) ∷ xs) h none = same_but (role.ClosingName, x) xs refl (none_declares k xs h.1 none)
   none_declares k ((role.FieldName, x) ∷ xs) h none = same_but (role.FieldName, x) xs refl (none_declares k xs h.1 none)
   none_declares k ((role.ModuleName, x) ∷ xs) h none = same_but (role.ModuleName, x) xs refl (none_declares k xs h.1 none)
-  none_declares k ((role.Declaring, x) ∷ xs) h none = one (none_declares (suc k) xs h.1) (k == d) refl
+  none_declares k ((role.DeclaringName, x) ∷ xs) h none = one (none_declares (suc k) xs h.1) (k == d) refl
     where
       one : (((i : ℕ) → suc k + i ≡ d → slice_get (declaring_names xs) i ≡ None) → tokens_listed ordinals false d xs ≡ tokens_listed ordinals true d xs)
-          → (b : Bool) → (k == d) ≡ b → tokens_listed ordinals false d ((role.Declaring, x) ∷ xs) ≡ tokens_listed ordinals true d ((role.Declaring, x) ∷ xs)
+          → (b : Bool) → (k == d) ≡ b → tokens_listed ordinals false d ((role.DeclaringName, x) ∷ xs) ≡ tokens_listed ordinals true d ((role.DeclaringName, x) ∷ xs)
       one later true e = absurd (some_none (none 0 (omega (arith, eqb-true k d e))))
       one later false e =
           let other : same_ordinal (ordinal_in ordinals x) d ≡ false = ap (λ o. same_ordinal o d) h.0 ∙ e in
-          passed_over false (role.Declaring, x) xs other ∙ (later (λ i at. none (suc i) (omega (arith, at))) ∙ sym (passed_over true (role.Declaring, x) xs other))
+          passed_over false (role.DeclaringName, x) xs other ∙ (later (λ i at. none (suc i) (omega (arith, at))) ∙ sym (passed_over true (role.DeclaringName, x) xs other))
 
   past : (x : ℕ) (i : ℕ) (os : List (Option ℕ)) → x < i → tokens_with_ordinal (Some x) d i os ≡ tokens_with_ordinal None d i os
   past x i [] less = refl
@@ -224,16 +224,16 @@ module _ (ordinals : List (Option ℕ)) (d : ℕ) where
   -- The entries of the table from the declaring token onwards list all identifiers of the
   -- declaration.
   from_declaring : (include : Bool) (k i low : ℕ) (xs : List (Role × ℕ)) (t : ℕ) → AreInOrder (ordinal_in ordinals) k xs → k + i ≡ d → slice_get (declaring_names xs) i ≡ Some t → Rising low (names_without_roles xs) → Alone low (names_without_roles xs)
-      → tokens_bound_from (omitted_token include (Some t)) d t ordinals ≡ tokens_listed ordinals include d xs
+      → tokens_bound_in_table (omitted_token include (Some t)) d t ordinals ≡ tokens_listed ordinals include d xs
   from_declaring include k i low [] t h at is rise alone = absurd (some_none (sym is))
-  from_declaring include k i low ((role.LookedUp, x) ∷ xs) t h at is rise alone = from_declaring include k i (x + 1) xs t h.1 at is rise.1 (alone_after low x (names_without_roles xs) rise.0 alone) ∙ sym (passed_over include (role.LookedUp, x) xs (before_other k (ordinal_in ordinals x) (omega (arith, at)) h.0))
+  from_declaring include k i low ((role.LookedUpName, x) ∷ xs) t h at is rise alone = from_declaring include k i (x + 1) xs t h.1 at is rise.1 (alone_after low x (names_without_roles xs) rise.0 alone) ∙ sym (passed_over include (role.LookedUpName, x) xs (before_other k (ordinal_in ordinals x) (omega (arith, at)) h.0))
   from_declaring include k i low ((role.ClosingName, x) ∷ xs) t h at is rise alone = from_declaring include k i (x + 1) xs t h.1 at is rise.1 (alone_after low x (names_without_roles xs) rise.0 alone) ∙ sym (passed_over include (role.ClosingName, x) xs (before_other k (ordinal_in ordinals x) (omega (arith, at)) h.0))
   from_declaring include k i low ((role.FieldName, x) ∷ xs) t h at is rise alone = from_declaring include k i (x + 1) xs t h.1 at is rise.1 (alone_after low x (names_without_roles xs) rise.0 alone) ∙ sym (passed_over include (role.FieldName, x) xs (before_other k (ordinal_in ordinals x) (omega (arith, at)) h.0))
   from_declaring include k i low ((role.ModuleName, x) ∷ xs) t h at is rise alone = from_declaring include k i (x + 1) xs t h.1 at is rise.1 (alone_after low x (names_without_roles xs) rise.0 alone) ∙ sym (passed_over include (role.ModuleName, x) xs (before_other k (ordinal_in ordinals x) (omega (arith, at)) h.0))
-  from_declaring include k (suc i) low ((role.Declaring, x) ∷ xs) t h at is rise alone =
+  from_declaring include k (suc i) low ((role.DeclaringName, x) ∷ xs) t h at is rise alone =
       from_declaring include (suc k) i (x + 1) xs t h.1 (omega (arith, at)) is rise.1 (alone_after low x (names_without_roles xs) rise.0 alone)
-      ∙ sym (passed_over include (role.Declaring, x) xs (ap (λ o. same_ordinal o d) h.0 ∙ before_other (suc k) (Some k) (omega (arith, at)) (omega arith)))
-  from_declaring include k zero low ((role.Declaring, x) ∷ xs) t h at is rise alone = subst (λ t. tokens_bound_from (omitted_token include (Some t)) d t ordinals ≡ tokens_listed ordinals include d ((role.Declaring, x) ∷ xs)) (some_is is) (one include)
+      ∙ sym (passed_over include (role.DeclaringName, x) xs (ap (λ o. same_ordinal o d) h.0 ∙ before_other (suc k) (Some k) (omega (arith, at)) (omega arith)))
+  from_declaring include k zero low ((role.DeclaringName, x) ∷ xs) t h at is rise alone = subst (λ t. tokens_bound_in_table (omitted_token include (Some t)) d t ordinals ≡ tokens_listed ordinals include d ((role.DeclaringName, x) ∷ xs)) (some_is is) (one include)
     where
       own : ordinal_in ordinals x ≡ Some d
       own = h.0 ∙ ap Some (omega (arith, at))
@@ -250,12 +250,12 @@ module _ (ordinals : List (Option ℕ)) (d : ℕ) where
       later : tokens_with_ordinal None d (x + 1) (drop (x + 1) ordinals) ≡ tokens_listed ordinals true d xs
       later = all_from (drop (x + 1) ordinals) (x + 1) xs (are_dropped (x + 1)) rise.1 (alone_after low x (names_without_roles xs) rise.0 alone)
 
-      one : (include : Bool) → tokens_bound_from (omitted_token include (Some x)) d x ordinals ≡ tokens_listed ordinals include d ((role.Declaring, x) ∷ xs)
+      one : (include : Bool) → tokens_bound_in_table (omitted_token include (Some x)) d x ordinals ≡ tokens_listed ordinals include d ((role.DeclaringName, x) ∷ xs)
       one true =
           let kept = filter (is_listed ordinals true d) xs in
           ap (tokens_with_ordinal None d x) split
           ∙ (ap (λ b. if b && true then x ∷ tokens_with_ordinal None d (x + 1) (drop (x + 1) ordinals) else tokens_with_ordinal None d (x + 1) (drop (x + 1) ordinals)) it
-          ∙ (ap (λ l. x ∷ l) later ∙ ap (λ b. map (λ (x : Role × ℕ). x.1) (cond (b && true) ((role.Declaring, x) ∷ kept) kept)) (sym (ap (λ o. same_ordinal o d) own ∙ it))))
+          ∙ (ap (λ l. x ∷ l) later ∙ ap (λ b. map (λ (x : Role × ℕ). x.1) (cond (b && true) ((role.DeclaringName, x) ∷ kept) kept)) (sym (ap (λ o. same_ordinal o d) own ∙ it))))
       one false =
           let kept = filter (is_listed ordinals false d) xs in
           ap (tokens_with_ordinal (Some x) d x) split
@@ -263,14 +263,14 @@ module _ (ordinals : List (Option ℕ)) (d : ℕ) where
           ∙ (past x (x + 1) (drop (x + 1) ordinals) (omega arith)
           ∙ (later
           ∙ (sym (none_declares (suc k) xs h.1 (λ i more. absurd (omega (arith, more, at))))
-          ∙ ap (λ b. map (λ (x : Role × ℕ). x.1) (cond (b && false) ((role.Declaring, x) ∷ kept) kept)) (sym (ap (λ o. same_ordinal o d) own ∙ it))))))
+          ∙ ap (λ b. map (λ (x : Role × ℕ). x.1) (cond (b && false) ((role.DeclaringName, x) ∷ kept) kept)) (sym (ap (λ o. same_ordinal o d) own ∙ it))))))
 
 -- ---- the tokens of a declaration
 
 pub bound_with : (r : Resolution) (d : ℕ) (include : Bool) → IsResolution r
-    → tokens_bound_from (omitted_token include (declaration_token r.declaration_tokens d)) d (first_bound_token (declaration_token r.declaration_tokens d)) r.ordinals ≡ tokens_bound_to r.module_read d include
+    → tokens_bound_in_table (omitted_token include (declaration_token r.declaration_tokens d)) d (first_bound_token (declaration_token r.declaration_tokens d)) r.ordinals ≡ tokens_bound_to_declaration r.module_read d include
 bound_with r d include is =
-    let ids = identifiers role.Declaring (tree_of r.module_read) in
+    let ids = identifiers role.DeclaringName (tree_of r.module_read) in
     one (ltb d 7) refl ids (in_order r is) (rising 0 (names_without_roles ids) (length r.module_read.source.tokens) (leaves_ascend r.module_read is.parsed)) (λ j le. is.ordinals_only_at_names j) is.declaring ∙ bound_listed r d include is
   where
     all_of : (ids : List (Role × ℕ)) → Rising 0 (names_without_roles ids) → Alone r.ordinals d 0 (names_without_roles ids) → tokens_with_ordinal None d 0 r.ordinals ≡ tokens_listed r.ordinals true d ids
@@ -282,15 +282,15 @@ bound_with r d include is =
     everywhere ids order rise alone none false = all_of ids rise alone ∙ sym (none_declares r.ordinals d 7 ids order none)
 
     placed : (ids : List (Role × ℕ)) → AreInOrder (ordinal_in r.ordinals) 7 ids → Rising 0 (names_without_roles ids) → Alone r.ordinals d 0 (names_without_roles ids) → 7 ≤ d → (found : Option ℕ) → slice_get (declaring_names ids) (d - 7) ≡ found
-        → tokens_bound_from (omitted_token include found) d (first_bound_token found) r.ordinals ≡ tokens_listed r.ordinals include d ids
+        → tokens_bound_in_table (omitted_token include found) d (first_bound_token found) r.ordinals ≡ tokens_listed r.ordinals include d ids
     placed ids order rise alone above None e = everywhere ids order rise alone (λ i at. let back : i ≡ d - 7 = omega (arith, at) in ap (slice_get (declaring_names ids)) back ∙ e) include
     placed ids order rise alone above (Some t) e = from_declaring r.ordinals d include 7 (d - 7) 0 ids t order (omega (arith, above)) e rise alone
 
     one : (b : Bool) → ltb d 7 ≡ b → (ids : List (Role × ℕ)) → AreInOrder (ordinal_in r.ordinals) 7 ids → Rising 0 (names_without_roles ids) → Alone r.ordinals d 0 (names_without_roles ids) → r.declaration_tokens ≡ declaring_names ids
-        → tokens_bound_from (omitted_token include (declaration_token r.declaration_tokens d)) d (first_bound_token (declaration_token r.declaration_tokens d)) r.ordinals ≡ tokens_listed r.ordinals include d ids
+        → tokens_bound_in_table (omitted_token include (declaration_token r.declaration_tokens d)) d (first_bound_token (declaration_token r.declaration_tokens d)) r.ordinals ≡ tokens_listed r.ordinals include d ids
     one true e ids order rise alone declaring =
-        ap (λ b. let found = if b then None else slice_get r.declaration_tokens (d - 7) in tokens_bound_from (omitted_token include found) d (first_bound_token found) r.ordinals) e
+        ap (λ b. let found = if b then None else slice_get r.declaration_tokens (d - 7) in tokens_bound_in_table (omitted_token include found) d (first_bound_token found) r.ordinals) e
         ∙ everywhere ids order rise alone (λ i at. absurd (omega (arith, at, ltb-true d 7 e))) include
     one false e ids order rise alone declaring =
-        ap (λ b. let found = if b then None else slice_get r.declaration_tokens (d - 7) in tokens_bound_from (omitted_token include found) d (first_bound_token found) r.ordinals) e
+        ap (λ b. let found = if b then None else slice_get r.declaration_tokens (d - 7) in tokens_bound_in_table (omitted_token include found) d (first_bound_token found) r.ordinals) e
         ∙ placed ids order rise alone (ltb-false d 7 e) (slice_get r.declaration_tokens (d - 7)) (ap (λ ds. slice_get ds (d - 7)) (sym declaring))

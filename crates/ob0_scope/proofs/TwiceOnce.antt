@@ -6,14 +6,14 @@ use Rattle.std.proofs.lemmas.List.Folds.{list_any-append}
 use Rattle.std.specs.List.{list_any}
 use Rattle.ob0_scan.specs.declared.fault.FaultCode.TheVariants as code
 use Rattle.ob0_tree.specs.ParsedModule.{ParsedModule, named_tree_of, tree_of}
-use Rattle.ob0_tree.specs.Places.{token_text_at, token_value_at}
+use Rattle.ob0_tree.specs.TokenIndexLeaves.{token_text_at, token_value_at}
 use Rattle.ob0_tree.specs.Tree.{Sort, Tree, mapped_tree, array_type, block, body, constant, constants, declares, declares_constant, declares_const_section, declares_procedure, declares_type, declares_type_section, declares_variable, declares_var_section, end, fields, formals, fields_after_semicolon, name_after_comma, section_after_semicolon, forms_block, forms_module, item, items, listed, maybe, module_text, more, named_type, names, no_fields, no_formals, none, one, procedure, record_type, section, some_fields, some_formals, semicolon_then_fields, comma_then_name, semicolon_then_section, type_definition, type_definitions, value_section, variable, variable_section, variables, written_type}
 use Rattle.ob0_language_names.specs.ConsistentNames.{are_distinct, names_declared_in_block, block_has_consistent_names, has_consistent_names, has_distinct_fields, formals_have_distinct_fields, group_field_names, group_has_distinct_fields, field_names_after_first_group, later_groups_have_distinct_fields, is_among, procedure_names, procedure_has_consistent_names, procedure_list_has_consistent_names, types_have_distinct_fields, variables_have_distinct_fields}
-use Rattle.ob0_scope_table.specs.DuplicatesAndEndNames.{duplicate_faults, block_declaration_faults, closing_name_faults, duplicate_field_faults, duplicate_field_faults_in_formals, duplicate_field_faults_in_group, duplicate_field_faults_in_groups, tree_declaration_faults, procedure_declaration_faults, procedures_declaration_faults, declaration_faults, duplicate_field_faults_in_types, fault_unless, duplicate_field_faults_in_variables}
+use Rattle.ob0_scope_table.specs.DuplicatesAndEndNames.{duplicate_faults, block_declaration_faults, closing_name_faults, duplicate_field_faults, duplicate_field_faults_in_formals, duplicate_field_faults_in_group, duplicate_field_faults_in_further_groups, tree_declaration_faults, procedure_declaration_faults, procedure_list_declaration_faults, declaration_faults, duplicate_field_faults_in_types, fault_unless, duplicate_field_faults_in_variables}
 use Rattle.ob0_language_names.specs.Names.{Name, same_name}
-use Rattle.ob0_language_names.specs.BlockParts.{constant_names, formal_names, formal_sections, names_after_first, declared_type_names, names_in_list, section_constants, parameter_section_names, parameter_section_type, section_types, section_variables, variable_names}
+use Rattle.ob0_language_names.specs.BlockParts.{constant_names, formal_parameter_names, formal_parameter_sections, names_after_first, declared_type_names, names_in_list, section_constants, parameter_section_names, parameter_section_type, section_types, section_variables, variable_names}
 use Rattle.ob0_scope_table.specs.FaultsAtTokens.{fault_at_token}
-use Rattle.ob0_scope_table.specs.Resolution.{is_duplicate_or_end_name}
+use Rattle.ob0_scope_table.specs.Resolution.{is_duplicate_or_end_name_fault}
 use Rattle.ob0_scope_table.specs.declared.faults.FaultAtTokens.{FaultAtTokens}
 use Rattle.ob0_language_names.proofs.NameEquality.{same_name-comm}
 use Rattle.ob0_language_names.proofs.DistinctNames.{and-swap}
@@ -69,14 +69,14 @@ five_texts text a b c d e =
 -- ---- nothing is reported exactly if everything is declared once
 
 abbrev fine : List FaultAtTokens → Bool
-fine fs = not (list_any is_duplicate_or_end_name fs)
+fine fs = not (list_any is_duplicate_or_end_name_fault fs)
 
 not_or : (a b : Bool) → not (a || b) ≡ (not a && not b)
 not_or true b = refl
 not_or false b = refl
 
 fine_both : (xs ys : List FaultAtTokens) (a b : Bool) → fine xs ≡ a → fine ys ≡ b → fine (xs ++ ys) ≡ (a && b)
-fine_both xs ys a b e h = ap not (list_any-append is_duplicate_or_end_name xs ys) ∙ (not_or (list_any is_duplicate_or_end_name xs) (list_any is_duplicate_or_end_name ys) ∙ (λ i. e i && h i))
+fine_both xs ys a b e h = ap not (list_any-append is_duplicate_or_end_name_fault xs ys) ∙ (not_or (list_any is_duplicate_or_end_name_fault xs) (list_any is_duplicate_or_end_name_fault ys) ∙ (λ i. e i && h i))
 
 fine_duplicate : (token : ℕ) (b : Bool) → fine (fault_unless b (fault_at_token code.Duplicate token)) ≡ b
 fine_duplicate token true = refl
@@ -144,11 +144,11 @@ module _ (value : ℕ → ℕ) where
   section_texts text (value_section ns t) = names_texts text ns
   section_texts text (variable_section ns t) = names_texts text ns
 
-  sections_texts : (text : ℕ → Name) (fs : Tree ℕ (items section_after_semicolon)) → map text (formal_names fs) ≡ formal_names (named text fs)
+  sections_texts : (text : ℕ → Name) (fs : Tree ℕ (items section_after_semicolon)) → map text (formal_parameter_names fs) ≡ formal_parameter_names (named text fs)
   sections_texts text end = refl
-  sections_texts text (more (semicolon_then_section f) rest) = map-append text (parameter_section_names f) (formal_names rest) ∙ (λ i. section_texts text f i ++ sections_texts text rest i)
+  sections_texts text (more (semicolon_then_section f) rest) = map-append text (parameter_section_names f) (formal_parameter_names rest) ∙ (λ i. section_texts text f i ++ sections_texts text rest i)
 
-  formals_texts : (text : ℕ → Name) (fs : Tree ℕ (maybe formals)) → map text (formal_names (formal_sections fs)) ≡ formal_names (formal_sections (named text fs))
+  formals_texts : (text : ℕ → Name) (fs : Tree ℕ (maybe formals)) → map text (formal_parameter_names (formal_parameter_sections fs)) ≡ formal_parameter_names (formal_parameter_sections (named text fs))
   formals_texts text none = refl
   formals_texts text (one no_formals) = refl
   formals_texts text (one (some_formals f rest)) = sections_texts text (more (semicolon_then_section f) rest)
@@ -162,18 +162,18 @@ module _ (value : ℕ → ℕ) where
     fields-fine text (named_type x) = refl
     fields-fine text (array_type e t) = fields-fine text t
     fields-fine text (record_type g rest) =
-        fine_both (duplicate_faults text [] (group_field_names g ++ field_names_after_first_group rest)) (duplicate_field_faults_in_group text g ++ duplicate_field_faults_in_groups text rest)
+        fine_both (duplicate_faults text [] (group_field_names g ++ field_names_after_first_group rest)) (duplicate_field_faults_in_group text g ++ duplicate_field_faults_in_further_groups text rest)
         (are_distinct (group_field_names (named text g) ++ field_names_after_first_group (named text rest))) (group_has_distinct_fields (named text g) && later_groups_have_distinct_fields (named text rest))
         (names-fine text (group_field_names g ++ field_names_after_first_group rest) (group_field_names (named text g) ++ field_names_after_first_group (named text rest)) (groups_texts text (more (semicolon_then_fields g) rest)))
-        (fine_both (duplicate_field_faults_in_group text g) (duplicate_field_faults_in_groups text rest) (group_has_distinct_fields (named text g)) (later_groups_have_distinct_fields (named text rest)) (group-fine text g) (groups-fine text rest))
+        (fine_both (duplicate_field_faults_in_group text g) (duplicate_field_faults_in_further_groups text rest) (group_has_distinct_fields (named text g)) (later_groups_have_distinct_fields (named text rest)) (group-fine text g) (groups-fine text rest))
 
     group-fine : (text : ℕ → Name) (g : Tree ℕ fields) → fine (duplicate_field_faults_in_group text g) ≡ group_has_distinct_fields (named text g)
     group-fine text no_fields = refl
     group-fine text (some_fields ns t) = fields-fine text t
 
-    groups-fine : (text : ℕ → Name) (gs : Tree ℕ (items fields_after_semicolon)) → fine (duplicate_field_faults_in_groups text gs) ≡ later_groups_have_distinct_fields (named text gs)
+    groups-fine : (text : ℕ → Name) (gs : Tree ℕ (items fields_after_semicolon)) → fine (duplicate_field_faults_in_further_groups text gs) ≡ later_groups_have_distinct_fields (named text gs)
     groups-fine text end = refl
-    groups-fine text (more (semicolon_then_fields g) rest) = fine_both (duplicate_field_faults_in_group text g) (duplicate_field_faults_in_groups text rest) (group_has_distinct_fields (named text g)) (later_groups_have_distinct_fields (named text rest)) (group-fine text g) (groups-fine text rest)
+    groups-fine text (more (semicolon_then_fields g) rest) = fine_both (duplicate_field_faults_in_group text g) (duplicate_field_faults_in_further_groups text rest) (group_has_distinct_fields (named text g)) (later_groups_have_distinct_fields (named text rest)) (group-fine text g) (groups-fine text rest)
 
   types-fine : (text : ℕ → Name) (ds : Tree ℕ (items type_definition)) → fine (duplicate_field_faults_in_types text ds) ≡ types_have_distinct_fields (named text ds)
   types-fine text end = refl
@@ -199,7 +199,7 @@ module _ (value : ℕ → ℕ) where
   sections-fine text end = refl
   sections-fine text (more (semicolon_then_section s) fs) = fine_both (duplicate_field_faults text (parameter_section_type s)) (duplicate_field_faults_in_formals text fs) (has_distinct_fields (parameter_section_type (named text s))) (formals_have_distinct_fields (named text fs)) (section-fine text s) (sections-fine text fs)
 
-  formals-fine : (text : ℕ → Name) (fs : Tree ℕ (maybe formals)) → fine (duplicate_field_faults_in_formals text (formal_sections fs)) ≡ formals_have_distinct_fields (formal_sections (named text fs))
+  formals-fine : (text : ℕ → Name) (fs : Tree ℕ (maybe formals)) → fine (duplicate_field_faults_in_formals text (formal_parameter_sections fs)) ≡ formals_have_distinct_fields (formal_parameter_sections (named text fs))
   formals-fine text none = refl
   formals-fine text (one no_formals) = refl
   formals-fine text (one (some_formals s fs)) = sections-fine text (more (semicolon_then_section s) fs)
@@ -216,7 +216,7 @@ module _ (value : ℕ → ℕ) where
         let names = own ++ names_declared_in_block (forms_block (declares cs ts vs ps) statements) in
         let T = duplicate_field_faults_in_types text (section_types ts) in
         let V = duplicate_field_faults_in_variables text (section_variables vs) in
-        let P = procedures_declaration_faults text ps in
+        let P = procedure_list_declaration_faults text ps in
         let t = types_have_distinct_fields (section_types (named text ts)) in
         let v = variables_have_distinct_fields (section_variables (named text vs)) in
         let p = procedure_list_has_consistent_names (named text ps) in
@@ -224,20 +224,20 @@ module _ (value : ℕ → ℕ) where
         (names-fine text names (map text own ++ names_declared_in_block (named text (forms_block (declares cs ts vs ps) statements))) (block_texts text own cs ts vs ps statements))
         (fine_both T (V ++ P) t (v && p) (type_section-fine text ts) (fine_both V P v p (variable_section-fine text vs) (procedures-fine text ps)))
 
-    procedures-fine : (text : ℕ → Name) (ps : Tree ℕ (items procedure)) → fine (procedures_declaration_faults text ps) ≡ procedure_list_has_consistent_names (named text ps)
+    procedures-fine : (text : ℕ → Name) (ps : Tree ℕ (items procedure)) → fine (procedure_list_declaration_faults text ps) ≡ procedure_list_has_consistent_names (named text ps)
     procedures-fine text end = refl
-    procedures-fine text (more p rest) = fine_both (procedure_declaration_faults text p) (procedures_declaration_faults text rest) (procedure_has_consistent_names (named text p)) (procedure_list_has_consistent_names (named text rest)) (procedure-fine text p) (procedures-fine text rest)
+    procedures-fine text (more p rest) = fine_both (procedure_declaration_faults text p) (procedure_list_declaration_faults text rest) (procedure_has_consistent_names (named text p)) (procedure_list_has_consistent_names (named text rest)) (procedure-fine text p) (procedures-fine text rest)
 
     procedure-fine : (text : ℕ → Name) (p : Tree ℕ (item procedure)) → fine (procedure_declaration_faults text p) ≡ procedure_has_consistent_names (named text p)
     procedure-fine text (declares_procedure x fs b closing) =
         let C = closing_name_faults text x closing in
-        let F = duplicate_field_faults_in_formals text (formal_sections fs) in
-        let B = block_declaration_faults text (formal_names (formal_sections fs)) b in
+        let F = duplicate_field_faults_in_formals text (formal_parameter_sections fs) in
+        let B = block_declaration_faults text (formal_parameter_names (formal_parameter_sections fs)) b in
         let c = same_name (text x) (text closing) in
-        let f = formals_have_distinct_fields (formal_sections (named text fs)) in
-        let d = block_has_consistent_names (formal_names (formal_sections (named text fs))) (named text b) in
+        let f = formals_have_distinct_fields (formal_parameter_sections (named text fs)) in
+        let d = block_has_consistent_names (formal_parameter_names (formal_parameter_sections (named text fs))) (named text b) in
         fine_both C (F ++ B) c (f && d) (fine_closing closing c)
-        (fine_both F B f d (formals-fine text fs) (block-fine text (formal_names (formal_sections fs)) b ∙ ap (λ ns. block_has_consistent_names ns (named text b)) (formals_texts text fs)))
+        (fine_both F B f d (formals-fine text fs) (block-fine text (formal_parameter_names (formal_parameter_sections fs)) b ∙ ap (λ ns. block_has_consistent_names ns (named text b)) (formals_texts text fs)))
 
   module-fine : (text : ℕ → Name) (t : Tree ℕ module_text) → fine (tree_declaration_faults text t) ≡ has_consistent_names (named text t)
   module-fine text (forms_module x b closing) =
@@ -248,8 +248,8 @@ not_not : (a b : Bool) → not a ≡ b → a ≡ not b
 not_not true b e = ap not e
 not_not false b e = ap not e
 
-pub twice_where : (m : ParsedModule) → list_any is_duplicate_or_end_name (declaration_faults m) ≡ not (has_consistent_names (named_tree_of m))
-twice_where m = not_not (list_any is_duplicate_or_end_name (declaration_faults m)) (has_consistent_names (named_tree_of m)) (module-fine (token_value_at m.source) (token_text_at m.source) (tree_of m))
+pub twice_where : (m : ParsedModule) → list_any is_duplicate_or_end_name_fault (declaration_faults m) ≡ not (has_consistent_names (named_tree_of m))
+twice_where m = not_not (list_any is_duplicate_or_end_name_fault (declaration_faults m)) (has_consistent_names (named_tree_of m)) (module-fine (token_value_at m.source) (token_text_at m.source) (tree_of m))
 
 -- The test for duplicate declarations in a tree doesn't depend on its numbers.
 pub once_with : (text : ℕ → Name) (f g : ℕ → ℕ) (t : Tree ℕ module_text) → has_consistent_names (mapped_tree text f t) ≡ has_consistent_names (mapped_tree text g t)
@@ -258,10 +258,10 @@ once_with text f g t = sym (module-fine f text t) ∙ module-fine g text t
 -- ---- nothing else is reported
 
 abbrev others : List FaultAtTokens → Bool
-others fs = list_any (λ f. not (is_duplicate_or_end_name f)) fs
+others fs = list_any (λ f. not (is_duplicate_or_end_name_fault f)) fs
 
 no_others : (xs ys : List FaultAtTokens) → others xs ≡ false → others ys ≡ false → others (xs ++ ys) ≡ false
-no_others xs ys e h = list_any-append (λ f. not (is_duplicate_or_end_name f)) xs ys ∙ (λ i. e i || h i)
+no_others xs ys e h = list_any-append (λ f. not (is_duplicate_or_end_name_fault f)) xs ys ∙ (λ i. e i || h i)
 
 duplicate-alone : (token : ℕ) (b : Bool) → others (fault_unless b (fault_at_token code.Duplicate token)) ≡ false
 duplicate-alone token true = refl
@@ -282,16 +282,16 @@ mutual
   fields-alone text (named_type x) = refl
   fields-alone text (array_type e t) = fields-alone text t
   fields-alone text (record_type g rest) =
-      no_others (duplicate_faults text [] (group_field_names g ++ field_names_after_first_group rest)) (duplicate_field_faults_in_group text g ++ duplicate_field_faults_in_groups text rest) (duplicate_faults-alone text [] (group_field_names g ++ field_names_after_first_group rest))
-      (no_others (duplicate_field_faults_in_group text g) (duplicate_field_faults_in_groups text rest) (group-alone text g) (groups-alone text rest))
+      no_others (duplicate_faults text [] (group_field_names g ++ field_names_after_first_group rest)) (duplicate_field_faults_in_group text g ++ duplicate_field_faults_in_further_groups text rest) (duplicate_faults-alone text [] (group_field_names g ++ field_names_after_first_group rest))
+      (no_others (duplicate_field_faults_in_group text g) (duplicate_field_faults_in_further_groups text rest) (group-alone text g) (groups-alone text rest))
 
   group-alone : (text : ℕ → Name) (g : Tree ℕ fields) → others (duplicate_field_faults_in_group text g) ≡ false
   group-alone text no_fields = refl
   group-alone text (some_fields ns t) = fields-alone text t
 
-  groups-alone : (text : ℕ → Name) (gs : Tree ℕ (items fields_after_semicolon)) → others (duplicate_field_faults_in_groups text gs) ≡ false
+  groups-alone : (text : ℕ → Name) (gs : Tree ℕ (items fields_after_semicolon)) → others (duplicate_field_faults_in_further_groups text gs) ≡ false
   groups-alone text end = refl
-  groups-alone text (more (semicolon_then_fields g) rest) = no_others (duplicate_field_faults_in_group text g) (duplicate_field_faults_in_groups text rest) (group-alone text g) (groups-alone text rest)
+  groups-alone text (more (semicolon_then_fields g) rest) = no_others (duplicate_field_faults_in_group text g) (duplicate_field_faults_in_further_groups text rest) (group-alone text g) (groups-alone text rest)
 
 types-alone : (text : ℕ → Name) (ds : Tree ℕ (items type_definition)) → others (duplicate_field_faults_in_types text ds) ≡ false
 types-alone text end = refl
@@ -311,25 +311,25 @@ mutual
       let names = own ++ names_declared_in_block (forms_block (declares cs ts vs ps) statements) in
       let T = duplicate_field_faults_in_types text (section_types ts) in
       let V = duplicate_field_faults_in_variables text (section_variables vs) in
-      let P = procedures_declaration_faults text ps in
+      let P = procedure_list_declaration_faults text ps in
       no_others (duplicate_faults text [] names) (T ++ (V ++ P)) (duplicate_faults-alone text [] names)
       (no_others T (V ++ P) (types-alone text (section_types ts)) (no_others V P (variables-alone text (section_variables vs)) (procedures-alone text ps)))
 
-  procedures-alone : (text : ℕ → Name) (ps : Tree ℕ (items procedure)) → others (procedures_declaration_faults text ps) ≡ false
+  procedures-alone : (text : ℕ → Name) (ps : Tree ℕ (items procedure)) → others (procedure_list_declaration_faults text ps) ≡ false
   procedures-alone text end = refl
-  procedures-alone text (more p rest) = no_others (procedure_declaration_faults text p) (procedures_declaration_faults text rest) (procedure-alone text p) (procedures-alone text rest)
+  procedures-alone text (more p rest) = no_others (procedure_declaration_faults text p) (procedure_list_declaration_faults text rest) (procedure-alone text p) (procedures-alone text rest)
 
   procedure-alone : (text : ℕ → Name) (p : Tree ℕ (item procedure)) → others (procedure_declaration_faults text p) ≡ false
   procedure-alone text (declares_procedure x fs b closing) =
       let C = closing_name_faults text x closing in
-      let F = duplicate_field_faults_in_formals text (formal_sections fs) in
-      let B = block_declaration_faults text (formal_names (formal_sections fs)) b in
+      let F = duplicate_field_faults_in_formals text (formal_parameter_sections fs) in
+      let B = block_declaration_faults text (formal_parameter_names (formal_parameter_sections fs)) b in
       no_others C (F ++ B) (closing-alone closing (same_name (text x) (text closing)))
-      (no_others F B (formals-alone text (formal_sections fs)) (block-alone text (formal_names (formal_sections fs)) b))
+      (no_others F B (formals-alone text (formal_parameter_sections fs)) (block-alone text (formal_parameter_names (formal_parameter_sections fs)) b))
 
 module-alone : (text : ℕ → Name) (t : Tree ℕ module_text) → others (tree_declaration_faults text t) ≡ false
 module-alone text (forms_module x b closing) =
     no_others (closing_name_faults text x closing) (block_declaration_faults text [] b) (closing-alone closing (same_name (text x) (text closing))) (block-alone text [] b)
 
-pub twice_alone : (m : ParsedModule) → list_any (λ f. not (is_duplicate_or_end_name f)) (declaration_faults m) ≡ false
+pub twice_alone : (m : ParsedModule) → list_any (λ f. not (is_duplicate_or_end_name_fault f)) (declaration_faults m) ≡ false
 twice_alone m = module-alone (token_text_at m.source) (tree_of m)

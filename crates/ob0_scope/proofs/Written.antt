@@ -6,7 +6,7 @@ use Rattle.ob0_scan.specs.declared.lexeme.Token.{Token}
 use Rattle.ob0_tree.proofs.Leaves.{ascending_lower, leaves_are_identifiers, leaves_ascend}
 use Rattle.ob0_tree.specs.IdentifierIndexes.{AreIdentifierTokens, AreAscendingWithin, names_without_roles}
 use Rattle.ob0_tree.specs.ParsedModule.{tree_of}
-use Rattle.ob0_tree.specs.Places.{token_text_at, token_value_at}
+use Rattle.ob0_tree.specs.TokenIndexLeaves.{token_text_at, token_value_at}
 use Rattle.ob0_tree.specs.Tree.{identifiers}
 use Rattle.ob0_tree.specs.declared.tree.Role.{Role}
 use Rattle.ob0_tree.specs.declared.tree.Role.TheVariants as role
@@ -14,9 +14,9 @@ use Rattle.ob0_language_names.specs.Names.{Name}
 use Rattle.ob0_scope.specs.Renames.{spellings_after_rename}
 use Rattle.ob0_scope_table.specs.Resolution.{IsResolution, Resolution, ordinal_in}
 use Rattle.ob0_language_names.specs.Scopes.{same_ordinal}
-use Rattle.ob0_scope_numbering.specs.IdentifierSpellings.{spelling_at}
+use Rattle.ob0_scope_numbering.specs.IdentifierSpellings.{spelling_at_token}
 use Rattle.ob0_scope.proofs.Renumbered.{renamed_spelled}
-use Rattle.ob0_scope.specs.NamesAtPlaces.{RenamingChangesExactlyTokens, is_among, tokens_bound_to}
+use Rattle.ob0_scope.specs.NamesAtPlaces.{RenamingChangesExactlyTokens, is_among, tokens_bound_to_declaration}
 use Rattle.ob0_scope.proofs.Alike.{AllAlike, alike}
 use Rattle.ob0_scope.proofs.Placed.{bound_listed, is_listed, tokens_listed}
 
@@ -38,17 +38,17 @@ kept_are_identifiers test ts (x ∷ xs) h = one (test x) (kept_are_identifiers t
     one true e = (h.0, e)
     one false e = e
 
-pub bound_ascend : (r : Resolution) (d : ℕ) (include : Bool) → IsResolution r → AreAscendingWithin 0 (tokens_bound_to r.module_read d include) (length r.module_read.source.tokens)
+pub bound_ascend : (r : Resolution) (d : ℕ) (include : Bool) → IsResolution r → AreAscendingWithin 0 (tokens_bound_to_declaration r.module_read d include) (length r.module_read.source.tokens)
 bound_ascend r d include is =
     let m = r.module_read in
     subst (λ xs. AreAscendingWithin 0 xs (length m.source.tokens)) (bound_listed r d include is)
-    (kept_ascends (is_listed r.ordinals include d) 0 (identifiers role.Declaring (tree_of m)) (length m.source.tokens) (leaves_ascend m is.parsed))
+    (kept_ascends (is_listed r.ordinals include d) 0 (identifiers role.DeclaringName (tree_of m)) (length m.source.tokens) (leaves_ascend m is.parsed))
 
-pub bound_are_identifiers : (r : Resolution) (d : ℕ) (include : Bool) → IsResolution r → AreIdentifierTokens r.module_read.source.tokens (tokens_bound_to r.module_read d include)
+pub bound_are_identifiers : (r : Resolution) (d : ℕ) (include : Bool) → IsResolution r → AreIdentifierTokens r.module_read.source.tokens (tokens_bound_to_declaration r.module_read d include)
 bound_are_identifiers r d include is =
     let m = r.module_read in
     subst (AreIdentifierTokens m.source.tokens) (bound_listed r d include is)
-    (kept_are_identifiers (is_listed r.ordinals include d) m.source.tokens (identifiers role.Declaring (tree_of m)) (leaves_are_identifiers m is.parsed))
+    (kept_are_identifiers (is_listed r.ordinals include d) m.source.tokens (identifiers role.DeclaringName (tree_of m)) (leaves_are_identifiers m is.parsed))
 
 -- An identifier is in the selection if it is bound to d.
 
@@ -96,7 +96,7 @@ among_self (x ∷ xs) = (ap (λ b. b || is_among x xs) same, among_more x xs xs 
 
 all_alike : (r : Resolution) (d : ℕ) (new : Name) (places all : List ℕ) (xs : List (Role × ℕ))
     → ((i : ℕ) → is_among i places ≡ (same_ordinal (ordinal_in r.ordinals i) d && is_among i all)) → AllAmong all (names_without_roles xs)
-    → AllAlike (spelling_at (spellings_after_rename r d new)) (λ i. if is_among i places then new else token_text_at r.module_read.source i) (token_value_at r.module_read.source) xs
+    → AllAlike (spelling_at_token (spellings_after_rename r d new)) (λ i. if is_among i places then new else token_text_at r.module_read.source i) (token_value_at r.module_read.source) xs
 all_alike r d new places all [] h among = tt
 all_alike r d new places all (x ∷ xs) h among =
     let bound = same_ordinal (ordinal_in r.ordinals x.1) d in (
@@ -108,12 +108,12 @@ all_alike r d new places all (x ∷ xs) h among =
     and_true true = refl
     and_true false = refl
 
-pub renamed_there : (r : Resolution) (d : ℕ) → IsResolution r → RenamingChangesExactlyTokens r.module_read d (tokens_bound_to r.module_read d true)
+pub renamed_there : (r : Resolution) (d : ℕ) → IsResolution r → RenamingChangesExactlyTokens r.module_read d (tokens_bound_to_declaration r.module_read d true)
 renamed_there r d is new =
     let m = r.module_read in
-    let ids = identifiers role.Declaring (tree_of m) in
-    let places = tokens_bound_to m d true in
+    let ids = identifiers role.DeclaringName (tree_of m) in
+    let places = tokens_bound_to_declaration m d true in
     let among = λ (i : ℕ). ap (is_among i) (sym (bound_listed r d true is)) ∙ among_kept r.ordinals d i ids in
-    let f = spelling_at (spellings_after_rename r d new) in
+    let f = spelling_at_token (spellings_after_rename r d new) in
     let f' = λ (i : ℕ). if is_among i places then new else token_text_at m.source i in
-    renamed_spelled r d new is ∙ (alike f f' (token_value_at m.source) role.Declaring (tree_of m)).reads (all_alike r d new places (names_without_roles ids) ids among (among_self (names_without_roles ids)))
+    renamed_spelled r d new is ∙ (alike f f' (token_value_at m.source) role.DeclaringName (tree_of m)).reads (all_alike r d new places (names_without_roles ids) ids among (among_self (names_without_roles ids)))

@@ -10,11 +10,11 @@ use Rattle.ob0_tree.specs.Tree.{identifiers, occurrences}
 use Rattle.ob0_tree.specs.FirstIdentifier.{token_of_first_identifier}
 use Rattle.ob0_scope_table.specs.BodyReplacement.{body_at_path, closing_name_at_path, path_to_body_in_module}
 use Rattle.ob0_scope_table.specs.declared.resolved.Bindings.{Bindings}
-use Rattle.ob0_scope.specs.NewBody.{AreBindingsBeforeBodyReplacement}
+use Rattle.ob0_scope.specs.BindingsBeforeBodyReplacement.{AreBindingsBeforeBodyReplacement}
 use Rattle.ob0_scope.specs.declared.body_range.BodyRange.{BodyRange}
 
 -- the token indexes of the identifiers seen so far while a body is walked: the first identifier
--- (None if there is none yet) and all occurrences of names (identifiers with the role `LookedUp`)
+-- (None if there is none yet) and all occurrences of names (identifiers with the role `LookedUpName`)
 pub record BodyNamesView : Type 0 where
   pub first : Option ℕ
   pub uses : List ℕ
@@ -24,22 +24,22 @@ abbrev pub no_names_seen : BodyNamesView
 no_names_seen = record { first = None; uses = [] }
 
 -- returns `first`, the first identifier seen in a body; if none has been seen (None), returns the identifier `i`
-abbrev pub first_identifier_or : Option ℕ → ℕ → Option ℕ
-first_identifier_or first i = if is_some first then first else Some i
+abbrev pub first_or_new_identifier : Option ℕ → ℕ → Option ℕ
+first_or_new_identifier first i = if is_some first then first else Some i
 
 -- adds the token `i` of an occurrence to the names seen in a body
 abbrev pub with_occurrence : ℕ → BodyNamesView → BodyNamesView
 with_occurrence i names = record names { uses = names.uses ++ (i ∷ []) }
 
 -- adds the identifier at token `i` to the names seen in a body; the identifier is an occurrence only if its role is
--- `LookedUp`
+-- `LookedUpName`
 abbrev pub with_identifier : Role → ℕ → BodyNamesView → BodyNamesView
-with_identifier role.LookedUp i names =
-    record { first = first_identifier_or names.first i; uses = names.uses ++ (i ∷ []) }
-with_identifier role.Declaring i names = record names { first = first_identifier_or names.first i }
-with_identifier role.ClosingName i names = record names { first = first_identifier_or names.first i }
-with_identifier role.FieldName i names = record names { first = first_identifier_or names.first i }
-with_identifier role.ModuleName i names = record names { first = first_identifier_or names.first i }
+with_identifier role.LookedUpName i names =
+    record { first = first_or_new_identifier names.first i; uses = names.uses ++ (i ∷ []) }
+with_identifier role.DeclaringName i names = record names { first = first_or_new_identifier names.first i }
+with_identifier role.ClosingName i names = record names { first = first_or_new_identifier names.first i }
+with_identifier role.FieldName i names = record names { first = first_or_new_identifier names.first i }
+with_identifier role.ModuleName i names = record names { first = first_or_new_identifier names.first i }
 
 -- returns the tokens of a list that are before the replaced body in the text
 abbrev pub tokens_before_body : BodyRange → List ℕ → List ℕ
@@ -52,26 +52,26 @@ abbrev pub shifted_token : BodyRange → ℕ → ℕ
 shifted_token range i = min (i - range.old_closing + range.closing) (2 ^ 64 - 1)
 
 -- returns the tokens of a list that are after the replaced body in the text, with their new indexes
-abbrev pub tokens_after_body : BodyRange → List ℕ → List ℕ
-tokens_after_body range [] = []
-tokens_after_body range (i ∷ is) =
-    if nat_lt i range.old_closing then tokens_after_body range is
-    else shifted_token range i ∷ tokens_after_body range is
+abbrev pub shifted_tokens_after_body : BodyRange → List ℕ → List ℕ
+shifted_tokens_after_body range [] = []
+shifted_tokens_after_body range (i ∷ is) =
+    if nat_lt i range.old_closing then shifted_tokens_after_body range is
+    else shifted_token range i ∷ shifted_tokens_after_body range is
 
 -- returns a list of tokens of the old text with their indexes in the changed text; the tokens in the old body are
 -- replaced by `own`, the tokens in the new body
 abbrev pub tokens_in_changed_text : BodyRange → List ℕ → List ℕ → List ℕ
-tokens_in_changed_text range tokens own = tokens_before_body range tokens ++ (own ++ tokens_after_body range tokens)
+tokens_in_changed_text range tokens own = tokens_before_body range tokens ++ (own ++ shifted_tokens_after_body range tokens)
 
 -- returns the first `n` entries of a table, filled up with None if the table is shorter
-abbrev pub padded_with_none : ℕ → List (Option ℕ) → List (Option ℕ)
-padded_with_none n table = take n table ++ replicate (n - length table) None
+abbrev pub resized_with_none : ℕ → List (Option ℕ) → List (Option ℕ)
+resized_with_none n table = take n table ++ replicate (n - length table) None
 
 -- returns a table of ordinals with each entry at its token's new index; the entries of the new body
 -- are None
 abbrev pub ordinals_in_changed_text : BodyRange → List (Option ℕ) → List (Option ℕ)
 ordinals_in_changed_text range table =
-    padded_with_none range.closing (take range.first table) ++ drop range.old_closing table
+    resized_with_none range.closing (take range.first table) ++ drop range.old_closing table
 
 -- returns the old token index of the closing name after the replaced statements, given its index in the changed text;
 -- at most 2^64 - 1
@@ -83,7 +83,7 @@ old_closing_token same closing = min (closing - same.new_suffix + same.old_suffi
 pub record IsRangeOfNewBody (m : ParsedModule) (b : Bindings) (range : BodyRange) (own : List ℕ) : Type 0 where
   pub same : CommonPrefixAndSuffix
   pub was_bound : AreBindingsBeforeBodyReplacement m b same
-  pub first : token_of_first_identifier (identifiers role.Declaring (body_at_path (path_to_body_in_module same.prefix (tree_of m)) (tree_of m)))
+  pub first : token_of_first_identifier (identifiers role.DeclaringName (body_at_path (path_to_body_in_module same.prefix (tree_of m)) (tree_of m)))
       ≡ Some range.first
   pub closing : range.closing ≡ closing_name_at_path (path_to_body_in_module same.prefix (tree_of m)) (tree_of m)
   pub old_closing : range.old_closing ≡ old_closing_token same range.closing

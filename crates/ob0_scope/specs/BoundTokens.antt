@@ -28,8 +28,8 @@ tokens_with_ordinal omitted d i (ordinal ∷ ordinals) =
     else tokens_with_ordinal omitted d (i + 1) ordinals
 
 -- returns the tokens with indexes of at least `first` that have the ordinal `d` in a table, except the token `omitted`
-abbrev pub tokens_bound_from : Option ℕ → ℕ → ℕ → List (Option ℕ) → List ℕ
-tokens_bound_from omitted d first ordinals = tokens_with_ordinal omitted d first (drop first ordinals)
+abbrev pub tokens_bound_in_table : Option ℕ → ℕ → ℕ → List (Option ℕ) → List ℕ
+tokens_bound_in_table omitted d first ordinals = tokens_with_ordinal omitted d first (drop first ordinals)
 
 -- returns the token to omit from the tokens bound to a declaration: the declaring token, or None if `include` is true
 abbrev pub omitted_token : Bool → Option ℕ → Option ℕ

@@ -5,11 +5,11 @@ use Rattle.std.specs.Prelude.{ℕ, Bool, not, ◌&&◌, if◌then◌else◌, Lis
 use Rattle.std.specs.List.{list_any}
 use Rattle.std.specs.Option.{option_or}
 use Rattle.ob0_scan.specs.TextWithTokens.{TextWithTokens}
-use Rattle.ob0_tree.specs.Places.{token_text_at}
+use Rattle.ob0_tree.specs.TokenIndexLeaves.{token_text_at}
 use Rattle.ob0_tree.specs.Tree.{Tree, block, declares, declares_procedure, end, forms_block, item, items, more, procedure}
 use Rattle.ob0_language_names.specs.ConsistentNames.{names_declared_in_block}
 use Rattle.ob0_language_names.specs.Names.{Name, same_name}
-use Rattle.ob0_language_names.specs.BlockParts.{formal_names, formal_sections}
+use Rattle.ob0_language_names.specs.BlockParts.{formal_parameter_names, formal_parameter_sections}
 use Rattle.ob0_scope_table.specs.Resolution.{ordinal_in}
 use Rattle.ob0_language_names.specs.Scopes.{same_ordinal}
 
@@ -31,14 +31,14 @@ abbrev pub is_bound_to_declaration : NamesakeSearchView → ℕ → Bool
 is_bound_to_declaration s i = same_ordinal (ordinal_in_search s i) s.declaration
 
 -- returns whether a token has the sought name and isn't bound to the declaration whose block is searched
-abbrev pub has_name_and_other_binding : NamesakeSearchView → ℕ → Bool
-has_name_and_other_binding s i = same_name (token_text_at s.source i) s.new && not (is_bound_to_declaration s i)
+abbrev pub is_namesake_token : NamesakeSearchView → ℕ → Bool
+is_namesake_token s i = same_name (token_text_at s.source i) s.new && not (is_bound_to_declaration s i)
 
 -- Finds the last token in the list that is spelled like the sought name and isn't bound to the search's declaration
 -- (`s.declaration`). Returns the ordinal to which that token is bound, or `found` if there is no such token.
 abbrev pub last_namesake : NamesakeSearchView → Option ℕ → List ℕ → Option ℕ
 last_namesake s found [] = found
-last_namesake s found (i ∷ is) = last_namesake s (if has_name_and_other_binding s i then ordinal_in_search s i else found) is
+last_namesake s found (i ∷ is) = last_namesake s (if is_namesake_token s i then ordinal_in_search s i else found) is
 
 -- Finds the last token in the list that is spelled like the sought name and isn't bound to the search's declaration
 -- (`s.declaration`). Returns the ordinal to which this token is bound. Returns None if there is no such token, or if no
@@ -54,16 +54,16 @@ abbrev mutual
   pub namesake_in_block : NamesakeSearchView → List ℕ → Tree ℕ block → Option ℕ
   namesake_in_block s own (forms_block (declares cs ts vs ps) statements) =
       option_or (namesake_among s (own ++ names_declared_in_block (forms_block (declares cs ts vs ps) statements)))
-      (namesake_in_procedures s ps)
+      (namesake_in_procedure_list s ps)
 
   -- searches procedures in order until an ordinal is found in one, and returns this ordinal; None if there is none
-  pub namesake_in_procedures : NamesakeSearchView → Tree ℕ (items procedure) → Option ℕ
-  namesake_in_procedures s end = None
-  namesake_in_procedures s (more p rest) =
-      option_or (namesake_in_procedure s p) (namesake_in_procedures s rest)
+  pub namesake_in_procedure_list : NamesakeSearchView → Tree ℕ (items procedure) → Option ℕ
+  namesake_in_procedure_list s end = None
+  namesake_in_procedure_list s (more p rest) =
+      option_or (namesake_in_procedure s p) (namesake_in_procedure_list s rest)
 
   -- returns the ordinal found in a procedure's block, to which the parameters belong; None if there
   -- is none
   pub namesake_in_procedure : NamesakeSearchView → Tree ℕ (item procedure) → Option ℕ
   namesake_in_procedure s (declares_procedure x fs b closing) =
-      namesake_in_block s (formal_names (formal_sections fs)) b
+      namesake_in_block s (formal_parameter_names (formal_parameter_sections fs)) b

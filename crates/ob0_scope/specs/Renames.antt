@@ -6,7 +6,7 @@ use Rattle.std.specs.Option.{option_or}
 use Rattle.ob0_tree.specs.Tree.{Tree, mapped_tree, module_text}
 use Rattle.ob0_tree.specs.ParsedModule.{named_tree_of, tree_of}
 use Rattle.ob0_scan.specs.TextWithTokens.{TextWithTokens}
-use Rattle.ob0_tree.specs.Places.{token_text_at, token_value_at}
+use Rattle.ob0_tree.specs.TokenIndexLeaves.{token_text_at, token_value_at}
 use Rattle.ob0_scope.specs.declared.name_conflicts.FirstConflict as reported
 use Rattle.ob0_scope.specs.declared.name_conflicts.FirstConflict.TheVariants as reports
 use Rattle.ob0_language_names.specs.Names.{Name, naming_by_spelling, same_name}
@@ -14,7 +14,7 @@ use Rattle.ob0_language_names.specs.Occurrences.{NameConflict, at_declaration, a
 use Rattle.ob0_language_names.specs.BlockParts.{module_block}
 use Rattle.ob0_scope_table.specs.Resolution.{Resolution, ordinal_in}
 use Rattle.ob0_language_names.specs.Scopes.{Scope, label_from_ordinal, numbered, predeclared_count, renamed}
-use Rattle.ob0_scope_numbering.specs.IdentifierSpellings.{Spellings, spelling_at}
+use Rattle.ob0_scope_numbering.specs.IdentifierSpellings.{Spellings, spelling_at_token}
 
 -- returns the ordinal of the first declaration in a scope that has the name `new` and an ordinal other than `d`; None
 -- if there is none
@@ -34,8 +34,8 @@ namesake_in_scopes (own ∷ others) d new =
 
 -- returns the ordinal of the last declaration with the name `new`, other than `d`, in the block
 -- that declares `d`; None if there is none
-abbrev pub namesake : Tree Name module_text → ℕ → Name → Option ℕ
-namesake m d new = namesake_in_scopes (scopes_in_block predeclared_count [] (module_block m)) d new
+abbrev pub namesake_ordinal : Tree Name module_text → ℕ → Name → Option ℕ
+namesake_ordinal m d new = namesake_in_scopes (scopes_in_block predeclared_count [] (module_block m)) d new
 
 -- converts a conflict of the code to a conflict of the definitions; this drops the ordinal of the other declaration
 abbrev pub conflict_of : reported.FirstConflict → NameConflict
@@ -70,5 +70,5 @@ OccursNowhere source x = (i : ℕ) → same_name (token_text_at source i) x ≡ 
 abbrev pub AreOrdinalsAfterRename : Resolution → ℕ → Name → List (Option ℕ) → Type 0
 AreOrdinalsAfterRename r d new ordinals =
     numbered (renamed (named_tree_of r.module_read) d new)
-    ≡ mapped_tree (λ i. label_from_ordinal naming_by_spelling (ordinal_in ordinals i) (spelling_at (spellings_after_rename r d new) i))
+    ≡ mapped_tree (λ i. label_from_ordinal naming_by_spelling (ordinal_in ordinals i) (spelling_at_token (spellings_after_rename r d new) i))
     (token_value_at r.module_read.source) (tree_of r.module_read)

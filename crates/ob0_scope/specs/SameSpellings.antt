@@ -2,9 +2,9 @@
 -- tokens have the same spellings.
 -- Rule: docs/LANGUAGE.md, Scopes 2 to 4.
 use Rattle.std.specs.Prelude.{◌≡◌, []}
-use Rattle.ob0_scan.specs.ReusedLexemes.{kinds, spellings_of_identifiers_in, words_of_tokens}
+use Rattle.ob0_scan.specs.ReusedLexemes.{token_kinds_without_values, spellings_of_identifiers_in, words_of_tokens}
 use Rattle.ob0_scan.specs.TextWithTokens.{TextWithTokens}
-use Rattle.ob0_tree.specs.ParsedModule.{IsParsed, parsed_module}
+use Rattle.ob0_tree.specs.ParsedModule.{TreeMatchesText, parsed_module}
 use Rattle.ob0_tree.specs.declared.tree.ModuleTree.{ModuleTree}
 use Rattle.ob0_scope_table.specs.Bindings.{resolution_with_bindings}
 use Rattle.ob0_scope_table.specs.Resolution.{IsResolution}
@@ -12,7 +12,7 @@ use Rattle.ob0_scope_table.specs.declared.resolved.Bindings.{Bindings}
 
 -- states that the tokens of two texts have the same kinds, one by one, and their identifiers the same spellings
 pub record HaveSameKindsAndNames (old new : TextWithTokens) : Type 0 where
-  pub same_kinds : kinds new.tokens ≡ kinds old.tokens
+  pub same_kinds : token_kinds_without_values new.tokens ≡ token_kinds_without_values old.tokens
   pub same_names : spellings_of_identifiers_in new.text new.tokens ≡ spellings_of_identifiers_in old.text old.tokens
 
 -- States that the bindings of a module without scope faults are also the bindings of the same
@@ -22,7 +22,7 @@ abbrev pub BindingsDependOnlyOnNames : Type 0
 BindingsDependOnlyOnNames =
     (old new : TextWithTokens) (tree : ModuleTree) (b : Bindings)
     → HaveSameKindsAndNames old new
-    → IsParsed (parsed_module new tree)
+    → TreeMatchesText (parsed_module new tree)
     → IsResolution (resolution_with_bindings (parsed_module old tree) b)
     → b.faults.items ≡ []
     → IsResolution (resolution_with_bindings (parsed_module new tree) b)
@@ -34,6 +34,6 @@ abbrev pub BindingsDependOnlyOnSpellings : Type 0
 BindingsDependOnlyOnSpellings =
     (old new : TextWithTokens) (tree : ModuleTree) (b : Bindings)
     → words_of_tokens new.text new.tokens ≡ words_of_tokens old.text old.tokens
-    → IsParsed (parsed_module new tree)
+    → TreeMatchesText (parsed_module new tree)
     → IsResolution (resolution_with_bindings (parsed_module old tree) b)
     → IsResolution (resolution_with_bindings (parsed_module new tree) b)

@@ -4,11 +4,11 @@
 ghost use Rattle.std.specs.Prelude.{◌≡◌, ◌++◌, ◌∷◌, [], IfOk, OnOk};
 ghost use Rattle.ob0_tree.specs.View.{block_of, body_of, procedure_of};
 ghost use Rattle.ob0_scope_table.specs.BodyReplacement.{body_at_path_in_block, body_at_path_in_procedure, closing_name_at_path_in_block, closing_name_at_path_in_procedure, path_to_body_in_block, path_to_body_in_procedure};
-ghost use Rattle.ob0_scope.specs.BindingsOutsideBody.{tokens_after_body, tokens_before_body, tokens_in_changed_text, ordinals_in_changed_text, old_closing_token, shifted_token, with_occurrence};
+ghost use Rattle.ob0_scope.specs.BindingsOutsideBody.{shifted_tokens_after_body, tokens_before_body, tokens_in_changed_text, ordinals_in_changed_text, old_closing_token, shifted_token, with_occurrence};
 
 use ob0_scan::CommonPrefixAndSuffix;
 use ob0_scope_table::OrdinalEntry;
-use ob0_tree::walk::Visitor;
+use ob0_tree::identifier_walk::Visitor;
 use ob0_tree::{Block, Procedure, Role, Statement};
 use std::alloc::{AllocError, Global};
 use std::marker::Model;
@@ -31,7 +31,7 @@ pub(crate) struct BodyWithClosingName<'t> {
 }
 
 /// The token indexes of the identifiers seen so far while a body is walked: the first identifier
-/// (None if there is none yet) and all occurrences of names (identifiers with the role `LookedUp`).
+/// (None if there is none yet) and all occurrences of names (identifiers with the role `LookedUpName`).
 #[derive(Drop)]
 pub(crate) struct BodyNames {
     pub(crate) first: Option<usize>,
@@ -49,15 +49,15 @@ impl Model for BodyNames {
 impl Visitor for BodyNames {
     ghost use Rattle.ob0_scope.specs.BindingsOutsideBody.{with_identifier};
 
-    ghost seen = { with_identifier };
+    ghost state_after_one_identifier = { with_identifier };
 
-    fn see_identifier(&mut self, role: Role, token: usize) -> Result<(), AllocError> {
+    fn visit_one_identifier(&mut self, role: Role, token: usize) -> Result<(), AllocError> {
         if self.first.is_none() {
             self.first = Some(token);
         }
         match role {
-            Role::LookedUp => self.append_occurrence(token),
-            Role::Declaring => Ok(()),
+            Role::LookedUpName => self.append_occurrence(token),
+            Role::DeclaringName => Ok(()),
             Role::ClosingName => Ok(()),
             Role::FieldName => Ok(()),
             Role::ModuleName => Ok(()),
@@ -135,7 +135,11 @@ impl BodyRange {
     }
 
     /// Appends to `out` the tokens of the list `tokens` that are before the body in the text.
-    fn append_tokens_before(self, out: &mut Vec<usize>, tokens: &[usize]) -> Result<(), AllocError>
+    fn append_tokens_before_body(
+        self,
+        out: &mut Vec<usize>,
+        tokens: &[usize],
+    ) -> Result<(), AllocError>
         ensures { OnOk result (out.new.items ≡ out.old.items ++ tokens_before_body self tokens.now) }
     {
         for token in tokens {
@@ -148,8 +152,12 @@ impl BodyRange {
 
     /// Appends to `out` the tokens of the list `tokens` that are after the body in the text, with
     /// their new indexes.
-    fn append_tokens_after(self, out: &mut Vec<usize>, tokens: &[usize]) -> Result<(), AllocError>
-        ensures { OnOk result (out.new.items ≡ out.old.items ++ tokens_after_body self tokens.now) }
+    fn append_shifted_tokens_after_body(
+        self,
+        out: &mut Vec<usize>,
+        tokens: &[usize],
+    ) -> Result<(), AllocError>
+        ensures { OnOk result (out.new.items ≡ out.old.items ++ shifted_tokens_after_body self tokens.now) }
     {
         for token in tokens {
             if *token >= self.old_closing {
@@ -171,9 +179,9 @@ impl BodyRange {
         ensures { IfOk result (λ all. all.items ≡ tokens_in_changed_text self tokens.now own.now) }
     {
         let mut all = Vec::with_capacity(alloc, tokens.len())?;
-        self.append_tokens_before(&mut all, tokens)?;
+        self.append_tokens_before_body(&mut all, tokens)?;
         all.extend_from_slice(own)?;
-        self.append_tokens_after(&mut all, tokens)?;
+        self.append_shifted_tokens_after_body(&mut all, tokens)?;
         Ok(all)
     }
 

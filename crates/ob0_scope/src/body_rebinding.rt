@@ -4,19 +4,19 @@
 ghost use Rattle.std.specs.Prelude.{IfOk};
 ghost use Rattle.ob0_scope_table.specs.Resolution.{IsResolution};
 ghost use Rattle.ob0_scope_table.specs.Bindings.{resolution_with_bindings};
-ghost use Rattle.ob0_scope.specs.BodyChanges.{AreBindingsBeforeBodyChange};
-ghost use Rattle.ob0_scope.specs.NewBody.{AreBindingsBeforeBodyReplacement};
+ghost use Rattle.ob0_scope.specs.BindingsBeforeBodyChange.{AreBindingsBeforeBodyChange};
+ghost use Rattle.ob0_scope.specs.BindingsBeforeBodyReplacement.{AreBindingsBeforeBodyReplacement};
 ghost use Rattle.ob0_scope.specs.BindingsOutsideBody.{IsRangeOfNewBody};
 
 use crate::body_range::{BodyNames, BodyRange, find_body_in_block, old_closing_token};
-use crate::checks::recheck_declarations;
+use crate::declaration_checks::recheck_declarations;
 use crate::module_resolution::bindings_of;
-use crate::table::report_undeclared_names;
+use crate::undeclared_names::report_undeclared_names;
 use ob0_scan::CommonPrefixAndSuffix;
 use ob0_scope_numbering::renumber_body;
 use ob0_scope_table::Bindings;
 use ob0_tree::Module;
-use ob0_tree::walk::walk_body;
+use ob0_tree::identifier_walk::walk_body;
 use std::alloc::{AllocError, Global};
 
 /// Returns the bindings of a module after tokens of one body changed. `old` has the bindings before

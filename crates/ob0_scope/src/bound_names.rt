@@ -11,8 +11,8 @@ ghost use Rattle.std.specs.List.Sorted.{IsNonDecreasingBy, IsPartitionPoint};
 ghost use Rattle.ob0_scan.specs.declared.lexeme.Token as token;
 ghost use Rattle.ob0_tree.specs.IdentifierIndexes.{AreIdentifierTokens, AreAscendingWithin};
 ghost use Rattle.ob0_scope_table.specs.Spans.{TokensAreDisjoint};
-ghost use Rattle.ob0_scope.specs.BoundTokens.{first_bound_token, is_identifier, is_identifier_at_offset, omitted_token, tokens_bound_from};
-ghost use Rattle.ob0_scope.specs.NamesAtPlaces.{RenamingChangesExactlyTokens, name_at_offset, tokens_bound_to};
+ghost use Rattle.ob0_scope.specs.BoundTokens.{first_bound_token, is_identifier, is_identifier_at_offset, omitted_token, tokens_bound_in_table};
+ghost use Rattle.ob0_scope.specs.NamesAtPlaces.{RenamingChangesExactlyTokens, name_at_offset, tokens_bound_to_declaration};
 
 use ob0_scan::{Token, TokenKind};
 use ob0_scope_table::{OrdinalEntry, Resolved, same_ordinal};
@@ -46,19 +46,19 @@ pub fn name_at_offset(names: &Resolved, offset: usize) -> Option<BoundName>
 /// Returns the tokens that are bound to the declaration with the ordinal `declaration`, in text
 /// order, including a procedure's closing name. The declaring token is included only if `include`
 /// is true.
-pub fn tokens_bound_to(
+pub fn tokens_bound_to_declaration(
     alloc: Global,
     names: &Resolved,
     declaration: usize,
     include: bool,
 ) -> Result<Vec<usize>, AllocError>
     ensures { IfOk result
-        (λ found. found.items ≡ tokens_bound_to names.now.module_read declaration include) }
+        (λ found. found.items ≡ tokens_bound_to_declaration names.now.module_read declaration include) }
 {
     // The proof needs the contract of this call.
     let _ = names.module();
     let declaring = names.declaring_token(declaration);
-    tokens_bound_from(
+    tokens_bound_in_table(
         alloc,
         names.ordinals(),
         first_bound_token(declaring),
@@ -88,7 +88,7 @@ fn first_bound_token(declaring: Option<usize>) -> usize
 
 /// Returns the tokens that the table `ordinals` binds to the declaration with the ordinal
 /// `declaration`, in text order. Tokens before `first` and the token `omitted` are left out.
-fn tokens_bound_from(
+fn tokens_bound_in_table(
     alloc: Global,
     ordinals: &[OrdinalEntry],
     first: usize,
@@ -96,7 +96,7 @@ fn tokens_bound_from(
     omitted: Option<usize>,
 ) -> Result<Vec<usize>, AllocError>
     ensures { IfOk result
-        (λ found. found.items ≡ tokens_bound_from omitted declaration first ordinals.now) }
+        (λ found. found.items ≡ tokens_bound_in_table omitted declaration first ordinals.now) }
 {
     let mut found = Vec::new(alloc);
     for token in first..ordinals.len() {
@@ -115,7 +115,7 @@ pub fn tokens_changed_by_rename(
     declaration: usize,
 ) -> Result<Vec<usize>, AllocError>
     ensures bound { IfOk result
-        (λ found. found.items ≡ tokens_bound_to names.now.module_read declaration true) }
+        (λ found. found.items ≡ tokens_bound_to_declaration names.now.module_read declaration true) }
     ensures ascend { IfOk result
         (λ found. AreAscendingWithin 0 found.items (length names.now.module_read.source.tokens)) }
     ensures are_identifiers { IfOk result
@@ -125,7 +125,7 @@ pub fn tokens_changed_by_rename(
 {
     // The proof needs the contract of this call.
     let _ = names.module();
-    tokens_bound_to(alloc, names, declaration, true)
+    tokens_bound_to_declaration(alloc, names, declaration, true)
 }
 
 /// Returns the token index of the first identifier that contains the byte offset `offset` or ends

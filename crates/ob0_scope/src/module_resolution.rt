@@ -4,8 +4,8 @@ ghost use Rattle.std.specs.Prelude.{◌≡◌, IfOk};
 ghost use Rattle.ob0_scope_table.specs.Resolution.{IsResolution};
 ghost use Rattle.ob0_scope_table.specs.Bindings.{resolution_with_bindings};
 
-use crate::checks::check_declarations;
-use crate::table::report_undeclared_names;
+use crate::declaration_checks::check_declarations;
+use crate::undeclared_names::report_undeclared_names;
 use ob0_scope_numbering::{Spellings, number_identifiers};
 use ob0_scope_table::{Bindings, Resolved};
 use ob0_tree::Module;

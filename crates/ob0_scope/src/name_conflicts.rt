@@ -12,13 +12,13 @@ ghost use Rattle.ob0_tree.specs.ParsedModule.{named_tree_of};
 ghost use Rattle.ob0_tree.specs.View.{block_of, procedure_of};
 ghost use Rattle.ob0_language_names.specs.Occurrences.{IsFreeName, bindings, first_name_conflict, first_binding_difference};
 ghost use Rattle.ob0_scope.specs.declared.name_conflicts.FirstConflict.TheVariants.{Occurrence};
-ghost use Rattle.ob0_scope.specs.Renames.{OccursNowhere, have_same_binding, namesake, other_declaration_in_conflict, conflict_of};
+ghost use Rattle.ob0_scope.specs.Renames.{OccursNowhere, have_same_binding, namesake_ordinal, other_declaration_in_conflict, conflict_of};
 ghost use Rattle.ob0_scope_table.specs.Resolution.{ordinal_in};
 ghost use Rattle.ob0_language_names.specs.Scopes.{renamed};
-ghost use Rattle.ob0_scope.specs.NamesakeSearches.{namesake_in_block, namesake_in_procedure, has_name_and_other_binding, is_bound_to_declaration, namesake_among};
+ghost use Rattle.ob0_scope.specs.NamesakeSearches.{namesake_in_block, namesake_in_procedure, is_namesake_token, is_bound_to_declaration, namesake_among};
 
-use crate::checks::{append_block_names, append_formal_names};
-use crate::renamed::ordinals_after_rename;
+use crate::bindings_after_rename::ordinals_after_rename;
+use crate::declaration_checks::{append_block_names, append_formal_parameter_names};
 use ob0_scan::Tokens;
 use ob0_scope_table::{OrdinalEntry, PREDECLARED_COUNT, Resolved, ordinal_at};
 use ob0_tree::{Block, Procedure, token_text_at};
@@ -49,16 +49,16 @@ pub fn captures(
     ensures first { IfOk result (λ found. option_map conflict_of found
         ≡ first_name_conflict (named_tree_of names.now.module_read) declaration new.now) }
     ensures other { IfOk result (λ found. other_declaration_in_conflict found
-        ≡ namesake (named_tree_of names.now.module_read) declaration new.now) }
+        ≡ namesake_ordinal (named_tree_of names.now.module_read) declaration new.now) }
     ensures free { IfOk result
         (λ found. found ≡ None ↔ IsFreeName (named_tree_of names.now.module_read) declaration new.now) }
 {
     if declaration >= PREDECLARED_COUNT && occurs_nowhere(names.tokens(), new) {
         return Ok(None);
     }
-    match namesake(alloc, names, declaration, new)? {
+    match namesake_ordinal(alloc, names, declaration, new)? {
         Some(other) => Ok(Some(FirstConflict::Duplicate(other))),
-        None => first_captured_occurrence(alloc, names, declaration, new),
+        None => first_occurrence_conflict(alloc, names, declaration, new),
     }
 }
 
@@ -80,7 +80,7 @@ fn occurs_nowhere(tokens: &Tokens, name: &str) -> bool
 
 /// Returns the conflict at the first occurrence that would be bound to another declaration after a
 /// declaration is renamed to `new`. Returns None if there is no such occurrence.
-fn first_captured_occurrence(
+fn first_occurrence_conflict(
     alloc: Global,
     names: &Resolved,
     declaration: usize,
@@ -129,14 +129,14 @@ fn have_same_binding(a: Option<usize>, b: Option<usize>) -> bool
 /// Returns the ordinal of another declaration with the name `new` in the block that declares
 /// `declaration`. If there are several such declarations, returns the ordinal of the last. Returns
 /// None if there is no such declaration.
-fn namesake(
+fn namesake_ordinal(
     alloc: Global,
     names: &Resolved,
     declaration: usize,
     new: &str,
 ) -> Result<Option<usize>, AllocError>
     ensures { IfOk result
-        (λ other. other ≡ namesake (named_tree_of names.now.module_read) declaration new.now) }
+        (λ other. other ≡ namesake_ordinal (named_tree_of names.now.module_read) declaration new.now) }
 {
     let sought = NamesakeSearch {
         tokens: names.tokens(),
@@ -183,8 +183,8 @@ impl<'t> NamesakeSearch<'t> {
 
     /// Returns whether a token has the sought name and isn't bound to the declaration whose block
     /// is searched.
-    fn has_name_and_other_binding(&self, token: usize) -> bool
-        ensures { result ≡ has_name_and_other_binding self.now token }
+    fn is_namesake_token(&self, token: usize) -> bool
+        ensures { result ≡ is_namesake_token self.now token }
     {
         token_text_at(self.tokens, token) == self.new && !self.is_bound_to_declaration(token)
     }
@@ -199,7 +199,7 @@ impl<'t> NamesakeSearch<'t> {
         let mut found = None;
         for token in tokens {
             is_here = is_here || self.is_bound_to_declaration(*token);
-            if self.has_name_and_other_binding(*token) {
+            if self.is_namesake_token(*token) {
                 found = ordinal_at(self.ordinals, *token);
             }
         }
@@ -241,7 +241,7 @@ impl<'t> NamesakeSearch<'t> {
         ensures { IfOk result (λ other. other ≡ namesake_in_procedure self.now (procedure_of p.now)) }
     {
         let mut own = Vec::new(alloc);
-        append_formal_names(&mut own, &p.formals)?;
+        append_formal_parameter_names(&mut own, &p.formals)?;
         self.find_namesake_in_block(alloc, own, &p.block)
     }
 }

@@ -5,10 +5,10 @@ ghost use Rattle.std.specs.Prelude.{◌≡◌, IfOk, map, length, replicate, Non
 ghost use Rattle.ob0_tree.specs.ParsedModule.{named_tree_of};
 ghost use Rattle.ob0_scope_table.specs.Resolution.{ordinal_in};
 ghost use Rattle.ob0_language_names.specs.OccurrenceLookup.{resolve_name_at_each_occurrence};
-ghost use Rattle.ob0_scope_numbering.specs.OrdinalMarks.{zero_mark_at};
-ghost use Rattle.ob0_scope_numbering.specs.OrdinalMarks.{with_marks};
+ghost use Rattle.ob0_scope_numbering.specs.OrdinalMarks.{zero_mark_at_token};
+ghost use Rattle.ob0_scope_numbering.specs.OrdinalMarks.{table_with_marks};
 
-use crate::renamed::ordinals_at_tokens;
+use crate::bindings_after_rename::ordinals_at_tokens;
 use ob0_scope_numbering::{Spellings, number_identifiers};
 use ob0_scope_table::{OrdinalEntry, Resolved};
 use std::alloc::{AllocError, Global};
@@ -38,7 +38,7 @@ fn ordinals_with_replacement(
     ensures { IfOk result (λ ordinals. map (ordinal_in ordinals.items) names.now.uses
         ≡ resolve_name_at_each_occurrence (named_tree_of names.now.module_read) name.now) }
 {
-    let sought = occurrence_marks(alloc, names)?;
+    let sought = table_marking_occurrences(alloc, names)?;
     let spellings = Spellings {
         tokens: names.tokens(),
         ordinals: sought.as_slice(),
@@ -52,10 +52,13 @@ fn ordinals_with_replacement(
 
 /// Returns a table that has ordinal 0 at each occurrence and None at every other token. So a
 /// renaming of the declaration 0 replaces each occurrence.
-fn occurrence_marks(alloc: Global, names: &Resolved) -> Result<Vec<OrdinalEntry>, AllocError>
+fn table_marking_occurrences(
+    alloc: Global,
+    names: &Resolved,
+) -> Result<Vec<OrdinalEntry>, AllocError>
     ensures { IfOk result (λ t. t.items
-        ≡ with_marks (replicate (length names.now.module_read.source.tokens) None)
-        (map zero_mark_at names.now.uses)) }
+        ≡ table_with_marks (replicate (length names.now.module_read.source.tokens) None)
+        (map zero_mark_at_token names.now.uses)) }
 {
     let mut table = vec![in alloc; OrdinalEntry::new(None); names.tokens().tokens().len()]?;
     for token in names.occurrences() {

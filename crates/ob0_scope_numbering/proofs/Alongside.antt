@@ -10,9 +10,9 @@ use Rattle.ob0_language_names.specs.Names.{naming_by_spelling}
 use Rattle.ob0_language_names.specs.BlockParts.{names_after_first, names_in_list}
 use Rattle.ob0_language_names.specs.Scopes.{declare_names, ordinal_in_scope}
 use Rattle.ob0_scope_numbering.specs.MarkWalk.{WalkState}
-use Rattle.ob0_scope_numbering.specs.IdentifierWalk.{state_after_heading, visit_identifier, visit_identifiers, state_after_procedure_block, with_oldest_bindings, with_mark, number_declarations, number_declaration, visit_nondeclaring_tree, with_visible_names_from, visit_block, visit_constant, visit_constant_section, visit_constants, visit_formals, visit_procedure, visit_procedures, visit_parameter_section, visit_parameter_sections, visit_type, visit_type_section, visit_types, visit_variable, visit_variable_section, visit_variables}
+use Rattle.ob0_scope_numbering.specs.IdentifierWalk.{state_after_heading, visit_identifier, visit_identifiers, state_after_procedure_block, with_oldest_bindings, with_mark, number_declarations, number_declaration, visit_nondeclaring_tree, with_names_visible_from_index, visit_block, visit_constant, visit_constant_section, visit_constants, visit_formals, visit_procedure, visit_procedure_list, visit_parameter_section, visit_parameter_sections, visit_type, visit_type_section, visit_types, visit_variable, visit_variable_section, visit_variables}
 use Rattle.ob0_scope_numbering.specs.OrdinalMarks.{OrdinalMark}
-use Rattle.ob0_scope_numbering.specs.IdentifierSpellings.{Spellings, spelling_at}
+use Rattle.ob0_scope_numbering.specs.IdentifierSpellings.{Spellings, spelling_at_token}
 
 -- holds if all of some tokens pass a test
 abbrev pub AllOut : (ℕ → Bool) → List ℕ → Type 0
@@ -51,7 +51,7 @@ alike_both out [] (n ∷ b) c d h g = absurd h
 alike_both out (m ∷ a) [] c d h g = absurd h
 alike_both out (m ∷ a) (n ∷ b) c d h g = (h.0, (h.1.0, alike_both out a b c d h.1.1 g))
 
-module _ (out : ℕ → Bool) (a b : Spellings) (same_name : (i : ℕ) → out i ≡ true → spelling_at a i ≡ spelling_at b i) where
+module _ (out : ℕ → Bool) (a b : Spellings) (same_name : (i : ℕ) → out i ≡ true → spelling_at_token a i ≡ spelling_at_token b i) where
   -- states that two walks are at the same place: the same names are visible, and the declarations
   -- so far are the same
   pub record Beside (x y : WalkState) : Type 0 where
@@ -113,10 +113,10 @@ module _ (out : ℕ → Bool) (a b : Spellings) (same_name : (i : ℕ) → out i
   sees x y at = record { first = at.first; second = at.second; scope = at.scope }
 
   found_adds : (r : Role) (i : ℕ) (x y : WalkState) → Sees x y → Adds x y (visit_identifier r i x) (visit_identifier r i y)
-  found_adds role.LookedUp i x y at =
-      adds_one x y (visit_identifier role.LookedUp i x) (visit_identifier role.LookedUp i y) i (ordinal_in_scope naming_by_spelling x.scope (spelling_at x.spellings i)) (ordinal_in_scope naming_by_spelling y.scope (spelling_at y.spellings i)) refl refl
-      (λ e. (λ j. ordinal_in_scope naming_by_spelling (at.scope j) (spelling_at (at.first j) i)) ∙ (ap (ordinal_in_scope naming_by_spelling y.scope) (same_name i e) ∙ ap (λ w. ordinal_in_scope naming_by_spelling y.scope (spelling_at w i)) (sym at.second)))
-  found_adds role.Declaring i x y at = adds_one x y (visit_identifier role.Declaring i x) (visit_identifier role.Declaring i y) i None None refl refl (λ e. refl)
+  found_adds role.LookedUpName i x y at =
+      adds_one x y (visit_identifier role.LookedUpName i x) (visit_identifier role.LookedUpName i y) i (ordinal_in_scope naming_by_spelling x.scope (spelling_at_token x.spellings i)) (ordinal_in_scope naming_by_spelling y.scope (spelling_at_token y.spellings i)) refl refl
+      (λ e. (λ j. ordinal_in_scope naming_by_spelling (at.scope j) (spelling_at_token (at.first j) i)) ∙ (ap (ordinal_in_scope naming_by_spelling y.scope) (same_name i e) ∙ ap (λ w. ordinal_in_scope naming_by_spelling y.scope (spelling_at_token w i)) (sym at.second)))
+  found_adds role.DeclaringName i x y at = adds_one x y (visit_identifier role.DeclaringName i x) (visit_identifier role.DeclaringName i y) i None None refl refl (λ e. refl)
   found_adds role.ClosingName i x y at = adds_one x y (visit_identifier role.ClosingName i x) (visit_identifier role.ClosingName i y) i None None refl refl (λ e. refl)
   found_adds role.FieldName i x y at = adds_one x y (visit_identifier role.FieldName i x) (visit_identifier role.FieldName i y) i None None refl refl (λ e. refl)
   found_adds role.ModuleName i x y at = adds_one x y (visit_identifier role.ModuleName i x) (visit_identifier role.ModuleName i y) i None None refl refl (λ e. refl)
@@ -128,8 +128,8 @@ module _ (out : ℕ → Bool) (a b : Spellings) (same_name : (i : ℕ) → out i
     pub declaration_tokens : x'.declaration_tokens ≡ x.declaration_tokens
 
   found_keeps : (r : Role) (i : ℕ) (x : WalkState) → Keeps x (visit_identifier r i x)
-  found_keeps role.LookedUp i x = record { spellings = refl; scope = refl; declaration_tokens = refl }
-  found_keeps role.Declaring i x = record { spellings = refl; scope = refl; declaration_tokens = refl }
+  found_keeps role.LookedUpName i x = record { spellings = refl; scope = refl; declaration_tokens = refl }
+  found_keeps role.DeclaringName i x = record { spellings = refl; scope = refl; declaration_tokens = refl }
   found_keeps role.ClosingName i x = record { spellings = refl; scope = refl; declaration_tokens = refl }
   found_keeps role.FieldName i x = record { spellings = refl; scope = refl; declaration_tokens = refl }
   found_keeps role.ModuleName i x = record { spellings = refl; scope = refl; declaration_tokens = refl }
@@ -151,12 +151,12 @@ module _ (out : ℕ → Bool) (a b : Spellings) (same_name : (i : ℕ) → out i
       (all_add rs (visit_identifier r.0 r.1 x) (visit_identifier r.0 r.1 y) (all_see x y (visit_identifier r.0 r.1 x) (visit_identifier r.0 r.1 y) at (found_keeps r.0 r.1 x) (found_keeps r.0 r.1 y)))
 
   pub used_adds : {s : Sort} (t : Tree ℕ s) (x y : WalkState) → Sees x y → Adds x y (visit_nondeclaring_tree t x) (visit_nondeclaring_tree t y)
-  used_adds t x y at = all_add (identifiers role.Declaring t) x y at
+  used_adds t x y at = all_add (identifiers role.DeclaringName t) x y at
 
   pub used_goes : {s : Sort} (t : Tree ℕ s) (x y : WalkState) → Beside x y → Goes x y (visit_nondeclaring_tree t x) (visit_nondeclaring_tree t y)
   used_goes t x y at =
-      let k = all_keep (identifiers role.Declaring t) x in
-      let l = all_keep (identifiers role.Declaring t) y in
+      let k = all_keep (identifiers role.DeclaringName t) x in
+      let l = all_keep (identifiers role.DeclaringName t) y in
       record {
         at = record {
           first = k.spellings ∙ at.first;
@@ -188,29 +188,29 @@ module _ (out : ℕ → Bool) (a b : Spellings) (same_name : (i : ℕ) → out i
       let one = numbered_goes i x y o.0 at in
       goes_then one (all_numbered is (number_declaration i x) (number_declaration i y) o.1 one.at)
 
-  names_same : (is : List ℕ) → AllOut out is → map (spelling_at a) is ≡ map (spelling_at b) is
+  names_same : (is : List ℕ) → AllOut out is → map (spelling_at_token a) is ≡ map (spelling_at_token b) is
   names_same [] o = refl
   names_same (i ∷ is) o = λ j. same_name i o.0 j ∷ names_same is o.1 j
 
   -- Making the declarations visible, starting at one of them, keeps two walks at the same place.
-  shown_goes : (n m : ℕ) (x y : WalkState) → n ≡ m → Beside x y → Beside (with_visible_names_from n x) (with_visible_names_from m y)
+  shown_goes : (n m : ℕ) (x y : WalkState) → n ≡ m → Beside x y → Beside (with_names_visible_from_index n x) (with_names_visible_from_index m y)
   shown_goes n m x y e at =
       let later = out_later out n x.declaration_tokens at.outside in
       record {
         first = at.first;
         second = at.second;
-        scope = (λ j. declare_names (7 + n) (map (spelling_at (at.first j)) (drop n x.declaration_tokens)) (at.scope j))
+        scope = (λ j. declare_names (7 + n) (map (spelling_at_token (at.first j)) (drop n x.declaration_tokens)) (at.scope j))
             ∙ (ap (λ ns. declare_names (7 + n) ns y.scope) (names_same (drop n x.declaration_tokens) later)
-            ∙ (λ j. declare_names (7 + e j) (map (spelling_at (sym at.second j)) (drop (e j) (at.declaration_tokens j))) y.scope));
+            ∙ (λ j. declare_names (7 + e j) (map (spelling_at_token (sym at.second j)) (drop (e j) (at.declaration_tokens j))) y.scope));
         declaration_tokens = at.declaration_tokens;
         outside = at.outside;
       }
 
-  then_shown : (n m : ℕ) {x y x' y' : WalkState} → n ≡ m → Goes x y x' y' → Goes x y (with_visible_names_from n x') (with_visible_names_from m y')
+  then_shown : (n m : ℕ) {x y x' y' : WalkState} → n ≡ m → Goes x y x' y' → Goes x y (with_names_visible_from_index n x') (with_names_visible_from_index m y')
   then_shown n m {x' = x'} {y' = y'} e p = record { at = shown_goes n m x' y' e p.at; adds = record { firsts = p.adds.firsts; seconds = p.adds.seconds; first_is = p.adds.first_is; second_is = p.adds.second_is; alike = p.adds.alike } }
 
   group_goes : {s : Sort} (is : List ℕ) (t : Tree ℕ s) (x y : WalkState) → AllOut out is → Beside x y
-      → Goes x y (with_visible_names_from (length x.declaration_tokens) (visit_nondeclaring_tree t (number_declarations is x))) (with_visible_names_from (length y.declaration_tokens) (visit_nondeclaring_tree t (number_declarations is y)))
+      → Goes x y (with_names_visible_from_index (length x.declaration_tokens) (visit_nondeclaring_tree t (number_declarations is x))) (with_names_visible_from_index (length y.declaration_tokens) (visit_nondeclaring_tree t (number_declarations is y)))
   group_goes is t x y o at =
       let one = all_numbered is x y o at in
       then_shown (length x.declaration_tokens) (length y.declaration_tokens) (ap length at.declaration_tokens) (goes_then one (used_goes t (number_declarations is x) (number_declarations is y) one.at))
@@ -225,33 +225,33 @@ module _ (out : ℕ → Bool) (a b : Spellings) (same_name : (i : ℕ) → out i
   constants_go : (cs : Tree ℕ (items constant)) (x y : WalkState) → AllOut out (identifier_names cs) → Beside x y → Goes x y (visit_constants cs x) (visit_constants cs y)
   constants_go end x y o at = goes_nowhere x y at
   constants_go (more (declares_constant n e) cs) x y o at =
-      let parts = out_parts out (identifiers role.Declaring (declares_constant n e)) (identifiers role.Declaring cs) o in
+      let parts = out_parts out (identifiers role.DeclaringName (declares_constant n e)) (identifiers role.DeclaringName cs) o in
       let one = group_goes (n ∷ []) e x y (parts.0.0, tt) at in
       goes_then one (constants_go cs (visit_constant (declares_constant n e) x) (visit_constant (declares_constant n e) y) parts.1 one.at)
 
   types_go : (ts : Tree ℕ (items type_definition)) (x y : WalkState) → AllOut out (identifier_names ts) → Beside x y → Goes x y (visit_types ts x) (visit_types ts y)
   types_go end x y o at = goes_nowhere x y at
   types_go (more (declares_type n t) ts) x y o at =
-      let parts = out_parts out (identifiers role.Declaring (declares_type n t)) (identifiers role.Declaring ts) o in
+      let parts = out_parts out (identifiers role.DeclaringName (declares_type n t)) (identifiers role.DeclaringName ts) o in
       let one = group_goes (n ∷ []) t x y (parts.0.0, tt) at in
       goes_then one (types_go ts (visit_type (declares_type n t) x) (visit_type (declares_type n t) y) parts.1 one.at)
 
   variables_go : (gs : Tree ℕ (items variable)) (x y : WalkState) → AllOut out (identifier_names gs) → Beside x y → Goes x y (visit_variables gs x) (visit_variables gs y)
   variables_go end x y o at = goes_nowhere x y at
   variables_go (more (declares_variable ns t) gs) x y o at =
-      let parts = out_parts out (identifiers role.Declaring (declares_variable ns t)) (identifiers role.Declaring gs) o in
-      let named = out_parts out (identifiers role.Declaring ns) (identifiers role.Declaring t) parts.0 in
+      let parts = out_parts out (identifiers role.DeclaringName (declares_variable ns t)) (identifiers role.DeclaringName gs) o in
+      let named = out_parts out (identifiers role.DeclaringName ns) (identifiers role.DeclaringName t) parts.0 in
       let one = group_goes (names_in_list ns) t x y (listed_out ns named.0) at in
       goes_then one (variables_go gs (visit_variable (declares_variable ns t) x) (visit_variable (declares_variable ns t) y) parts.1 one.at)
 
   section_goes : (f : Tree ℕ section) (x y : WalkState) → AllOut out (identifier_names f) → Beside x y → Goes x y (visit_parameter_section f x) (visit_parameter_section f y)
-  section_goes (value_section ns t) x y o at = group_goes (names_in_list ns) t x y (listed_out ns (out_parts out (identifiers role.Declaring ns) (identifiers role.Declaring t) o).0) at
-  section_goes (variable_section ns t) x y o at = group_goes (names_in_list ns) t x y (listed_out ns (out_parts out (identifiers role.Declaring ns) (identifiers role.Declaring t) o).0) at
+  section_goes (value_section ns t) x y o at = group_goes (names_in_list ns) t x y (listed_out ns (out_parts out (identifiers role.DeclaringName ns) (identifiers role.DeclaringName t) o).0) at
+  section_goes (variable_section ns t) x y o at = group_goes (names_in_list ns) t x y (listed_out ns (out_parts out (identifiers role.DeclaringName ns) (identifiers role.DeclaringName t) o).0) at
 
   sections_go : (fs : Tree ℕ (items section_after_semicolon)) (x y : WalkState) → AllOut out (identifier_names fs) → Beside x y → Goes x y (visit_parameter_sections fs x) (visit_parameter_sections fs y)
   sections_go end x y o at = goes_nowhere x y at
   sections_go (more (semicolon_then_section f) fs) x y o at =
-      let parts = out_parts out (identifiers role.Declaring f) (identifiers role.Declaring fs) o in
+      let parts = out_parts out (identifiers role.DeclaringName f) (identifiers role.DeclaringName fs) o in
       let one = section_goes f x y parts.0 at in
       goes_then one (sections_go fs (visit_parameter_section f x) (visit_parameter_section f y) parts.1 one.at)
 
@@ -259,7 +259,7 @@ module _ (out : ℕ → Bool) (a b : Spellings) (same_name : (i : ℕ) → out i
   formals_go none x y o at = goes_nowhere x y at
   formals_go (one no_formals) x y o at = goes_nowhere x y at
   formals_go (one (some_formals f fs)) x y o at =
-      let parts = out_parts out (identifiers role.Declaring f) (identifiers role.Declaring fs) o in
+      let parts = out_parts out (identifiers role.DeclaringName f) (identifiers role.DeclaringName fs) o in
       let one = section_goes f x y parts.0 at in
       goes_then one (sections_go fs (visit_parameter_section f x) (visit_parameter_section f y) parts.1 one.at)
 
@@ -310,7 +310,7 @@ module _ (out : ℕ → Bool) (a b : Spellings) (same_name : (i : ℕ) → out i
       let shown : Beside (state_after_procedure_block n k outer x) (state_after_procedure_block n l out_too y) = record {
         first = at.first;
         second = at.second;
-        scope = λ j. ((ap (λ w. spelling_at w n) at.first ∙ (same_name n o ∙ ap (λ w. spelling_at w n) (sym at.second))) j, e j) ∷ left.scope j;
+        scope = λ j. ((ap (λ w. spelling_at_token w n) at.first ∙ (same_name n o ∙ ap (λ w. spelling_at_token w n) (sym at.second))) j, e j) ∷ left.scope j;
         declaration_tokens = at.declaration_tokens;
         outside = at.outside;
       } in
@@ -320,27 +320,27 @@ module _ (out : ℕ → Bool) (a b : Spellings) (same_name : (i : ℕ) → out i
   mutual
     pub block_goes : (t : Tree ℕ block) (x y : WalkState) → AllOut out (identifier_names t) → Beside x y → Goes x y (visit_block t x) (visit_block t y)
     block_goes (forms_block (declares cs ts vs ps) statements) x y o at =
-        let whole = out_parts out (identifiers role.Declaring (declares cs ts vs ps)) (identifiers role.Declaring statements) o in
-        let c = out_parts out (identifiers role.Declaring cs) (identifiers role.Declaring ts ++ (identifiers role.Declaring vs ++ identifiers role.Declaring ps)) whole.0 in
-        let t = out_parts out (identifiers role.Declaring ts) (identifiers role.Declaring vs ++ identifiers role.Declaring ps) c.1 in
-        let v = out_parts out (identifiers role.Declaring vs) (identifiers role.Declaring ps) t.1 in
+        let whole = out_parts out (identifiers role.DeclaringName (declares cs ts vs ps)) (identifiers role.DeclaringName statements) o in
+        let c = out_parts out (identifiers role.DeclaringName cs) (identifiers role.DeclaringName ts ++ (identifiers role.DeclaringName vs ++ identifiers role.DeclaringName ps)) whole.0 in
+        let t = out_parts out (identifiers role.DeclaringName ts) (identifiers role.DeclaringName vs ++ identifiers role.DeclaringName ps) c.1 in
+        let v = out_parts out (identifiers role.DeclaringName vs) (identifiers role.DeclaringName ps) t.1 in
         let p = declared_goes cs ts vs x y c.0 t.0 v.0 at in
         let x₁ = visit_variable_section vs (visit_type_section ts (visit_constant_section cs x)) in
         let y₁ = visit_variable_section vs (visit_type_section ts (visit_constant_section cs y)) in
         let q = procedures_go ps x₁ y₁ v.1 p.at in
-        goes_then p (goes_then q (used_goes statements (visit_procedures ps x₁) (visit_procedures ps y₁) q.at))
+        goes_then p (goes_then q (used_goes statements (visit_procedure_list ps x₁) (visit_procedure_list ps y₁) q.at))
 
-    pub procedures_go : (ps : Tree ℕ (items procedure)) (x y : WalkState) → AllOut out (identifier_names ps) → Beside x y → Goes x y (visit_procedures ps x) (visit_procedures ps y)
+    pub procedures_go : (ps : Tree ℕ (items procedure)) (x y : WalkState) → AllOut out (identifier_names ps) → Beside x y → Goes x y (visit_procedure_list ps x) (visit_procedure_list ps y)
     procedures_go end x y o at = goes_nowhere x y at
     procedures_go (more p ps) x y o at =
-        let parts = out_parts out (identifiers role.Declaring p) (identifiers role.Declaring ps) o in
+        let parts = out_parts out (identifiers role.DeclaringName p) (identifiers role.DeclaringName ps) o in
         let one = procedure_goes p x y parts.0 at in
         goes_then one (procedures_go ps (visit_procedure p x) (visit_procedure p y) parts.1 one.at)
 
     pub procedure_goes : (p : Tree ℕ (item procedure)) (x y : WalkState) → AllOut out (identifier_names p) → Beside x y → Goes x y (visit_procedure p x) (visit_procedure p y)
     procedure_goes (declares_procedure n fs t closing) x y o at =
-        let f = out_parts out (identifiers role.Declaring fs) (identifiers role.Declaring t ++ ((role.ClosingName, closing) ∷ [])) o.1 in
-        let g = out_parts out (identifiers role.Declaring t) ((role.ClosingName, closing) ∷ []) f.1 in
+        let f = out_parts out (identifiers role.DeclaringName fs) (identifiers role.DeclaringName t ++ ((role.ClosingName, closing) ∷ [])) o.1 in
+        let g = out_parts out (identifiers role.DeclaringName t) ((role.ClosingName, closing) ∷ []) f.1 in
         let h = heading_goes n fs x y o.0 f.0 at in
         let x₁ = state_after_heading (length x.declaration_tokens) (length x.scope) (visit_formals fs (number_declaration n x)) in
         let y₁ = state_after_heading (length y.declaration_tokens) (length y.scope) (visit_formals fs (number_declaration n y)) in

@@ -12,14 +12,14 @@ use Rattle.ob0_tree.specs.Tree.{Tree, block, body, declares, declares_procedure,
 use Rattle.ob0_tree.proofs.AscendingNumbers.{AllBelow, ascend_first, ascend_past, ascend_second, before_one, below_more, below_second, leaves_append}
 use Rattle.ob0_language_names.specs.Names.{Name}
 use Rattle.ob0_language_names.specs.BlockParts.{procedure_name}
-use Rattle.ob0_scope_table.specs.OneBody.{closing_name, is_range_in_body_of_block, is_range_in_one_body, is_range_in_body_of_procedure, is_range_in_body_of_procedures, is_outside_range}
+use Rattle.ob0_scope_table.specs.SpellingChangesInOneBody.{closing_name, is_range_in_body_of_block, is_range_in_one_body, is_range_in_body_of_procedure, is_range_in_body_of_procedures_or_statements, is_outside_range}
 use Rattle.ob0_scope_table.specs.Resolution.{declaring_names}
 use Rattle.ob0_scope_table.proofs.Plain.{declares_nothing, declaring_names-append}
 use Rattle.ob0_scope_numbering.specs.MarkWalk.{WalkState, initial_walk_state}
-use Rattle.ob0_scope_numbering.specs.IdentifierWalk.{state_after_heading, with_mark, number_declaration, visit_nondeclaring_tree, visit_block, visit_constant_section, visit_formals, visit_module, visit_procedure, visit_procedures, visit_type_section, visit_variable_section}
+use Rattle.ob0_scope_numbering.specs.IdentifierWalk.{state_after_heading, with_mark, number_declaration, visit_nondeclaring_tree, visit_block, visit_constant_section, visit_formals, visit_module, visit_procedure, visit_procedure_list, visit_type_section, visit_variable_section}
 use Rattle.ob0_scope_numbering.specs.OrdinalMarks.{OrdinalMark}
-use Rattle.ob0_scope_numbering.specs.BodyWalk.{with_declarations_before, prefix_before_token, with_skipped_procedure_name, renumber_block, renumber_procedure, renumber_procedures}
-use Rattle.ob0_scope_numbering.specs.IdentifierSpellings.{Spellings, spelling_at}
+use Rattle.ob0_scope_numbering.specs.BodyWalk.{with_declarations_before_token, prefix_before_token, with_skipped_procedure_name, renumber_block, renumber_procedure, renumber_procedure_list}
+use Rattle.ob0_scope_numbering.specs.IdentifierSpellings.{Spellings, spelling_at_token}
 use Rattle.ob0_scope_numbering.proofs.Alongside.{Adds, Alike, AllOut, Beside, Goes, adds_then, declared_goes, ending_goes, goes_then, heading_goes, marked_goes, out_parts, out_split, procedure_goes, procedures_go, used_adds, used_goes}
 use Rattle.ob0_scope_numbering.proofs.Covered.{Covers, above_out, below_block, below_out, below_procedures, covers_all, covers_both, covers_more, covers_none, covers_same, is_above_out}
 use Rattle.ob0_scope_numbering.proofs.Tabled.{marks_again}
@@ -61,7 +61,7 @@ stops_at x (y ∷ ys) extra h =
 
 -- returns the identifiers of a procedure except its closing name
 abbrev inside : Tree ℕ (item procedure) → List ℕ
-inside (declares_procedure x fs b closing) = x ∷ names_without_roles (identifiers role.Declaring fs ++ identifiers role.Declaring b)
+inside (declares_procedure x fs b closing) = x ∷ names_without_roles (identifiers role.DeclaringName fs ++ identifiers role.DeclaringName b)
 
 procedure_ends : (p : Tree ℕ (item procedure)) → identifier_names p ≡ inside p ++ (closing_name p ∷ [])
 procedure_ends (declares_procedure x fs b closing) = simp (leaves_append, append_assoc)
@@ -83,7 +83,7 @@ ascend_after p rest from to h =
 
 -- ---- the walks
 
-module _ (old new : Spellings) (all : List ℕ) (bound low high : ℕ) (same : (i : ℕ) → is_outside_range low high i ≡ true → spelling_at old i ≡ spelling_at new i) (rise : AreAscendingWithin 0 all bound) where
+module _ (old new : Spellings) (all : List ℕ) (bound low high : ℕ) (same : (i : ℕ) → is_outside_range low high i ≡ true → spelling_at_token old i ≡ spelling_at_token new i) (rise : AreAscendingWithin 0 all bound) where
   abbrev out : ℕ → Bool
   out = is_outside_range low high
 
@@ -94,7 +94,7 @@ module _ (old new : Spellings) (all : List ℕ) (bound low high : ℕ) (same : (
   abbrev pub NearGoes : WalkState → WalkState → WalkState → WalkState → Type 0
   NearGoes = Goes out old new same
 
-  pub nothing_new : (i : ℕ) → true ≡ true → spelling_at new i ≡ spelling_at new i
+  pub nothing_new : (i : ℕ) → true ≡ true → spelling_at_token new i ≡ spelling_at_token new i
   nothing_new i e = refl
 
   -- holds if the walk to the body and the complete walk through the new text are at the same place
@@ -123,7 +123,7 @@ module _ (old new : Spellings) (all : List ℕ) (bound low high : ℕ) (same : (
   on_behind : (v w : WalkState) → On v w → Behind v w
   on_behind v w at = record { first = at.first; second = at.second; scope = at.scope; behind = []; is = sym at.declaration_tokens ∙ sym (append-nil v.declaration_tokens) }
 
-  caught : (x : ℕ) (extra : List ℕ) (v w : WalkState) → Behind v w → all ≡ w.declaration_tokens ++ (x ∷ extra) → On (with_declarations_before all x v) w
+  caught : (x : ℕ) (extra : List ℕ) (v w : WalkState) → Behind v w → all ≡ w.declaration_tokens ++ (x ∷ extra) → On (with_declarations_before_token all x v) w
   caught x extra v w at e =
       let split : all ≡ v.declaration_tokens ++ (at.behind ++ (x ∷ extra)) = e ∙ (ap (λ ds. ds ++ (x ∷ extra)) at.is ∙ append_assoc v.declaration_tokens at.behind (x ∷ extra)) in
       let rest : drop (length v.declaration_tokens) all ≡ at.behind ++ (x ∷ extra) = ap (drop (length v.declaration_tokens)) split ∙ drop-append_seam v.declaration_tokens (at.behind ++ (x ∷ extra)) in
@@ -163,74 +163,74 @@ module _ (old new : Spellings) (all : List ℕ) (bound low high : ℕ) (same : (
 
   -- returns the declaring tokens in a procedure after its name
   abbrev others_declared : Tree ℕ (item procedure) → List ℕ
-  others_declared (declares_procedure x fs b closing) = declaring_names (identifiers role.Declaring fs ++ (identifiers role.Declaring b ++ ((role.ClosingName, closing) ∷ [])))
+  others_declared (declares_procedure x fs b closing) = declaring_names (identifiers role.DeclaringName fs ++ (identifiers role.DeclaringName b ++ ((role.ClosingName, closing) ∷ [])))
 
-  name_first : (q : Tree ℕ (item procedure)) → declaring_names (identifiers role.Declaring q) ≡ procedure_name q ∷ others_declared q
+  name_first : (q : Tree ℕ (item procedure)) → declaring_names (identifiers role.DeclaringName q) ≡ procedure_name q ∷ others_declared q
   name_first (declares_procedure x fs b closing) = refl
 
-  name_passed : (q : Tree ℕ (item procedure)) (w : WalkState) → (procedure_name (spelled nowhere written new value q), 7 + length w.declaration_tokens) ∷ w.scope ≡ (spelling_at new (procedure_name q), 7 + length w.declaration_tokens) ∷ w.scope
+  name_passed : (q : Tree ℕ (item procedure)) (w : WalkState) → (procedure_name (spelled nowhere written new value q), 7 + length w.declaration_tokens) ∷ w.scope ≡ (spelling_at_token new (procedure_name q), 7 + length w.declaration_tokens) ∷ w.scope
   name_passed (declares_procedure x fs b closing) w = refl
 
-  statements_declare_nothing : (t : Tree ℕ (maybe body)) → declaring_names (identifiers role.Declaring t) ≡ []
+  statements_declare_nothing : (t : Tree ℕ (maybe body)) → declaring_names (identifiers role.DeclaringName t) ≡ []
   statements_declare_nothing t = (declares_nothing tt t).plain
 
   -- states that the walk through procedures and statements reaches the body; `Here` states it for
   -- one procedure
   abbrev Rest : Tree ℕ (items procedure) → Tree ℕ (maybe body) → Type 0
   Rest ps statements =
-      (o w v : WalkState) (from to : ℕ) (extra : List ℕ) → is_range_in_body_of_procedures low high ps statements ≡ true → AreAscendingWithin from (identifier_names ps ++ identifier_names statements) to
-      → all ≡ w.declaration_tokens ++ (declaring_names (identifiers role.Declaring ps) ++ extra) → Itself w → Near o w → Behind v w
-      → Reaches o w v (visit_nondeclaring_tree statements (visit_procedures ps o)) (visit_nondeclaring_tree statements (visit_procedures ps w)) (renumber_procedures all low ps statements v)
+      (o w v : WalkState) (from to : ℕ) (extra : List ℕ) → is_range_in_body_of_procedures_or_statements low high ps statements ≡ true → AreAscendingWithin from (identifier_names ps ++ identifier_names statements) to
+      → all ≡ w.declaration_tokens ++ (declaring_names (identifiers role.DeclaringName ps) ++ extra) → Itself w → Near o w → Behind v w
+      → Reaches o w v (visit_nondeclaring_tree statements (visit_procedure_list ps o)) (visit_nondeclaring_tree statements (visit_procedure_list ps w)) (renumber_procedure_list all low ps statements v)
 
   abbrev Here : Tree ℕ (item procedure) → Type 0
   Here q =
       (o w v : WalkState) (from to : ℕ) (extra : List ℕ) → is_range_in_body_of_procedure low high q ≡ true → high ≤ closing_name q → AreAscendingWithin from (identifier_names q) to
-      → all ≡ w.declaration_tokens ++ (declaring_names (identifiers role.Declaring q) ++ extra) → Itself w → Near o w → On v w
+      → all ≡ w.declaration_tokens ++ (declaring_names (identifiers role.DeclaringName q) ++ extra) → Itself w → Near o w → On v w
       → Reaches o w v (visit_procedure q o) (visit_procedure q w) (renumber_procedure all low q v)
 
   -- One more procedure is either skipped, or has the body in it.
   one_procedure : (q : Tree ℕ (item procedure)) (ps : Tree ℕ (items procedure)) (statements : Tree ℕ (maybe body)) (o w v : WalkState) (from to : ℕ) (rest : List ℕ) → Rest ps statements → Here q
-      → all ≡ w.declaration_tokens ++ (declaring_names (identifiers role.Declaring q) ++ (declaring_names (identifiers role.Declaring ps) ++ rest)) → Itself w → Near o w → On (with_declarations_before all (procedure_name q) v) w
+      → all ≡ w.declaration_tokens ++ (declaring_names (identifiers role.DeclaringName q) ++ (declaring_names (identifiers role.DeclaringName ps) ++ rest)) → Itself w → Near o w → On (with_declarations_before_token all (procedure_name q) v) w
       → AreAscendingWithin from (identifier_names q ++ (identifier_names ps ++ identifier_names statements)) to → (b : Bool) → nat_lt (closing_name q) low ≡ b
-      → (if b then is_range_in_body_of_procedures low high ps statements else nat_le high (closing_name q) && is_range_in_body_of_procedure low high q) ≡ true
-      → Reaches o w v (visit_nondeclaring_tree statements (visit_procedures ps (visit_procedure q o))) (visit_nondeclaring_tree statements (visit_procedures ps (visit_procedure q w)))
-      (if b then renumber_procedures all low ps statements (with_skipped_procedure_name (procedure_name q) (with_declarations_before all (procedure_name q) v)) else renumber_procedure all low q (with_declarations_before all (procedure_name q) v))
+      → (if b then is_range_in_body_of_procedures_or_statements low high ps statements else nat_le high (closing_name q) && is_range_in_body_of_procedure low high q) ≡ true
+      → Reaches o w v (visit_nondeclaring_tree statements (visit_procedure_list ps (visit_procedure q o))) (visit_nondeclaring_tree statements (visit_procedure_list ps (visit_procedure q w)))
+      (if b then renumber_procedure_list all low ps statements (with_skipped_procedure_name (procedure_name q) (with_declarations_before_token all (procedure_name q) v)) else renumber_procedure all low q (with_declarations_before_token all (procedure_name q) v))
   one_procedure q ps statements o w v from to rest later here first at near on parts true e inside_them =
       let x = procedure_name q in
-      let v₁ = with_declarations_before all x v in
+      let v₁ = with_declarations_before_token all x v in
       let w₁ = visit_procedure q w in
       let passed = procedure_passed nowhere written new value q w w.scope (7 + length w.declaration_tokens) at in
-      let next : all ≡ w₁.declaration_tokens ++ (declaring_names (identifiers role.Declaring ps) ++ rest) =
+      let next : all ≡ w₁.declaration_tokens ++ (declaring_names (identifiers role.DeclaringName ps) ++ rest) =
       first
-      ∙ (sym (append_assoc w.declaration_tokens (declaring_names (identifiers role.Declaring q)) (declaring_names (identifiers role.Declaring ps) ++ rest))
-      ∙ ap (λ l. l ++ (declaring_names (identifiers role.Declaring ps) ++ rest)) (sym passed.declared)) in
+      ∙ (sym (append_assoc w.declaration_tokens (declaring_names (identifiers role.DeclaringName q)) (declaring_names (identifiers role.DeclaringName ps) ++ rest))
+      ∙ ap (λ l. l ++ (declaring_names (identifiers role.DeclaringName ps) ++ rest)) (sym passed.declared)) in
       let less : closing_name q < low = grind (arith, nat_tests) in
       let outside = below_out low high (identifier_names q) (procedure_below low q from to less (ascend_first from (identifier_names q) (identifier_names ps ++ identifier_names statements) to parts)) in
       let n = procedure_goes out old new same q o w outside near in
       let behind₁ : Behind (with_skipped_procedure_name x v₁) w₁ = record {
         first = on.first;
         second = passed.at.spellings;
-        scope = (λ j. (spelling_at (on.first j) x, 7 + length (on.declaration_tokens j)) ∷ on.scope j) ∙ sym (passed.at.scope ∙ name_passed q w);
-        behind = declaring_names (identifiers role.Declaring q);
-        is = passed.declared ∙ ap (λ ds. ds ++ declaring_names (identifiers role.Declaring q)) (sym on.declaration_tokens);
+        scope = (λ j. (spelling_at_token (on.first j) x, 7 + length (on.declaration_tokens j)) ∷ on.scope j) ∙ sym (passed.at.scope ∙ name_passed q w);
+        behind = declaring_names (identifiers role.DeclaringName q);
+        is = passed.declared ∙ ap (λ ds. ds ++ declaring_names (identifiers role.DeclaringName q)) (sym on.declaration_tokens);
       } in
       let tokens : tokens_of n.adds.seconds ≡ identifier_names q = tokens_added w.marks w₁.marks n.adds.seconds (identifier_names q) n.adds.second_is passed.tokens in
       let covered = covers_all out n.adds.seconds (subst (AllOut out) (sym tokens) outside) in
       let r = later (visit_procedure q o) w₁ (with_skipped_procedure_name x v₁) from to rest inside_them (ascend_second from (identifier_names q) (identifier_names ps ++ identifier_names statements) to parts) next (at_itself passed.at) n.at behind₁ in
       record { near = goes_then out old new same n r.near; added = r.added; is = r.is; covers = covers_both out covered r.covers }
   one_procedure q ps statements o w v from to rest later here first at near on parts false e inside_it =
-      let v₁ = with_declarations_before all (procedure_name q) v in
+      let v₁ = with_declarations_before_token all (procedure_name q) v in
       let both = and_parts (nat_le high (closing_name q)) (is_range_in_body_of_procedure low high q) inside_it in
       let reaches_end = both.0 in
       let le : high ≤ closing_name q = grind (arith, nat_tests) in
       let passed = procedure_passed nowhere written new value q w w.scope (7 + length w.declaration_tokens) at in
-      let h = here o w v₁ from to (declaring_names (identifiers role.Declaring ps) ++ rest) both.1 le (ascend_first from (identifier_names q) (identifier_names ps ++ identifier_names statements) to parts) first at near on in
+      let h = here o w v₁ from to (declaring_names (identifiers role.DeclaringName ps) ++ rest) both.1 le (ascend_first from (identifier_names q) (identifier_names ps ++ identifier_names statements) to parts) first at near on in
       let w₁ = visit_procedure q w in
-      let w₂ = visit_procedures ps w₁ in
+      let w₂ = visit_procedure_list ps w₁ in
       let beyond = ascend_after q (identifier_names ps ++ identifier_names statements) from to parts in
       let outside = out_split out (identifier_names ps) (identifier_names statements) (above_out low high (closing_name q + 1) (identifier_names ps ++ identifier_names statements) to (omega (arith, le)) beyond) in
       let n = procedures_go out old new same ps (visit_procedure q o) w₁ outside.0 h.near.at in
-      let m = used_goes out old new same statements (visit_procedures ps (visit_procedure q o)) w₂ n.at in
+      let m = used_goes out old new same statements (visit_procedure_list ps (visit_procedure q o)) w₂ n.at in
       let p₁ = procedures_passed nowhere written new value ps w₁ w₁.scope (7 + length w₁.declaration_tokens) (at_itself passed.at) in
       let p₂ = used_passed nowhere written new value statements w₂ w₂.scope (7 + length w₂.declaration_tokens) tt (at_itself p₁.at) in
       let t₁ : tokens_of n.adds.seconds ≡ identifier_names ps = tokens_added w₁.marks w₂.marks n.adds.seconds (identifier_names ps) n.adds.second_is p₁.tokens in
@@ -246,13 +246,13 @@ module _ (old new : Spellings) (all : List ℕ) (bound low high : ℕ) (same : (
 
   mutual
     pub block_reached : (b : Tree ℕ block) (o w v : WalkState) (from to : ℕ) (extra : List ℕ) → is_range_in_body_of_block low high b ≡ true → AreAscendingWithin from (identifier_names b) to
-        → all ≡ w.declaration_tokens ++ (declaring_names (identifiers role.Declaring b) ++ extra) → Itself w → Near o w → On v w → Reaches o w v (visit_block b o) (visit_block b w) (renumber_block all low b v)
+        → all ≡ w.declaration_tokens ++ (declaring_names (identifiers role.DeclaringName b) ++ extra) → Itself w → Near o w → On v w → Reaches o w v (visit_block b o) (visit_block b w) (renumber_block all low b v)
     block_reached (forms_block (declares cs ts vs ps) statements) o w v from to extra inside_it rising declared at near on =
-        let c = identifiers role.Declaring cs in
-        let t = identifiers role.Declaring ts in
-        let g = identifiers role.Declaring vs in
-        let p = identifiers role.Declaring ps in
-        let s = identifiers role.Declaring statements in
+        let c = identifiers role.DeclaringName cs in
+        let t = identifiers role.DeclaringName ts in
+        let g = identifiers role.DeclaringName vs in
+        let p = identifiers role.DeclaringName ps in
+        let s = identifiers role.DeclaringName statements in
         let split : names_without_roles ((c ++ (t ++ (g ++ p))) ++ s) ≡ names_without_roles (c ++ (t ++ g)) ++ (names_without_roles p ++ names_without_roles s) = simp (leaves_append, append_assoc) in
         let parts = subst (λ l. AreAscendingWithin from l to) split rising in
         let before = below_out low high (names_without_roles (c ++ (t ++ g))) (below_procedures low high ps statements (names_without_roles (c ++ (t ++ g))) from to inside_it parts) in
@@ -281,16 +281,16 @@ module _ (old new : Spellings) (all : List ℕ) (bound low high : ℕ) (same : (
         let rest = procedures_reached ps statements o₃ w₃ v₃ from to extra inside_it (ascend_second from (names_without_roles (c ++ (t ++ g))) (names_without_roles p ++ names_without_roles s) to parts) here (at_itself passed.at) n.at (on_behind v₃ w₃ m.at) in
         joined_reach o w v o₃ w₃ v₃ _ _ _ n m.adds rest
 
-    pub procedures_reached : (ps : Tree ℕ (items procedure)) (statements : Tree ℕ (maybe body)) (o w v : WalkState) (from to : ℕ) (extra : List ℕ) → is_range_in_body_of_procedures low high ps statements ≡ true → AreAscendingWithin from (identifier_names ps ++ identifier_names statements) to
-        → all ≡ w.declaration_tokens ++ (declaring_names (identifiers role.Declaring ps) ++ extra) → Itself w → Near o w → Behind v w
-        → Reaches o w v (visit_nondeclaring_tree statements (visit_procedures ps o)) (visit_nondeclaring_tree statements (visit_procedures ps w)) (renumber_procedures all low ps statements v)
+    pub procedures_reached : (ps : Tree ℕ (items procedure)) (statements : Tree ℕ (maybe body)) (o w v : WalkState) (from to : ℕ) (extra : List ℕ) → is_range_in_body_of_procedures_or_statements low high ps statements ≡ true → AreAscendingWithin from (identifier_names ps ++ identifier_names statements) to
+        → all ≡ w.declaration_tokens ++ (declaring_names (identifiers role.DeclaringName ps) ++ extra) → Itself w → Near o w → Behind v w
+        → Reaches o w v (visit_nondeclaring_tree statements (visit_procedure_list ps o)) (visit_nondeclaring_tree statements (visit_procedure_list ps w)) (renumber_procedure_list all low ps statements v)
     procedures_reached end statements o w v from to extra inside_it rising declared at near behind =
         let n = used_goes out old new same statements o w near in
         let m = used_adds (λ i. true) new new nothing_new statements v w (record { first = behind.first; second = behind.second; scope = behind.scope }) in
         record { near = n; added = m.firsts; is = m.first_is; covers = covers_part o w (visit_nondeclaring_tree statements o) (visit_nondeclaring_tree statements w) v (visit_nondeclaring_tree statements v) n.adds m }
     procedures_reached (more q ps) statements o w v from to rest inside_it rising declared at near behind =
-        let iq = identifiers role.Declaring q in
-        let ips = identifiers role.Declaring ps in
+        let iq = identifiers role.DeclaringName q in
+        let ips = identifiers role.DeclaringName ps in
         let split : names_without_roles (iq ++ ips) ++ identifier_names statements ≡ identifier_names q ++ (identifier_names ps ++ identifier_names statements) = simp (leaves_append, append_assoc) in
         let parts = subst (λ l. AreAscendingWithin from l to) split rising in
         let first : all ≡ w.declaration_tokens ++ (declaring_names iq ++ (declaring_names ips ++ rest)) =
@@ -299,11 +299,11 @@ module _ (old new : Spellings) (all : List ℕ) (bound low high : ℕ) (same : (
         one_procedure q ps statements o w v from to rest (procedures_reached ps statements) (procedure_reached q) first at near on parts (nat_lt (closing_name q) low) refl inside_it
 
     pub procedure_reached : (q : Tree ℕ (item procedure)) (o w v : WalkState) (from to : ℕ) (extra : List ℕ) → is_range_in_body_of_procedure low high q ≡ true → high ≤ closing_name q → AreAscendingWithin from (identifier_names q) to
-        → all ≡ w.declaration_tokens ++ (declaring_names (identifiers role.Declaring q) ++ extra) → Itself w → Near o w → On v w
+        → all ≡ w.declaration_tokens ++ (declaring_names (identifiers role.DeclaringName q) ++ extra) → Itself w → Near o w → On v w
         → Reaches o w v (visit_procedure q o) (visit_procedure q w) (renumber_procedure all low q v)
     procedure_reached (declares_procedure x fs b closing) o w v from to extra inside_it le rising declared at near on =
-        let f = identifiers role.Declaring fs in
-        let i = identifiers role.Declaring b in
+        let f = identifiers role.DeclaringName fs in
+        let i = identifiers role.DeclaringName b in
         let last : List (Role × ℕ) = (role.ClosingName, closing) ∷ [] in
         let split : x ∷ names_without_roles (f ++ (i ++ last)) ≡ (x ∷ names_without_roles f) ++ (names_without_roles i ++ (closing ∷ [])) = simp (leaves_append, append_assoc) in
         let parts = subst (λ l. AreAscendingWithin from l to) split rising in
@@ -316,12 +316,12 @@ module _ (old new : Spellings) (all : List ℕ) (bound low high : ℕ) (same : (
         let o₁ = state_after_heading (length o.declaration_tokens) (length o.scope) (visit_formals fs (number_declaration x o)) in
         let w₁ = state_after_heading (length w.declaration_tokens) (length w.scope) (visit_formals fs (number_declaration x w)) in
         let v₁ = state_after_heading (length v.declaration_tokens) (length v.scope) (visit_formals fs (number_declaration x v)) in
-        let lists : declaring_names ((role.Declaring, x) ∷ (f ++ (i ++ last))) ≡ declaring_names ((role.Declaring, x) ∷ f) ++ declaring_names i = simp (declaring_names-append, append-nil) in
+        let lists : declaring_names ((role.DeclaringName, x) ∷ (f ++ (i ++ last))) ≡ declaring_names ((role.DeclaringName, x) ∷ f) ++ declaring_names i = simp (declaring_names-append, append-nil) in
         let here : all ≡ w₁.declaration_tokens ++ (declaring_names i ++ extra) =
         declared
         ∙ (ap (λ l. w.declaration_tokens ++ (l ++ extra)) lists
-        ∙ (ap (λ l. w.declaration_tokens ++ l) (append_assoc (declaring_names ((role.Declaring, x) ∷ f)) (declaring_names i) extra)
-        ∙ (sym (append_assoc w.declaration_tokens (declaring_names ((role.Declaring, x) ∷ f)) (declaring_names i ++ extra))
+        ∙ (ap (λ l. w.declaration_tokens ++ l) (append_assoc (declaring_names ((role.DeclaringName, x) ∷ f)) (declaring_names i) extra)
+        ∙ (sym (append_assoc w.declaration_tokens (declaring_names ((role.DeclaringName, x) ∷ f)) (declaring_names i ++ extra))
         ∙ ap (λ l. l ++ (declaring_names i ++ extra)) (sym passed.declared)))) in
         let r = block_reached b o₁ w₁ v₁ from to extra inside_it own here (at_itself passed.at) n.at m.at in
         let e = ending_goes out old new same x closing (7 + length o.declaration_tokens) (7 + length w.declaration_tokens) (length o.scope) (length w.scope) (visit_block b o₁) (visit_block b w₁) before.0 (ap (λ ds. 7 + length ds) near.declaration_tokens) (ap length near.scope) r.near.at in
@@ -343,9 +343,9 @@ module _ (old new : Spellings) (all : List ℕ) (bound low high : ℕ) (same : (
     pub alike : Alike out (visit_module m (initial_walk_state old)).marks (visit_module m (initial_walk_state new)).marks
     pub covers : Covers out (visit_module m (initial_walk_state new)).marks (marks_again all low m new)
 
-  pub module_marked : (m : Tree ℕ module_text) (to : ℕ) → is_range_in_one_body low high m ≡ true → AreAscendingWithin 0 (identifier_names m) to → all ≡ declaring_names (identifiers role.Declaring m) → Marked m
+  pub module_marked : (m : Tree ℕ module_text) (to : ℕ) → is_range_in_one_body low high m ≡ true → AreAscendingWithin 0 (identifier_names m) to → all ≡ declaring_names (identifiers role.DeclaringName m) → Marked m
   module_marked (forms_module x b closing) to lies rising declared =
-      let i = identifiers role.Declaring b in
+      let i = identifiers role.DeclaringName b in
       let last : List (Role × ℕ) = (role.ModuleName, closing) ∷ [] in
       let both = and_parts (nat_le high closing) (is_range_in_body_of_block low high b) lies in
       let le : high ≤ closing = grind (arith, nat_tests) in

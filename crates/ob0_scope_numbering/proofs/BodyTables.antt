@@ -6,18 +6,18 @@ use Rattle.std.specs.List.{list_any}
 use Rattle.ob0_scan.specs.TextWithTokens.{IsScan, TextWithTokens}
 use Rattle.ob0_tree.specs.declared.tree.Role.TheVariants as role
 use Rattle.ob0_tree.specs.IdentifierIndexes.{AreAscendingWithin, identifier_names}
-use Rattle.ob0_tree.specs.ParsedModule.{IsParsed, ParsedModule, tree_of}
+use Rattle.ob0_tree.specs.ParsedModule.{TreeMatchesText, ParsedModule, tree_of}
 use Rattle.ob0_tree.specs.Tree.{identifiers}
 use Rattle.ob0_tree.proofs.Leaves.{ascending_bounds, ascending_lower, leaves_ascend}
 use Rattle.ob0_language_names.specs.Names.{naming_by_spelling}
 use Rattle.ob0_language_names.specs.Scopes.{label_from_ordinal}
-use Rattle.ob0_scope_table.specs.OneBody.{ChangesSpellingsInOneBody, is_range_in_one_body, is_outside_range}
+use Rattle.ob0_scope_table.specs.SpellingChangesInOneBody.{ChangesSpellingsInOneBody, is_range_in_one_body, is_outside_range}
 use Rattle.ob0_scope_table.specs.Resolution.{declaring_names, ordinal_in}
 use Rattle.ob0_scope_table.proofs.OneBody.{text_out}
 use Rattle.ob0_scope_numbering.specs.MarkWalk.{initial_walk_state}
 use Rattle.ob0_scope_numbering.specs.IdentifierWalk.{visit_module}
-use Rattle.ob0_scope_numbering.specs.OrdinalMarks.{OrdinalMark, with_marks}
-use Rattle.ob0_scope_numbering.specs.BodyWalk.{renumber_module, initial_walk_state_with_table}
+use Rattle.ob0_scope_numbering.specs.OrdinalMarks.{OrdinalMark, table_with_marks}
+use Rattle.ob0_scope_numbering.specs.BodyWalk.{renumber_body_in_module, initial_walk_state_with_table}
 use Rattle.ob0_scope_numbering.specs.IdentifierSpellings.{original_spellings}
 use Rattle.ob0_scope_numbering.proofs.Alongside.{Alike}
 use Rattle.ob0_scope_numbering.proofs.BodyMarks.{module_marked}
@@ -73,7 +73,7 @@ marks_alike out read (o ∷ os) (m ∷ ms) has alike =
 
 -- A table with the marks outside a body has all marks after the marks of the body are entered.
 covered_marks : (out : ℕ → Bool) (table : List (Option ℕ)) {ms ns : List OrdinalMark} (low high : ℕ) → HasMarksAt out (ordinal_in table) ms → Covers out ms ns → AreAscendingWithin low (tokens_of ms) high → high ≤ length table
-    → HasMarks (ordinal_in (with_marks table ns)) ms
+    → HasMarks (ordinal_in (table_with_marks table ns)) ms
 covered_marks out table low high has covers_none ascend within = tt
 covered_marks out table low high has (covers_one {ms} {ns} m p) ascend within =
     let next : List (Option ℕ) = set table m.token m.ordinal in
@@ -90,12 +90,12 @@ covered_marks out table low high has (covers_more {ms} {ns} m e p) ascend within
     (kept_below ns table (m.token + 1) high m.token others here ∙ has.0 e, covered_marks out table (m.token + 1) high has.1 p ascend.1 within)
 
 -- The marks of the two texts are alike except in the range.
-pub body_alike : (old : TextWithTokens) (m : ParsedModule) (low high : ℕ) → IsParsed m → ChangesSpellingsInOneBody old m low high
+pub body_alike : (old : TextWithTokens) (m : ParsedModule) (low high : ℕ) → TreeMatchesText m → ChangesSpellingsInOneBody old m low high
     → Alike (is_outside_range low high) (visit_module (tree_of m) (initial_walk_state (original_spellings old))).marks (visit_module (tree_of m) (initial_walk_state (original_spellings m.source))).marks
 body_alike old m low high parsed change =
-    let all = declaring_names (identifiers role.Declaring (tree_of m)) in
+    let all = declaring_names (identifiers role.DeclaringName (tree_of m)) in
     let rising = leaves_ascend m parsed in
-    let rise = declaring_ascend (identifiers role.Declaring (tree_of m)) 0 (length m.source.tokens) rising in
+    let rise = declaring_ascend (identifiers role.DeclaringName (tree_of m)) 0 (length m.source.tokens) rising in
     (module_marked (original_spellings old) (original_spellings m.source) all (length m.source.tokens) low high (λ i e. sym (text_out old m low high change i e)) rise (tree_of m) (length m.source.tokens) change.in_body rising refl).alike
 
 -- states that a table has all marks after a body was numbered again
@@ -105,32 +105,32 @@ pub record Renumbered (m : ParsedModule) (table : List (Option ℕ)) (made : Lis
 
 -- If a table has the marks outside a range, it has all marks after the body with the range is
 -- numbered again.
-pub body_renumbered : (m : ParsedModule) (low high : ℕ) (table : List (Option ℕ)) (all : List ℕ) → IsParsed m → IsScan m.source → is_range_in_one_body low high (tree_of m) ≡ true
+pub body_renumbered : (m : ParsedModule) (low high : ℕ) (table : List (Option ℕ)) (all : List ℕ) → TreeMatchesText m → IsScan m.source → is_range_in_one_body low high (tree_of m) ≡ true
     → HasMarksAt (is_outside_range low high) (ordinal_in table) (visit_module (tree_of m) (initial_walk_state (original_spellings m.source))).marks
-    → all ≡ declaring_names (identifiers role.Declaring (tree_of m)) → length m.source.tokens ≤ length table
-    → Renumbered m table (renumber_module all low (tree_of m) (initial_walk_state_with_table (original_spellings m.source) table)).marks
+    → all ≡ declaring_names (identifiers role.DeclaringName (tree_of m)) → length m.source.tokens ≤ length table
+    → Renumbered m table (renumber_body_in_module all low (tree_of m) (initial_walk_state_with_table (original_spellings m.source) table)).marks
 body_renumbered m low high table all parsed scan lies has declared within =
     let out = is_outside_range low high in
     let w = original_spellings m.source in
     let n = length m.source.tokens in
     let rising = leaves_ascend m parsed in
-    let declared_rise = subst (λ l. AreAscendingWithin 0 l n) (sym declared) (declaring_ascend (identifiers role.Declaring (tree_of m)) 0 n rising) in
+    let declared_rise = subst (λ l. AreAscendingWithin 0 l n) (sym declared) (declaring_ascend (identifiers role.DeclaringName (tree_of m)) 0 n rising) in
     let with_mark = module_marked w w all n low high (λ i e. refl) declared_rise (tree_of m) n lies rising declared in
     let news = (visit_module (tree_of m) (initial_walk_state w)).marks in
     let again = marks_again all low (tree_of m) w in
     let passed = module_passed (λ i. None) (label_from_ordinal naming_by_spelling) w (tree_of m) (initial_walk_state w) (at_start w) in
     let ascend : AreAscendingWithin 0 (tokens_of news) n = subst (λ ts. AreAscendingWithin 0 ts n) (sym passed.tokens) rising in
     let few = marks_few m w parsed scan in
-    let kept : with_entries table again ≡ with_marks table again = entries_kept few.read few.bound again table few.small (covers_before out few.read few.bound with_mark.covers few.before) in
-    let made : (renumber_module all low (tree_of m) (initial_walk_state_with_table w table)).marks ≡ with_marks table again = body_tabled all low (tree_of m) w table ∙ kept in
+    let kept : with_entries table again ≡ table_with_marks table again = entries_kept few.read few.bound again table few.small (covers_before out few.read few.bound with_mark.covers few.before) in
+    let made : (renumber_body_in_module all low (tree_of m) (initial_walk_state_with_table w table)).marks ≡ table_with_marks table again = body_tabled all low (tree_of m) w table ∙ kept in
     record {
       marks = subst (λ (t : List (Option ℕ)). HasMarks (ordinal_in t) news) (sym made) (covered_marks out table 0 n has with_mark.covers ascend within);
       elsewhere = λ i e. ap (λ (t : List (Option ℕ)). ordinal_in t i) made ∙ kept_elsewhere again table i (covers_absent out i with_mark.covers (ap (list_any (λ j. j == i)) passed.tokens ∙ e));
     }
 
-pub body_numbered : (old : TextWithTokens) (m : ParsedModule) (low high : ℕ) (table : List (Option ℕ)) (all : List ℕ) → IsParsed m → ChangesSpellingsInOneBody old m low high → HasMarks (ordinal_in table) (visit_module (tree_of m) (initial_walk_state (original_spellings old))).marks
-    → all ≡ declaring_names (identifiers role.Declaring (tree_of m)) → length m.source.tokens ≤ length table
-    → Renumbered m table (renumber_module all low (tree_of m) (initial_walk_state_with_table (original_spellings m.source) table)).marks
+pub body_numbered : (old : TextWithTokens) (m : ParsedModule) (low high : ℕ) (table : List (Option ℕ)) (all : List ℕ) → TreeMatchesText m → ChangesSpellingsInOneBody old m low high → HasMarks (ordinal_in table) (visit_module (tree_of m) (initial_walk_state (original_spellings old))).marks
+    → all ≡ declaring_names (identifiers role.DeclaringName (tree_of m)) → length m.source.tokens ≤ length table
+    → Renumbered m table (renumber_body_in_module all low (tree_of m) (initial_walk_state_with_table (original_spellings m.source) table)).marks
 body_numbered old m low high table all parsed change has declared within =
     let olds = (visit_module (tree_of m) (initial_walk_state (original_spellings old))).marks in
     let news = (visit_module (tree_of m) (initial_walk_state (original_spellings m.source))).marks in

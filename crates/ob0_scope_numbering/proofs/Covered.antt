@@ -10,7 +10,7 @@ use Rattle.ob0_tree.specs.IdentifierIndexes.{AreAscendingWithin, identifier_name
 use Rattle.ob0_tree.specs.Tree.{Tree, block, body, declares, declares_procedure, end, forms_block, identifiers, item, items, maybe, more, procedure}
 use Rattle.ob0_tree.proofs.Leaves.{ascending_lower}
 use Rattle.ob0_tree.proofs.AscendingNumbers.{AllBelow, ascend_first, ascend_second, before_one, below_first, below_more, leaves_append}
-use Rattle.ob0_scope_table.specs.OneBody.{first_identifier_is_at_or_before, closing_name, is_range_in_body_of_block, is_range_in_body_of_procedure, is_range_in_body_of_procedures, is_outside_range}
+use Rattle.ob0_scope_table.specs.SpellingChangesInOneBody.{first_identifier_is_at_or_before_token, closing_name, is_range_in_body_of_block, is_range_in_body_of_procedure, is_range_in_body_of_procedures_or_statements, is_outside_range}
 use Rattle.ob0_scope_table.specs.Resolution.{declaring_names}
 use Rattle.ob0_scope_numbering.specs.OrdinalMarks.{OrdinalMark}
 use Rattle.ob0_scope_numbering.proofs.Alongside.{AllOut}
@@ -19,8 +19,8 @@ use Rattle.ob0_scope_numbering.proofs.Passing.{tokens_of}
 -- The declaring identifiers ascend if all identifiers do.
 pub declaring_ascend : (xs : List (Role × ℕ)) (low high : ℕ) → AreAscendingWithin low (names_without_roles xs) high → AreAscendingWithin low (declaring_names xs) high
 declaring_ascend [] low high h = h
-declaring_ascend ((role.Declaring, n) ∷ xs) low high h = (h.0, declaring_ascend xs (n + 1) high h.1)
-declaring_ascend ((role.LookedUp, n) ∷ xs) low high h = ascending_lower low (n + 1) (declaring_names xs) high (omega (arith, h.0)) (declaring_ascend xs (n + 1) high h.1)
+declaring_ascend ((role.DeclaringName, n) ∷ xs) low high h = (h.0, declaring_ascend xs (n + 1) high h.1)
+declaring_ascend ((role.LookedUpName, n) ∷ xs) low high h = ascending_lower low (n + 1) (declaring_names xs) high (omega (arith, h.0)) (declaring_ascend xs (n + 1) high h.1)
 declaring_ascend ((role.ClosingName, n) ∷ xs) low high h = ascending_lower low (n + 1) (declaring_names xs) high (omega (arith, h.0)) (declaring_ascend xs (n + 1) high h.1)
 declaring_ascend ((role.FieldName, n) ∷ xs) low high h = ascending_lower low (n + 1) (declaring_names xs) high (omega (arith, h.0)) (declaring_ascend xs (n + 1) high h.1)
 declaring_ascend ((role.ModuleName, n) ∷ xs) low high h = ascending_lower low (n + 1) (declaring_names xs) high (omega (arith, h.0)) (declaring_ascend xs (n + 1) high h.1)
@@ -50,47 +50,47 @@ above_out low high from (x ∷ xs) to le h = (is_above_out low high x (omega (ar
 
 -- ---- the tokens before the body are before the range
 
-begun : (low high : ℕ) (pre : List ℕ) (xs : List (Role × ℕ)) (from to : ℕ) → first_identifier_is_at_or_before low xs ≡ true → AreAscendingWithin from (pre ++ names_without_roles xs) to → AllBelow low pre
+begun : (low high : ℕ) (pre : List ℕ) (xs : List (Role × ℕ)) (from to : ℕ) → first_identifier_is_at_or_before_token low xs ≡ true → AreAscendingWithin from (pre ++ names_without_roles xs) to → AllBelow low pre
 begun low high pre [] from to e h = absurd (cc)
 begun low high pre (x ∷ xs) from to e h = let le : x.1 ≤ low = grind (arith, nat_tests) in below_more x.1 low pre le (before_one from pre x.1 (names_without_roles xs) to h)
 
 -- returns the identifiers of a block before its procedures and statements
 abbrev pub sections : Tree ℕ block → List (Role × ℕ)
-sections (forms_block (declares cs ts vs ps) statements) = identifiers role.Declaring cs ++ (identifiers role.Declaring ts ++ identifiers role.Declaring vs)
+sections (forms_block (declares cs ts vs ps) statements) = identifiers role.DeclaringName cs ++ (identifiers role.DeclaringName ts ++ identifiers role.DeclaringName vs)
 
 module _ (low high : ℕ) where
   mutual
     pub below_block : (b : Tree ℕ block) (pre : List ℕ) (from to : ℕ) → is_range_in_body_of_block low high b ≡ true → AreAscendingWithin from (pre ++ identifier_names b) to → AllBelow low pre
     below_block (forms_block (declares cs ts vs ps) statements) pre from to e h =
-        let c = identifiers role.Declaring cs in
-        let t = identifiers role.Declaring ts in
-        let v = identifiers role.Declaring vs in
-        let p = identifiers role.Declaring ps in
-        let s = identifiers role.Declaring statements in
+        let c = identifiers role.DeclaringName cs in
+        let t = identifiers role.DeclaringName ts in
+        let v = identifiers role.DeclaringName vs in
+        let p = identifiers role.DeclaringName ps in
+        let s = identifiers role.DeclaringName statements in
         let split : pre ++ names_without_roles ((c ++ (t ++ (v ++ p))) ++ s) ≡ (pre ++ names_without_roles (c ++ (t ++ v))) ++ (names_without_roles p ++ names_without_roles s) =
         simp (leaves_append, append_assoc) in
         below_first low pre (names_without_roles (c ++ (t ++ v)))
         (below_procedures ps statements (pre ++ names_without_roles (c ++ (t ++ v))) from to e (subst (λ l. AreAscendingWithin from l to) split h))
 
-    pub below_procedures : (ps : Tree ℕ (items procedure)) (statements : Tree ℕ (maybe body)) (pre : List ℕ) (from to : ℕ) → is_range_in_body_of_procedures low high ps statements ≡ true → AreAscendingWithin from (pre ++ (identifier_names ps ++ identifier_names statements)) to → AllBelow low pre
-    below_procedures end statements pre from to e h = begun low high pre (identifiers role.Declaring statements) from to e h
+    pub below_procedures : (ps : Tree ℕ (items procedure)) (statements : Tree ℕ (maybe body)) (pre : List ℕ) (from to : ℕ) → is_range_in_body_of_procedures_or_statements low high ps statements ≡ true → AreAscendingWithin from (pre ++ (identifier_names ps ++ identifier_names statements)) to → AllBelow low pre
+    below_procedures end statements pre from to e h = begun low high pre (identifiers role.DeclaringName statements) from to e h
     below_procedures (more p ps) statements pre from to e h =
         one (below_procedures ps statements (pre ++ identifier_names p) from to) (below_procedure p pre from to) (nat_lt (closing_name p) low) e
       where
-        one : (is_range_in_body_of_procedures low high ps statements ≡ true → AreAscendingWithin from ((pre ++ identifier_names p) ++ (identifier_names ps ++ identifier_names statements)) to → AllBelow low (pre ++ identifier_names p))
+        one : (is_range_in_body_of_procedures_or_statements low high ps statements ≡ true → AreAscendingWithin from ((pre ++ identifier_names p) ++ (identifier_names ps ++ identifier_names statements)) to → AllBelow low (pre ++ identifier_names p))
             → (is_range_in_body_of_procedure low high p ≡ true → AreAscendingWithin from (pre ++ identifier_names p) to → AllBelow low pre)
-            → (b : Bool) → (if b then is_range_in_body_of_procedures low high ps statements else nat_le high (closing_name p) && is_range_in_body_of_procedure low high p) ≡ true → AllBelow low pre
+            → (b : Bool) → (if b then is_range_in_body_of_procedures_or_statements low high ps statements else nat_le high (closing_name p) && is_range_in_body_of_procedure low high p) ≡ true → AllBelow low pre
         one later here true g =
-            let split : pre ++ (names_without_roles (identifiers role.Declaring p ++ identifiers role.Declaring ps) ++ identifier_names statements) ≡ (pre ++ identifier_names p) ++ (identifier_names ps ++ identifier_names statements) = simp (leaves_append, append_assoc) in
+            let split : pre ++ (names_without_roles (identifiers role.DeclaringName p ++ identifiers role.DeclaringName ps) ++ identifier_names statements) ≡ (pre ++ identifier_names p) ++ (identifier_names ps ++ identifier_names statements) = simp (leaves_append, append_assoc) in
             below_first low pre (identifier_names p) (later g (subst (λ l. AreAscendingWithin from l to) split h))
         one later here false g =
-            let split : pre ++ (names_without_roles (identifiers role.Declaring p ++ identifiers role.Declaring ps) ++ identifier_names statements) ≡ (pre ++ identifier_names p) ++ (identifier_names ps ++ identifier_names statements) = simp (leaves_append, append_assoc) in
+            let split : pre ++ (names_without_roles (identifiers role.DeclaringName p ++ identifiers role.DeclaringName ps) ++ identifier_names statements) ≡ (pre ++ identifier_names p) ++ (identifier_names ps ++ identifier_names statements) = simp (leaves_append, append_assoc) in
             here (and_parts (nat_le high (closing_name p)) (is_range_in_body_of_procedure low high p) g).1 (ascend_first from (pre ++ identifier_names p) (identifier_names ps ++ identifier_names statements) to (subst (λ l. AreAscendingWithin from l to) split h))
 
     pub below_procedure : (p : Tree ℕ (item procedure)) (pre : List ℕ) (from to : ℕ) → is_range_in_body_of_procedure low high p ≡ true → AreAscendingWithin from (pre ++ identifier_names p) to → AllBelow low pre
     below_procedure (declares_procedure x fs b closing) pre from to e h =
-        let f = identifiers role.Declaring fs in
-        let i = identifiers role.Declaring b in
+        let f = identifiers role.DeclaringName fs in
+        let i = identifiers role.DeclaringName b in
         let last : List (Role × ℕ) = (role.ClosingName, closing) ∷ [] in
         let split : pre ++ (x ∷ names_without_roles (f ++ (i ++ last))) ≡ ((pre ++ (x ∷ names_without_roles f)) ++ names_without_roles i) ++ (closing ∷ []) = simp (leaves_append, append_assoc) in
         below_first low pre (x ∷ names_without_roles f)

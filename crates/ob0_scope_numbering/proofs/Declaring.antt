@@ -6,7 +6,7 @@ use Rattle.ob0_tree.specs.declared.tree.ParameterSection.{ParameterSection}
 use Rattle.ob0_tree.specs.View.{items_of, formals_of_list, parameter_section_after_semicolon_of}
 use Rattle.ob0_language_names.specs.BlockParts.{names_after_first}
 use Rattle.ob0_scope_numbering.specs.TableWalk.{WalkState}
-use Rattle.ob0_scope_numbering.specs.IdentifierWalk.{with_visible_names_from, visit_formals, visit_parameter_sections}
+use Rattle.ob0_scope_numbering.specs.IdentifierWalk.{with_names_visible_from_index, visit_formals, visit_parameter_sections}
 
 pub names_further : (xs : List ℕ) → names_after_first (items_of comma_then_name xs) ≡ xs
 names_further [] = refl
@@ -14,7 +14,7 @@ names_further (x ∷ xs) = ap (λ l. x ∷ l) (names_further xs)
 
 -- states that the declarations from an index onwards are still to be shown
 pub record Showing (first : ℕ) (start : WalkState) (index : ℕ) (now : WalkState) : Type 0 where
-  pub so_far : with_visible_names_from index now ≡ with_visible_names_from first start
+  pub so_far : with_names_visible_from_index index now ≡ with_names_visible_from_index first start
   pub kept : now.declaration_tokens ≡ start.declaration_tokens
 
 pub sections_first : (ss : List ParameterSection) (v : WalkState) → visit_parameter_sections (items_of parameter_section_after_semicolon_of ss) v ≡ visit_formals (one (formals_of_list ss)) v

@@ -6,7 +6,7 @@ use Rattle.ob0_scan.specs.TextWithTokens.{IsScan}
 use Rattle.ob0_tree.specs.declared.tree.Role.{Role}
 use Rattle.ob0_tree.specs.declared.tree.Role.TheVariants as role
 use Rattle.ob0_tree.specs.IdentifierIndexes.{AreAscendingWithin, names_without_roles}
-use Rattle.ob0_tree.specs.ParsedModule.{IsParsed, ParsedModule, tree_of}
+use Rattle.ob0_tree.specs.ParsedModule.{TreeMatchesText, ParsedModule, tree_of}
 use Rattle.ob0_tree.specs.Tree.{identifiers}
 use Rattle.ob0_tree.proofs.Leaves.{leaves_ascend}
 use Rattle.ob0_scope_table.specs.OrdinalEntries.{max_entry_ordinal, stored_ordinal}
@@ -16,7 +16,7 @@ use Rattle.ob0_scope_table.proofs.FewTokens.{few_tokens}
 use Rattle.ob0_language_names.specs.Scopes.{label_from_ordinal}
 use Rattle.ob0_scope_numbering.specs.MarkWalk.{initial_walk_state}
 use Rattle.ob0_scope_numbering.specs.IdentifierWalk.{visit_module}
-use Rattle.ob0_scope_numbering.specs.OrdinalMarks.{OrdinalMark, with_marks}
+use Rattle.ob0_scope_numbering.specs.OrdinalMarks.{OrdinalMark, table_with_marks}
 use Rattle.ob0_scope_numbering.specs.IdentifierSpellings.{Spellings}
 use Rattle.ob0_scope_numbering.proofs.Passing.{AreInOrder, HasMarks, IsBefore, at_start, module_passed, tokens_of}
 use Rattle.ob0_scope_numbering.proofs.Tables.{marks_in_table}
@@ -45,10 +45,10 @@ module _ (table : ℕ → Option ℕ) (n : ℕ) where
 
   before_at : (k : ℕ) (xs : List (Role × ℕ)) → AreInOrder table k xs → k + length (names_without_roles xs) ≤ n → AreBeforeAt (names_without_roles xs)
   before_at k [] h le = tt
-  before_at k ((role.Declaring, i) ∷ xs) h le =
+  before_at k ((role.DeclaringName, i) ∷ xs) h le =
       let here : IsBefore n (Some k) = omega (arith, le) in
       (subst (IsBefore n) (sym h.0) here, before_at (suc k) xs h.1 (omega (arith, le)))
-  before_at k ((role.LookedUp, i) ∷ xs) h le = (before_more k n (table i) (omega (arith, le)) h.0, before_at k xs h.1 (omega (arith, le)))
+  before_at k ((role.LookedUpName, i) ∷ xs) h le = (before_more k n (table i) (omega (arith, le)) h.0, before_at k xs h.1 (omega (arith, le)))
   before_at k ((role.ClosingName, i) ∷ xs) h le = (before_more k n (table i) (omega (arith, le)) h.0, before_at k xs h.1 (omega (arith, le)))
   before_at k ((role.FieldName, i) ∷ xs) h le = (before_more k n (table i) (omega (arith, le)) h.0, before_at k xs h.1 (omega (arith, le)))
   before_at k ((role.ModuleName, i) ∷ xs) h le = (before_more k n (table i) (omega (arith, le)) h.0, before_at k xs h.1 (omega (arith, le)))
@@ -68,7 +68,7 @@ kept_before : (n : ℕ) (o : Option ℕ) → n ≤ max_entry_ordinal → IsBefor
 kept_before n None le h = refl
 kept_before n (Some j) le h = ap Some (min-eq_left (let below : j ≤ max_entry_ordinal = omega (arith, le, h) in below))
 
-pub entries_kept : (read : ℕ → Option ℕ) (n : ℕ) (ms : List OrdinalMark) (table : List (Option ℕ)) → n ≤ max_entry_ordinal → AreMarksBefore read n ms → with_entries table ms ≡ with_marks table ms
+pub entries_kept : (read : ℕ → Option ℕ) (n : ℕ) (ms : List OrdinalMark) (table : List (Option ℕ)) → n ≤ max_entry_ordinal → AreMarksBefore read n ms → with_entries table ms ≡ table_with_marks table ms
 entries_kept read n [] table le h = refl
 entries_kept read n (m ∷ ms) table le h =
     ap (λ o. with_entries (set table m.token o) ms) (kept_before n m.ordinal le h.0) ∙ entries_kept read n ms (set table m.token m.ordinal) le h.1
@@ -80,13 +80,13 @@ pub record MarksFew (m : ParsedModule) (w : Spellings) : Type 0 where
   pub small : bound ≤ max_entry_ordinal
   pub before : AreMarksBefore read bound (visit_module (tree_of m) (initial_walk_state w)).marks
 
-pub marks_few : (m : ParsedModule) (w : Spellings) → IsParsed m → IsScan m.source → MarksFew m w
+pub marks_few : (m : ParsedModule) (w : Spellings) → TreeMatchesText m → IsScan m.source → MarksFew m w
 marks_few m w parsed scan =
     let v = visit_module (tree_of m) (initial_walk_state w) in
-    let ids = identifiers role.Declaring (tree_of m) in
+    let ids = identifiers role.DeclaringName (tree_of m) in
     let nothing : List (Option ℕ) = replicate (length m.source.tokens) None in
-    let read = ordinal_in (with_marks nothing v.marks) in
-    let has : HasMarks read v.marks = marks_in_table m w v (with_marks nothing v.marks) parsed refl refl in
+    let read = ordinal_in (table_with_marks nothing v.marks) in
+    let has : HasMarks read v.marks = marks_in_table m w v (table_with_marks nothing v.marks) parsed refl refl in
     let passed = module_passed read (label_from_ordinal naming_by_spelling) w (tree_of m) (initial_walk_state w) (at_start w) in
     let order : AreInOrder read 7 ids = subst (AreInOrder read 7) (append-nil ids) (passed.in_order has [] tt) in
     let few = few_between 0 (names_without_roles ids) (length m.source.tokens) (leaves_ascend m parsed) in
@@ -96,8 +96,8 @@ marks_few m w parsed scan =
     record { read = read; bound = n; small = omega (arith, few, tokens); before = marks_before read n v.marks (subst (AreBeforeAt read n) (sym passed.tokens) before) has }
 
 -- The entries have the ordinals of all marks of a module.
-pub all_kept : (m : ParsedModule) (w : Spellings) (table : List (Option ℕ)) → IsParsed m → IsScan m.source
-    → with_entries table (visit_module (tree_of m) (initial_walk_state w)).marks ≡ with_marks table (visit_module (tree_of m) (initial_walk_state w)).marks
+pub all_kept : (m : ParsedModule) (w : Spellings) (table : List (Option ℕ)) → TreeMatchesText m → IsScan m.source
+    → with_entries table (visit_module (tree_of m) (initial_walk_state w)).marks ≡ table_with_marks table (visit_module (tree_of m) (initial_walk_state w)).marks
 all_kept m w table parsed scan =
     let few = marks_few m w parsed scan in
     entries_kept few.read few.bound (visit_module (tree_of m) (initial_walk_state w)).marks table few.small few.before

@@ -10,11 +10,11 @@ use Rattle.std.specs.BTreeMap.{BTreeMap, get_by, UpdatesBy}
 use Rattle.std.specs.Cmp.{nat_cmp_is}
 use Rattle.std.specs.Cmp.Lexicographic.{slice_cmp}
 use Rattle.std.specs.Ordering.{nat_cmp, ordering_then}
-use Rattle.ob0_scope_numbering.specs.declared.newest.NameEntry.{NameEntry}
-use Rattle.ob0_scope_numbering.specs.NameKeys.{NameKey, compare_keys, compare_name_with_key, suffix_number}
+use Rattle.ob0_scope_numbering.specs.declared.newest_bindings.NameEntry.{NameEntry}
+use Rattle.ob0_scope_numbering.specs.NameKeys.{NameKey, compare_keys, compare_name_with_key, number_from_last_bytes}
 use Rattle.ob0_language_names.specs.Names.{Name, same_name}
 use Rattle.ob0_language_names.proofs.NameEquality.{same_name-comm, same_name-refl}
-use Rattle.ob0_scope_numbering.specs.NewestNames.{AreNamePositions, SetsNewestBinding, KeepsNewestBindings, newest_binding_in, position_of_name}
+use Rattle.ob0_scope_numbering.specs.NewestBindingList.{AreNamePositions, SetsNewestBinding, KeepsNewestBindings, newest_binding_in, position_of_name}
 
 -- If a look-up finds position 0, the first name is the one looked up.
 first_place : (same : Bool) (o : Option ℕ) → (if same then Some zero else option_map suc o) ≡ Some zero → same ≡ true
@@ -142,13 +142,13 @@ then_apart Equal p e = e
 then_apart Greater p e = refl
 
 -- Two names have the same key exactly if they are equal.
-same_key : (a x : Name) → is_eq (ordering_then (nat_cmp (suffix_number a) (suffix_number x)) (slice_cmp nat_cmp a x)) ≡ bytes_eq a x
+same_key : (a x : Name) → is_eq (ordering_then (nat_cmp (number_from_last_bytes a) (number_from_last_bytes x)) (slice_cmp nat_cmp a x)) ≡ bytes_eq a x
 same_key a x =
     ⊎_elim
     (λ y.
-    let numbers : nat_cmp (suffix_number a) (suffix_number x) ≡ Equal = sym (nat_cmp_is (suffix_number a) (suffix_number x) Equal (ap suffix_number ((bytes_eq-Decides a x).0 y))) in
+    let numbers : nat_cmp (number_from_last_bytes a) (number_from_last_bytes x) ≡ Equal = sym (nat_cmp_is (number_from_last_bytes a) (number_from_last_bytes x) Equal (ap number_from_last_bytes ((bytes_eq-Decides a x).0 y))) in
     ap (λ o. is_eq (ordering_then o (slice_cmp nat_cmp a x))) numbers ∙ is_eq-slice_cmp a x)
-    (λ n. then_apart (nat_cmp (suffix_number a) (suffix_number x)) (slice_cmp nat_cmp a x) (is_eq-slice_cmp a x ∙ n) ∙ sym n)
+    (λ n. then_apart (nat_cmp (number_from_last_bytes a) (number_from_last_bytes x)) (slice_cmp nat_cmp a x) (is_eq-slice_cmp a x ∙ n) ∙ sym n)
     (cases_Bool (bytes_eq a x))
 
 -- holds if a map results from setting the value of a key
@@ -156,12 +156,12 @@ abbrev pub Renews : NameKey → BTreeMap NameKey ℕ → BTreeMap NameKey ℕ �
 Renews key name_positions next value = UpdatesBy compare_keys (compare_keys key) name_positions next value
 
 abbrev pub key_of_name : Bor Name → NameKey
-key_of_name name = (suffix_number name.now, name)
+key_of_name name = (number_from_last_bytes name.now, name)
 
 renewed_at : (name : Bor Name) (name_positions next : BTreeMap NameKey ℕ) (value : Option ℕ) → Renews (key_of_name name) name_positions next value
     → (x : Name) → get_by (compare_name_with_key x) next ≡ cond (bytes_eq name.now x) value (get_by (compare_name_with_key x) name_positions)
 renewed_at name name_positions next value h x =
-    let key : NameKey = (suffix_number x, record { ref_ptr = name.ref_ptr; now = x }) in
+    let key : NameKey = (number_from_last_bytes x, record { ref_ptr = name.ref_ptr; now = x }) in
     h.0 key ∙ ap (λ same. cond same value (get_by (compare_name_with_key x) name_positions)) (same_key name.now x)
 
 some_apart : (o : Option ℕ) (i : ℕ) → o ≡ Some i → o ≡ None → false ≡ true

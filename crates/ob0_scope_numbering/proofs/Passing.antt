@@ -7,16 +7,16 @@ use Rattle.ob0_tree.specs.declared.tree.Role.{Role}
 use Rattle.ob0_tree.specs.declared.tree.Role.TheVariants as role
 use Rattle.ob0_tree.specs.Tree.{Sort, Tree, block, constant, constants, declares, declares_constant, declares_const_section, declares_procedure, declares_type, declares_type_section, declares_variable, declares_var_section, end, formals, name_after_comma, section_after_semicolon, forms_block, identifiers, forms_module, item, items, listed, mapped_tree, maybe, module_text, more, names, no_formals, none, one, procedure, section, some_formals, comma_then_name, semicolon_then_section, type_definition, type_definitions, value_section, variable, variable_section, variables, written_type}
 use Rattle.ob0_tree.specs.IdentifierIndexes.{names_without_roles}
-use Rattle.ob0_tree.specs.Places.{token_value_at}
-use Rattle.ob0_scope_numbering.specs.IdentifierSpellings.{Spellings, spelling_at, tree_with_spellings}
+use Rattle.ob0_tree.specs.TokenIndexLeaves.{token_value_at}
+use Rattle.ob0_scope_numbering.specs.IdentifierSpellings.{Spellings, spelling_at_token, tree_with_spellings}
 use Rattle.ob0_tree.proofs.Occurring.{looked_up_only, looked_up_only-append}
 use Rattle.ob0_scope_numbering.specs.OrdinalMarks.{OrdinalMark}
 use Rattle.ob0_language_names.specs.Names.{Name, naming_by_spelling, same_name}
-use Rattle.ob0_language_names.specs.BlockParts.{constant_names, formal_names, formal_sections, names_after_first, module_block, declared_type_names, names_in_list, procedure_name, section_constants, parameter_section_names, section_types, section_variables, variable_names}
+use Rattle.ob0_language_names.specs.BlockParts.{constant_names, formal_parameter_names, formal_parameter_sections, names_after_first, module_block, declared_type_names, names_in_list, procedure_name, section_constants, parameter_section_names, section_types, section_variables, variable_names}
 use Rattle.ob0_scope_table.specs.Resolution.{declaring_names}
 use Rattle.ob0_language_names.specs.Scopes.{Labelling, Scope, ordinal_after_block, ordinal_after_names, ordinal_after_procedure, ordinal_after_procedure_list, body_scope, declare_names, declare_procedure_names, ordinal_in_scope, predeclared_scope, relabel_block, relabel_constant_section, relabel_constants, relabel_formals, relabel_names_after_first, relabel_names, relabel_procedure, relabel_procedure_list, relabel_parameter_section, relabel_parameter_section_list, relabel_type_section, relabel_types, relabel_uses, relabel_variable_section, relabel_variables, relabel_module}
 use Rattle.ob0_scope_numbering.specs.MarkWalk.{WalkState, initial_walk_state}
-use Rattle.ob0_scope_numbering.specs.IdentifierWalk.{state_after_procedure_block, state_after_heading, visit_identifier, visit_identifiers, with_oldest_bindings, with_mark, number_declarations, number_declaration, with_visible_names_from, visit_nondeclaring_tree, visit_block, visit_constant, visit_constant_section, visit_constants, visit_formals, visit_module, visit_procedure, visit_procedures, visit_parameter_section, visit_parameter_sections, visit_type, visit_type_section, visit_types, visit_variable, visit_variable_section, visit_variables}
+use Rattle.ob0_scope_numbering.specs.IdentifierWalk.{state_after_procedure_block, state_after_heading, visit_identifier, visit_identifiers, with_oldest_bindings, with_mark, number_declarations, number_declaration, with_names_visible_from_index, visit_nondeclaring_tree, visit_block, visit_constant, visit_constant_section, visit_constants, visit_formals, visit_module, visit_procedure, visit_procedure_list, visit_parameter_section, visit_parameter_sections, visit_type, visit_type_section, visit_types, visit_variable, visit_variable_section, visit_variables}
 use Rattle.ob0_scope_numbering.proofs.Agreed.{AllFit, agreed}
 use Rattle.ob0_language_names.proofs.Ordinals.{ordinal_after_names-append, declare_names-append, le-ordinal_after_block, le-ordinal_after_names}
 use Rattle.ob0_language_names.proofs.OccurrenceNames.{length-map}
@@ -65,8 +65,8 @@ looked_up_before k (b ∷ s) x h = elim (same_name x b.0) as (λ v. IsBefore k (
 -- earlier declaration or none
 abbrev pub AreInOrder : (ℕ → Option ℕ) → ℕ → List (Role × ℕ) → Type 0
 AreInOrder table k [] = Unit {0}
-AreInOrder table k ((role.Declaring, i) ∷ xs) = (table i ≡ Some k) × AreInOrder table (suc k) xs
-AreInOrder table k ((role.LookedUp, i) ∷ xs) = IsBefore k (table i) × AreInOrder table k xs
+AreInOrder table k ((role.DeclaringName, i) ∷ xs) = (table i ≡ Some k) × AreInOrder table (suc k) xs
+AreInOrder table k ((role.LookedUpName, i) ∷ xs) = IsBefore k (table i) × AreInOrder table k xs
 AreInOrder table k ((role.ClosingName, i) ∷ xs) = IsBefore k (table i) × AreInOrder table k xs
 AreInOrder table k ((role.FieldName, i) ∷ xs) = IsBefore k (table i) × AreInOrder table k xs
 AreInOrder table k ((role.ModuleName, i) ∷ xs) = IsBefore k (table i) × AreInOrder table k xs
@@ -75,8 +75,8 @@ some_declared : {x : ℕ} {xs : List ℕ} → (x ∷ xs) ≡ [] → ⊥
 some_declared e = absurd (cc)
 
 other_in_order : (table : ℕ → Option ℕ) (k : ℕ) (r : Role) (i : ℕ) (xs : List (Role × ℕ)) → declaring_names ((r, i) ∷ []) ≡ [] → IsBefore k (table i) → AreInOrder table k xs → AreInOrder table k ((r, i) ∷ xs)
-other_in_order table k role.Declaring i xs e h rest = absurd (some_declared e)
-other_in_order table k role.LookedUp i xs e h rest = (h, rest)
+other_in_order table k role.DeclaringName i xs e h rest = absurd (some_declared e)
+other_in_order table k role.LookedUpName i xs e h rest = (h, rest)
 other_in_order table k role.ClosingName i xs e h rest = (h, rest)
 other_in_order table k role.FieldName i xs e h rest = (h, rest)
 other_in_order table k role.ModuleName i xs e h rest = (h, rest)
@@ -84,8 +84,8 @@ other_in_order table k role.ModuleName i xs e h rest = (h, rest)
 -- A part that declares nothing is in order before identifiers that are.
 used_in_order : (table : ℕ → Option ℕ) (src : Spellings) (s : Scope Name) (k : ℕ) (xs rest : List (Role × ℕ)) → AreBefore k s → declaring_names xs ≡ [] → AllFit table src s xs → AreInOrder table k rest → AreInOrder table k (xs ++ rest)
 used_in_order table src s k [] rest low e h order = order
-used_in_order table src s k ((role.Declaring, i) ∷ xs) rest low e h order = absurd (some_declared e)
-used_in_order table src s k ((role.LookedUp, i) ∷ xs) rest low e h order = (subst (IsBefore k) (sym h.0) (looked_up_before k s (spelling_at src i) low), used_in_order table src s k xs rest low e h.1 order)
+used_in_order table src s k ((role.DeclaringName, i) ∷ xs) rest low e h order = absurd (some_declared e)
+used_in_order table src s k ((role.LookedUpName, i) ∷ xs) rest low e h order = (subst (IsBefore k) (sym h.0) (looked_up_before k s (spelling_at_token src i) low), used_in_order table src s k xs rest low e h.1 order)
 used_in_order table src s k ((role.ClosingName, i) ∷ xs) rest low e h order = (subst (IsBefore k) (sym h.0) tt, used_in_order table src s k xs rest low e h.1 order)
 used_in_order table src s k ((role.FieldName, i) ∷ xs) rest low e h order = (subst (IsBefore k) (sym h.0) tt, used_in_order table src s k xs rest low e h.1 order)
 used_in_order table src s k ((role.ModuleName, i) ∷ xs) rest low e h order = (subst (IsBefore k) (sym h.0) tt, used_in_order table src s k xs rest low e h.1 order)
@@ -159,8 +159,8 @@ found_none : (table : ℕ → Option ℕ) (src : Spellings) (i : ℕ) (v : WalkS
 found_none table src i v h = let m = marks_split table v.marks (record { token = i; ordinal = None } ∷ []) h in (m.0, m.1.0, tt)
 
 found_one : (table : ℕ → Option ℕ) (src : Spellings) (r : Role) (i : ℕ) (v : WalkState) → FoundAll table src v (visit_identifier r i v) ((r, i) ∷ [])
-found_one table src role.LookedUp i v =
-    let m : OrdinalMark = record { token = i; ordinal = ordinal_in_scope naming_by_spelling v.scope (spelling_at v.spellings i) } in
+found_one table src role.LookedUpName i v =
+    let m : OrdinalMark = record { token = i; ordinal = ordinal_in_scope naming_by_spelling v.scope (spelling_at_token v.spellings i) } in
     record {
       spellings = refl;
       scope = refl;
@@ -169,9 +169,9 @@ found_one table src role.LookedUp i v =
       tokens = mark_added v.marks m;
       agree = λ e h.
           let parts = marks_split table v.marks (m ∷ []) h in
-          (parts.0, (parts.1.0 ∙ ap (λ z. ordinal_in_scope naming_by_spelling v.scope (spelling_at z i)) e, tt));
+          (parts.0, (parts.1.0 ∙ ap (λ z. ordinal_in_scope naming_by_spelling v.scope (spelling_at_token z i)) e, tt));
     }
-found_one table src role.Declaring i v = record { spellings = refl; scope = refl; kept = refl; used = sym (append-nil v.uses); tokens = mark_added v.marks (record { token = i; ordinal = None }); agree = λ e h. let f = found_none table src i v h in (f.0, (f.1, tt)) }
+found_one table src role.DeclaringName i v = record { spellings = refl; scope = refl; kept = refl; used = sym (append-nil v.uses); tokens = mark_added v.marks (record { token = i; ordinal = None }); agree = λ e h. let f = found_none table src i v h in (f.0, (f.1, tt)) }
 found_one table src role.ClosingName i v = record { spellings = refl; scope = refl; kept = refl; used = sym (append-nil v.uses); tokens = mark_added v.marks (record { token = i; ordinal = None }); agree = λ e h. let f = found_none table src i v h in (f.0, (f.1, tt)) }
 found_one table src role.FieldName i v = record { spellings = refl; scope = refl; kept = refl; used = sym (append-nil v.uses); tokens = mark_added v.marks (record { token = i; ordinal = None }); agree = λ e h. let f = found_none table src i v h in (f.0, (f.1, tt)) }
 found_one table src role.ModuleName i v = record { spellings = refl; scope = refl; kept = refl; used = sym (append-nil v.uses); tokens = mark_added v.marks (record { token = i; ordinal = None }); agree = λ e h. let f = found_none table src i v h in (f.0, (f.1, tt)) }
@@ -209,11 +209,11 @@ module _ {M : Type 0} (table : ℕ → Option ℕ) (label : Labelling Name M) (s
 
   -- returns a part with the spellings as its names, and any numbers
   abbrev pub spelled : {s : Sort} → Tree ℕ s → Tree Name s
-  spelled t = mapped_tree (spelling_at src) value t
+  spelled t = mapped_tree (spelling_at_token src) value t
 
   -- returns a part with the table's ordinals as labels
   abbrev by_table : {s : Sort} → Tree ℕ s → Tree M s
-  by_table t = mapped_tree (λ i. label (table i) (spelling_at src i)) value t
+  by_table t = mapped_tree (λ i. label (table i) (spelling_at_token src i)) value t
 
   pass_nothing : (v : WalkState) (s : Scope Name) (k : ℕ) → At v src s k → Passes v v [] s k (Unit {0})
   pass_nothing v s k at = record { at = at; declared = sym (append-nil v.declaration_tokens); used = sym (append-nil v.uses); tokens = sym (append-nil (tokens_of v.marks)); agree = λ h. (h, tt); in_order = λ h later. subst (λ n. AreInOrder table n later) (sym at.next) }
@@ -247,10 +247,10 @@ module _ {M : Type 0} (table : ℕ → Option ℕ) (label : Labelling Name M) (s
       }
 
   pub used_passed : {σ : Sort} (t : Tree ℕ σ) (v : WalkState) (s : Scope Name) (k : ℕ) → IsPlain σ → At v src s k
-      → Passes v (visit_nondeclaring_tree t v) (identifiers role.Declaring t) s k (relabel_uses naming_by_spelling label s (spelled t) ≡ by_table t)
+      → Passes v (visit_nondeclaring_tree t v) (identifiers role.DeclaringName t) s k (relabel_uses naming_by_spelling label s (spelled t) ≡ by_table t)
   used_passed t v s k is_plain at =
       let plain = (declares_nothing is_plain t).plain in
-      let f = found_every table src (identifiers role.Declaring t) v in
+      let f = found_every table src (identifiers role.DeclaringName t) v in
       record {
         at = record { spellings = f.spellings ∙ at.spellings; scope = f.scope ∙ at.scope; next = ap (λ ds. 7 + length ds) f.kept ∙ at.next; before = at.before };
         declared = f.kept ∙ (sym (append-nil v.declaration_tokens) ∙ ap (λ ds. v.declaration_tokens ++ ds) (sym plain));
@@ -258,13 +258,13 @@ module _ {M : Type 0} (table : ℕ → Option ℕ) (label : Labelling Name M) (s
         tokens = f.tokens;
         agree = λ h.
             let x = f.agree at.spellings h in
-            (x.0, (agreed table label src s value role.Declaring (λ i e. e) t).reads (subst (λ s. AllFit table src s (identifiers role.Declaring t)) at.scope x.1));
+            (x.0, (agreed table label src s value role.DeclaringName (λ i e. e) t).reads (subst (λ s. AllFit table src s (identifiers role.DeclaringName t)) at.scope x.1));
         in_order = λ h later o.
-            let fit = subst (λ s. AllFit table src s (identifiers role.Declaring t)) at.scope (f.agree at.spellings h).1 in
-            subst (λ n. AreInOrder table n (identifiers role.Declaring t ++ later)) (sym at.next) (used_in_order table src s k (identifiers role.Declaring t) later at.before plain fit o);
+            let fit = subst (λ s. AllFit table src s (identifiers role.DeclaringName t)) at.scope (f.agree at.spellings h).1 in
+            subst (λ n. AreInOrder table n (identifiers role.DeclaringName t ++ later)) (sym at.next) (used_in_order table src s k (identifiers role.DeclaringName t) later at.before plain fit o);
       }
 
-  number_passed : (x : ℕ) (v : WalkState) (s : Scope Name) (k : ℕ) → At v src s k → Passes v (number_declaration x v) ((role.Declaring, x) ∷ []) s (suc k) (table x ≡ Some k)
+  number_passed : (x : ℕ) (v : WalkState) (s : Scope Name) (k : ℕ) → At v src s k → Passes v (number_declaration x v) ((role.DeclaringName, x) ∷ []) s (suc k) (table x ≡ Some k)
   number_passed x v s k at =
       let m : OrdinalMark = record { token = x; ordinal = Some (7 + length v.declaration_tokens) } in
       record {
@@ -297,37 +297,37 @@ module _ {M : Type 0} (table : ℕ → Option ℕ) (label : Labelling Name M) (s
   HasNumbers k (x ∷ xs) = (table x ≡ Some k) × HasNumbers (suc k) xs
 
   abbrev all_declaring : List ℕ → List (Role × ℕ)
-  all_declaring xs = map (λ x. (role.Declaring, x)) xs
+  all_declaring xs = map (λ x. (role.DeclaringName, x)) xs
 
-  numbers_passed : (xs : List ℕ) (v : WalkState) (s : Scope Name) (k : ℕ) → At v src s k → Passes v (number_declarations xs v) (all_declaring xs) s (ordinal_after_names k (map (spelling_at src) xs)) (HasNumbers k xs)
+  numbers_passed : (xs : List ℕ) (v : WalkState) (s : Scope Name) (k : ℕ) → At v src s k → Passes v (number_declarations xs v) (all_declaring xs) s (ordinal_after_names k (map (spelling_at_token src) xs)) (HasNumbers k xs)
   numbers_passed [] v s k at = pass_nothing v s k at
   numbers_passed (x ∷ xs) v s k at =
       let here = number_passed x v s k at in
       pass_to (pass_then here (numbers_passed xs (number_declaration x v) s (suc k) here.at)) (λ p. (p.first, p.second))
 
-  further_declaring : (ns : Tree ℕ (items name_after_comma)) → all_declaring (names_after_first ns) ≡ identifiers role.Declaring ns
+  further_declaring : (ns : Tree ℕ (items name_after_comma)) → all_declaring (names_after_first ns) ≡ identifiers role.DeclaringName ns
   further_declaring end = refl
-  further_declaring (more (comma_then_name x) rest) = λ i. (role.Declaring, x) ∷ further_declaring rest i
+  further_declaring (more (comma_then_name x) rest) = λ i. (role.DeclaringName, x) ∷ further_declaring rest i
 
-  names_declaring : (ns : Tree ℕ names) → all_declaring (names_in_list ns) ≡ identifiers role.Declaring ns
-  names_declaring (listed x rest) = λ i. (role.Declaring, x) ∷ further_declaring rest i
+  names_declaring : (ns : Tree ℕ names) → all_declaring (names_in_list ns) ≡ identifiers role.DeclaringName ns
+  names_declaring (listed x rest) = λ i. (role.DeclaringName, x) ∷ further_declaring rest i
 
-  further_named : (ns : Tree ℕ (items name_after_comma)) → map (spelling_at src) (names_after_first ns) ≡ names_after_first (spelled ns)
+  further_named : (ns : Tree ℕ (items name_after_comma)) → map (spelling_at_token src) (names_after_first ns) ≡ names_after_first (spelled ns)
   further_named end = refl
-  further_named (more (comma_then_name x) rest) = λ i. spelling_at src x ∷ further_named rest i
+  further_named (more (comma_then_name x) rest) = λ i. spelling_at_token src x ∷ further_named rest i
 
-  names_named : (ns : Tree ℕ names) → map (spelling_at src) (names_in_list ns) ≡ names_in_list (spelled ns)
-  names_named (listed x rest) = λ i. spelling_at src x ∷ further_named rest i
+  names_named : (ns : Tree ℕ names) → map (spelling_at_token src) (names_in_list ns) ≡ names_in_list (spelled ns)
+  names_named (listed x rest) = λ i. spelling_at_token src x ∷ further_named rest i
 
   further_agree : (ns : Tree ℕ (items name_after_comma)) (k : ℕ) → HasNumbers k (names_after_first ns) → relabel_names_after_first label k (spelled ns) ≡ by_table ns
   further_agree end k h = refl
-  further_agree (more (comma_then_name x) rest) k h = λ i. more (comma_then_name (label (sym h.0 i) (spelling_at src x))) (further_agree rest (suc k) h.1 i)
+  further_agree (more (comma_then_name x) rest) k h = λ i. more (comma_then_name (label (sym h.0 i) (spelling_at_token src x))) (further_agree rest (suc k) h.1 i)
 
   names_agree : (ns : Tree ℕ names) (k : ℕ) → HasNumbers k (names_in_list ns) → relabel_names label k (spelled ns) ≡ by_table ns
-  names_agree (listed x rest) k h = λ i. listed (label (sym h.0 i) (spelling_at src x)) (further_agree rest (suc k) h.1 i)
+  names_agree (listed x rest) k h = λ i. listed (label (sym h.0 i) (spelling_at_token src x)) (further_agree rest (suc k) h.1 i)
 
   names_passed : (ns : Tree ℕ names) (v : WalkState) (s : Scope Name) (k : ℕ) → At v src s k
-      → Passes v (number_declarations (names_in_list ns) v) (identifiers role.Declaring ns) s (ordinal_after_names k (names_in_list (spelled ns))) (relabel_names label k (spelled ns) ≡ by_table ns)
+      → Passes v (number_declarations (names_in_list ns) v) (identifiers role.DeclaringName ns) s (ordinal_after_names k (names_in_list (spelled ns))) (relabel_names label k (spelled ns) ≡ by_table ns)
   names_passed ns v s k at =
       pass_is (names_declaring ns) refl (ap (ordinal_after_names k) (names_named ns)) (pass_to (numbers_passed (names_in_list ns) v s k at) (names_agree ns k))
 
@@ -335,13 +335,13 @@ module _ {M : Type 0} (table : ℕ → Option ℕ) (label : Labelling Name M) (s
   drop_past xs ys = let n : length xs + 0 ≡ length xs = omega arith in ap (λ n. drop n (xs ++ ys)) (sym n) ∙ drop-append-add xs ys 0
 
   -- The declarations of a part are visible after it.
-  show_passed : {a b : WalkState} {xs : List (Role × ℕ)} {s s' : Scope Name} {k k' : ℕ} {P : Type 0} (ns : List Name) → At a src s k → map (spelling_at src) (declaring_names xs) ≡ ns → Passes a b xs s' k' P
-      → Passes a (with_visible_names_from (length a.declaration_tokens) b) xs (declare_names k ns s') k' P
+  show_passed : {a b : WalkState} {xs : List (Role × ℕ)} {s s' : Scope Name} {k k' : ℕ} {P : Type 0} (ns : List Name) → At a src s k → map (spelling_at_token src) (declaring_names xs) ≡ ns → Passes a b xs s' k' P
+      → Passes a (with_names_visible_from_index (length a.declaration_tokens) b) xs (declare_names k ns s') k' P
   show_passed {a = a} {b = b} {xs = xs} {s' = s'} {k = k} {k' = k'} ns at are p =
       let left : drop (length a.declaration_tokens) b.declaration_tokens ≡ declaring_names xs = ap (drop (length a.declaration_tokens)) p.declared ∙ drop_past a.declaration_tokens (declaring_names xs) in
-      let visible : declare_names (7 + length a.declaration_tokens) (map (spelling_at b.spellings) (drop (length a.declaration_tokens) b.declaration_tokens)) b.scope ≡ declare_names k ns s' =
-      (λ i. declare_names (at.next i) (map (spelling_at (p.at.spellings i)) (left i)) (p.at.scope i)) ∙ ap (λ ns. declare_names k ns s') are in
-      let count : k + length ns ≤ k' = omega (arith, at.next, p.at.next, ap length p.declared, length-append a.declaration_tokens (declaring_names xs), length-map (spelling_at src) (declaring_names xs), ap length are) in
+      let visible : declare_names (7 + length a.declaration_tokens) (map (spelling_at_token b.spellings) (drop (length a.declaration_tokens) b.declaration_tokens)) b.scope ≡ declare_names k ns s' =
+      (λ i. declare_names (at.next i) (map (spelling_at_token (p.at.spellings i)) (left i)) (p.at.scope i)) ∙ ap (λ ns. declare_names k ns s') are in
+      let count : k + length ns ≤ k' = omega (arith, at.next, p.at.next, ap length p.declared, length-append a.declaration_tokens (declaring_names xs), length-map (spelling_at_token src) (declaring_names xs), ap length are) in
       record {
         at = record { spellings = p.at.spellings; scope = visible; next = p.at.next; before = names_before k ns s' k' count p.at.before };
         declared = p.declared;
@@ -355,45 +355,45 @@ module _ {M : Type 0} (table : ℕ → Option ℕ) (label : Labelling Name M) (s
   listed_declaring [] = refl
   listed_declaring (x ∷ xs) = λ i. x ∷ listed_declaring xs i
 
-  group_declaring : (ns : Tree ℕ names) (t : Tree ℕ written_type) → declaring_names (identifiers role.Declaring ns ++ identifiers role.Declaring t) ≡ names_in_list ns
+  group_declaring : (ns : Tree ℕ names) (t : Tree ℕ written_type) → declaring_names (identifiers role.DeclaringName ns ++ identifiers role.DeclaringName t) ≡ names_in_list ns
   group_declaring ns t =
-      declaring_names-append (identifiers role.Declaring ns) (identifiers role.Declaring t)
+      declaring_names-append (identifiers role.DeclaringName ns) (identifiers role.DeclaringName t)
       ∙ ((λ i. declaring_names (sym (names_declaring ns) i) ++ (declares_nothing tt t).plain i) ∙ (append-nil (declaring_names (all_declaring (names_in_list ns))) ∙ listed_declaring (names_in_list ns)))
 
   -- Names of one type are visible after their type.
   group_passed : (ns : Tree ℕ names) (t : Tree ℕ written_type) (v : WalkState) (s : Scope Name) (k : ℕ) → At v src s k
-      → Passes v (with_visible_names_from (length v.declaration_tokens) (visit_nondeclaring_tree t (number_declarations (names_in_list ns) v))) (identifiers role.Declaring ns ++ identifiers role.Declaring t)
+      → Passes v (with_names_visible_from_index (length v.declaration_tokens) (visit_nondeclaring_tree t (number_declarations (names_in_list ns) v))) (identifiers role.DeclaringName ns ++ identifiers role.DeclaringName t)
       (declare_names k (names_in_list (spelled ns)) s) (ordinal_after_names k (names_in_list (spelled ns)))
       (Two (relabel_names label k (spelled ns) ≡ by_table ns) (relabel_uses naming_by_spelling label s (spelled t) ≡ by_table t))
   group_passed ns t v s k at =
       let a = names_passed ns v s k at in
       let b = used_passed t (number_declarations (names_in_list ns) v) s (ordinal_after_names k (names_in_list (spelled ns))) tt a.at in
-      show_passed (names_in_list (spelled ns)) at (ap (map (spelling_at src)) (group_declaring ns t) ∙ names_named ns) (pass_then a b)
+      show_passed (names_in_list (spelled ns)) at (ap (map (spelling_at_token src)) (group_declaring ns t) ∙ names_named ns) (pass_then a b)
 
   constants_passed : (cs : Tree ℕ (items constant)) (v : WalkState) (s : Scope Name) (k : ℕ) → At v src s k
-      → Passes v (visit_constants cs v) (identifiers role.Declaring cs) (declare_names k (constant_names (spelled cs)) s) (ordinal_after_names k (constant_names (spelled cs)))
+      → Passes v (visit_constants cs v) (identifiers role.DeclaringName cs) (declare_names k (constant_names (spelled cs)) s) (ordinal_after_names k (constant_names (spelled cs)))
       (relabel_constants naming_by_spelling label s k (spelled cs) ≡ by_table cs)
   constants_passed end v s k at = pass_to (pass_nothing v s k at) (λ h. refl)
   constants_passed (more (declares_constant x e) cs) v s k at =
       let a = number_passed x v s k at in
       let b = used_passed e (number_declaration x v) s (suc k) tt a.at in
-      let c = show_passed (spelling_at src x ∷ []) at (ap (λ xs. spelling_at src x ∷ map (spelling_at src) xs) (declares_nothing tt e).plain) (pass_then a b) in
-      pass_to (pass_then c (constants_passed cs (visit_constant (declares_constant x e) v) ((spelling_at src x, k) ∷ s) (suc k) c.at))
-      (λ p i. more (declares_constant (label (sym p.first.first i) (spelling_at src x)) (p.first.second i)) (p.second i))
+      let c = show_passed (spelling_at_token src x ∷ []) at (ap (λ xs. spelling_at_token src x ∷ map (spelling_at_token src) xs) (declares_nothing tt e).plain) (pass_then a b) in
+      pass_to (pass_then c (constants_passed cs (visit_constant (declares_constant x e) v) ((spelling_at_token src x, k) ∷ s) (suc k) c.at))
+      (λ p i. more (declares_constant (label (sym p.first.first i) (spelling_at_token src x)) (p.first.second i)) (p.second i))
 
   types_passed : (ts : Tree ℕ (items type_definition)) (v : WalkState) (s : Scope Name) (k : ℕ) → At v src s k
-      → Passes v (visit_types ts v) (identifiers role.Declaring ts) (declare_names k (declared_type_names (spelled ts)) s) (ordinal_after_names k (declared_type_names (spelled ts)))
+      → Passes v (visit_types ts v) (identifiers role.DeclaringName ts) (declare_names k (declared_type_names (spelled ts)) s) (ordinal_after_names k (declared_type_names (spelled ts)))
       (relabel_types naming_by_spelling label s k (spelled ts) ≡ by_table ts)
   types_passed end v s k at = pass_to (pass_nothing v s k at) (λ h. refl)
   types_passed (more (declares_type x t) ts) v s k at =
       let a = number_passed x v s k at in
       let b = used_passed t (number_declaration x v) s (suc k) tt a.at in
-      let c = show_passed (spelling_at src x ∷ []) at (ap (λ xs. spelling_at src x ∷ map (spelling_at src) xs) (declares_nothing tt t).plain) (pass_then a b) in
-      pass_to (pass_then c (types_passed ts (visit_type (declares_type x t) v) ((spelling_at src x, k) ∷ s) (suc k) c.at))
-      (λ p i. more (declares_type (label (sym p.first.first i) (spelling_at src x)) (p.first.second i)) (p.second i))
+      let c = show_passed (spelling_at_token src x ∷ []) at (ap (λ xs. spelling_at_token src x ∷ map (spelling_at_token src) xs) (declares_nothing tt t).plain) (pass_then a b) in
+      pass_to (pass_then c (types_passed ts (visit_type (declares_type x t) v) ((spelling_at_token src x, k) ∷ s) (suc k) c.at))
+      (λ p i. more (declares_type (label (sym p.first.first i) (spelling_at_token src x)) (p.first.second i)) (p.second i))
 
   variables_passed : (gs : Tree ℕ (items variable)) (v : WalkState) (s : Scope Name) (k : ℕ) → At v src s k
-      → Passes v (visit_variables gs v) (identifiers role.Declaring gs) (declare_names k (variable_names (spelled gs)) s) (ordinal_after_names k (variable_names (spelled gs)))
+      → Passes v (visit_variables gs v) (identifiers role.DeclaringName gs) (declare_names k (variable_names (spelled gs)) s) (ordinal_after_names k (variable_names (spelled gs)))
       (relabel_variables naming_by_spelling label s k (spelled gs) ≡ by_table gs)
   variables_passed end v s k at = pass_to (pass_nothing v s k at) (λ h. refl)
   variables_passed (more (declares_variable ns t) gs) v s k at =
@@ -405,66 +405,66 @@ module _ {M : Type 0} (table : ℕ → Option ℕ) (label : Labelling Name M) (s
       (λ p i. more (declares_variable (p.first.first i) (p.first.second i)) (p.second i)))
 
   section_passed : (f : Tree ℕ section) (v : WalkState) (s : Scope Name) (k : ℕ) → At v src s k
-      → Passes v (visit_parameter_section f v) (identifiers role.Declaring f) (declare_names k (parameter_section_names (spelled f)) s) (ordinal_after_names k (parameter_section_names (spelled f)))
+      → Passes v (visit_parameter_section f v) (identifiers role.DeclaringName f) (declare_names k (parameter_section_names (spelled f)) s) (ordinal_after_names k (parameter_section_names (spelled f)))
       (relabel_parameter_section naming_by_spelling label s k (spelled f) ≡ by_table f)
   section_passed (value_section ns t) v s k at = pass_to (group_passed ns t v s k at) (λ p i. value_section (p.first i) (p.second i))
   section_passed (variable_section ns t) v s k at = pass_to (group_passed ns t v s k at) (λ p i. variable_section (p.first i) (p.second i))
 
   sections_passed : (fs : Tree ℕ (items section_after_semicolon)) (v : WalkState) (s : Scope Name) (k : ℕ) → At v src s k
-      → Passes v (visit_parameter_sections fs v) (identifiers role.Declaring fs) (declare_names k (formal_names (spelled fs)) s) (ordinal_after_names k (formal_names (spelled fs)))
+      → Passes v (visit_parameter_sections fs v) (identifiers role.DeclaringName fs) (declare_names k (formal_parameter_names (spelled fs)) s) (ordinal_after_names k (formal_parameter_names (spelled fs)))
       (relabel_parameter_section_list naming_by_spelling label s k (spelled fs) ≡ by_table fs)
   sections_passed end v s k at = pass_to (pass_nothing v s k at) (λ h. refl)
   sections_passed (more (semicolon_then_section f) fs) v s k at =
       let xs = parameter_section_names (spelled f) in
-      let rest = formal_names (spelled fs) in
+      let rest = formal_parameter_names (spelled fs) in
       let a = section_passed f v s k at in
       pass_is refl (sym (declare_names-append k xs rest s)) (sym (ordinal_after_names-append k xs rest))
       (pass_to (pass_then a (sections_passed fs (visit_parameter_section f v) (declare_names k xs s) (ordinal_after_names k xs) a.at))
       (λ p i. more (semicolon_then_section (p.first i)) (p.second i)))
 
-  section_declaring : (f : Tree ℕ section) → map (spelling_at src) (declaring_names (identifiers role.Declaring f)) ≡ parameter_section_names (spelled f)
-  section_declaring (value_section ns t) = ap (map (spelling_at src)) (group_declaring ns t) ∙ names_named ns
-  section_declaring (variable_section ns t) = ap (map (spelling_at src)) (group_declaring ns t) ∙ names_named ns
+  section_declaring : (f : Tree ℕ section) → map (spelling_at_token src) (declaring_names (identifiers role.DeclaringName f)) ≡ parameter_section_names (spelled f)
+  section_declaring (value_section ns t) = ap (map (spelling_at_token src)) (group_declaring ns t) ∙ names_named ns
+  section_declaring (variable_section ns t) = ap (map (spelling_at_token src)) (group_declaring ns t) ∙ names_named ns
 
-  sections_declaring : (fs : Tree ℕ (items section_after_semicolon)) → map (spelling_at src) (declaring_names (identifiers role.Declaring fs)) ≡ formal_names (spelled fs)
+  sections_declaring : (fs : Tree ℕ (items section_after_semicolon)) → map (spelling_at_token src) (declaring_names (identifiers role.DeclaringName fs)) ≡ formal_parameter_names (spelled fs)
   sections_declaring end = refl
   sections_declaring (more (semicolon_then_section f) fs) =
-      let xs = identifiers role.Declaring f in
-      let ys = identifiers role.Declaring fs in
-      ap (map (spelling_at src)) (declaring_names-append xs ys) ∙ (map-append (spelling_at src) (declaring_names xs) (declaring_names ys) ∙ (λ i. section_declaring f i ++ sections_declaring fs i))
+      let xs = identifiers role.DeclaringName f in
+      let ys = identifiers role.DeclaringName fs in
+      ap (map (spelling_at_token src)) (declaring_names-append xs ys) ∙ (map-append (spelling_at_token src) (declaring_names xs) (declaring_names ys) ∙ (λ i. section_declaring f i ++ sections_declaring fs i))
 
   formals_passed : (fs : Tree ℕ (maybe formals)) (v : WalkState) (s : Scope Name) (k : ℕ) → At v src s k
-      → Passes v (visit_formals fs v) (identifiers role.Declaring fs) (declare_names k (formal_names (formal_sections (spelled fs))) s) (ordinal_after_names k (formal_names (formal_sections (spelled fs))))
+      → Passes v (visit_formals fs v) (identifiers role.DeclaringName fs) (declare_names k (formal_parameter_names (formal_parameter_sections (spelled fs))) s) (ordinal_after_names k (formal_parameter_names (formal_parameter_sections (spelled fs))))
       (relabel_formals naming_by_spelling label s k (spelled fs) ≡ by_table fs)
   formals_passed none v s k at = pass_to (pass_nothing v s k at) (λ h. refl)
   formals_passed (one no_formals) v s k at = pass_to (pass_nothing v s k at) (λ h. refl)
   formals_passed (one (some_formals f fs)) v s k at =
       let xs = parameter_section_names (spelled f) in
-      let rest = formal_names (spelled fs) in
+      let rest = formal_parameter_names (spelled fs) in
       let a = section_passed f v s k at in
       pass_is refl (sym (declare_names-append k xs rest s)) (sym (ordinal_after_names-append k xs rest))
       (pass_to (pass_then a (sections_passed fs (visit_parameter_section f v) (declare_names k xs s) (ordinal_after_names k xs) a.at))
       (λ p i. one (some_formals (p.first i) (p.second i))))
 
-  formals_declaring : (fs : Tree ℕ (maybe formals)) → map (spelling_at src) (declaring_names (identifiers role.Declaring fs)) ≡ formal_names (formal_sections (spelled fs))
+  formals_declaring : (fs : Tree ℕ (maybe formals)) → map (spelling_at_token src) (declaring_names (identifiers role.DeclaringName fs)) ≡ formal_parameter_names (formal_parameter_sections (spelled fs))
   formals_declaring none = refl
   formals_declaring (one no_formals) = refl
   formals_declaring (one (some_formals f fs)) = sections_declaring (more (semicolon_then_section f) fs)
 
   pub constant_section_passed : (cs : Tree ℕ (maybe constants)) (v : WalkState) (s : Scope Name) (k : ℕ) → At v src s k
-      → Passes v (visit_constant_section cs v) (identifiers role.Declaring cs) (declare_names k (constant_names (section_constants (spelled cs))) s) (ordinal_after_names k (constant_names (section_constants (spelled cs))))
+      → Passes v (visit_constant_section cs v) (identifiers role.DeclaringName cs) (declare_names k (constant_names (section_constants (spelled cs))) s) (ordinal_after_names k (constant_names (section_constants (spelled cs))))
       (relabel_constant_section naming_by_spelling label s k (spelled cs) ≡ by_table cs)
   constant_section_passed none v s k at = pass_to (pass_nothing v s k at) (λ h. refl)
   constant_section_passed (one (declares_const_section cs)) v s k at = pass_to (constants_passed cs v s k at) (λ p i. one (declares_const_section (p i)))
 
   pub type_section_passed : (ts : Tree ℕ (maybe type_definitions)) (v : WalkState) (s : Scope Name) (k : ℕ) → At v src s k
-      → Passes v (visit_type_section ts v) (identifiers role.Declaring ts) (declare_names k (declared_type_names (section_types (spelled ts))) s) (ordinal_after_names k (declared_type_names (section_types (spelled ts))))
+      → Passes v (visit_type_section ts v) (identifiers role.DeclaringName ts) (declare_names k (declared_type_names (section_types (spelled ts))) s) (ordinal_after_names k (declared_type_names (section_types (spelled ts))))
       (relabel_type_section naming_by_spelling label s k (spelled ts) ≡ by_table ts)
   type_section_passed none v s k at = pass_to (pass_nothing v s k at) (λ h. refl)
   type_section_passed (one (declares_type_section ts)) v s k at = pass_to (types_passed ts v s k at) (λ p i. one (declares_type_section (p i)))
 
   pub variable_section_passed : (vs : Tree ℕ (maybe variables)) (v : WalkState) (s : Scope Name) (k : ℕ) → At v src s k
-      → Passes v (visit_variable_section vs v) (identifiers role.Declaring vs) (declare_names k (variable_names (section_variables (spelled vs))) s) (ordinal_after_names k (variable_names (section_variables (spelled vs))))
+      → Passes v (visit_variable_section vs v) (identifiers role.DeclaringName vs) (declare_names k (variable_names (section_variables (spelled vs))) s) (ordinal_after_names k (variable_names (section_variables (spelled vs))))
       (relabel_variable_section naming_by_spelling label s k (spelled vs) ≡ by_table vs)
   variable_section_passed none v s k at = pass_to (pass_nothing v s k at) (λ h. refl)
   variable_section_passed (one (declares_var_section vs)) v s k at = pass_to (variables_passed vs v s k at) (λ p i. one (declares_var_section (p i)))
@@ -482,12 +482,12 @@ module _ {M : Type 0} (table : ℕ → Option ℕ) (label : Labelling Name M) (s
 
   -- The name and the parameters of a procedure are passed like any part.
   pub heading_passed : (x : ℕ) (fs : Tree ℕ (maybe formals)) (v : WalkState) (s : Scope Name) (k : ℕ) → At v src s k
-      → Passes v (state_after_heading (length v.declaration_tokens) (length v.scope) (visit_formals fs (number_declaration x v))) ((role.Declaring, x) ∷ identifiers role.Declaring fs)
-      (declare_names (suc k) (formal_names (formal_sections (spelled fs))) ((spelling_at src x, k) ∷ s)) (ordinal_after_names (suc k) (formal_names (formal_sections (spelled fs))))
+      → Passes v (state_after_heading (length v.declaration_tokens) (length v.scope) (visit_formals fs (number_declaration x v))) ((role.DeclaringName, x) ∷ identifiers role.DeclaringName fs)
+      (declare_names (suc k) (formal_parameter_names (formal_parameter_sections (spelled fs))) ((spelling_at_token src x, k) ∷ s)) (ordinal_after_names (suc k) (formal_parameter_names (formal_parameter_sections (spelled fs))))
       (Two (table x ≡ Some k) (relabel_formals naming_by_spelling label s (suc k) (spelled fs) ≡ by_table fs))
   heading_passed x fs v s k at =
-      let name = spelling_at src x in
-      let formal = formal_names (formal_sections (spelled fs)) in
+      let name = spelling_at_token src x in
+      let formal = formal_parameter_names (formal_parameter_sections (spelled fs)) in
       let a = number_passed x v s k at in
       let f = formals_passed fs (number_declaration x v) s (suc k) a.at in
       let heading = left_passed (length v.scope) (ap length at.scope) (names_extend (suc k) formal s) (pass_then a f) in
@@ -495,7 +495,7 @@ module _ {M : Type 0} (table : ℕ → Option ℕ) (label : Labelling Name M) (s
 
   mutual
     pub block_passed : (b : Tree ℕ block) (v : WalkState) (s : Scope Name) (k : ℕ) → At v src s k
-        → Passes v (visit_block b v) (identifiers role.Declaring b) (body_scope k (spelled b) s) (ordinal_after_block k (spelled b))
+        → Passes v (visit_block b v) (identifiers role.DeclaringName b) (body_scope k (spelled b) s) (ordinal_after_block k (spelled b))
         (relabel_block naming_by_spelling label s k (spelled b) ≡ by_table b)
     block_passed (forms_block (declares cs ts vs ps) statements) v s k at =
         let xs = constant_names (section_constants (spelled cs)) in
@@ -508,12 +508,12 @@ module _ {M : Type 0} (table : ℕ → Option ℕ) (label : Labelling Name M) (s
         let c = variable_section_passed vs v₂ (declare_names (ordinal_after_names k xs) ys (declare_names k xs s)) (ordinal_after_names (ordinal_after_names k xs) ys) b.at in
         let v₃ = visit_variable_section vs v₂ in
         let d = procedures_passed ps v₃ (declare_names (ordinal_after_names (ordinal_after_names k xs) ys) zs (declare_names (ordinal_after_names k xs) ys (declare_names k xs s))) (ordinal_after_names (ordinal_after_names (ordinal_after_names k xs) ys) zs) c.at in
-        let e = used_passed statements (visit_procedures ps v₃) (body_scope k (spelled (forms_block (declares cs ts vs ps) statements)) s) (ordinal_after_block k (spelled (forms_block (declares cs ts vs ps) statements))) tt d.at in
+        let e = used_passed statements (visit_procedure_list ps v₃) (body_scope k (spelled (forms_block (declares cs ts vs ps) statements)) s) (ordinal_after_block k (spelled (forms_block (declares cs ts vs ps) statements))) tt d.at in
         pass_to (pass_then (pass_then a (pass_then b (pass_then c d))) e)
         (λ p i. forms_block (declares (p.first.first i) (p.first.second.first i) (p.first.second.second.first i) (p.first.second.second.second i)) (p.second i))
 
     pub procedures_passed : (ps : Tree ℕ (items procedure)) (v : WalkState) (s : Scope Name) (k : ℕ) → At v src s k
-        → Passes v (visit_procedures ps v) (identifiers role.Declaring ps) (declare_procedure_names k (spelled ps) s) (ordinal_after_procedure_list k (spelled ps))
+        → Passes v (visit_procedure_list ps v) (identifiers role.DeclaringName ps) (declare_procedure_names k (spelled ps) s) (ordinal_after_procedure_list k (spelled ps))
         (relabel_procedure_list naming_by_spelling label s k (spelled ps) ≡ by_table ps)
     procedures_passed end v s k at = pass_to (pass_nothing v s k at) (λ h. refl)
     procedures_passed (more p ps) v s k at =
@@ -522,13 +522,13 @@ module _ {M : Type 0} (table : ℕ → Option ℕ) (label : Labelling Name M) (s
         (λ q i. more (q.first i) (q.second i))
 
     pub procedure_passed : (p : Tree ℕ (item procedure)) (v : WalkState) (s : Scope Name) (k : ℕ) → At v src s k
-        → Passes v (visit_procedure p v) (identifiers role.Declaring p) ((procedure_name (spelled p), k) ∷ s) (ordinal_after_procedure (suc k) (spelled p))
+        → Passes v (visit_procedure p v) (identifiers role.DeclaringName p) ((procedure_name (spelled p), k) ∷ s) (ordinal_after_procedure (suc k) (spelled p))
         (relabel_procedure naming_by_spelling label s k (spelled p) ≡ by_table p)
     procedure_passed (declares_procedure x fs b closing) v s k at =
         let own = length v.declaration_tokens in
         let outside = length v.scope in
-        let name = spelling_at src x in
-        let formal = formal_names (formal_sections (spelled fs)) in
+        let name = spelling_at_token src x in
+        let formal = formal_parameter_names (formal_parameter_sections (spelled fs)) in
         let k₁ = ordinal_after_names (suc k) formal in
         let inside = declare_names (suc k) formal ((name, k) ∷ s) in
         let count : outside ≡ length s = ap length at.scope in
@@ -540,16 +540,16 @@ module _ {M : Type 0} (table : ℕ → Option ℕ) (label : Labelling Name M) (s
         let following = left_passed outside count e whole in
         let low : k < ordinal_after_block k₁ (spelled b) = omega (arith, le-ordinal_after_names (suc k) formal, le-ordinal_after_block k₁ (spelled b)) in
         let shown_again : At (state_after_procedure_block x (7 + own) outside (visit_block b v₃)) src ((name, k) ∷ s) (ordinal_after_block k₁ (spelled b)) =
-        record { spellings = following.at.spellings; scope = (λ i. (spelling_at (following.at.spellings i) x, at.next i) ∷ following.at.scope i); next = following.at.next; before = (low, following.at.before) } in
-        let visible : Passes v (state_after_procedure_block x (7 + own) outside (visit_block b v₃)) (((role.Declaring, x) ∷ identifiers role.Declaring fs) ++ identifiers role.Declaring b) ((name, k) ∷ s) (ordinal_after_block k₁ (spelled b)) _ =
+        record { spellings = following.at.spellings; scope = (λ i. (spelling_at_token (following.at.spellings i) x, at.next i) ∷ following.at.scope i); next = following.at.next; before = (low, following.at.before) } in
+        let visible : Passes v (state_after_procedure_block x (7 + own) outside (visit_block b v₃)) (((role.DeclaringName, x) ∷ identifiers role.DeclaringName fs) ++ identifiers role.DeclaringName b) ((name, k) ∷ s) (ordinal_after_block k₁ (spelled b)) _ =
         record { at = shown_again; declared = following.declared; used = following.used; tokens = following.tokens; agree = following.agree; in_order = following.in_order } in
         let last = mark_passed role.ClosingName closing (Some (7 + own)) (state_after_procedure_block x (7 + own) outside (visit_block b v₃)) ((name, k) ∷ s) (ordinal_after_block k₁ (spelled b)) refl refl (omega (arith, low, at.next)) shown_again in
-        pass_is (append_assoc ((role.Declaring, x) ∷ identifiers role.Declaring fs) (identifiers role.Declaring b) ((role.ClosingName, closing) ∷ []) ∙ append_assoc ((role.Declaring, x) ∷ []) (identifiers role.Declaring fs) (identifiers role.Declaring b ++ ((role.ClosingName, closing) ∷ []))) refl refl
+        pass_is (append_assoc ((role.DeclaringName, x) ∷ identifiers role.DeclaringName fs) (identifiers role.DeclaringName b) ((role.ClosingName, closing) ∷ []) ∙ append_assoc ((role.DeclaringName, x) ∷ []) (identifiers role.DeclaringName fs) (identifiers role.DeclaringName b ++ ((role.ClosingName, closing) ∷ []))) refl refl
         (pass_to (pass_then visible last)
-        (λ p i. declares_procedure (label (sym p.first.first.first i) name) (p.first.first.second i) (p.first.second i) (label (sym (p.second ∙ ap Some at.next) i) (spelling_at src closing))))
+        (λ p i. declares_procedure (label (sym p.first.first.first i) name) (p.first.first.second i) (p.first.second i) (label (sym (p.second ∙ ap Some at.next) i) (spelling_at_token src closing))))
 
   pub module_passed_with : (m : Tree ℕ module_text) (v : WalkState) → At v src (predeclared_scope naming_by_spelling) 7
-      → Passes v (visit_module m v) (identifiers role.Declaring m) (body_scope 7 (module_block (spelled m)) (predeclared_scope naming_by_spelling)) (ordinal_after_block 7 (module_block (spelled m)))
+      → Passes v (visit_module m v) (identifiers role.DeclaringName m) (body_scope 7 (module_block (spelled m)) (predeclared_scope naming_by_spelling)) (ordinal_after_block 7 (module_block (spelled m)))
       (relabel_module naming_by_spelling label (spelled m) ≡ by_table m)
   module_passed_with (forms_module x b closing) v at =
       let s = predeclared_scope naming_by_spelling in
@@ -557,9 +557,9 @@ module _ {M : Type 0} (table : ℕ → Option ℕ) (label : Labelling Name M) (s
       let g = block_passed b (with_mark x None v) s 7 a.at in
       let last = mark_passed role.ModuleName closing None (visit_block b (with_mark x None v)) (body_scope 7 (spelled b) s) (ordinal_after_block 7 (spelled b)) refl refl tt g.at in
       pass_to (pass_then a (pass_then g last))
-      (λ p i. forms_module (label (sym p.first i) (spelling_at src x)) (p.second.first i) (label (sym p.second.second i) (spelling_at src closing)))
+      (λ p i. forms_module (label (sym p.first i) (spelling_at_token src x)) (p.second.first i) (label (sym p.second.second i) (spelling_at_token src closing)))
 
 pub module_passed : {M : Type 0} (table : ℕ → Option ℕ) (label : Labelling Name M) (src : Spellings) (m : Tree ℕ module_text) (v : WalkState) → At v src (predeclared_scope naming_by_spelling) 7
-    → Passed table src v (visit_module m v) (identifiers role.Declaring m) (body_scope 7 (module_block (tree_with_spellings src m)) (predeclared_scope naming_by_spelling)) (ordinal_after_block 7 (module_block (tree_with_spellings src m)))
-    (relabel_module naming_by_spelling label (tree_with_spellings src m) ≡ mapped_tree (λ i. label (table i) (spelling_at src i)) (token_value_at src.source) m)
+    → Passed table src v (visit_module m v) (identifiers role.DeclaringName m) (body_scope 7 (module_block (tree_with_spellings src m)) (predeclared_scope naming_by_spelling)) (ordinal_after_block 7 (module_block (tree_with_spellings src m)))
+    (relabel_module naming_by_spelling label (tree_with_spellings src m) ≡ mapped_tree (λ i. label (table i) (spelling_at_token src i)) (token_value_at src.source) m)
 module_passed table label src = module_passed_with table label src (token_value_at src.source)

@@ -4,12 +4,12 @@ use Rattle.std.proofs.lemmas.List.{reverse-append, reverse-reverse, length-rever
 use Rattle.std.proofs.Math.ListN.{get_or-append}
 use Rattle.std.proofs.Math.Seq.{get_or-append_seam}
 use Rattle.std.proofs.lemmas.Slice.Eq.{bytes_eq-Decides}
-use Rattle.ob0_scope_numbering.specs.declared.newest.NameEntry.{NameEntry}
-use Rattle.ob0_scope_numbering.specs.declared.visible.Binding.{Binding}
+use Rattle.ob0_scope_numbering.specs.declared.newest_bindings.NameEntry.{NameEntry}
+use Rattle.ob0_scope_numbering.specs.declared.scope_bindings.Binding.{Binding}
 use Rattle.ob0_language_names.specs.Names.{Name, naming_by_spelling, same_name}
-use Rattle.ob0_scope_numbering.specs.NewestNames.{SetsNewestBinding, KeepsNewestBindings, KeepsNamePositions, newest_binding_in, position_of_name}
+use Rattle.ob0_scope_numbering.specs.NewestBindingList.{SetsNewestBinding, KeepsNewestBindings, KeepsNamePositions, newest_binding_in, position_of_name}
 use Rattle.ob0_language_names.specs.Scopes.{ordinal_in_scope}
-use Rattle.ob0_scope_numbering.specs.StoredScopes.{HaveHiddenBindingIndexes, HaveNamePositions, HasNewestBindings, newest_binding_index, scope_of}
+use Rattle.ob0_scope_numbering.specs.StoredScopes.{HiddenBindingIndexesAreCorrect, EachBindingHasNamePosition, HasCorrectBindingIndexes, newest_binding_index, scope_of_bindings}
 use Rattle.ob0_language_names.proofs.NameEquality.{same_name-comm}
 
 abbrev pub shown : Binding → Name × ℕ
@@ -65,15 +65,15 @@ chosen true false a b c d e f g = absurd (cc)
 chosen false true a b c d e f g = absurd (cc)
 chosen false false a b c d e f g = g
 
-pub bound_again : (newest next : List NameEntry) (items : List Binding) (b : Binding) → HasNewestBindings newest items → b.hidden_binding_index ≡ newest_binding_index b.name.now (reverse items)
-    → SetsNewestBinding newest next b.name.now (Some (length items)) → HasNewestBindings next (items ++ (b ∷ []))
+pub bound_again : (newest next : List NameEntry) (items : List Binding) (b : Binding) → HasCorrectBindingIndexes newest items → b.hidden_binding_index ≡ newest_binding_index b.name.now (reverse items)
+    → SetsNewestBinding newest next b.name.now (Some (length items)) → HasCorrectBindingIndexes next (items ++ (b ∷ []))
 bound_again newest next items b w hidden_binding_index renewed =
     let turned : reverse (items ++ (b ∷ [])) ≡ b ∷ reverse items = reverse-append items (b ∷ []) in
     record {
       found = λ x. renewed x
           ∙ (chosen (same_name b.name.now x) (same_name x b.name.now) (Some (length items)) (newest_binding_in newest x) (Some (length (reverse items))) (newest_binding_index x (reverse items)) (same_name-comm b.name.now x) (ap Some (sym (length-reverse items))) (w.found x)
           ∙ ap (newest_binding_index x) (sym turned));
-      hidden_binding_index = subst HaveHiddenBindingIndexes (sym turned) (hidden_binding_index, w.hidden_binding_index);
+      hidden_binding_index = subst HiddenBindingIndexesAreCorrect (sym turned) (hidden_binding_index, w.hidden_binding_index);
     }
 
 left_step : (p q : Bool) (a b c : Option ℕ) (n : ℕ) → p ≡ q → (p ≡ true → a ≡ c) → b ≡ (if q then Some n else c) → (if p then a else b) ≡ c
@@ -82,10 +82,10 @@ left_step true false a b c n e f g = absurd (cc)
 left_step false true a b c n e f g = absurd (cc)
 left_step false false a b c n e f g = g
 
-pub binding_dropped : (newest next : List NameEntry) (items : List Binding) (b : Binding) → HasNewestBindings newest (items ++ (b ∷ [])) → SetsNewestBinding newest next b.name.now b.hidden_binding_index → HasNewestBindings next items
+pub binding_dropped : (newest next : List NameEntry) (items : List Binding) (b : Binding) → HasCorrectBindingIndexes newest (items ++ (b ∷ [])) → SetsNewestBinding newest next b.name.now b.hidden_binding_index → HasCorrectBindingIndexes next items
 binding_dropped newest next items b w renewed =
     let turned : reverse (items ++ (b ∷ [])) ≡ b ∷ reverse items = reverse-append items (b ∷ []) in
-    let trail : HaveHiddenBindingIndexes (b ∷ reverse items) = subst HaveHiddenBindingIndexes turned w.hidden_binding_index in
+    let trail : HiddenBindingIndexesAreCorrect (b ∷ reverse items) = subst HiddenBindingIndexesAreCorrect turned w.hidden_binding_index in
     record {
       found = λ x. renewed x
           ∙ left_step (same_name b.name.now x) (same_name x b.name.now) b.hidden_binding_index (newest_binding_in newest x) (newest_binding_index x (reverse items)) (length (reverse items)) (same_name-comm b.name.now x)
@@ -94,29 +94,29 @@ binding_dropped newest next items b w renewed =
     }
 
 -- Each binding still has its name's position after the list of names has changed.
-pub still_placed : (before after : List NameEntry) (bs : List Binding) → KeepsNamePositions before after → HaveNamePositions before bs → HaveNamePositions after bs
+pub still_placed : (before after : List NameEntry) (bs : List Binding) → KeepsNamePositions before after → EachBindingHasNamePosition before bs → EachBindingHasNamePosition after bs
 still_placed before after [] kept h = tt
 still_placed before after (b ∷ bs) kept h = (kept b.name.now b.name_position h.0, still_placed before after bs kept h.1)
 
-pub one_more_placed : (newest : List NameEntry) (items : List Binding) (b : Binding) → HaveNamePositions newest items → position_of_name newest b.name.now ≡ Some b.name_position → HaveNamePositions newest (items ++ (b ∷ []))
+pub one_more_placed : (newest : List NameEntry) (items : List Binding) (b : Binding) → EachBindingHasNamePosition newest items → position_of_name newest b.name.now ≡ Some b.name_position → EachBindingHasNamePosition newest (items ++ (b ∷ []))
 one_more_placed newest [] b h at = (at, tt)
 one_more_placed newest (x ∷ items) b h at = (h.0, one_more_placed newest items b h.1 at)
 
-pub one_less_placed : (newest : List NameEntry) (items : List Binding) (b : Binding) → HaveNamePositions newest (items ++ (b ∷ [])) → HaveNamePositions newest items × (position_of_name newest b.name.now ≡ Some b.name_position)
+pub one_less_placed : (newest : List NameEntry) (items : List Binding) (b : Binding) → EachBindingHasNamePosition newest (items ++ (b ∷ [])) → EachBindingHasNamePosition newest items × (position_of_name newest b.name.now ≡ Some b.name_position)
 one_less_placed newest [] b h = (tt, h.0)
 one_less_placed newest (x ∷ items) b h = let rest = one_less_placed newest items b h.1 in ((h.0, rest.0), rest.1)
 
 -- The newest bindings are right after names were added to the list.
-pub still_newest : (before after : List NameEntry) (items : List Binding) → KeepsNewestBindings before after → HasNewestBindings before items → HasNewestBindings after items
+pub still_newest : (before after : List NameEntry) (items : List Binding) → KeepsNewestBindings before after → HasCorrectBindingIndexes before items → HasCorrectBindingIndexes after items
 still_newest before after items kept w = record { found = λ x. kept x ∙ w.found x; hidden_binding_index = w.hidden_binding_index }
 
-pub looked_up_below : (newest : List NameEntry) (items : List Binding) (x : Name) (i : ℕ) → HasNewestBindings newest items → Some i ≡ newest_binding_in newest x → i < length items
+pub looked_up_below : (newest : List NameEntry) (items : List Binding) (x : Name) (i : ℕ) → HasCorrectBindingIndexes newest items → Some i ≡ newest_binding_in newest x → i < length items
 looked_up_below newest items x i w e = subst (λ n. i < n) (length-reverse items) (latest_below x (reverse items) i (sym (w.found x) ∙ sym e))
 
-pub looked_up_some : (newest : List NameEntry) (items : List Binding) (x : Name) (i : ℕ) (b : Binding) → HasNewestBindings newest items → Some i ≡ newest_binding_in newest x
-    → b ≡ get_or items i b → Some b.ordinal ≡ ordinal_in_scope naming_by_spelling (scope_of items) x
+pub looked_up_some : (newest : List NameEntry) (items : List Binding) (x : Name) (i : ℕ) (b : Binding) → HasCorrectBindingIndexes newest items → Some i ≡ newest_binding_in newest x
+    → b ≡ get_or items i b → Some b.ordinal ≡ ordinal_in_scope naming_by_spelling (scope_of_bindings items) x
 looked_up_some newest items x i b w e here =
     ap (λ (z : Binding). Some z.ordinal) (here ∙ ap (λ l. get_or l i b) (sym (reverse-reverse items))) ∙ sym (latest_ordinal x (reverse items) i b (sym (w.found x) ∙ sym e))
 
-pub looked_up_none : (newest : List NameEntry) (items : List Binding) (x : Name) → HasNewestBindings newest items → None ≡ newest_binding_in newest x → None ≡ ordinal_in_scope naming_by_spelling (scope_of items) x
+pub looked_up_none : (newest : List NameEntry) (items : List Binding) (x : Name) → HasCorrectBindingIndexes newest items → None ≡ newest_binding_in newest x → None ≡ ordinal_in_scope naming_by_spelling (scope_of_bindings items) x
 looked_up_none newest items x w e = sym (latest_none x (reverse items) (sym (w.found x) ∙ sym e))

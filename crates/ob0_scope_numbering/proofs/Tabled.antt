@@ -5,19 +5,19 @@ use Rattle.ob0_scan.specs.TextWithTokens.{IsScan}
 use Rattle.ob0_tree.specs.declared.tree.Role.{Role}
 use Rattle.ob0_tree.specs.declared.tree.Role.TheVariants as role
 use Rattle.ob0_tree.specs.Tree.{Sort, Tree, block, body, constant, constants, declares, declares_constant, declares_const_section, declares_procedure, declares_type, declares_type_section, declares_variable, declares_var_section, end, formals, section_after_semicolon, forms_block, identifiers, forms_module, item, items, maybe, module_text, more, no_formals, none, one, procedure, section, some_formals, semicolon_then_section, type_definition, type_definitions, value_section, variable, variable_section, variables}
-use Rattle.ob0_tree.specs.ParsedModule.{IsParsed, ParsedModule, tree_of}
+use Rattle.ob0_tree.specs.ParsedModule.{TreeMatchesText, ParsedModule, tree_of}
 use Rattle.ob0_scope_numbering.specs.MarkWalk as listing
-use Rattle.ob0_scope_numbering.specs.IdentifierWalk.{number_declaration, number_declarations, state_after_heading, state_after_procedure_block, visit_block, visit_constant, visit_constant_section, visit_constants, visit_formals, visit_identifier, visit_identifiers, visit_module, visit_nondeclaring_tree, visit_procedure, visit_procedures, visit_parameter_section, visit_parameter_sections, visit_type, visit_type_section, visit_types, visit_variable, visit_variable_section, visit_variables, with_mark, with_visible_names_from}
+use Rattle.ob0_scope_numbering.specs.IdentifierWalk.{number_declaration, number_declarations, state_after_heading, state_after_procedure_block, visit_block, visit_constant, visit_constant_section, visit_constants, visit_formals, visit_identifier, visit_identifiers, visit_module, visit_nondeclaring_tree, visit_procedure, visit_procedure_list, visit_parameter_section, visit_parameter_sections, visit_type, visit_type_section, visit_types, visit_variable, visit_variable_section, visit_variables, with_mark, with_names_visible_from_index}
 use Rattle.ob0_scope_numbering.specs.OrdinalMarks.{OrdinalMark}
 use Rattle.ob0_scope_table.specs.OrdinalEntries.{stored_ordinal}
 use Rattle.ob0_language_names.specs.Names.{naming_by_spelling}
 use Rattle.ob0_language_names.specs.BlockParts.{names_in_list, procedure_name}
-use Rattle.ob0_scope_table.specs.OneBody.{closing_name}
-use Rattle.ob0_scope_numbering.specs.BodyWalk.{with_declarations_before, renumber_module, with_skipped_procedure_name, renumber_block, renumber_procedure, renumber_procedures, initial_walk_state_with_table}
+use Rattle.ob0_scope_table.specs.SpellingChangesInOneBody.{closing_name}
+use Rattle.ob0_scope_numbering.specs.BodyWalk.{with_declarations_before_token, renumber_body_in_module, with_skipped_procedure_name, renumber_block, renumber_procedure, renumber_procedure_list, initial_walk_state_with_table}
 use Rattle.ob0_language_names.specs.Scopes.{ordinal_in_scope}
 use Rattle.ob0_scope_numbering.specs.TableWalk as tabling
 use Rattle.ob0_scope_numbering.specs.TableWalk.{number_module}
-use Rattle.ob0_scope_numbering.specs.IdentifierSpellings.{Spellings, spelling_at}
+use Rattle.ob0_scope_numbering.specs.IdentifierSpellings.{Spellings, spelling_at_token}
 use Rattle.ob0_scope_numbering.proofs.Kept.{all_kept, with_entries}
 
 with_entries-added : (table : List (Option ℕ)) (ms : List OrdinalMark) (i : ℕ) (ordinal : Option ℕ) → set (with_entries table ms) i (stored_ordinal ordinal) ≡ with_entries table (ms ++ (record { token = i; ordinal = ordinal } ∷ []))
@@ -40,8 +40,8 @@ module _ (table : List (Option ℕ)) where
   number_declarations-entered (i ∷ is) v = ap (number_declarations is) (number_declaration-entered i v) ∙ number_declarations-entered is (number_declaration i v)
 
   visit_identifier-entered : (r : Role) (i : ℕ) (v : listing.WalkState) → visit_identifier r i (entered table v) ≡ entered table (visit_identifier r i v)
-  visit_identifier-entered role.LookedUp i v = ap (λ marks. record (entered table v) { uses = v.uses ++ (i ∷ []); marks = marks }) (with_entries-added table v.marks i (ordinal_in_scope naming_by_spelling v.scope (spelling_at v.spellings i)))
-  visit_identifier-entered role.Declaring i v = with_mark-entered i None v
+  visit_identifier-entered role.LookedUpName i v = ap (λ marks. record (entered table v) { uses = v.uses ++ (i ∷ []); marks = marks }) (with_entries-added table v.marks i (ordinal_in_scope naming_by_spelling v.scope (spelling_at_token v.spellings i)))
+  visit_identifier-entered role.DeclaringName i v = with_mark-entered i None v
   visit_identifier-entered role.ClosingName i v = with_mark-entered i None v
   visit_identifier-entered role.FieldName i v = with_mark-entered i None v
   visit_identifier-entered role.ModuleName i v = with_mark-entered i None v
@@ -51,12 +51,12 @@ module _ (table : List (Option ℕ)) where
   visit_identifiers-entered (x ∷ xs) v = ap (visit_identifiers xs) (visit_identifier-entered x.0 x.1 v) ∙ visit_identifiers-entered xs (visit_identifier x.0 x.1 v)
 
   used-entered : {s : Sort} (t : Tree ℕ s) (v : listing.WalkState) → visit_nondeclaring_tree t (entered table v) ≡ entered table (visit_nondeclaring_tree t v)
-  used-entered t v = visit_identifiers-entered (identifiers role.Declaring t) v
+  used-entered t v = visit_identifiers-entered (identifiers role.DeclaringName t) v
 
   -- Visiting names and the part after them with a table enters their listed marks.
   names-entered : {s : Sort} (is : List ℕ) (t : Tree ℕ s) (v : listing.WalkState)
-      → with_visible_names_from (length v.declaration_tokens) (visit_nondeclaring_tree t (number_declarations is (entered table v))) ≡ entered table (with_visible_names_from (length v.declaration_tokens) (visit_nondeclaring_tree t (number_declarations is v)))
-  names-entered is t v = ap (with_visible_names_from (length v.declaration_tokens)) (ap (visit_nondeclaring_tree t) (number_declarations-entered is v) ∙ used-entered t (number_declarations is v))
+      → with_names_visible_from_index (length v.declaration_tokens) (visit_nondeclaring_tree t (number_declarations is (entered table v))) ≡ entered table (with_names_visible_from_index (length v.declaration_tokens) (visit_nondeclaring_tree t (number_declarations is v)))
+  names-entered is t v = ap (with_names_visible_from_index (length v.declaration_tokens)) (ap (visit_nondeclaring_tree t) (number_declarations-entered is v) ∙ used-entered t (number_declarations is v))
 
   constant-entered : (c : Tree ℕ (item constant)) (v : listing.WalkState) → visit_constant c (entered table v) ≡ entered table (visit_constant c v)
   constant-entered (declares_constant x e) v = names-entered (x ∷ []) e v
@@ -125,11 +125,11 @@ module _ (table : List (Option ℕ)) where
     block-entered : (b : Tree ℕ block) (v : listing.WalkState) → visit_block b (entered table v) ≡ entered table (visit_block b v)
     block-entered (forms_block (declares cs ts vs ps) statements) v =
         let w = visit_variable_section vs (visit_type_section ts (visit_constant_section cs v)) in
-        ap (visit_nondeclaring_tree statements) (ap (visit_procedures ps) (declaration_tokens-entered cs ts vs v) ∙ procedures-entered ps w) ∙ used-entered statements (visit_procedures ps w)
+        ap (visit_nondeclaring_tree statements) (ap (visit_procedure_list ps) (declaration_tokens-entered cs ts vs v) ∙ procedures-entered ps w) ∙ used-entered statements (visit_procedure_list ps w)
 
-    procedures-entered : (ps : Tree ℕ (items procedure)) (v : listing.WalkState) → visit_procedures ps (entered table v) ≡ entered table (visit_procedures ps v)
+    procedures-entered : (ps : Tree ℕ (items procedure)) (v : listing.WalkState) → visit_procedure_list ps (entered table v) ≡ entered table (visit_procedure_list ps v)
     procedures-entered end v = refl
-    procedures-entered (more p ps) v = ap (visit_procedures ps) (procedure-entered p v) ∙ procedures-entered ps (visit_procedure p v)
+    procedures-entered (more p ps) v = ap (visit_procedure_list ps) (procedure-entered p v) ∙ procedures-entered ps (visit_procedure p v)
 
     procedure-entered : (p : Tree ℕ (item procedure)) (v : listing.WalkState) → visit_procedure p (entered table v) ≡ entered table (visit_procedure p v)
     procedure-entered (declares_procedure x fs b closing) v =
@@ -152,15 +152,15 @@ module _ (table : List (Option ℕ)) where
     renumber_block-entered : (all : List ℕ) (low : ℕ) (b : Tree ℕ block) (v : listing.WalkState) → renumber_block all low b (entered table v) ≡ entered table (renumber_block all low b v)
     renumber_block-entered all low (forms_block (declares cs ts vs ps) statements) v =
         let w = visit_variable_section vs (visit_type_section ts (visit_constant_section cs v)) in
-        ap (renumber_procedures all low ps statements) (declaration_tokens-entered cs ts vs v) ∙ procedures_again-entered all low ps statements w
+        ap (renumber_procedure_list all low ps statements) (declaration_tokens-entered cs ts vs v) ∙ procedures_again-entered all low ps statements w
 
     procedures_again-entered : (all : List ℕ) (low : ℕ) (ps : Tree ℕ (items procedure)) (statements : Tree ℕ (maybe body)) (v : listing.WalkState)
-        → renumber_procedures all low ps statements (entered table v) ≡ entered table (renumber_procedures all low ps statements v)
+        → renumber_procedure_list all low ps statements (entered table v) ≡ entered table (renumber_procedure_list all low ps statements v)
     procedures_again-entered all low end statements v = used-entered statements v
     procedures_again-entered all low (more p ps) statements v =
-        let w = with_declarations_before all (procedure_name p) v in
-        either (nat_lt (closing_name p) low) (renumber_procedures all low ps statements (with_skipped_procedure_name (procedure_name p) (entered table w))) (renumber_procedure all low p (entered table w))
-        (renumber_procedures all low ps statements (with_skipped_procedure_name (procedure_name p) w)) (renumber_procedure all low p w)
+        let w = with_declarations_before_token all (procedure_name p) v in
+        either (nat_lt (closing_name p) low) (renumber_procedure_list all low ps statements (with_skipped_procedure_name (procedure_name p) (entered table w))) (renumber_procedure all low p (entered table w))
+        (renumber_procedure_list all low ps statements (with_skipped_procedure_name (procedure_name p) w)) (renumber_procedure all low p w)
         (procedures_again-entered all low ps statements (with_skipped_procedure_name (procedure_name p) w)) (renumber_procedure-entered all low p w)
 
     renumber_procedure-entered : (all : List ℕ) (low : ℕ) (p : Tree ℕ (item procedure)) (v : listing.WalkState) → renumber_procedure all low p (entered table v) ≡ entered table (renumber_procedure all low p v)
@@ -172,10 +172,10 @@ module _ (table : List (Option ℕ)) where
 abbrev pub marks_again : List ℕ → ℕ → Tree ℕ module_text → Spellings → List OrdinalMark
 marks_again all low (forms_module x b closing) w = (renumber_block all low b (listing.initial_walk_state w)).marks
 
-pub body_tabled : (all : List ℕ) (low : ℕ) (m : Tree ℕ module_text) (w : Spellings) (table : List (Option ℕ)) → (renumber_module all low m (initial_walk_state_with_table w table)).marks ≡ with_entries table (marks_again all low m w)
+pub body_tabled : (all : List ℕ) (low : ℕ) (m : Tree ℕ module_text) (w : Spellings) (table : List (Option ℕ)) → (renumber_body_in_module all low m (initial_walk_state_with_table w table)).marks ≡ with_entries table (marks_again all low m w)
 body_tabled all low (forms_module x b closing) w table = ap (λ (v : tabling.WalkState). v.marks) (renumber_block-entered table all low b (listing.initial_walk_state w))
 
-pub module_tabled : (m : ParsedModule) (w : Spellings) → IsParsed m → IsScan m.source → visit_module (tree_of m) (tabling.initial_walk_state w) ≡ number_module (tree_of m) w
+pub module_tabled : (m : ParsedModule) (w : Spellings) → TreeMatchesText m → IsScan m.source → visit_module (tree_of m) (tabling.initial_walk_state w) ≡ number_module (tree_of m) w
 module_tabled m w parsed scan =
     let table : List (Option ℕ) = replicate (length w.source.tokens) None in
     let v = visit_module (tree_of m) (listing.initial_walk_state w) in

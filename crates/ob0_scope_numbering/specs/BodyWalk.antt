@@ -9,7 +9,7 @@ use Rattle.ob0_language_names.specs.Scopes.{predeclared_count}
 use Rattle.ob0_scope_numbering.specs.TableWalk as tabling
 use Rattle.ob0_scope_numbering.specs.IdentifierWalk.{WalkState, state_after_heading, state_before_module, number_declaration, visit_nondeclaring_tree, with_visible_name, visit_constant_section, visit_formals, visit_type_section, visit_variable_section}
 use Rattle.ob0_scope_numbering.specs.IdentifierSpellings.{Spellings}
-use Rattle.ob0_scope_table.specs.OneBody.{closing_name}
+use Rattle.ob0_scope_table.specs.SpellingChangesInOneBody.{closing_name}
 
 -- returns the longest prefix of a list of tokens in which all tokens are before `token`
 abbrev pub prefix_before_token : ℕ → List ℕ → List ℕ
@@ -19,8 +19,8 @@ prefix_before_token token (x ∷ xs) = if nat_lt x token then x ∷ prefix_befor
 module _ {M : Type 0} {put_ordinal : ℕ → Option ℕ → M → M} where
   -- Appends the declarations before a token that aren't in the list of declarations yet, without
   -- visiting them. `all` has the declaring tokens of the whole module, in text order.
-  abbrev pub with_declarations_before : List ℕ → ℕ → WalkState put_ordinal → WalkState put_ordinal
-  with_declarations_before all token v =
+  abbrev pub with_declarations_before_token : List ℕ → ℕ → WalkState put_ordinal → WalkState put_ordinal
+  with_declarations_before_token all token v =
       record v {
         declaration_tokens = v.declaration_tokens ++ prefix_before_token token (drop (length v.declaration_tokens) all);
       }
@@ -43,19 +43,19 @@ module _ {M : Type 0} {put_ordinal : ℕ → Option ℕ → M → M} (all : List
     -- own statements.
     pub renumber_block : Tree ℕ block → WalkState put_ordinal → WalkState put_ordinal
     renumber_block (forms_block (declares cs ts vs ps) statements) v =
-        renumber_procedures ps statements
+        renumber_procedure_list ps statements
         (visit_variable_section vs (visit_type_section ts (visit_constant_section cs v)))
 
     -- Visits the first of these procedures whose closing name is at or after the token `low`. The
     -- names of the earlier procedures only become visible. If there is no such procedure, visits the
     -- statements of the procedures' block.
-    pub renumber_procedures : Tree ℕ (items procedure) → Tree ℕ (maybe body) → WalkState put_ordinal → WalkState put_ordinal
-    renumber_procedures end statements v = visit_nondeclaring_tree statements v
-    renumber_procedures (more p ps) statements v =
+    pub renumber_procedure_list : Tree ℕ (items procedure) → Tree ℕ (maybe body) → WalkState put_ordinal → WalkState put_ordinal
+    renumber_procedure_list end statements v = visit_nondeclaring_tree statements v
+    renumber_procedure_list (more p ps) statements v =
         if nat_lt (closing_name p) low
-        then renumber_procedures ps statements
-        (with_skipped_procedure_name (procedure_name p) (with_declarations_before all (procedure_name p) v))
-        else renumber_procedure p (with_declarations_before all (procedure_name p) v)
+        then renumber_procedure_list ps statements
+        (with_skipped_procedure_name (procedure_name p) (with_declarations_before_token all (procedure_name p) v))
+        else renumber_procedure p (with_declarations_before_token all (procedure_name p) v)
 
     -- visits a procedure's name, its parameters and its block, but not its closing name
     pub renumber_procedure : Tree ℕ (item procedure) → WalkState put_ordinal → WalkState put_ordinal
@@ -69,5 +69,5 @@ initial_walk_state_with_table spellings table = state_before_module spellings ta
 
 -- Returns the state after the walk to the body that contains the token `low`, in which the ordinals
 -- are entered into a table. `all` has the declaring tokens of the whole module, in text order.
-abbrev pub renumber_module : List ℕ → ℕ → Tree ℕ module_text → tabling.WalkState → tabling.WalkState
-renumber_module all low (forms_module x b closing) v = renumber_block all low b v
+abbrev pub renumber_body_in_module : List ℕ → ℕ → Tree ℕ module_text → tabling.WalkState → tabling.WalkState
+renumber_body_in_module all low (forms_module x b closing) v = renumber_block all low b v

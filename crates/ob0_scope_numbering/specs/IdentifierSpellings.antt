@@ -4,7 +4,7 @@
 use Rattle.std.specs.Prelude.{ℕ, Bool, false, if◌then◌else◌, List, [], Option, Some, None}
 use Rattle.ob0_scan.specs.TextWithTokens.{TextWithTokens}
 use Rattle.ob0_tree.specs.Tree.{Sort, Tree, mapped_tree}
-use Rattle.ob0_tree.specs.Places.{token_text_at, token_value_at}
+use Rattle.ob0_tree.specs.TokenIndexLeaves.{token_text_at, token_value_at}
 use Rattle.ob0_language_names.specs.Names.{Name}
 use Rattle.ob0_scope_table.specs.Resolution.{ordinal_in}
 use Rattle.ob0_language_names.specs.Scopes.{same_ordinal}
@@ -26,8 +26,8 @@ is_bound_to_renamed_declaration (Some d) ordinal = same_ordinal ordinal d
 
 -- returns the spelling of the identifier at a token: `w.new` if the identifier is bound to the
 -- renamed declaration, otherwise its spelling in the text
-abbrev pub spelling_at : Spellings → ℕ → Name
-spelling_at w i =
+abbrev pub spelling_at_token : Spellings → ℕ → Name
+spelling_at_token w i =
     if is_bound_to_renamed_declaration w.declaration (ordinal_in w.ordinals i) then w.new else token_text_at w.source i
 
 -- returns the spellings of the identifiers as in the text, without a renaming
@@ -36,4 +36,4 @@ original_spellings source = record { source = source; ordinals = []; declaration
 
 -- returns a tree of token indexes in which each identifier has its spelling in place of its index
 abbrev pub tree_with_spellings : {s : Sort} → Spellings → Tree ℕ s → Tree Name s
-tree_with_spellings w t = mapped_tree (spelling_at w) (token_value_at w.source) t
+tree_with_spellings w t = mapped_tree (spelling_at_token w) (token_value_at w.source) t

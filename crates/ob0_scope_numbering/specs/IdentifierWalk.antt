@@ -8,7 +8,7 @@ use Rattle.ob0_tree.specs.declared.tree.Role.{Role}
 use Rattle.ob0_tree.specs.declared.tree.Role.TheVariants as role
 use Rattle.ob0_tree.specs.Tree.{Sort, Tree, block, constant, constants, declares, declares_constant, declares_const_section, declares_procedure, declares_type, declares_type_section, declares_variable, declares_var_section, end, formals, section_after_semicolon, forms_block, forms_module, item, items, maybe, module_text, more, no_formals, none, one, procedure, section, some_formals, semicolon_then_section, type_definition, type_definitions, value_section, variable, variable_section, variables}
 use Rattle.ob0_tree.specs.VisitorStates.{state_after_visit, state_after_identifiers}
-use Rattle.ob0_scope_numbering.specs.IdentifierSpellings.{Spellings, spelling_at}
+use Rattle.ob0_scope_numbering.specs.IdentifierSpellings.{Spellings, spelling_at_token}
 use Rattle.ob0_language_names.specs.Names.{Name, naming_by_spelling}
 use Rattle.ob0_language_names.specs.BlockParts.{names_in_list}
 use Rattle.ob0_language_names.specs.Scopes.{Scope, declare_names, ordinal_in_scope, predeclared_count, predeclared_scope}
@@ -40,15 +40,15 @@ module _ {M : Type 0} {put_ordinal : ℕ → Option ℕ → M → M} where
 
   -- makes the name at the token `i` visible, bound to the declaration with this ordinal
   abbrev pub with_visible_name : ℕ → ℕ → WalkState put_ordinal → WalkState put_ordinal
-  with_visible_name i ordinal v = record v { scope = (spelling_at v.spellings i, ordinal) ∷ v.scope }
+  with_visible_name i ordinal v = record v { scope = (spelling_at_token v.spellings i, ordinal) ∷ v.scope }
 
   -- Makes the names of the declarations so far visible, in order, except for the first `first` of these
   -- declarations. Predeclared names don't count as declarations here.
-  abbrev pub with_visible_names_from : ℕ → WalkState put_ordinal → WalkState put_ordinal
-  with_visible_names_from first v =
+  abbrev pub with_names_visible_from_index : ℕ → WalkState put_ordinal → WalkState put_ordinal
+  with_names_visible_from_index first v =
       record v {
         scope
-            = declare_names (predeclared_count + first) (map (spelling_at v.spellings) (drop first v.declaration_tokens)) v.scope;
+            = declare_names (predeclared_count + first) (map (spelling_at_token v.spellings) (drop first v.declaration_tokens)) v.scope;
       }
 
   -- removes all bindings of the scope except the oldest `len`
@@ -59,7 +59,7 @@ module _ {M : Type 0} {put_ordinal : ℕ → Option ℕ → M → M} where
   -- removed. Then the procedure and its parameters are bound, in this order. `own` is the number of
   -- declarations before the procedure, and `outside` the number of bindings before the procedure.
   abbrev pub state_after_heading : ℕ → ℕ → WalkState put_ordinal → WalkState put_ordinal
-  state_after_heading own outside v = with_visible_names_from own (with_oldest_bindings outside v)
+  state_after_heading own outside v = with_names_visible_from_index own (with_oldest_bindings outside v)
 
   -- Returns the state after the block of the procedure whose name is at the token `x`. Only the
   -- `outside` oldest bindings are kept: the bindings that existed before the procedure. Then the
@@ -87,12 +87,12 @@ module _ {M : Type 0} {put_ordinal : ℕ → Option ℕ → M → M} where
   -- Visits the identifier at the token `i` in a tree that declares nothing. A looked-up name gets
   -- the ordinal of its declaration, or None if the name is unbound. Any other identifier gets None.
   abbrev pub visit_identifier : Role → ℕ → WalkState put_ordinal → WalkState put_ordinal
-  visit_identifier role.LookedUp i v =
+  visit_identifier role.LookedUpName i v =
       record v {
         uses = v.uses ++ (i ∷ []);
-        marks = put_ordinal i (ordinal_in_scope naming_by_spelling v.scope (spelling_at v.spellings i)) v.marks;
+        marks = put_ordinal i (ordinal_in_scope naming_by_spelling v.scope (spelling_at_token v.spellings i)) v.marks;
       }
-  visit_identifier role.Declaring i v = with_mark i None v
+  visit_identifier role.DeclaringName i v = with_mark i None v
   visit_identifier role.ClosingName i v = with_mark i None v
   visit_identifier role.FieldName i v = with_mark i None v
   visit_identifier role.ModuleName i v = with_mark i None v
@@ -107,14 +107,14 @@ module _ {M : Type 0} {put_ordinal : ℕ → Option ℕ → M → M} where
   -- visits the declaration of a constant, and then makes the constant's name visible
   abbrev pub visit_constant : Tree ℕ (item constant) → WalkState put_ordinal → WalkState put_ordinal
   visit_constant (declares_constant x e) v =
-      with_visible_names_from (length v.declaration_tokens) (visit_nondeclaring_tree e (number_declaration x v))
+      with_names_visible_from_index (length v.declaration_tokens) (visit_nondeclaring_tree e (number_declaration x v))
 
   abbrev pub visit_constants : Tree ℕ (items constant) → WalkState put_ordinal → WalkState put_ordinal
   visit_constants end v = v
   visit_constants (more c cs) v = visit_constants cs (visit_constant c v)
 
   abbrev pub visit_type : Tree ℕ (item type_definition) → WalkState put_ordinal → WalkState put_ordinal
-  visit_type (declares_type x t) v = with_visible_names_from (length v.declaration_tokens) (visit_nondeclaring_tree t (number_declaration x v))
+  visit_type (declares_type x t) v = with_names_visible_from_index (length v.declaration_tokens) (visit_nondeclaring_tree t (number_declaration x v))
 
   abbrev pub visit_types : Tree ℕ (items type_definition) → WalkState put_ordinal → WalkState put_ordinal
   visit_types end v = v
@@ -122,7 +122,7 @@ module _ {M : Type 0} {put_ordinal : ℕ → Option ℕ → M → M} where
 
   abbrev pub visit_variable : Tree ℕ (item variable) → WalkState put_ordinal → WalkState put_ordinal
   visit_variable (declares_variable ns t) v =
-      with_visible_names_from (length v.declaration_tokens) (visit_nondeclaring_tree t (number_declarations (names_in_list ns) v))
+      with_names_visible_from_index (length v.declaration_tokens) (visit_nondeclaring_tree t (number_declarations (names_in_list ns) v))
 
   abbrev pub visit_variables : Tree ℕ (items variable) → WalkState put_ordinal → WalkState put_ordinal
   visit_variables end v = v
@@ -130,9 +130,9 @@ module _ {M : Type 0} {put_ordinal : ℕ → Option ℕ → M → M} where
 
   abbrev pub visit_parameter_section : Tree ℕ section → WalkState put_ordinal → WalkState put_ordinal
   visit_parameter_section (value_section ns t) v =
-      with_visible_names_from (length v.declaration_tokens) (visit_nondeclaring_tree t (number_declarations (names_in_list ns) v))
+      with_names_visible_from_index (length v.declaration_tokens) (visit_nondeclaring_tree t (number_declarations (names_in_list ns) v))
   visit_parameter_section (variable_section ns t) v =
-      with_visible_names_from (length v.declaration_tokens) (visit_nondeclaring_tree t (number_declarations (names_in_list ns) v))
+      with_names_visible_from_index (length v.declaration_tokens) (visit_nondeclaring_tree t (number_declarations (names_in_list ns) v))
 
   abbrev pub visit_parameter_sections : Tree ℕ (items section_after_semicolon) → WalkState put_ordinal → WalkState put_ordinal
   visit_parameter_sections end v = v
@@ -159,13 +159,13 @@ module _ {M : Type 0} {put_ordinal : ℕ → Option ℕ → M → M} where
     -- visits a block: its sections, its procedures and its statements, in text order
     pub visit_block : Tree ℕ block → WalkState put_ordinal → WalkState put_ordinal
     visit_block (forms_block (declares cs ts vs ps) statements) v =
-        visit_nondeclaring_tree statements (visit_procedures ps
+        visit_nondeclaring_tree statements (visit_procedure_list ps
         (visit_variable_section vs (visit_type_section ts (visit_constant_section cs v))))
 
     -- visits the procedures of a block, in order
-    pub visit_procedures : Tree ℕ (items procedure) → WalkState put_ordinal → WalkState put_ordinal
-    visit_procedures end v = v
-    visit_procedures (more p ps) v = visit_procedures ps (visit_procedure p v)
+    pub visit_procedure_list : Tree ℕ (items procedure) → WalkState put_ordinal → WalkState put_ordinal
+    visit_procedure_list end v = v
+    visit_procedure_list (more p ps) v = visit_procedure_list ps (visit_procedure p v)
 
     -- visits a procedure: its name, its parameters, its block and its closing name
     pub visit_procedure : Tree ℕ (item procedure) → WalkState put_ordinal → WalkState put_ordinal

@@ -5,5 +5,5 @@ pub mod OrdinalMarks
 pub mod MarkWalk
 pub mod TableWalk
 pub mod NameKeys
-pub mod NewestNames
+pub mod NewestBindingList
 pub mod StoredScopes

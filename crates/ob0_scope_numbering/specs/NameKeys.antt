@@ -18,8 +18,8 @@ append_bytes [] number = number
 append_bytes (byte ∷ bytes) number = append_bytes bytes (append_byte number byte)
 
 -- returns the number that precedes a name in its key, made of the name's last eight bytes
-abbrev pub suffix_number : Name → ℕ
-suffix_number x = append_bytes (drop (length x - 8) x) 0
+abbrev pub number_from_last_bytes : Name → ℕ
+number_from_last_bytes x = append_bytes (drop (length x - 8) x) 0
 
 -- a key of the map: a name preceded by the number made of its last eight bytes
 abbrev pub NameKey : Type 0
@@ -31,4 +31,4 @@ compare_keys a b = ordering_then (nat_cmp a.0 b.0) (slice_cmp nat_cmp a.1.now b.
 
 -- compares a name with a key by their numbers, and by their names if the numbers are equal
 abbrev pub compare_name_with_key : Name → NameKey → Ordering
-compare_name_with_key x key = ordering_then (nat_cmp (suffix_number x) key.0) (slice_cmp nat_cmp x key.1.now)
+compare_name_with_key x key = ordering_then (nat_cmp (number_from_last_bytes x) key.0) (slice_cmp nat_cmp x key.1.now)

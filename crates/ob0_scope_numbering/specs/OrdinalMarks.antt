@@ -12,11 +12,11 @@ pub record OrdinalMark : Type 0 where
 
 -- returns the table in which the ordinal of each mark is entered, in order, at the index of the
 -- mark's token
-abbrev pub with_marks : List (Option ℕ) → List OrdinalMark → List (Option ℕ)
-with_marks table [] = table
-with_marks table (m ∷ ms) = with_marks (slice_set table m.token m.ordinal) ms
+abbrev pub table_with_marks : List (Option ℕ) → List OrdinalMark → List (Option ℕ)
+table_with_marks table [] = table
+table_with_marks table (m ∷ ms) = table_with_marks (slice_set table m.token m.ordinal) ms
 
 -- Returns a mark that gives this token the ordinal 0. Such marks are used in tables that record only
 -- which tokens are looked-up names, so the ordinal has no meaning.
-abbrev pub zero_mark_at : ℕ → OrdinalMark
-zero_mark_at token = record { token = token; ordinal = Some 0 }
+abbrev pub zero_mark_at_token : ℕ → OrdinalMark
+zero_mark_at_token token = record { token = token; ordinal = Some 0 }

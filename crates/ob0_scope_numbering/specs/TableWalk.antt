@@ -5,7 +5,7 @@ use Rattle.std.specs.Prelude.{ℕ, List, Option, None, length, replicate, slice_
 use Rattle.ob0_tree.specs.Tree.{Tree, module_text}
 use Rattle.ob0_scope_table.specs.OrdinalEntries.{stored_ordinal}
 use Rattle.ob0_scope_numbering.specs.MarkWalk as marking
-use Rattle.ob0_scope_numbering.specs.OrdinalMarks.{with_marks}
+use Rattle.ob0_scope_numbering.specs.OrdinalMarks.{table_with_marks}
 use Rattle.ob0_scope_numbering.specs.IdentifierWalk as visit
 use Rattle.ob0_scope_numbering.specs.IdentifierSpellings.{Spellings}
 
@@ -33,7 +33,7 @@ state_with_marks_in_table table v =
       scope = v.scope;
       declaration_tokens = v.declaration_tokens;
       uses = v.uses;
-      marks = with_marks table v.marks;
+      marks = table_with_marks table v.marks;
     }
 
 -- Returns the state after the walk over a module whose identifiers have the spellings `spellings`. The

@@ -5,10 +5,10 @@
 //! spellings after a renaming of one declaration.
 #![tactic(auto)]
 
-mod newest;
+mod newest_bindings;
 mod numbering;
+mod scope_bindings;
 mod spellings;
-mod visible;
 
 pub use numbering::{NumberingWalk, number_identifiers, renumber_body};
 pub use spellings::Spellings;

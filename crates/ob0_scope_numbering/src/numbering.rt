@@ -6,7 +6,7 @@
 //! states, for example `self.new ≡ visit_constant c self.old`. With such contracts, most functions
 //! that visit declarations need no proof file.
 //!
-//! `make_names_visible_from` makes declared names visible, in the order of their
+//! `make_names_visible_from_index` makes declared names visible, in the order of their
 //! ordinals. It is called after each constant, each type, and each group of variables or
 //! parameters. It is also called after a procedure's heading, once the bindings of the parameters
 //! are removed. There it binds the procedure's name first, and then the parameters again. So a
@@ -33,18 +33,18 @@ ghost use Rattle.ob0_language_names.specs.BlockParts.{names_in_list};
 ghost use Rattle.ob0_scope_table.specs.Resolution.{ordinal_in};
 ghost use Rattle.ob0_language_names.specs.Scopes.{ordinal_in_scope, predeclared_count, predeclared_scope};
 ghost use Rattle.ob0_scope_numbering.specs.StoredScopes.{with_scope};
-ghost use Rattle.ob0_scope_numbering.specs.IdentifierSpellings.{original_spellings, is_bound_to_renamed_declaration, spelling_at};
+ghost use Rattle.ob0_scope_numbering.specs.IdentifierSpellings.{original_spellings, is_bound_to_renamed_declaration, spelling_at_token};
 ghost use Rattle.ob0_scope_numbering.specs.TableWalk.{initial_walk_state, number_module};
-ghost use Rattle.ob0_scope_numbering.specs.IdentifierWalk.{with_mark, number_declaration, number_declarations, with_visible_name, with_visible_names_from, with_oldest_bindings, visit_identifier, visit_constant, visit_constant_section, visit_type, visit_type_section, visit_variable, visit_variable_section, visit_parameter_section, visit_formals, visit_procedure, visit_block, visit_module};
-ghost use Rattle.ob0_scope_numbering.specs.BodyWalk.{with_declarations_before, with_declaration, renumber_module, with_skipped_procedure_name, renumber_block, renumber_procedure, initial_walk_state_with_table};
+ghost use Rattle.ob0_scope_numbering.specs.IdentifierWalk.{with_mark, number_declaration, number_declarations, with_visible_name, with_names_visible_from_index, with_oldest_bindings, visit_identifier, visit_constant, visit_constant_section, visit_type, visit_type_section, visit_variable, visit_variable_section, visit_parameter_section, visit_formals, visit_procedure, visit_block, visit_module};
+ghost use Rattle.ob0_scope_numbering.specs.BodyWalk.{with_declarations_before_token, with_declaration, renumber_body_in_module, with_skipped_procedure_name, renumber_block, renumber_procedure, initial_walk_state_with_table};
 
+use crate::scope_bindings::ScopeBindings;
 use crate::spellings::{Spellings, is_bound_to_renamed_declaration};
-use crate::visible::ScopeBindings;
 use ob0_scan::Tokens;
 use ob0_scope_table::{OrdinalEntry, PREDECLARED_COUNT, ordinal_at};
-use ob0_tree::walk::{Visitor, walk_body, walk_expression, walk_type};
+use ob0_tree::identifier_walk::{Visitor, walk_body, walk_expression, walk_type};
 use ob0_tree::{
-    Block, Constant, Module, Names, ParameterSection, Procedure, Role, TypeDeclaration,
+    Block, ConstantDeclaration, Module, Names, ParameterSection, Procedure, Role, TypeDeclaration,
     VariableDeclaration, token_text_at,
 };
 use std::alloc::{AllocError, Global};
@@ -91,16 +91,16 @@ impl<'t> Model for NumberingWalk<'t> {
 impl<'t> Visitor for NumberingWalk<'t> {
     ghost use Rattle.ob0_scope_numbering.specs.IdentifierWalk.{visit_identifier};
 
-    ghost seen = { visit_identifier };
+    ghost state_after_one_identifier = { visit_identifier };
 
     #[inline(always)]
-    fn see_identifier(&mut self, role: Role, token: usize) -> Result<(), AllocError> {
+    fn visit_one_identifier(&mut self, role: Role, token: usize) -> Result<(), AllocError> {
         match role {
-            Role::LookedUp => self.mark_looked_up_name(token),
-            Role::Declaring => self.mark_without_ordinal(token),
-            Role::ClosingName => self.mark_without_ordinal(token),
-            Role::FieldName => self.mark_without_ordinal(token),
-            Role::ModuleName => self.mark_without_ordinal(token),
+            Role::LookedUpName => self.mark_looked_up_name(token),
+            Role::DeclaringName => self.mark_no_ordinal(token),
+            Role::ClosingName => self.mark_no_ordinal(token),
+            Role::FieldName => self.mark_no_ordinal(token),
+            Role::ModuleName => self.mark_no_ordinal(token),
         }
     }
 }
@@ -180,7 +180,7 @@ pub fn renumber_body(
     low: usize,
 ) -> Result<Vec<OrdinalEntry>, AllocError>
     ensures { IfOk result (λ ordinals. ordinals.items
-        ≡ (renumber_module all.now low (tree_of read.now)
+        ≡ (renumber_body_in_module all.now low (tree_of read.now)
         (initial_walk_state_with_table (original_spellings read.now.source) table.items)).marks) }
 {
     let mut numbering = NumberingWalk {
@@ -281,8 +281,8 @@ impl<'t> NumberingWalk<'t> {
 
     /// Makes the names of the declarations so far visible, in order, except for the first `first`
     /// of these declarations.
-    fn make_names_visible_from(&mut self, first: usize) -> Result<(), AllocError>
-        ensures { OnOk result (self.new ≡ with_visible_names_from first self.old) }
+    fn make_names_visible_from_index(&mut self, first: usize) -> Result<(), AllocError>
+        ensures { OnOk result (self.new ≡ with_names_visible_from_index first self.old) }
     {
         for index in first..self.declaration_tokens.len() {
             let token = self.declaration_tokens[index];
@@ -311,7 +311,7 @@ impl<'t> NumberingWalk<'t> {
     /// if the name is unbound.
     fn bound_ordinal(&mut self, token: usize) -> Option<usize>
         ensures bound { result
-            ≡ ordinal_in_scope naming_by_spelling self.old.scope (spelling_at self.old.spellings token) }
+            ≡ ordinal_in_scope naming_by_spelling self.old.scope (spelling_at_token self.old.spellings token) }
         ensures same { self.new ≡ self.old }
     {
         if self.is_bound_to_renamed_declaration(token) {
@@ -323,7 +323,7 @@ impl<'t> NumberingWalk<'t> {
 
     /// Writes None into the table at the token of an identifier that has no ordinal.
     #[inline(always)]
-    fn mark_without_ordinal(&mut self, token: usize) -> Result<(), AllocError>
+    fn mark_no_ordinal(&mut self, token: usize) -> Result<(), AllocError>
         ensures { OnOk result (self.new ≡ with_mark token None self.old) }
     {
         self.mark_ordinal(token, None);
@@ -334,7 +334,7 @@ impl<'t> NumberingWalk<'t> {
     /// the name's declaration into the table, or None if the name is unbound.
     #[inline(always)]
     fn mark_looked_up_name(&mut self, token: usize) -> Result<(), AllocError>
-        ensures { OnOk result (self.new ≡ visit_identifier roles.LookedUp token self.old) }
+        ensures { OnOk result (self.new ≡ visit_identifier roles.LookedUpName token self.old) }
     {
         let ordinal = self.bound_ordinal(token);
         self.occurrences.push(token)?;
@@ -354,13 +354,13 @@ impl<'t> NumberingWalk<'t> {
         Ok(())
     }
 
-    fn walk_constant(&mut self, c: &Constant) -> Result<(), AllocError>
+    fn walk_constant(&mut self, c: &ConstantDeclaration) -> Result<(), AllocError>
         ensures { OnOk result (self.new ≡ visit_constant (constant_of c.now) self.old) }
     {
         let first = self.declaration_count();
         self.number_declaration(c.name)?;
         walk_expression(self, &c.value)?;
-        self.make_names_visible_from(first)
+        self.make_names_visible_from_index(first)
     }
 
     fn walk_type_declaration(&mut self, t: &TypeDeclaration) -> Result<(), AllocError>
@@ -369,7 +369,7 @@ impl<'t> NumberingWalk<'t> {
         let first = self.declaration_count();
         self.number_declaration(t.name)?;
         walk_type(self, &t.written)?;
-        self.make_names_visible_from(first)
+        self.make_names_visible_from_index(first)
     }
 
     fn walk_variable_declaration(&mut self, v: &VariableDeclaration) -> Result<(), AllocError>
@@ -378,7 +378,7 @@ impl<'t> NumberingWalk<'t> {
         let first = self.declaration_count();
         self.number_declarations(&v.names)?;
         walk_type(self, &v.written)?;
-        self.make_names_visible_from(first)
+        self.make_names_visible_from_index(first)
     }
 
     fn walk_parameter_section(&mut self, s: &ParameterSection) -> Result<(), AllocError>
@@ -387,10 +387,13 @@ impl<'t> NumberingWalk<'t> {
         let first = self.declaration_count();
         self.number_declarations(&s.names)?;
         walk_type(self, &s.written)?;
-        self.make_names_visible_from(first)
+        self.make_names_visible_from_index(first)
     }
 
-    fn walk_constant_section(&mut self, section: &Option<Vec<Constant>>) -> Result<(), AllocError>
+    fn walk_constant_section(
+        &mut self,
+        section: &Option<Vec<ConstantDeclaration>>,
+    ) -> Result<(), AllocError>
         ensures { OnOk result
             (self.new ≡ visit_constant_section (constant_section_of section.now) self.old) }
     {
@@ -456,7 +459,7 @@ impl<'t> NumberingWalk<'t> {
         let ordinal = self.number_declaration(p.name)?;
         self.walk_parameters(&p.formals)?;
         self.truncate_bindings(outside);
-        self.make_names_visible_from(own)?;
+        self.make_names_visible_from_index(own)?;
         self.walk_block(&p.block)?;
         self.truncate_bindings(outside);
         self.make_name_visible(p.name, ordinal)?;
@@ -480,8 +483,12 @@ impl<'t> NumberingWalk<'t> {
     /// Appends the declarations before the token `token` that aren't in the list of declarations
     /// yet, without visiting them. `all` has the declaring tokens of the whole module, in text
     /// order.
-    fn append_declarations_before(&mut self, all: &[usize], token: usize) -> Result<(), AllocError>
-        ensures { OnOk result (self.new ≡ with_declarations_before all.now token self.old) }
+    fn append_declarations_before_token(
+        &mut self,
+        all: &[usize],
+        token: usize,
+    ) -> Result<(), AllocError>
+        ensures { OnOk result (self.new ≡ with_declarations_before_token all.now token self.old) }
     {
         for index in self.declaration_count()..all.len() {
             let declared = all[index];
@@ -529,7 +536,7 @@ impl<'t> NumberingWalk<'t> {
         self.number_declaration(p.name)?;
         self.walk_parameters(&p.formals)?;
         self.truncate_bindings(outside);
-        self.make_names_visible_from(first)?;
+        self.make_names_visible_from_index(first)?;
         self.renumber_block(&p.block, all, low)
     }
 
@@ -547,7 +554,7 @@ impl<'t> NumberingWalk<'t> {
         self.walk_type_section(&inner.types)?;
         self.walk_variable_section(&inner.variables)?;
         for p in &inner.procedures {
-            self.append_declarations_before(all, p.name)?;
+            self.append_declarations_before_token(all, p.name)?;
             if p.closing >= low {
                 return self.renumber_procedure(p, all, low);
             }

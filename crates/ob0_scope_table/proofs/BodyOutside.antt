@@ -5,13 +5,13 @@ use Rattle.std.proofs.Common.{◌≡◌, ◌<◌, ◌≤◌, ℕ, zero, ◌+◌,
 use Rattle.std.proofs.lemmas.Bool.{and_parts, or_left, or_right}
 use Rattle.ob0_tree.specs.declared.tree.Role.{Role}
 use Rattle.ob0_tree.specs.declared.tree.Role.TheVariants as role
-use Rattle.ob0_tree.specs.Lexeme.{EndOfText, WordOrSymbol, Name, Number, Terminal}
+use Rattle.ob0_tree.specs.Terminals.{EndOfText, WordOrSymbol, Name, Number, Terminal}
 use Rattle.ob0_tree.specs.IdentifierIndexes.{AreAscendingWithin, names_without_roles}
 use Rattle.ob0_tree.specs.Tree.{Tree, block, body, constants, declares, declares_procedure, end, forms_block, identifiers, forms_module, item, items, maybe, module_text, more, procedure, spell, type_definitions, variables}
 use Rattle.ob0_tree.proofs.Leaves.{ascending_bounds, ascending_higher, leaves_spelled, lexeme_names}
-use Rattle.ob0_scope_table.specs.TokenProperty.{EachTokenHas}
-use Rattle.ob0_scope_table.specs.BodyReplacement.{PathToBody, block_without_body, path_after_insertion_in_front, procedure_without_body, procedures_without_body, path_to_body_in_procedures, path_to_body_in_block, path_to_body_in_procedure, path_to_body_in_module, module_without_body}
-use Rattle.ob0_scope_table.specs.OneBody.{first_identifier_is_at_or_before, closing_name, is_range_in_body_of_block, is_range_in_one_body, is_range_in_body_of_procedure, is_range_in_body_of_procedures, is_outside_range}
+use Rattle.ob0_scope_table.specs.TokenProperty.{EachTokenSatisfies}
+use Rattle.ob0_scope_table.specs.BodyReplacement.{PathToBody, block_without_body, path_after_inserting_first_procedure, procedure_without_body, procedure_list_without_body, path_to_body_in_procedure_list, path_to_body_in_block, path_to_body_in_procedure, path_to_body_in_module, module_without_body}
+use Rattle.ob0_scope_table.specs.SpellingChangesInOneBody.{first_identifier_is_at_or_before_token, closing_name, is_range_in_body_of_block, is_range_in_one_body, is_range_in_body_of_procedure, is_range_in_body_of_procedures_or_statements, is_outside_range}
 use Rattle.ob0_scope_table.proofs.Placed.{AllOf, each_of, places, places_spelled, token_places}
 
 -- ---- numbers that ascend
@@ -58,8 +58,8 @@ last_below : (least : ℕ) (xs : List ℕ) (c high : ℕ) → AreAscendingWithin
 last_below least [] c high h = omega (arith, h.1)
 last_below least (x ∷ xs) c high h = last_below (x + 1) xs c high h.1
 
--- Translates `first_identifier_is_at_or_before` into `Begins`: the first identifier's token isn't after `low`.
-begins_names : (low : ℕ) (xs : List (Role × ℕ)) → first_identifier_is_at_or_before low xs ≡ true → Begins low (names_without_roles xs)
+-- Translates `first_identifier_is_at_or_before_token` into `Begins`: the first identifier's token isn't after `low`.
+begins_names : (low : ℕ) (xs : List (Role × ℕ)) → first_identifier_is_at_or_before_token low xs ≡ true → Begins low (names_without_roles xs)
 begins_names low [] e = absurd (cc)
 begins_names low (x ∷ xs) e = leb-true x.1 low e
 
@@ -78,15 +78,15 @@ module _ (P : ℕ → Type 0) where
   -- holds if the tokens of a block's procedures and statements have property P, without those to
   -- which a way leads
   abbrev pub Among : PathToBody → Tree ℕ (items procedure) → Tree ℕ (maybe body) → Type 0
-  Among [] ps statements = EachTokenHas P ps
-  Among (k ∷ path) ps statements = EachTokenHas P (procedures_without_body k path ps) × EachTokenHas P statements
+  Among [] ps statements = EachTokenSatisfies P ps
+  Among (k ∷ path) ps statements = EachTokenSatisfies P (procedure_list_without_body k path ps) × EachTokenSatisfies P statements
 
-  among_later : (path : PathToBody) (p : Tree ℕ (item procedure)) (ps : Tree ℕ (items procedure)) (statements : Tree ℕ (maybe body)) → EachTokenHas P p → Among path ps statements → Among (path_after_insertion_in_front path) (more p ps) statements
+  among_later : (path : PathToBody) (p : Tree ℕ (item procedure)) (ps : Tree ℕ (items procedure)) (statements : Tree ℕ (maybe body)) → EachTokenSatisfies P p → Among path ps statements → Among (path_after_inserting_first_procedure path) (more p ps) statements
   among_later [] p ps statements first h = (first, h)
   among_later (k ∷ path) p ps statements first h = ((first, h.0), h.1)
 
   block_among : (path : PathToBody) (cs : Tree ℕ (maybe constants)) (ts : Tree ℕ (maybe type_definitions)) (vs : Tree ℕ (maybe variables)) (ps : Tree ℕ (items procedure)) (statements : Tree ℕ (maybe body))
-      → EachTokenHas P cs → EachTokenHas P ts → EachTokenHas P vs → Among path ps statements → EachTokenHas P (block_without_body path (forms_block (declares cs ts vs ps) statements))
+      → EachTokenSatisfies P cs → EachTokenSatisfies P ts → EachTokenSatisfies P vs → Among path ps statements → EachTokenSatisfies P (block_without_body path (forms_block (declares cs ts vs ps) statements))
   block_among [] cs ts vs ps statements c t v h = ((c, t, v, h), tt)
   block_among (k ∷ path) cs ts vs ps statements c t v h = ((c, t, v, h.0), h.1)
 
@@ -124,21 +124,21 @@ module _ (low high : ℕ) (P : ℕ → Type 0) (out : (k : ℕ) → is_outside_r
     pub begins : Begins low xs
 
   abbrev BlockFound : Tree ℕ block → Type 0
-  BlockFound b = Found (EachTokenHas P (block_without_body (path_to_body_in_block low b) b)) (places b)
+  BlockFound b = Found (EachTokenSatisfies P (block_without_body (path_to_body_in_block low b) b)) (places b)
 
   abbrev ProceduresFound : Tree ℕ (items procedure) → Tree ℕ (maybe body) → Type 0
-  ProceduresFound ps statements = Found (Among P (path_to_body_in_procedures low ps) ps statements) (places ps ++ places statements)
+  ProceduresFound ps statements = Found (Among P (path_to_body_in_procedure_list low ps) ps statements) (places ps ++ places statements)
 
-  own_found : (least top : ℕ) (statements : Tree ℕ (maybe body)) → AreAscendingWithin least (places statements) top → first_identifier_is_at_or_before low (identifiers role.Declaring statements) ≡ true → ProceduresFound end statements
+  own_found : (least top : ℕ) (statements : Tree ℕ (maybe body)) → AreAscendingWithin least (places statements) top → first_identifier_is_at_or_before_token low (identifiers role.DeclaringName statements) ≡ true → ProceduresFound end statements
   own_found least top statements h e = record {
     outside = tt;
     begins = subst (Begins low) (places_spelled statements)
         (begins_terminals least low (spell statements) top (subst (λ l. AreAscendingWithin least l top) (sym (places_spelled statements)) h)
-        (subst (Begins low) (leaves_spelled role.Declaring statements) (begins_names low (identifiers role.Declaring statements) e)));
+        (subst (Begins low) (leaves_spelled role.DeclaringName statements) (begins_names low (identifiers role.DeclaringName statements) e)));
   }
 
   -- A procedure that closes before the range has the property.
-  passed_over : (p : Tree ℕ (item procedure)) (least top : ℕ) → AreAscendingWithin least (places p) top → closing_name p < low → EachTokenHas P p
+  passed_over : (p : Tree ℕ (item procedure)) (least top : ℕ) → AreAscendingWithin least (places p) top → closing_name p < low → EachTokenSatisfies P p
   passed_over (declares_procedure x fs b closing) least top h less =
       let front = x ∷ (places fs ++ places b) in
       let e : front ++ (closing ∷ []) ≡ places (declares_procedure x fs b closing) = ap (λ l. x ∷ l) (append_assoc (places fs) (places b) (closing ∷ [])) in
@@ -154,7 +154,7 @@ module _ (low high : ℕ) (P : ℕ → Type 0) (out : (k : ℕ) → is_outside_r
   -- A procedure has the property if its block has it.
   with_block : (x : ℕ) (fs : List ℕ) (b : Tree ℕ block) (closing least top : ℕ) → AreAscendingWithin least (x ∷ (fs ++ (places b ++ (closing ∷ [])))) top → high ≤ closing
       → ((start : ℕ) → AreAscendingWithin start (places b) closing → BlockFound b)
-      → AllOf P (x ∷ fs) × EachTokenHas P (block_without_body (path_to_body_in_block low b) b) × P closing × Begins low (x ∷ (fs ++ (places b ++ (closing ∷ []))))
+      → AllOf P (x ∷ fs) × EachTokenSatisfies P (block_without_body (path_to_body_in_block low b) b) × P closing × Begins low (x ∷ (fs ++ (places b ++ (closing ∷ []))))
   with_block x fs b closing least top h le found =
       let last = places b ++ (closing ∷ []) in
       let s = split least (x ∷ fs) last top h in
@@ -180,7 +180,7 @@ module _ (low high : ℕ) (P : ℕ → Type 0) (out : (k : ℕ) → is_outside_r
         let begins₁ = begins_before b.middle low (places vs) of_procedures top b.last f.begins in
         let begins₂ = begins_before a.middle low (places ts) of_variables top a.last begins₁ in
         record {
-          outside = block_among P (path_to_body_in_procedures low ps) cs ts vs ps statements
+          outside = block_among P (path_to_body_in_procedure_list low ps) cs ts vs ps statements
               (each_of P cs (all_before least (places cs) of_types top all begins₂))
               (each_of P ts (all_before a.middle (places ts) of_variables top a.last begins₁))
               (each_of P vs (all_before b.middle (places vs) of_procedures top b.last f.begins))
@@ -189,19 +189,19 @@ module _ (low high : ℕ) (P : ℕ → Type 0) (out : (k : ℕ) → is_outside_r
         }
 
     procedures_found : (least top : ℕ) (ps : Tree ℕ (items procedure)) (statements : Tree ℕ (maybe body)) → AreAscendingWithin least (places ps ++ places statements) top → high ≤ top
-        → is_range_in_body_of_procedures low high ps statements ≡ true → ProceduresFound ps statements
+        → is_range_in_body_of_procedures_or_statements low high ps statements ≡ true → ProceduresFound ps statements
     procedures_found least top end statements h le is = own_found least top statements h is
     procedures_found least top (more p rest) statements h le is =
         let others = places rest ++ places statements in
         let e : places (more p rest) ++ places statements ≡ places p ++ others = append_assoc (places p) (places rest) (places statements) in
         let all = subst (λ l. AreAscendingWithin least l top) e h in
         let s = split least (places p) others top all in
-        (elim (nat_lt (closing_name p) low) as (λ z. nat_lt (closing_name p) low ≡ z → (if z then is_range_in_body_of_procedures low high rest statements else nat_le high (closing_name p) && is_range_in_body_of_procedure low high p) ≡ true
-        → Found (Among P (if z then path_after_insertion_in_front (path_to_body_in_procedures low rest) else zero ∷ path_to_body_in_procedure low p) (more p rest) statements) (places (more p rest) ++ places statements)) [
+        (elim (nat_lt (closing_name p) low) as (λ z. nat_lt (closing_name p) low ≡ z → (if z then is_range_in_body_of_procedures_or_statements low high rest statements else nat_le high (closing_name p) && is_range_in_body_of_procedure low high p) ≡ true
+        → Found (Among P (if z then path_after_inserting_first_procedure (path_to_body_in_procedure_list low rest) else zero ∷ path_to_body_in_procedure low p) (more p rest) statements) (places (more p rest) ++ places statements)) [
           | true ↦ λ before is.
               let f = procedures_found s.middle top rest statements s.last le is in
               record {
-                outside = among_later P (path_to_body_in_procedures low rest) p rest statements (passed_over p least s.middle s.first (ltb-true (closing_name p) low before)) f.outside;
+                outside = among_later P (path_to_body_in_procedure_list low rest) p rest statements (passed_over p least s.middle s.first (ltb-true (closing_name p) low before)) f.outside;
                 begins = subst (Begins low) (sym e) (begins_before least low (places p) others top all f.begins);
               }
           | false ↦ λ after is.
@@ -221,12 +221,12 @@ module _ (low high : ℕ) (P : ℕ → Type 0) (out : (k : ℕ) → is_outside_r
         ]) refl is
 
     procedure_found : (least top : ℕ) (p : Tree ℕ (item procedure)) → AreAscendingWithin least (places p) top → high ≤ closing_name p → is_range_in_body_of_procedure low high p ≡ true
-        → Found (EachTokenHas P (procedure_without_body (path_to_body_in_procedure low p) p)) (places p)
+        → Found (EachTokenSatisfies P (procedure_without_body (path_to_body_in_procedure low p) p)) (places p)
     procedure_found least top (declares_procedure x fs b closing) h le is =
         let w = with_block x (places fs) b closing least top h le (λ start asc. block_found start closing b asc le is) in
         record { outside = (w.0.0, each_of P fs w.0.1, w.1, w.2); begins = w.3 }
 
-  pub module_outside : (least top : ℕ) (m : Tree ℕ module_text) → AreAscendingWithin least (places m) top → is_range_in_one_body low high m ≡ true → EachTokenHas P (module_without_body (path_to_body_in_module low m) m)
+  pub module_outside : (least top : ℕ) (m : Tree ℕ module_text) → AreAscendingWithin least (places m) top → is_range_in_one_body low high m ≡ true → EachTokenSatisfies P (module_without_body (path_to_body_in_module low m) m)
   module_outside least top (forms_module x b closing) h is =
       let parts = and_parts (nat_le high closing) (is_range_in_body_of_block low high b) is in
       let reaches = leb-true high closing parts.0 in

@@ -11,10 +11,10 @@ use Rattle.ob0_tree.specs.View.{block_of, body_of, constant_section_of, items_of
 use Rattle.ob0_tree.specs.declared.tree.Block.{Block, out-Block}
 use Rattle.ob0_tree.specs.declared.tree.Procedure.{Procedure, out-Procedure}
 use Rattle.ob0_tree.proofs.Viewed.{block_parts, procedure_parts}
-use Rattle.ob0_scope_table.specs.BodyPlaces.{body_bounds_of_range, body_bounds_of_statements_if, body_bounds_in_block, body_bounds_in_procedure}
+use Rattle.ob0_scope_table.specs.BoundsOfBodies.{body_bounds_of_range, body_bounds_of_statements_if, body_bounds_in_block, body_bounds_in_procedure}
 use Rattle.ob0_tree.specs.FirstIdentifier.{token_of_first_identifier}
-use Rattle.ob0_scope_table.specs.BodyReplacement.{PathToBody, body_at_path, body_at_path_in_block, body_at_path_in_procedure, closing_name_at_path, closing_name_at_path_in_block, closing_name_at_path_in_procedure, path_after_insertion_in_front, path_to_body_in_procedures, path_to_body_in_block, path_to_body_in_procedure, path_to_body_in_module}
-use Rattle.ob0_scope_table.specs.OneBody.{first_identifier_is_at_or_before, closing_name, is_range_in_body_of_block, is_range_in_one_body, is_range_in_body_of_procedure, is_range_in_body_of_procedures}
+use Rattle.ob0_scope_table.specs.BodyReplacement.{PathToBody, body_at_path, body_at_path_in_block, body_at_path_in_procedure, closing_name_at_path, closing_name_at_path_in_block, closing_name_at_path_in_procedure, path_after_inserting_first_procedure, path_to_body_in_procedure_list, path_to_body_in_block, path_to_body_in_procedure, path_to_body_in_module}
+use Rattle.ob0_scope_table.specs.SpellingChangesInOneBody.{first_identifier_is_at_or_before_token, closing_name, is_range_in_body_of_block, is_range_in_one_body, is_range_in_body_of_procedure, is_range_in_body_of_procedures_or_statements}
 use Rattle.ob0_scope_table.specs.declared.one_body.BodyBounds.{BodyBounds}
 
 abbrev pub a_place : ℕ → ℕ → Option BodyBounds
@@ -25,10 +25,10 @@ a_place first closing = Some (record { first = first; closing = closing })
 -- states that a place belongs to a sought body with this closing name
 pub record IsPlaceOf (sought : Bool) (statements : Tree ℕ (maybe body)) (closing : ℕ) (p : BodyBounds) : Type 0 where
   pub is_bound_to_declaration : sought ≡ true
-  pub first : token_of_first_identifier (identifiers role.Declaring statements) ≡ Some p.first
+  pub first : token_of_first_identifier (identifiers role.DeclaringName statements) ≡ Some p.first
   pub closes : closing ≡ p.closing
 
-place_there : (statements : Tree ℕ (maybe body)) (closing : ℕ) (p : BodyBounds) (o : Option ℕ) → token_of_first_identifier (identifiers role.Declaring statements) ≡ o
+place_there : (statements : Tree ℕ (maybe body)) (closing : ℕ) (p : BodyBounds) (o : Option ℕ) → token_of_first_identifier (identifiers role.DeclaringName statements) ≡ o
     → option_map (λ first. record { first = first; closing = closing }) o ≡ Some p → IsPlaceOf true statements closing p
 place_there statements closing p None is e = absurd (cc)
 place_there statements closing p (Some first) is e =
@@ -36,7 +36,7 @@ place_there statements closing p (Some first) is e =
     record { is_bound_to_declaration = refl; first = is ∙ ap (λ (q : BodyBounds). Some q.first) same; closes = ap (λ (q : BodyBounds). q.closing) same }
 
 place_read : (sought : Bool) (statements : Tree ℕ (maybe body)) (closing : ℕ) (p : BodyBounds) → body_bounds_of_statements_if sought statements closing ≡ Some p → IsPlaceOf sought statements closing p
-place_read true statements closing p e = place_there statements closing p (token_of_first_identifier (identifiers role.Declaring statements)) refl e
+place_read true statements closing p e = place_there statements closing p (token_of_first_identifier (identifiers role.DeclaringName statements)) refl e
 place_read false statements closing p e = absurd (cc)
 
 -- The place that is found in a module belongs to the sought body.
@@ -47,7 +47,7 @@ body_place_read low high t p e = place_read (is_range_in_one_body low high t) (b
 -- ---- the place of some statements, from their first identifier
 
 abbrev pub place_by : ℕ → ℕ → List (Role × ℕ) → Option BodyBounds
-place_by low closing xs = if first_identifier_is_at_or_before low xs then option_map (λ first. record { first = first; closing = closing }) (token_of_first_identifier xs) else None
+place_by low closing xs = if first_identifier_is_at_or_before_token low xs then option_map (λ first. record { first = first; closing = closing }) (token_of_first_identifier xs) else None
 
 module _ (low closing : ℕ) where
   by_none : (xs : List (Role × ℕ)) → token_of_first_identifier xs ≡ None → None ≡ place_by low closing xs
@@ -68,16 +68,16 @@ module _ (low closing : ℕ) where
 
   module _ (statements : Tree ℕ (maybe body)) where
     abbrev own_place : Option BodyBounds
-    own_place = body_bounds_of_statements_if (first_identifier_is_at_or_before low (identifiers role.Declaring statements)) statements closing
+    own_place = body_bounds_of_statements_if (first_identifier_is_at_or_before_token low (identifiers role.DeclaringName statements)) statements closing
 
-    pub placed_none : token_of_first_identifier (identifiers role.Declaring statements) ≡ None → None ≡ own_place
-    placed_none e = by_none (identifiers role.Declaring statements) e
+    pub placed_none : token_of_first_identifier (identifiers role.DeclaringName statements) ≡ None → None ≡ own_place
+    placed_none e = by_none (identifiers role.DeclaringName statements) e
 
-    pub placed_after : (first : ℕ) → token_of_first_identifier (identifiers role.Declaring statements) ≡ Some first → low < first → None ≡ own_place
-    placed_after first e less = by_after (identifiers role.Declaring statements) first e less
+    pub placed_after : (first : ℕ) → token_of_first_identifier (identifiers role.DeclaringName statements) ≡ Some first → low < first → None ≡ own_place
+    placed_after first e less = by_after (identifiers role.DeclaringName statements) first e less
 
-    pub placed_from : (first : ℕ) → token_of_first_identifier (identifiers role.Declaring statements) ≡ Some first → first ≤ low → a_place first closing ≡ own_place
-    placed_from first e le = by_from (identifiers role.Declaring statements) first e le
+    pub placed_from : (first : ℕ) → token_of_first_identifier (identifiers role.DeclaringName statements) ≡ Some first → first ≤ low → a_place first closing ≡ own_place
+    placed_from first e le = by_from (identifiers role.DeclaringName statements) first e le
 
 -- ---- among procedures
 
@@ -85,11 +85,11 @@ closes : (q : Procedure) → closing_name (procedure_of q) ≡ (out-Procedure q)
 closes q = ap closing_name (procedure_parts q)
 
 module _ (cs : Tree ℕ (maybe constants)) (ts : Tree ℕ (maybe type_definitions)) (vs : Tree ℕ (maybe variables)) (p : Tree ℕ (item procedure)) (ps : Tree ℕ (items procedure)) (statements : Tree ℕ (maybe body)) where
-  body_later : (path : PathToBody) → body_at_path_in_block (path_after_insertion_in_front path) (forms_block (declares cs ts vs (more p ps)) statements) ≡ body_at_path_in_block path (forms_block (declares cs ts vs ps) statements)
+  body_later : (path : PathToBody) → body_at_path_in_block (path_after_inserting_first_procedure path) (forms_block (declares cs ts vs (more p ps)) statements) ≡ body_at_path_in_block path (forms_block (declares cs ts vs ps) statements)
   body_later [] = refl
   body_later (k ∷ path) = refl
 
-  closing_later : (path : PathToBody) (own : ℕ) → closing_name_at_path_in_block (path_after_insertion_in_front path) own (forms_block (declares cs ts vs (more p ps)) statements) ≡ closing_name_at_path_in_block path own (forms_block (declares cs ts vs ps) statements)
+  closing_later : (path : PathToBody) (own : ℕ) → closing_name_at_path_in_block (path_after_inserting_first_procedure path) own (forms_block (declares cs ts vs (more p ps)) statements) ≡ closing_name_at_path_in_block path own (forms_block (declares cs ts vs ps) statements)
   closing_later [] own = refl
   closing_later (k ∷ path) own = refl
 
@@ -100,7 +100,7 @@ module _ (low high own : ℕ) where
 
   -- returns the place in procedures, or else in the statements of their block
   abbrev pub place_among : Tree ℕ (items procedure) → Tree ℕ (maybe body) → Option BodyBounds
-  place_among end statements = body_bounds_of_statements_if (first_identifier_is_at_or_before low (identifiers role.Declaring statements)) statements own
+  place_among end statements = body_bounds_of_statements_if (first_identifier_is_at_or_before_token low (identifiers role.DeclaringName statements)) statements own
   place_among (more p ps) statements = if nat_lt (closing_name p) low then place_among ps statements else place_reached (closing_name p) p
 
   pub among_block : (cs : Tree ℕ (maybe constants)) (ts : Tree ℕ (maybe type_definitions)) (vs : Tree ℕ (maybe variables)) (ps : Tree ℕ (items procedure)) (statements : Tree ℕ (maybe body))
@@ -108,13 +108,13 @@ module _ (low high own : ℕ) where
   among_block cs ts vs end statements = refl
   among_block cs ts vs (more p ps) statements =
       elim (nat_lt (closing_name p) low) as (λ z.
-      body_bounds_of_statements_if (if z then is_range_in_body_of_procedures low high ps statements else nat_le high (closing_name p) && is_range_in_body_of_procedure low high p)
-      (body_at_path_in_block (if z then path_after_insertion_in_front (path_to_body_in_procedures low ps) else zero ∷ path_to_body_in_procedure low p) (forms_block (declares cs ts vs (more p ps)) statements))
-      (closing_name_at_path_in_block (if z then path_after_insertion_in_front (path_to_body_in_procedures low ps) else zero ∷ path_to_body_in_procedure low p) own (forms_block (declares cs ts vs (more p ps)) statements))
+      body_bounds_of_statements_if (if z then is_range_in_body_of_procedures_or_statements low high ps statements else nat_le high (closing_name p) && is_range_in_body_of_procedure low high p)
+      (body_at_path_in_block (if z then path_after_inserting_first_procedure (path_to_body_in_procedure_list low ps) else zero ∷ path_to_body_in_procedure low p) (forms_block (declares cs ts vs (more p ps)) statements))
+      (closing_name_at_path_in_block (if z then path_after_inserting_first_procedure (path_to_body_in_procedure_list low ps) else zero ∷ path_to_body_in_procedure low p) own (forms_block (declares cs ts vs (more p ps)) statements))
       ≡ (if z then place_among ps statements else place_reached (closing_name p) p)) [
         | true ↦
-            ap (λ b. body_bounds_of_statements_if (is_range_in_body_of_procedures low high ps statements) b (closing_name_at_path_in_block (path_after_insertion_in_front (path_to_body_in_procedures low ps)) own (forms_block (declares cs ts vs (more p ps)) statements))) (body_later cs ts vs p ps statements (path_to_body_in_procedures low ps))
-            ∙ (ap (body_bounds_of_statements_if (is_range_in_body_of_procedures low high ps statements) (body_at_path_in_block (path_to_body_in_procedures low ps) (forms_block (declares cs ts vs ps) statements))) (closing_later cs ts vs p ps statements (path_to_body_in_procedures low ps) own)
+            ap (λ b. body_bounds_of_statements_if (is_range_in_body_of_procedures_or_statements low high ps statements) b (closing_name_at_path_in_block (path_after_inserting_first_procedure (path_to_body_in_procedure_list low ps)) own (forms_block (declares cs ts vs (more p ps)) statements))) (body_later cs ts vs p ps statements (path_to_body_in_procedure_list low ps))
+            ∙ (ap (body_bounds_of_statements_if (is_range_in_body_of_procedures_or_statements low high ps statements) (body_at_path_in_block (path_to_body_in_procedure_list low ps) (forms_block (declares cs ts vs ps) statements))) (closing_later cs ts vs p ps statements (path_to_body_in_procedure_list low ps) own)
             ∙ among_block cs ts vs ps statements)
         | false ↦ refl
       ]
@@ -154,25 +154,25 @@ module _ (low high own : ℕ) where
     pub in_procedure : (xs : List Procedure) (k : ℕ) (q : Procedure) → k < length xs → q ≡ get_or xs k q → low ≤ (out-Procedure q).closing → high ≤ (out-Procedure q).closing → place_from k xs ≡ body_bounds_in_procedure low high (procedure_of q)
     in_procedure xs k q less here le near = in_one xs k q less here le ∙ at_end q true (le-leb high (out-Procedure q).closing near)
 
-    pub in_statements : (xs : List Procedure) (k : ℕ) → length xs ≤ k → place_from k xs ≡ body_bounds_of_statements_if (first_identifier_is_at_or_before low (identifiers role.Declaring statements)) statements own
+    pub in_statements : (xs : List Procedure) (k : ℕ) → length xs ≤ k → place_from k xs ≡ body_bounds_of_statements_if (first_identifier_is_at_or_before_token low (identifiers role.DeclaringName statements)) statements own
     in_statements xs k all = ap (λ ys. place_among (items_of procedure_of ys) statements) (drop_all k xs all)
 
 -- ---- a range has a place exactly if it is inside a body
 
 module _ (low high : ℕ) where
-  begins_placed : (own : ℕ) (statements : Tree ℕ (maybe body)) → is_some (body_bounds_of_statements_if (first_identifier_is_at_or_before low (identifiers role.Declaring statements)) statements own) ≡ first_identifier_is_at_or_before low (identifiers role.Declaring statements)
-  begins_placed own statements = one (identifiers role.Declaring statements)
+  begins_placed : (own : ℕ) (statements : Tree ℕ (maybe body)) → is_some (body_bounds_of_statements_if (first_identifier_is_at_or_before_token low (identifiers role.DeclaringName statements)) statements own) ≡ first_identifier_is_at_or_before_token low (identifiers role.DeclaringName statements)
+  begins_placed own statements = one (identifiers role.DeclaringName statements)
     where
-      one : (xs : List (Role × ℕ)) → is_some (place_by low own xs) ≡ first_identifier_is_at_or_before low xs
+      one : (xs : List (Role × ℕ)) → is_some (place_by low own xs) ≡ first_identifier_is_at_or_before_token low xs
       one [] = refl
       one (x ∷ xs) = elim (nat_le x.1 low) as (λ z. is_some {T = BodyBounds} (if z then a_place x.1 own else None) ≡ z) [ true ↦ refl | false ↦ refl ]
 
   mutual
-    among_placed : (own : ℕ) (ps : Tree ℕ (items procedure)) (statements : Tree ℕ (maybe body)) → is_some (place_among low high own ps statements) ≡ is_range_in_body_of_procedures low high ps statements
+    among_placed : (own : ℕ) (ps : Tree ℕ (items procedure)) (statements : Tree ℕ (maybe body)) → is_some (place_among low high own ps statements) ≡ is_range_in_body_of_procedures_or_statements low high ps statements
     among_placed own end statements = begins_placed own statements
     among_placed own (more p ps) statements =
         elim (nat_lt (closing_name p) low) as (λ z. is_some (if z then place_among low high own ps statements else place_reached low high own (closing_name p) p)
-        ≡ (if z then is_range_in_body_of_procedures low high ps statements else nat_le high (closing_name p) && is_range_in_body_of_procedure low high p)) [
+        ≡ (if z then is_range_in_body_of_procedures_or_statements low high ps statements else nat_le high (closing_name p) && is_range_in_body_of_procedure low high p)) [
           | true ↦ among_placed own ps statements
           | false ↦
               elim (nat_le high (closing_name p)) as (λ z. is_some (body_bounds_of_statements_if (z && is_range_in_body_of_procedure low high p) (body_at_path_in_procedure (path_to_body_in_procedure low p) p) (closing_name_at_path_in_procedure (path_to_body_in_procedure low p) p))

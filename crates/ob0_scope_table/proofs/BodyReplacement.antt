@@ -6,11 +6,11 @@ use Rattle.ob0_scan.specs.ReusedLexemes.{words_of_tokens}
 use Rattle.ob0_scan.specs.TextWithTokens.{TextWithTokens}
 use Rattle.ob0_scan.specs.declared.tokens.CommonPrefixAndSuffix.{CommonPrefixAndSuffix}
 use Rattle.ob0_tree.specs.ParsedModule.{ParsedModule, tree_of}
-use Rattle.ob0_tree.specs.Places.{tree_with_names, token_text_at, token_value_at}
+use Rattle.ob0_tree.specs.TokenIndexLeaves.{tree_with_names, token_text_at, token_value_at}
 use Rattle.ob0_tree.specs.Tree.{Tree, block, declares, declares_procedure, end, forms_block, forms_module, item, items, mapped_tree, module_text, more, procedure}
-use Rattle.ob0_scope_table.specs.TokenProperty.{EachTokenHas}
-use Rattle.ob0_scope_table.specs.BodyReplacement.{ReplacesStatementsOfOneBody, PathToBody, block_without_body, shifted_token_index, procedure_without_body, procedures_without_body, module_without_body}
-use Rattle.ob0_scope_table.specs.OneBody.{is_outside_range}
+use Rattle.ob0_scope_table.specs.TokenProperty.{EachTokenSatisfies}
+use Rattle.ob0_scope_table.specs.BodyReplacement.{ReplacesStatementsOfOneBody, PathToBody, block_without_body, shifted_token_index, procedure_without_body, procedure_list_without_body, module_without_body}
+use Rattle.ob0_scope_table.specs.SpellingChangesInOneBody.{is_outside_range}
 use Rattle.ob0_scope_table.proofs.BodyOutside.{module_outside}
 use Rattle.ob0_scope_table.proofs.MappedAlike.{mapped_alike}
 use Rattle.ob0_tree.proofs.Mapped.{mapped_twice}
@@ -26,7 +26,7 @@ module _ {N M : Type 0} (f : N → M) (g : ℕ → ℕ) where
     block_without_mapped (k ∷ path) (forms_block (declares cs ts vs ps) statements) =
         ap (λ l. forms_block (declares (mapped_tree f g cs) (mapped_tree f g ts) (mapped_tree f g vs) l) (mapped_tree f g statements)) (procedures_without_mapped k path ps)
 
-    pub procedures_without_mapped : (k : ℕ) (path : PathToBody) (ps : Tree N (items procedure)) → procedures_without_body k path (mapped_tree f g ps) ≡ mapped_tree f g (procedures_without_body k path ps)
+    pub procedures_without_mapped : (k : ℕ) (path : PathToBody) (ps : Tree N (items procedure)) → procedure_list_without_body k path (mapped_tree f g ps) ≡ mapped_tree f g (procedure_list_without_body k path ps)
     procedures_without_mapped zero path end = refl
     procedures_without_mapped (suc k) path end = refl
     procedures_without_mapped zero path (more p ps) = ap (λ q. more q (mapped_tree f g ps)) (procedure_without_mapped path p)
@@ -43,12 +43,12 @@ without_mapped f g path (forms_module x b closing) = ap (λ c. forms_module (f x
 -- ---- outside the body
 
 -- A property of each token outside the range holds of each token of the module without the body.
-pub outside_each : (P : ℕ → Type 0) (old new : ParsedModule) (path : PathToBody) (s : CommonPrefixAndSuffix) → ReplacesStatementsOfOneBody old new path s → ((k : ℕ) → is_outside_range s.prefix s.old_suffix k ≡ true → P k) → EachTokenHas P (module_without_body path (tree_of old))
+pub outside_each : (P : ℕ → Type 0) (old new : ParsedModule) (path : PathToBody) (s : CommonPrefixAndSuffix) → ReplacesStatementsOfOneBody old new path s → ((k : ℕ) → is_outside_range s.prefix s.old_suffix k ≡ true → P k) → EachTokenSatisfies P (module_without_body path (tree_of old))
 outside_each P old new path s r out =
-    subst (λ w. EachTokenHas P (module_without_body w (tree_of old))) r.old_path
+    subst (λ w. EachTokenSatisfies P (module_without_body w (tree_of old))) r.old_path
     (module_outside s.prefix s.old_suffix P out 0 (length old.source.tokens) (tree_of old) (places_ascend old r.old_parsed) r.old_in_body)
 
-pub outside_out : (old new : ParsedModule) (path : PathToBody) (s : CommonPrefixAndSuffix) → ReplacesStatementsOfOneBody old new path s → EachTokenHas (λ i. is_outside_range s.prefix s.old_suffix i ≡ true) (module_without_body path (tree_of old))
+pub outside_out : (old new : ParsedModule) (path : PathToBody) (s : CommonPrefixAndSuffix) → ReplacesStatementsOfOneBody old new path s → EachTokenSatisfies (λ i. is_outside_range s.prefix s.old_suffix i ≡ true) (module_without_body path (tree_of old))
 outside_out old new path s r = outside_each (λ i. is_outside_range s.prefix s.old_suffix i ≡ true) old new path s r (λ k e. e)
 
 -- two tokens of two texts that are the same word

@@ -1,11 +1,11 @@
 -- Proves that two replacements of a tree's names that agree on its tokens give the same tree.
 use Rattle.std.proofs.Common.{◌≡◌, ℕ, refl}
 use Rattle.ob0_tree.specs.Tree.{Sort, Tree, adds, array_type, assigns, begins, branches, calls, compares, declares, declares_constant, declares_const_section, declares_procedure, declares_type, declares_type_section, declares_variable, declares_var_section, designator, else_branch, elsif_branch, empty, end, field, forms_block, index, integer, forms_module, listed, mapped_tree, more, multiplies, named_type, negation, no_arguments, no_fields, no_formals, none, one, parenthesised, product, record_type, relates, repeat_loop, runs, some_arguments, some_fields, some_formals, sum, comma_then_argument, semicolon_then_fields, comma_then_name, semicolon_then_section, semicolon_then_statement, value_section, variable_section, while_loop}
-use Rattle.ob0_scope_table.specs.TokenProperty.{EachTokenHas}
+use Rattle.ob0_scope_table.specs.TokenProperty.{EachTokenSatisfies}
 
 -- Two replacements that agree on each token give the same tree.
 module _ {M : Type 0} (P : ℕ → Type 0) (f u : ℕ → M) (g v : ℕ → ℕ) (names : (k : ℕ) → P k → f k ≡ u k) (numbers : (k : ℕ) → P k → g k ≡ v k) where
-  pub mapped_alike : {s : Sort} (t : Tree ℕ s) → EachTokenHas P t → mapped_tree f g t ≡ mapped_tree u v t
+  pub mapped_alike : {s : Sort} (t : Tree ℕ s) → EachTokenSatisfies P t → mapped_tree f g t ≡ mapped_tree u v t
   mapped_alike none h = refl
   mapped_alike (one t) h = λ i. one (mapped_alike t h i)
   mapped_alike end h = refl

@@ -3,7 +3,7 @@ use Rattle.std.proofs.Common.{◌≡◌, ◌<◌, ◌≤◌, ◌+◌, ◌-◌, �
 use Rattle.std.proofs.lemmas.Bool.{le-leb, le-ltb, lt-ltb}
 use Rattle.ob0_scan.specs.declared.tokens.CommonPrefixAndSuffix.{CommonPrefixAndSuffix}
 use Rattle.ob0_scope_table.specs.BodyReplacement.{shifted_token_index}
-use Rattle.ob0_scope_table.specs.OneBody.{is_outside_range}
+use Rattle.ob0_scope_table.specs.SpellingChangesInOneBody.{is_outside_range}
 
 -- A token outside a range is before it or after it.
 pub out_cases : (low high k : ℕ) → is_outside_range low high k ≡ true → (k < low) ⊎ (high ≤ k)

@@ -5,8 +5,8 @@ use Rattle.ob0_scan.specs.declared.lexeme.Token.{Token}
 use Rattle.ob0_scan.specs.ReusedLexemes.{words_of_tokens}
 use Rattle.ob0_scan.specs.TextWithTokens.{TextWithTokens, Word}
 use Rattle.ob0_tree.specs.ParsedModule.{ParsedModule}
-use Rattle.ob0_tree.specs.Places.{token_text_at, token_text_or_empty, token_value_or_zero, integer_value_or_zero}
-use Rattle.ob0_scope_table.specs.OneBody.{ChangesSpellingsInOneBody, is_outside_range}
+use Rattle.ob0_tree.specs.TokenIndexLeaves.{token_text_at, token_text_or_empty, token_value_or_zero, integer_value_or_zero}
+use Rattle.ob0_scope_table.specs.SpellingChangesInOneBody.{ChangesSpellingsInOneBody, is_outside_range}
 
 -- returns the spelling of a token's word
 abbrev pub word_text : Option Word → List ℕ

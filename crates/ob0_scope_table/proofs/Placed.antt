@@ -4,13 +4,13 @@ use Rattle.std.proofs.Common.{◌≡◌, ℕ, ◌+◌, Some, None, List, [], ◌
 use Rattle.ob0_scan.specs.declared.lexeme.Token.{Token}
 use Rattle.ob0_scan.specs.declared.lexeme.TokenKind.{TokenKind}
 use Rattle.ob0_scan.specs.declared.lexeme.TokenKind.TheVariants as kind
-use Rattle.ob0_tree.specs.Lexeme.{EndOfText, WordOrSymbol, Name, Number, Terminal}
+use Rattle.ob0_tree.specs.Terminals.{EndOfText, WordOrSymbol, Name, Number, Terminal}
 use Rattle.ob0_tree.specs.IdentifierIndexes.{AreAscendingWithin}
-use Rattle.ob0_tree.specs.ParsedModule.{IsParsed, ParsedModule, tree_of}
-use Rattle.ob0_tree.specs.Places.{indexed_terminal, indexed_terminals_from}
+use Rattle.ob0_tree.specs.ParsedModule.{TreeMatchesText, ParsedModule, tree_of}
+use Rattle.ob0_tree.specs.TokenIndexLeaves.{indexed_terminal, indexed_terminals_from}
 use Rattle.ob0_tree.specs.Tree.{Sort, Tree, adds, array_type, assigns, begins, branches, calls, compares, declares, declares_constant, declares_const_section, declares_procedure, declares_type, declares_type_section, declares_variable, declares_var_section, designator, else_branch, elsif_branch, empty, end, field, forms_block, index, integer, forms_module, listed, more, multiplies, named_type, negation, no_arguments, no_fields, no_formals, none, one, parenthesised, product, record_type, relates, repeat_loop, runs, some_arguments, some_fields, some_formals, sum, comma_then_argument, semicolon_then_fields, comma_then_name, semicolon_then_section, semicolon_then_statement, value_section, variable_section, while_loop, spell}
 use Rattle.ob0_tree.proofs.Leaves.{ascending_higher, ascending_lower}
-use Rattle.ob0_scope_table.specs.TokenProperty.{EachTokenHas}
+use Rattle.ob0_scope_table.specs.TokenProperty.{EachTokenSatisfies}
 
 -- returns the tokens of names and numbers, in the order of the tree
 abbrev pub places : {s : Sort} → Tree ℕ s → List ℕ
@@ -151,7 +151,7 @@ from_ascend (t ∷ ts) i =
     first (kind.Integer v) i xs high p = (omega arith, p)
     first _ i xs high p = ascending_lower i (i + 1) (token_places xs) high (omega arith) p
 
-pub places_ascend : (m : ParsedModule) → IsParsed m → AreAscendingWithin 0 (places (tree_of m)) (length m.source.tokens)
+pub places_ascend : (m : ParsedModule) → TreeMatchesText m → AreAscendingWithin 0 (places (tree_of m)) (length m.source.tokens)
 places_ascend m p =
     let all : token_places (indexed_terminals_from 0 m.source.tokens) ≡ places (tree_of m) =
     sym (ap token_places p.places) ∙ (token_places-append (spell (tree_of m)) (EndOfText ∷ []) ∙ (append-nil (token_places (spell (tree_of m))) ∙ places_spelled (tree_of m))) in
@@ -166,7 +166,7 @@ pub all_parts : (P : ℕ → Type 0) (xs ys : List ℕ) → AllOf P (xs ++ ys) �
 all_parts P [] ys h = (tt, h)
 all_parts P (x ∷ xs) ys h = let rest = all_parts P xs ys h.1 in ((h.0, rest.0), rest.1)
 
-pub each_of : {s : Sort} (P : ℕ → Type 0) (t : Tree ℕ s) → AllOf P (places t) → EachTokenHas P t
+pub each_of : {s : Sort} (P : ℕ → Type 0) (t : Tree ℕ s) → AllOf P (places t) → EachTokenSatisfies P t
 each_of P none h = tt
 each_of P (one t) h = each_of P t h
 each_of P end h = tt
@@ -222,7 +222,7 @@ each_of P (forms_block ds b) h = let s₁ = all_parts P (places ds) (places b) h
 each_of P (forms_module name b closing) h = let s₁ = all_parts P (places b) (closing ∷ []) h.1 in (h.0, each_of P b s₁.0, s₁.1.0)
 
 -- A property of every token holds of each token of a part.
-pub each_token : {s : Sort} (P : ℕ → Type 0) → ((k : ℕ) → P k) → (t : Tree ℕ s) → EachTokenHas P t
+pub each_token : {s : Sort} (P : ℕ → Type 0) → ((k : ℕ) → P k) → (t : Tree ℕ s) → EachTokenSatisfies P t
 each_token P all t = each_of P t (all_of (places t)) where
   all_of : (xs : List ℕ) → AllOf P xs
   all_of [] = tt

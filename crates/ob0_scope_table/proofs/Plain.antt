@@ -7,8 +7,8 @@ use Rattle.ob0_scope_table.specs.Resolution.{declaring_names}
 
 pub declaring_names-append : {N : Type 0} (xs ys : List (Role × N)) → declaring_names (xs ++ ys) ≡ declaring_names xs ++ declaring_names ys
 declaring_names-append [] ys = refl
-declaring_names-append ((role.Declaring, n) ∷ xs) ys = λ i. n ∷ declaring_names-append xs ys i
-declaring_names-append ((role.LookedUp, n) ∷ xs) ys = declaring_names-append xs ys
+declaring_names-append ((role.DeclaringName, n) ∷ xs) ys = λ i. n ∷ declaring_names-append xs ys i
+declaring_names-append ((role.LookedUpName, n) ∷ xs) ys = declaring_names-append xs ys
 declaring_names-append ((role.ClosingName, n) ∷ xs) ys = declaring_names-append xs ys
 declaring_names-append ((role.FieldName, n) ∷ xs) ys = declaring_names-append xs ys
 declaring_names-append ((role.ModuleName, n) ∷ xs) ys = declaring_names-append xs ys
@@ -23,7 +23,7 @@ nothing = record { plain = refl }
 both : {xs ys : List (Role × ℕ)} → Plain xs → Plain ys → Plain (xs ++ ys)
 both {xs = xs} {ys = ys} p q = record { plain = declaring_names-append xs ys ∙ (λ i. p.plain i ++ q.plain i) }
 
-use_first : {x : ℕ} {xs : List (Role × ℕ)} → Plain xs → Plain ((role.LookedUp, x) ∷ xs)
+use_first : {x : ℕ} {xs : List (Role × ℕ)} → Plain xs → Plain ((role.LookedUpName, x) ∷ xs)
 use_first p = record { plain = p.plain }
 
 field_first : {x : ℕ} {xs : List (Role × ℕ)} → Plain xs → Plain ((role.FieldName, x) ∷ xs)
@@ -78,7 +78,7 @@ IsPlain declarations = ⊥
 IsPlain block = ⊥
 IsPlain module_text = ⊥
 
-pub declares_nothing : {s : Sort} → IsPlain s → (t : Tree ℕ s) → Plain (identifiers role.Declaring t)
+pub declares_nothing : {s : Sort} → IsPlain s → (t : Tree ℕ s) → Plain (identifiers role.DeclaringName t)
 declares_nothing h none = nothing
 declares_nothing h (one a) = declares_nothing h a
 declares_nothing h end = nothing

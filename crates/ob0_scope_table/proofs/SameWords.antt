@@ -6,7 +6,7 @@ use Rattle.ob0_scan.specs.ReusedLexemes.{words_of_tokens}
 use Rattle.ob0_scan.specs.TextWithTokens.{TextWithTokens, Word, word_of_token}
 use Rattle.ob0_tree.specs.declared.tree.ModuleTree.{ModuleTree}
 use Rattle.ob0_tree.specs.ParsedModule.{named_tree_of, parsed_module, tree_of}
-use Rattle.ob0_tree.specs.Places.{token_text_at, token_value_at}
+use Rattle.ob0_tree.specs.TokenIndexLeaves.{token_text_at, token_value_at}
 use Rattle.ob0_tree.specs.Tree.{mapped_tree}
 use Rattle.ob0_scope_table.proofs.BodyReplacement.{text_by_word, value_by_word}
 

@@ -6,8 +6,8 @@ use Rattle.std.specs.declared.cmp.Ordering.TheVariants.{Less, Equal, Greater}
 use Rattle.std.proofs.Math.Nat.{min-le_right}
 use Rattle.std.proofs.lemmas.Bool.{cases_lt}
 use Rattle.std.proofs.lemmas.Option.{slice_get-get_or}
-use Rattle.ob0_scan.specs.Lexed.{Lexeme}
-use Rattle.ob0_scan.specs.TextWithTokens.{IsScan, TextWithTokens, span_from, tokens_of_lexeme, tokens_of_lexemes_from}
+use Rattle.ob0_scan.specs.TextLexemes.{Lexeme}
+use Rattle.ob0_scan.specs.TextWithTokens.{IsScan, TextWithTokens, span_with_length, tokens_of_one_lexeme, tokens_of_lexemes_from}
 use Rattle.ob0_scan.specs.declared.lexeme.LexemeKind.{LexemeKind}
 use Rattle.ob0_scan.specs.declared.lexeme.LexemeKind.TheVariants as lexeme
 use Rattle.ob0_scan.specs.declared.lexeme.Span.{Span}
@@ -15,7 +15,7 @@ use Rattle.ob0_scan.specs.declared.lexeme.Token.{Token}
 use Rattle.ob0_scan.specs.declared.lexeme.TokenKind.TheVariants as kind
 use Rattle.ob0_scan.proofs.AtLexemes.{Full, full}
 use Rattle.ob0_scope_table.specs.FaultsAtTokens.{clamped_token_index}
-use Rattle.ob0_scope_table.specs.Spans.{TokensAreDisjoint, span_at, span_or_empty}
+use Rattle.ob0_scope_table.specs.Spans.{TokensAreDisjoint, token_span, span_or_empty}
 
 -- ---- the tokens of a text
 
@@ -23,8 +23,8 @@ apart_lower : (less from : ℕ) (ts : List Token) → less ≤ from → TokensAr
 apart_lower less from [] low h = tt
 apart_lower less from (t ∷ ts) low h = (omega (arith, low, h.0), h.1)
 
-apart_one : (k : LexemeKind) (from len : ℕ) (ts : List Token) → 0 < len → TokensAreDisjoint (from + len) ts → TokensAreDisjoint from (tokens_of_lexeme k (span_from from len) ++ ts)
-apart_one lexeme.Space from len ts some h = apart_lower from (from + len) ts (omega arith) h
+apart_one : (k : LexemeKind) (from len : ℕ) (ts : List Token) → 0 < len → TokensAreDisjoint (from + len) ts → TokensAreDisjoint from (tokens_of_one_lexeme k (span_with_length from len) ++ ts)
+apart_one lexeme.WhiteSpace from len ts some h = apart_lower from (from + len) ts (omega arith) h
 apart_one lexeme.Comment from len ts some h = apart_lower from (from + len) ts (omega arith) h
 apart_one (lexeme.Token k) from len ts some h = (omega arith, (omega (arith, some), h))
 
@@ -69,10 +69,10 @@ module _ (source : TextWithTokens) (scan : IsScan source) where
   abbrev count : ℕ
   count = length source.tokens
 
-  span_there : (i : ℕ) → i < count → span_at source i ≡ (get_or source.tokens i no_token).span
+  span_there : (i : ℕ) → i < count → token_span source i ≡ (get_or source.tokens i no_token).span
   span_there i less = ap span_or_empty (slice_get-get_or source.tokens i no_token less)
 
-  start_rises : (i j : ℕ) → i < j → j ≤ count - 1 → (span_at source i).start < (span_at source j).start
+  start_rises : (i j : ℕ) → i < j → j ≤ count - 1 → (token_span source i).start < (token_span source j).start
   start_rises i j low high =
       let less : j < count = omega (arith, low, high) in
       let apart = scan_apart source scan in
@@ -82,7 +82,7 @@ module _ (source : TextWithTokens) (scan : IsScan source) where
       let follows = tokens_follow 0 source.tokens i j no_token apart low less in
       omega (arith, a, b, bounds.1, follows)
 
-  end_rises : (i j : ℕ) → i < j → j ≤ count - 1 → (span_at source i).end < (span_at source j).end
+  end_rises : (i j : ℕ) → i < j → j ≤ count - 1 → (token_span source i).end < (token_span source j).end
   end_rises i j low high =
       let less : j < count = omega (arith, low, high) in
       let apart = scan_apart source scan in
@@ -92,8 +92,8 @@ module _ (source : TextWithTokens) (scan : IsScan source) where
       let follows = tokens_follow 0 source.tokens i j no_token apart low less in
       omega (arith, a, b, bounds.1, follows)
 
-  pub start_order : (i j : ℕ) → nat_cmp (clamped_token_index count i) (clamped_token_index count j) ≡ nat_cmp (span_at source (clamped_token_index count i)).start (span_at source (clamped_token_index count j)).start
-  start_order i j = same_order (λ k. (span_at source k).start) (count - 1) start_rises (clamped_token_index count i) (clamped_token_index count j) (min-le_right i (count - 1)) (min-le_right j (count - 1))
+  pub start_order : (i j : ℕ) → nat_cmp (clamped_token_index count i) (clamped_token_index count j) ≡ nat_cmp (token_span source (clamped_token_index count i)).start (token_span source (clamped_token_index count j)).start
+  start_order i j = same_order (λ k. (token_span source k).start) (count - 1) start_rises (clamped_token_index count i) (clamped_token_index count j) (min-le_right i (count - 1)) (min-le_right j (count - 1))
 
-  pub end_order : (i j : ℕ) → nat_cmp (clamped_token_index count i) (clamped_token_index count j) ≡ nat_cmp (span_at source (clamped_token_index count i)).end (span_at source (clamped_token_index count j)).end
-  end_order i j = same_order (λ k. (span_at source k).end) (count - 1) end_rises (clamped_token_index count i) (clamped_token_index count j) (min-le_right i (count - 1)) (min-le_right j (count - 1))
+  pub end_order : (i j : ℕ) → nat_cmp (clamped_token_index count i) (clamped_token_index count j) ≡ nat_cmp (token_span source (clamped_token_index count i)).end (token_span source (clamped_token_index count j)).end
+  end_order i j = same_order (λ k. (token_span source k).end) (count - 1) end_rises (clamped_token_index count i) (clamped_token_index count j) (min-le_right i (count - 1)) (min-le_right j (count - 1))

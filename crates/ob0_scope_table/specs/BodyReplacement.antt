@@ -7,9 +7,9 @@ use Rattle.ob0_scan.specs.ReusedLexemes.{words_of_tokens}
 use Rattle.ob0_scan.specs.TextWithTokens.{IsScan}
 use Rattle.ob0_scan.specs.declared.tokens.CommonPrefixAndSuffix.{CommonPrefixAndSuffix}
 use Rattle.ob0_tree.specs.FirstIdentifier.{first_identifier}
-use Rattle.ob0_tree.specs.ParsedModule.{IsParsed, ParsedModule, tree_of}
+use Rattle.ob0_tree.specs.ParsedModule.{TreeMatchesText, ParsedModule, tree_of}
 use Rattle.ob0_tree.specs.Tree.{Tree, block, body, declares, declares_procedure, end, forms_block, forms_module, item, items, mapped_tree, maybe, module_text, more, none, procedure}
-use Rattle.ob0_scope_table.specs.OneBody.{closing_name, is_range_in_one_body, is_outside_range}
+use Rattle.ob0_scope_table.specs.SpellingChangesInOneBody.{closing_name, is_range_in_one_body, is_outside_range}
 
 -- A path to a body in the tree. It lists, from the outermost block inwards, the procedure to enter
 -- in each block, counted from 0. The path leads to the body of the procedure that is entered last. An
@@ -20,23 +20,23 @@ PathToBody = List ℕ
 -- Returns the path to the same body after a procedure is inserted before all procedures of the
 -- block in which the path starts. So the first number of the path, if there is one, is increased by
 -- 1.
-abbrev pub path_after_insertion_in_front : PathToBody → PathToBody
-path_after_insertion_in_front [] = []
-path_after_insertion_in_front (k ∷ path) = suc k ∷ path
+abbrev pub path_after_inserting_first_procedure : PathToBody → PathToBody
+path_after_inserting_first_procedure [] = []
+path_after_inserting_first_procedure (k ∷ path) = suc k ∷ path
 
 -- Returns the path to the body that contains the token `low`, if a body contains it.
 abbrev mutual
   -- returns the path from a block to the body that contains the token `low`, if a body contains it
   pub path_to_body_in_block : ℕ → Tree ℕ block → PathToBody
-  path_to_body_in_block low (forms_block (declares cs ts vs ps) statements) = path_to_body_in_procedures low ps
+  path_to_body_in_block low (forms_block (declares cs ts vs ps) statements) = path_to_body_in_procedure_list low ps
 
   -- Returns the path into the first procedure whose closing name is at or after the token `low`. If
   -- there is no such procedure, the path is empty: it leads to the statements of the procedures' own
   -- block.
-  pub path_to_body_in_procedures : ℕ → Tree ℕ (items procedure) → PathToBody
-  path_to_body_in_procedures low end = []
-  path_to_body_in_procedures low (more p ps) =
-      if nat_lt (closing_name p) low then path_after_insertion_in_front (path_to_body_in_procedures low ps)
+  pub path_to_body_in_procedure_list : ℕ → Tree ℕ (items procedure) → PathToBody
+  path_to_body_in_procedure_list low end = []
+  path_to_body_in_procedure_list low (more p ps) =
+      if nat_lt (closing_name p) low then path_after_inserting_first_procedure (path_to_body_in_procedure_list low ps)
       else zero ∷ path_to_body_in_procedure low p
 
   -- returns the path from a procedure to the body that contains the token `low`, if a body contains it
@@ -53,18 +53,18 @@ abbrev mutual
   pub block_without_body : {N : Type 0} → PathToBody → Tree N block → Tree N block
   block_without_body [] (forms_block ds statements) = forms_block ds none
   block_without_body (k ∷ path) (forms_block (declares cs ts vs ps) statements) =
-      forms_block (declares cs ts vs (procedures_without_body k path ps)) statements
+      forms_block (declares cs ts vs (procedure_list_without_body k path ps)) statements
 
   -- Returns these procedures, with one change: procedure `k`, counted from 0, loses the statements to
   -- which the path leads from that procedure. Changes nothing if there is no procedure `k`.
-  pub procedures_without_body : {N : Type 0}
+  pub procedure_list_without_body : {N : Type 0}
       → ℕ
       → PathToBody
       → Tree N (items procedure)
       → Tree N (items procedure)
-  procedures_without_body k path end = end
-  procedures_without_body zero path (more p ps) = more (procedure_without_body path p) ps
-  procedures_without_body (suc k) path (more p ps) = more p (procedures_without_body k path ps)
+  procedure_list_without_body k path end = end
+  procedure_list_without_body zero path (more p ps) = more (procedure_without_body path p) ps
+  procedure_list_without_body (suc k) path (more p ps) = more p (procedure_list_without_body k path ps)
 
   -- returns a procedure without the statements to which a path leads from this procedure
   pub procedure_without_body : {N : Type 0} → PathToBody → Tree N (item procedure) → Tree N (item procedure)
@@ -80,14 +80,14 @@ abbrev mutual
   -- returns the statements to which a path leads from a block
   pub body_at_path_in_block : {N : Type 0} → PathToBody → Tree N block → Tree N (maybe body)
   body_at_path_in_block [] (forms_block ds statements) = statements
-  body_at_path_in_block (k ∷ path) (forms_block (declares cs ts vs ps) statements) = body_at_path_in_procedures k path ps
+  body_at_path_in_block (k ∷ path) (forms_block (declares cs ts vs ps) statements) = body_at_path_in_procedure_list k path ps
 
   -- Returns the statements to which a path leads from procedure `k`, counted from 0. Returns `none`
   -- if there is no such procedure.
-  pub body_at_path_in_procedures : {N : Type 0} → ℕ → PathToBody → Tree N (items procedure) → Tree N (maybe body)
-  body_at_path_in_procedures k path end = none
-  body_at_path_in_procedures zero path (more p ps) = body_at_path_in_procedure path p
-  body_at_path_in_procedures (suc k) path (more p ps) = body_at_path_in_procedures k path ps
+  pub body_at_path_in_procedure_list : {N : Type 0} → ℕ → PathToBody → Tree N (items procedure) → Tree N (maybe body)
+  body_at_path_in_procedure_list k path end = none
+  body_at_path_in_procedure_list zero path (more p ps) = body_at_path_in_procedure path p
+  body_at_path_in_procedure_list (suc k) path (more p ps) = body_at_path_in_procedure_list k path ps
 
   -- returns the statements to which a path leads from a procedure
   pub body_at_path_in_procedure : {N : Type 0} → PathToBody → Tree N (item procedure) → Tree N (maybe body)
@@ -104,14 +104,14 @@ abbrev mutual
   pub closing_name_at_path_in_block : {N : Type 0} → PathToBody → N → Tree N block → N
   closing_name_at_path_in_block [] own b = own
   closing_name_at_path_in_block (k ∷ path) own (forms_block (declares cs ts vs ps) statements) =
-      closing_name_at_path_in_procedures k path own ps
+      closing_name_at_path_in_procedure_list k path own ps
 
   -- Returns the closing name of the block to which a path leads from procedure `k`, counted from 0.
   -- Returns `own` if there is no such procedure.
-  pub closing_name_at_path_in_procedures : {N : Type 0} → ℕ → PathToBody → N → Tree N (items procedure) → N
-  closing_name_at_path_in_procedures k path own end = own
-  closing_name_at_path_in_procedures zero path own (more p ps) = closing_name_at_path_in_procedure path p
-  closing_name_at_path_in_procedures (suc k) path own (more p ps) = closing_name_at_path_in_procedures k path own ps
+  pub closing_name_at_path_in_procedure_list : {N : Type 0} → ℕ → PathToBody → N → Tree N (items procedure) → N
+  closing_name_at_path_in_procedure_list k path own end = own
+  closing_name_at_path_in_procedure_list zero path own (more p ps) = closing_name_at_path_in_procedure path p
+  closing_name_at_path_in_procedure_list (suc k) path own (more p ps) = closing_name_at_path_in_procedure_list k path own ps
 
   -- returns the closing name of the block to which a path leads from a procedure
   pub closing_name_at_path_in_procedure : {N : Type 0} → PathToBody → Tree N (item procedure) → N
@@ -136,8 +136,8 @@ pub record ReplacesStatementsOfOneBody (old new : ParsedModule) (path : PathToBo
   pub new_range : s.prefix ≤ s.new_suffix
   pub old_scan : IsScan old.source
   pub new_scan : IsScan new.source
-  pub old_parsed : IsParsed old
-  pub new_parsed : IsParsed new
+  pub old_parsed : TreeMatchesText old
+  pub new_parsed : TreeMatchesText new
   pub outside : module_without_body path (tree_of new) ≡ mapped_tree (shifted_token_index s) (shifted_token_index s) (module_without_body path (tree_of old))
   pub words : (i : ℕ) → is_outside_range s.prefix s.old_suffix i ≡ true
       → slice_get (words_of_tokens new.source.text new.source.tokens) (shifted_token_index s i)

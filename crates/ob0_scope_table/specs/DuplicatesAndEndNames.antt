@@ -5,11 +5,11 @@
 use Rattle.std.specs.Prelude.{ℕ, Bool, not, List, [], ◌∷◌, ◌++◌, if◌then◌else◌}
 use Rattle.ob0_scan.specs.declared.fault.FaultCode.TheVariants as code
 use Rattle.ob0_tree.specs.ParsedModule.{ParsedModule, tree_of}
-use Rattle.ob0_tree.specs.Places.{token_text_at}
+use Rattle.ob0_tree.specs.TokenIndexLeaves.{token_text_at}
 use Rattle.ob0_tree.specs.Tree.{Tree, array_type, block, declares, declares_procedure, declares_type, declares_variable, end, fields, fields_after_semicolon, section_after_semicolon, forms_block, forms_module, item, items, module_text, more, named_type, no_fields, procedure, record_type, some_fields, semicolon_then_fields, semicolon_then_section, type_definition, variable, written_type}
 use Rattle.ob0_language_names.specs.ConsistentNames.{names_declared_in_block, group_field_names, field_names_after_first_group, is_among}
 use Rattle.ob0_language_names.specs.Names.{Name, same_name}
-use Rattle.ob0_language_names.specs.BlockParts.{formal_names, formal_sections, parameter_section_type, section_types, section_variables}
+use Rattle.ob0_language_names.specs.BlockParts.{formal_parameter_names, formal_parameter_sections, parameter_section_type, section_types, section_variables}
 use Rattle.ob0_scope_table.specs.FaultsAtTokens.{fault_at_token}
 use Rattle.ob0_scope_table.specs.declared.faults.FaultAtTokens.{FaultAtTokens}
 
@@ -42,7 +42,7 @@ abbrev mutual
   duplicate_field_faults spelling (array_type e t) = duplicate_field_faults spelling t
   duplicate_field_faults spelling (record_type g rest) =
       duplicate_faults spelling [] (group_field_names g ++ field_names_after_first_group rest)
-      ++ (duplicate_field_faults_in_group spelling g ++ duplicate_field_faults_in_groups spelling rest)
+      ++ (duplicate_field_faults_in_group spelling g ++ duplicate_field_faults_in_further_groups spelling rest)
 
   -- returns the faults of duplicate fields in the type of a group of fields
   pub duplicate_field_faults_in_group : (ℕ → Name) → Tree ℕ fields → List FaultAtTokens
@@ -50,9 +50,9 @@ abbrev mutual
   duplicate_field_faults_in_group spelling (some_fields ns t) = duplicate_field_faults spelling t
 
   -- returns the faults of duplicate fields in the types of further groups of fields
-  pub duplicate_field_faults_in_groups : (ℕ → Name) → Tree ℕ (items fields_after_semicolon) → List FaultAtTokens
-  duplicate_field_faults_in_groups spelling end = []
-  duplicate_field_faults_in_groups spelling (more (semicolon_then_fields g) rest) = duplicate_field_faults_in_group spelling g ++ duplicate_field_faults_in_groups spelling rest
+  pub duplicate_field_faults_in_further_groups : (ℕ → Name) → Tree ℕ (items fields_after_semicolon) → List FaultAtTokens
+  duplicate_field_faults_in_further_groups spelling end = []
+  duplicate_field_faults_in_further_groups spelling (more (semicolon_then_fields g) rest) = duplicate_field_faults_in_group spelling g ++ duplicate_field_faults_in_further_groups spelling rest
 
 -- returns the faults of duplicate fields in the types of a TYPE section
 abbrev pub duplicate_field_faults_in_types : (ℕ → Name) → Tree ℕ (items type_definition) → List FaultAtTokens
@@ -81,20 +81,20 @@ abbrev mutual
   block_declaration_faults spelling own (forms_block (declares cs ts vs ps) statements) =
       duplicate_faults spelling [] (own ++ names_declared_in_block (forms_block (declares cs ts vs ps) statements))
       ++ (duplicate_field_faults_in_types spelling (section_types ts)
-      ++ (duplicate_field_faults_in_variables spelling (section_variables vs) ++ procedures_declaration_faults spelling ps))
+      ++ (duplicate_field_faults_in_variables spelling (section_variables vs) ++ procedure_list_declaration_faults spelling ps))
 
   -- returns the faults of all procedures of a block, in text order
-  pub procedures_declaration_faults : (ℕ → Name) → Tree ℕ (items procedure) → List FaultAtTokens
-  procedures_declaration_faults spelling end = []
-  procedures_declaration_faults spelling (more p rest) = procedure_declaration_faults spelling p ++ procedures_declaration_faults spelling rest
+  pub procedure_list_declaration_faults : (ℕ → Name) → Tree ℕ (items procedure) → List FaultAtTokens
+  procedure_list_declaration_faults spelling end = []
+  procedure_list_declaration_faults spelling (more p rest) = procedure_declaration_faults spelling p ++ procedure_list_declaration_faults spelling rest
 
   -- returns the faults of a procedure: first of its closing name, then of duplicate fields in its
   -- parameters' types, then of its block
   pub procedure_declaration_faults : (ℕ → Name) → Tree ℕ (item procedure) → List FaultAtTokens
   procedure_declaration_faults spelling (declares_procedure x fs b closing) =
       closing_name_faults spelling x closing
-      ++ (duplicate_field_faults_in_formals spelling (formal_sections fs)
-      ++ block_declaration_faults spelling (formal_names (formal_sections fs)) b)
+      ++ (duplicate_field_faults_in_formals spelling (formal_parameter_sections fs)
+      ++ block_declaration_faults spelling (formal_parameter_names (formal_parameter_sections fs)) b)
 
 -- returns the faults of all duplicate declarations (including fields) and wrong closing names in a
 -- module's tree

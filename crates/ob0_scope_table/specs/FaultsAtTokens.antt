@@ -4,7 +4,7 @@ use Rattle.std.specs.Prelude.{ℕ, ◌-◌, min, length}
 use Rattle.ob0_scan.specs.declared.fault.Fault.{Fault}
 use Rattle.ob0_scan.specs.declared.fault.FaultCode.{FaultCode}
 use Rattle.ob0_scan.specs.TextWithTokens.{TextWithTokens}
-use Rattle.ob0_scope_table.specs.Spans.{span_at}
+use Rattle.ob0_scope_table.specs.Spans.{token_span}
 use Rattle.ob0_scope_table.specs.declared.faults.FaultAtTokens.{FaultAtTokens}
 
 -- returns the fault with this code at one token
@@ -24,7 +24,7 @@ fault_with_span source f =
       code = f.code;
       span =
           record {
-            start = (span_at source (clamped_token_index (length source.tokens) f.first)).start;
-            end = (span_at source (clamped_token_index (length source.tokens) f.last)).end;
+            start = (token_span source (clamped_token_index (length source.tokens) f.first)).start;
+            end = (token_span source (clamped_token_index (length source.tokens) f.last)).end;
           };
     }

@@ -6,6 +6,6 @@ pub mod DuplicatesAndEndNames
 pub mod LabelledTrees
 pub mod FaultsAtTokens
 pub mod TokenProperty
-pub mod OneBody
+pub mod SpellingChangesInOneBody
 pub mod BodyReplacement
-pub mod BodyPlaces
+pub mod BoundsOfBodies

@@ -11,8 +11,8 @@ use Rattle.ob0_tree.specs.declared.tree.Role.{Role}
 use Rattle.ob0_tree.specs.declared.tree.Role.TheVariants as role
 use Rattle.ob0_tree.specs.IdentifierIndexes.{identifier_names}
 use Rattle.ob0_tree.specs.Tree.{mapped_tree, occurrences, identifiers}
-use Rattle.ob0_tree.specs.ParsedModule.{ParsedModule, IsParsed, tree_of, named_tree_of}
-use Rattle.ob0_tree.specs.Places.{token_text_at, token_value_at}
+use Rattle.ob0_tree.specs.ParsedModule.{ParsedModule, TreeMatchesText, tree_of, named_tree_of}
+use Rattle.ob0_tree.specs.TokenIndexLeaves.{token_text_at, token_value_at}
 use Rattle.ob0_language_names.specs.Names.{Label, Name, naming_by_spelling, as_written, declared}
 use Rattle.ob0_language_names.specs.Scopes.{Labelling, label_from_ordinal, numbered, predeclared_count, relabel_module}
 use Rattle.ob0_language_names.specs.Occurrences.{bindings}
@@ -36,8 +36,8 @@ label_from_table source ordinals token =
 -- returns the declaring names among these identifiers, in the same order
 abbrev pub declaring_names : {N : Type 0} → List (Role × N) → List N
 declaring_names [] = []
-declaring_names ((role.Declaring, n) ∷ xs) = n ∷ declaring_names xs
-declaring_names ((role.LookedUp, n) ∷ xs) = declaring_names xs
+declaring_names ((role.DeclaringName, n) ∷ xs) = n ∷ declaring_names xs
+declaring_names ((role.LookedUpName, n) ∷ xs) = declaring_names xs
 declaring_names ((role.ClosingName, n) ∷ xs) = declaring_names xs
 declaring_names ((role.FieldName, n) ∷ xs) = declaring_names xs
 declaring_names ((role.ModuleName, n) ∷ xs) = declaring_names xs
@@ -57,8 +57,8 @@ is_unbound (declared k) = false
 is_unbound (as_written x) = true
 
 -- returns whether this is the fault of a duplicate declaration or of a wrong closing name
-abbrev pub is_duplicate_or_end_name : FaultAtTokens → Bool
-is_duplicate_or_end_name fault =
+abbrev pub is_duplicate_or_end_name_fault : FaultAtTokens → Bool
+is_duplicate_or_end_name_fault fault =
     elim (fault.code) [ code.Duplicate ↦ true | code.EndName ↦ true | _ ↦ false ]
 
 -- returns whether this is the fault of an undeclared name
@@ -67,8 +67,8 @@ is_undeclared_fault fault = elim (fault.code) [ code.Undeclared ↦ true | _ ↦
 
 -- returns the span of a token, in bytes, or an empty span at the text's start if there is no such
 -- token
-abbrev pub span_at : TextWithTokens → ℕ → Span
-span_at source token = spans.span_at source token
+abbrev pub token_span : TextWithTokens → ℕ → Span
+token_span source token = spans.token_span source token
 
 -- Returns a fault `Undeclared` for each looked-up name that has no ordinal in the table `ordinals`. The
 -- looked-up names are given by their tokens.
@@ -104,15 +104,15 @@ ordinal_and_spelling ordinal x = (ordinal, x)
 
 -- returns a pair: the ordinal to which the identifier at a token is bound, or None if it is
 -- unbound, and the identifier's spelling
-abbrev pub ordinal_and_spelling_at : TextWithTokens → List (Option ℕ) → ℕ → Option ℕ × Name
-ordinal_and_spelling_at source ordinals token = (ordinal_in ordinals token, token_text_at source token)
+abbrev pub ordinal_and_spelling_at_token : TextWithTokens → List (Option ℕ) → ℕ → Option ℕ × Name
+ordinal_and_spelling_at_token source ordinals token = (ordinal_in ordinals token, token_text_at source token)
 
 -- States that the table of ordinals is correct according to the scope rules. It gives each
 -- identifier the ordinal of its declaration, or None if the identifier is unbound.
 abbrev pub IsBindingTable : ParsedModule → List (Option ℕ) → Type 0
 IsBindingTable m ordinals =
     relabel_module naming_by_spelling ordinal_and_spelling (named_tree_of m)
-    ≡ mapped_tree (ordinal_and_spelling_at m.source ordinals) (token_value_at m.source) (tree_of m)
+    ≡ mapped_tree (ordinal_and_spelling_at_token m.source ordinals) (token_value_at m.source) (tree_of m)
 
 -- Returns a fault `Undeclared` for each looked-up name whose label says that it is unbound
 -- (`is_unbound`). The first list has the tokens of the looked-up names, and the second list has the
@@ -135,7 +135,7 @@ undeclared_faults m = undeclared_faults_from_labels (occurrences (tree_of m)) (b
 -- record, or a closing name is wrong.
 pub record AreNameFaultsOf (m : ParsedModule) (faults : List FaultAtTokens) : Type 0 where
   pub by_kind : faults ≡ declaration_faults m ++ undeclared_faults m
-  pub declared_twice : list_any is_duplicate_or_end_name faults ≡ not (has_consistent_names (named_tree_of m))
+  pub declared_twice : list_any is_duplicate_or_end_name_fault faults ≡ not (has_consistent_names (named_tree_of m))
   pub undeclared : filter is_undeclared_fault faults ≡ undeclared_faults m
 
 -- returns whether this token is an identifier of the module
@@ -150,11 +150,11 @@ OnlyIdentifiersHaveOrdinals m ordinals =
 -- States that the ordinals, the declaring names, the looked-up names and the faults of a resolved
 -- module are correct for its text.
 pub record IsResolution (r : Resolution) : Type 0 where
-  pub parsed : IsParsed r.module_read
+  pub parsed : TreeMatchesText r.module_read
   pub numbering : IsNumberingTable r.module_read r.ordinals
   pub binding : IsBindingTable r.module_read r.ordinals
   pub ordinals_only_at_names : OnlyIdentifiersHaveOrdinals r.module_read r.ordinals
   pub declaring : r.declaration_tokens
-      ≡ declaring_names (identifiers role.Declaring (tree_of r.module_read))
+      ≡ declaring_names (identifiers role.DeclaringName (tree_of r.module_read))
   pub occurring : r.uses ≡ occurrences (tree_of r.module_read)
   pub reported : AreNameFaultsOf r.module_read r.faults

@@ -11,8 +11,8 @@ span_or_empty None = record { start = 0; end = 0 }
 span_or_empty (Some t) = t.span
 
 -- returns the span of a token, or an empty span at the text's start if there is no such token
-abbrev pub span_at : TextWithTokens → ℕ → Span
-span_at source token = span_or_empty (slice_get source.tokens token)
+abbrev pub token_span : TextWithTokens → ℕ → Span
+token_span source token = span_or_empty (slice_get source.tokens token)
 
 -- returns whether a byte offset is in a span or at its end
 abbrev pub is_in_span_or_at_end : ℕ → Span → Bool

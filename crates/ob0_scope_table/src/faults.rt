@@ -3,9 +3,9 @@
 
 ghost use Rattle.std.specs.Prelude.{◌≡◌, IfOk, map};
 ghost use Rattle.ob0_scope_table.specs.FaultsAtTokens.{fault_at_token, fault_with_span};
-ghost use Rattle.ob0_scope_table.specs.Resolution.{is_duplicate_or_end_name};
+ghost use Rattle.ob0_scope_table.specs.Resolution.{is_duplicate_or_end_name_fault};
 
-use crate::table::token_span;
+use crate::token_lookups::token_span;
 use ob0_scan::{Fault, FaultCode, Span, Tokens};
 use std::alloc::{AllocError, Global};
 
@@ -29,15 +29,15 @@ pub fn fault_at_token(code: FaultCode, token: usize) -> FaultAtTokens
 }
 
 /// Returns whether the fault is a duplicate declaration or field, or a wrong closing name.
-pub fn is_duplicate_or_end_name(fault: &FaultAtTokens) -> bool
-    ensures { result ≡ is_duplicate_or_end_name fault.now }
+pub fn is_duplicate_or_end_name_fault(fault: &FaultAtTokens) -> bool
+    ensures { result ≡ is_duplicate_or_end_name_fault fault.now }
 {
     fault.code == FaultCode::Duplicate || fault.code == FaultCode::EndName
 }
 
 /// Returns these faults with their spans in the text that has the tokens `tokens`, in the same
 /// order.
-pub fn faults_with_spans(
+pub fn collect_faults_with_spans(
     alloc: Global,
     tokens: &Tokens,
     faults: &[FaultAtTokens],

@@ -8,13 +8,15 @@ mod one_body;
 mod ordinal_entry;
 mod predeclared_names;
 mod resolved;
-mod table;
+mod token_lookups;
 
-pub use faults::{FaultAtTokens, fault_at_token, faults_with_spans, is_duplicate_or_end_name};
+pub use faults::{
+    FaultAtTokens, collect_faults_with_spans, fault_at_token, is_duplicate_or_end_name_fault,
+};
 pub use one_body::{BodyBounds, body_bounds_in_module, body_bounds_in_tree, is_range_in_one_body};
 pub use ordinal_entry::OrdinalEntry;
 pub use predeclared_names::{
     FALSE_ORDINAL, PREDECLARED_COUNT, READ_ORDINAL, TRUE_ORDINAL, WRITE_LN_ORDINAL, WRITE_ORDINAL,
 };
 pub use resolved::{Bindings, Resolved};
-pub use table::{has_spelling, ordinal_at, same_ordinal, token_span};
+pub use token_lookups::{has_spelling, ordinal_at, same_ordinal, token_span};

@@ -8,8 +8,8 @@ ghost use Rattle.ob0_tree.specs.ParsedModule.{tree_of};
 ghost use Rattle.ob0_tree.specs.View.{block_of, body_of, procedure_of};
 ghost use Rattle.ob0_tree.specs.Tree.{identifiers};
 ghost use Rattle.ob0_tree.specs.declared.tree.Role.TheVariants as roles;
-ghost use Rattle.ob0_scope_table.specs.BodyPlaces.{body_bounds_of_range, body_bounds_of_statements_if, body_bounds_in_block, body_bounds_in_procedure, module_tree_of};
-ghost use Rattle.ob0_scope_table.specs.OneBody.{first_identifier_is_at_or_before, is_range_in_one_body};
+ghost use Rattle.ob0_scope_table.specs.BoundsOfBodies.{body_bounds_of_range, body_bounds_of_statements_if, body_bounds_in_block, body_bounds_in_procedure, module_tree_of};
+ghost use Rattle.ob0_scope_table.specs.SpellingChangesInOneBody.{first_identifier_is_at_or_before_token, is_range_in_one_body};
 
 use ob0_tree::{Block, Module, ModuleTree, Procedure, Statement, first_identifier};
 
@@ -90,7 +90,7 @@ fn body_bounds_of_statements(
     low: usize,
 ) -> Option<BodyBounds>
     ensures { result
-        ≡ body_bounds_of_statements_if (first_identifier_is_at_or_before low (identifiers roles.Declaring (body_of statements.now)))
+        ≡ body_bounds_of_statements_if (first_identifier_is_at_or_before_token low (identifiers roles.DeclaringName (body_of statements.now)))
         (body_of statements.now) closing }
 {
     let first = first_identifier(statements)?;

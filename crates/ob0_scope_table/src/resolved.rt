@@ -2,13 +2,13 @@
 
 ghost use Rattle.std.specs.Prelude.{◌≡◌, ◌-◌, ◌<◌, slice_get, Some, None};
 ghost use Rattle.ob0_tree.specs.ParsedModule.{named_tree_of};
-ghost use Rattle.ob0_language_names.specs.Occurrences.{ordinal_bound_at};
+ghost use Rattle.ob0_language_names.specs.Occurrences.{ordinal_bound_at_occurrence};
 ghost use Rattle.ob0_scope_table.specs.Resolution.{IsResolution, ordinal_in, declaration_token};
 
 use crate::faults::FaultAtTokens;
 use crate::ordinal_entry::OrdinalEntry;
 use crate::predeclared_names::PREDECLARED_COUNT;
-use crate::table::ordinal_at;
+use crate::token_lookups::ordinal_at;
 use ob0_scan::Tokens;
 use ob0_tree::Module;
 use std::borrow::Cow;
@@ -111,7 +111,7 @@ impl<'t> Resolved<'t> {
     /// bound. Looked-up names are counted from 0 in text order. Returns None if the name is unbound
     /// or there is no such name.
     pub fn declaration_of(&self, occurrence: usize) -> Option<usize>
-        ensures { result ≡ ordinal_bound_at (named_tree_of self.now.module_read) occurrence }
+        ensures { result ≡ ordinal_bound_at_occurrence (named_tree_of self.now.module_read) occurrence }
     {
         // The proof needs the invariant of this value.
         let _ = &self.bindings;

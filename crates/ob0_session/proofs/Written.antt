@@ -9,7 +9,7 @@ use Rattle.std.specs.List.{flat_map}
 use Rattle.ob0_frame.specs.Frames.{frame, written_head}
 use Rattle.std.proofs.KnownBytes.{Appends-trans}
 use Rattle.std.specs.Io.KnownBytes.{Appends}
-use Rattle.ob0_session.specs.Sending.{AppendsPrefix}
+use Rattle.ob0_session.specs.ServeSteps.{AppendsPrefix}
 
 -- If a prefix of `head` was written, so was a prefix of `head` and `content` together.
 pub front_of_first : (old new : Option (List ℕ)) (head content : List ℕ) → (n : ℕ) × Appends old new (take n head) → AppendsPrefix old new (head ++ content)

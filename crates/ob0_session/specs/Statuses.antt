@@ -1,8 +1,8 @@
 -- Defines the program's exit status after each fault of `serve`.
 -- Rule: docs/PROTOCOL.md, The program 8.
 use Rattle.std.specs.Prelude.{ℕ}
-use Rattle.ob0_session.specs.declared.serving.ServeFault.{ServeFault}
-use Rattle.ob0_session.specs.declared.serving.ServeFault.TheVariants as fault
+use Rattle.ob0_session.specs.declared.serve_loop.ServeFault.{ServeFault}
+use Rattle.ob0_session.specs.declared.serve_loop.ServeFault.TheVariants as fault
 
 -- Returns the exit status after a fault: 3 if the bytes aren't framed messages, 5 if an allocation
 -- failed, and 4 if a device can't be read or written, or if there were too many reads.

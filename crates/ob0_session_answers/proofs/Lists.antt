@@ -5,7 +5,7 @@ use mathlib.Core.List.{map-map}
 use Rattle.ob0_analysis.specs.declared.diagnoses.Diagnosis.{Diagnosis}
 use Rattle.ob0_analysis.specs.ReportedErrors.{ReportedDiagnosis, reported_diagnosis_of}
 use Rattle.ob0_session_json.specs.JsonViews.{AreSameDiagnostics, diagnostic_view}
-use Rattle.ob0_session_json.specs.Shapes as shapes
+use Rattle.ob0_session_json.specs.JsonShapes as shapes
 use Rattle.ob0_session_json.specs.declared.publication.Diagnostic.{Diagnostic}
 
 -- If the list agrees with the diagnoses so far, it still agrees after the diagnostic of the next

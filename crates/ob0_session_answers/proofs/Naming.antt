@@ -7,9 +7,9 @@ use Rattle.ob0_rpc.specs.WrittenMessages.{FitsInMessage}
 use Rattle.ob0_scan.specs.declared.lexeme.Span.{Span}
 use Rattle.ob0_scope_table.specs.Resolution.{Resolution}
 use Rattle.ob0_text.specs.declared.position_types.Unit.{Unit}
-use Rattle.ob0_analysis.specs.AnalysisAnswers.{AnswersIfWellTyped, IsResolvedWellTypedModule}
+use Rattle.ob0_analysis.specs.AnalysisAnswers.{AnswersExactlyIfWellTyped, IsResolvedWellTypedModule}
 use Rattle.ob0_analysis.specs.ReportedErrors.{IsWellTypedModule}
-use Rattle.ob0_analysis.specs.Texts.{utf8}
+use Rattle.ob0_analysis.specs.TextBytes.{utf8}
 use Rattle.ob0_session_answers.specs.Questions.{location_value_of_span}
 use Rattle.ob0_analysis.proofs.Scanning.{utf8_of}
 
@@ -20,7 +20,7 @@ FoundOf text is (Some answer) = (names : Resolution) × IsResolvedWellTypedModul
 FoundOf text is None = IsWellTypedModule (utf8 text) → ⊥
 
 pub found_of : {A : Type 0} (bytes text : List ℕ) (is : Resolution → A → Type 0) (found : Option A) → IsUtf8 bytes → chars bytes ≡ text
-    → AnswersIfWellTyped bytes (λ names answer. is names answer) found → FoundOf text is found
+    → AnswersExactlyIfWellTyped bytes (λ names answer. is names answer) found → FoundOf text is found
 found_of bytes text is (Some answer) u same h =
     (h.0, subst (λ (t : List ℕ). IsResolvedWellTypedModule t h.0) (utf8_of bytes text u same) h.1, h.2)
 found_of bytes text is None u same h = subst (λ (t : List ℕ). IsWellTypedModule t → ⊥) (utf8_of bytes text u same) h

@@ -8,21 +8,21 @@ use Rattle.std.specs.declared.alloc.Global.{Global}
 use Rattle.serde_json.specs.Data.{Data, array, no_items}
 use Rattle.serde_json.specs.View.{items_of}
 use Rattle.ob0_rpc.specs.MessageViews.{json_of_id, action_kinds_view}
-use Rattle.ob0_rpc.specs.Shapes.{result_message}
+use Rattle.ob0_rpc.specs.JsonShapes.{result_message}
 use Rattle.ob0_rpc.specs.WrittenMessages.{Writes}
-use Rattle.ob0_rpc.specs.declared.clients.ClientFeatures.{ClientFeatures}
+use Rattle.ob0_rpc.specs.declared.client_capabilities.ClientFeatures.{ClientFeatures}
 use Rattle.ob0_text.specs.Texts.{offset_of}
 use Rattle.ob0_text.specs.Units.{width_of}
 use Rattle.ob0_text.specs.declared.edits.Edit.{Edit}
 use Rattle.ob0_text.specs.declared.position_types.Range.{Range}
 use Rattle.ob0_text.specs.declared.position_types.Unit.{Unit}
 use Rattle.ob0_analysis.specs.ReportedErrors.{IsWellTypedModule}
-use Rattle.ob0_analysis.specs.Texts.{utf8}
+use Rattle.ob0_analysis.specs.TextBytes.{utf8}
 use Rattle.ob0_edits.specs.InliningEdits.{IsInlineResultInText}
-use Rattle.ob0_session_json.specs.Shapes.{code_action_value, workspace_edit}
+use Rattle.ob0_session_json.specs.JsonShapes.{code_action_value, workspace_edit_value}
 use Rattle.ob0_session_answers.specs.declared.actions.ActionsRequest.{ActionsRequest}
-use Rattle.ob0_edits.specs.declared.inlinings.Inlining.{Inlining}
-use Rattle.ob0_edits.specs.declared.inlinings.Inlining.TheVariants.{OneUse, Everywhere}
+use Rattle.ob0_edits.specs.declared.inline_question.InliningKind.{InliningKind}
+use Rattle.ob0_edits.specs.declared.inline_question.InliningKind.TheVariants.{OneUse, Everywhere}
 
 -- ---- the request
 
@@ -81,19 +81,19 @@ first_offset_in_range unit text range =
 
 -- Returns the title of the action that inlines a constant at one use (`OneUse`) or at every use
 -- (`Everywhere`).
-abbrev pub title : Inlining → List ℕ
-title OneUse = codes "Inline here"
-title Everywhere = codes "Inline everywhere"
+abbrev pub inlining_title : InliningKind → List ℕ
+inlining_title OneUse = codes "Inline here"
+inlining_title Everywhere = codes "Inline everywhere"
 
 -- Returns the JSON value of the code action that applies these edits, in the form that the client
 -- accepts. The action's title depends on `how`.
-abbrev pub inlining_action_value : VersionedActionsRequest → Inlining → List Edit → Data
+abbrev pub inlining_action_value : VersionedActionsRequest → InliningKind → List Edit → Data
 inlining_action_value requested how edits =
-    code_action_value (workspace_edit requested.client requested.uri requested.version edits) (title how)
+    code_action_value (workspace_edit_value requested.client requested.uri requested.version edits) (inlining_title how)
 
 -- Returns a list with the JSON value of the code action that applies these edits. If the inlining
 -- is refused (the edits are None), the list is empty.
-abbrev pub offered_action_values : VersionedActionsRequest → Inlining → Option (Vec Edit Global) → List Data
+abbrev pub offered_action_values : VersionedActionsRequest → InliningKind → Option (Vec Edit Global) → List Data
 offered_action_values requested how (Some edits) = inlining_action_value requested how edits.items ∷ []
 offered_action_values requested how None = []
 
@@ -139,6 +139,6 @@ AnswersActionsRequest unit requested text message =
 
 -- States that `content` is the text, as bytes, of a message that answers the request for code
 -- actions.
-abbrev pub RepliesToActionsRequest : Unit → VersionedActionsRequest → List ℕ → List ℕ → Type 0
-RepliesToActionsRequest unit requested text content =
+abbrev pub WritesAnswerToActionsRequest : Unit → VersionedActionsRequest → List ℕ → List ℕ → Type 0
+WritesAnswerToActionsRequest unit requested text content =
     (message : Data) × AnswersActionsRequest unit requested text message × Writes message content

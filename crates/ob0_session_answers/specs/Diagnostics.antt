@@ -7,8 +7,8 @@ use Rattle.ob0_text.specs.Texts.{position_of}
 use Rattle.ob0_text.specs.Units.{width_of}
 use Rattle.ob0_text.specs.declared.position_types.Unit.{Unit}
 use Rattle.ob0_analysis.specs.ReportedErrors.{ReportedDiagnosis, ReportsErrorsOf}
-use Rattle.ob0_analysis.specs.Texts.{utf8}
-use Rattle.ob0_session_json.specs.Shapes.{Diagnostic, publication}
+use Rattle.ob0_analysis.specs.TextBytes.{utf8}
+use Rattle.ob0_session_json.specs.JsonShapes.{Diagnostic, publication}
 
 -- Returns the diagnostic for a diagnosis of the text: the same code and message, but with the
 -- positions of the byte offsets at which the diagnosis starts and ends. Positions are counted in

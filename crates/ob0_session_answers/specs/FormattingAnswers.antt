@@ -2,7 +2,7 @@
 -- Rule: docs/PROTOCOL.md, Requests on documents 8.
 use Rattle.std.specs.Prelude.{◌≡◌, ◌⊎◌, ℕ, List, codes}
 use Rattle.serde_json.specs.Data.{Data}
-use Rattle.ob0_rpc.specs.Shapes.{result_message}
+use Rattle.ob0_rpc.specs.JsonShapes.{result_message}
 use Rattle.ob0_rpc.specs.WrittenMessages.{Writes}
 use Rattle.ob0_text.specs.RefusalTexts.{refusal_text}
 use Rattle.ob0_text.specs.declared.edits.Edit.{Edit}
@@ -10,9 +10,9 @@ use Rattle.ob0_text.specs.declared.edits.Indent.{Indent}
 use Rattle.ob0_text.specs.declared.position_types.Unit.{Unit}
 use Rattle.ob0_text.specs.declared.refusals.EditRefusal.TheVariants.{TooLong}
 use Rattle.ob0_analysis.specs.ReportedErrors.{IsWellTypedModule}
-use Rattle.ob0_analysis.specs.Texts.{utf8}
+use Rattle.ob0_analysis.specs.TextBytes.{utf8}
 use Rattle.ob0_edits.specs.FormattingEdits.{FormattedTextIsTooLong, FormatsText}
-use Rattle.ob0_session_json.specs.Shapes.{edit_list_value, edit_refusal_message}
+use Rattle.ob0_session_json.specs.JsonShapes.{edit_list_value, edit_refusal_message}
 
 -- States that the message answers a request with this id to format the text with this indentation.
 -- The message contains the edits, or it refuses the request because the formatted text is too long
@@ -27,6 +27,6 @@ AnswersFormattingRequest unit id indent text message =
 
 -- States that `content` is the text, as bytes, of a message that answers the request for
 -- formatting.
-abbrev pub RepliesToFormattingRequest : Unit → Data → Indent → List ℕ → List ℕ → Type 0
-RepliesToFormattingRequest unit id indent text content =
+abbrev pub WritesAnswerToFormattingRequest : Unit → Data → Indent → List ℕ → List ℕ → Type 0
+WritesAnswerToFormattingRequest unit id indent text content =
     (message : Data) × AnswersFormattingRequest unit id indent text message × Writes message content

@@ -11,14 +11,14 @@ use Rattle.ob0_text.specs.declared.position_types.Unit.{Unit}
 use Rattle.ob0_edits_tokens.specs.Ranges.{range_of}
 use Rattle.ob0_scope_table.specs.Resolution.{Resolution}
 use Rattle.ob0_refs.specs.NameHovers.{HoverTextWithSpan}
-use Rattle.ob0_refs.specs.Questions.{AreReferencesAt, hover_at_offset, definition_at, renamable_span_at}
+use Rattle.ob0_refs.specs.Questions.{AreReferencesAtOffset, hover_at_offset, definition_at_offset, renamable_span_at_offset}
 use Rattle.ob0_rpc.specs.Requests.{DocumentPlace}
-use Rattle.ob0_rpc.specs.Shapes.{range_value, result_message}
+use Rattle.ob0_rpc.specs.JsonShapes.{range_value, result_message}
 use Rattle.ob0_rpc.specs.WrittenMessages.{Writes}
 use Rattle.ob0_analysis.specs.AnalysisAnswers.{IsResolvedWellTypedModule}
 use Rattle.ob0_analysis.specs.ReportedErrors.{IsWellTypedModule}
-use Rattle.ob0_analysis.specs.Texts.{utf8}
-use Rattle.ob0_session_json.specs.Shapes.{hover_value, location_value_of_range}
+use Rattle.ob0_analysis.specs.TextBytes.{utf8}
+use Rattle.ob0_session_json.specs.JsonShapes.{hover_value, location_value_of_range}
 
 -- A question about the name or field at a position: hover, definition, references or prepareRename.
 pub data NameQuestion : Type 0 where
@@ -57,7 +57,7 @@ offset_of_place unit text at = offset_of (width_of unit) text at.position
 abbrev pub AnswersReferencesQuestion : Unit → List ℕ → DocumentPlace → Bool → Resolution → Data → Type 0
 AnswersReferencesQuestion unit text at include names value =
     (spans : List Span)
-    × AreReferencesAt names (offset_of_place unit text at) include spans
+    × AreReferencesAtOffset names (offset_of_place unit text at) include spans
     × (value ≡ array (items_of (map (location_value_of_span unit at.uri text) spans)))
 
 -- States that the JSON value answers the question about a well-typed module. `names` is the
@@ -70,13 +70,13 @@ AnswersQuestionInModule unit text at hover_question names value =
 AnswersQuestionInModule unit text at definition_question names value =
     value
     ≡ value_or_null
-    (option_map (location_value_of_span unit at.uri text) (definition_at names (offset_of_place unit text at)))
+    (option_map (location_value_of_span unit at.uri text) (definition_at_offset names (offset_of_place unit text at)))
 AnswersQuestionInModule unit text at (references_question include) names value =
     AnswersReferencesQuestion unit text at include names value
 AnswersQuestionInModule unit text at prepare_rename_question names value =
     value
     ≡ value_or_null
-    (option_map (range_value_of_span unit text) (renamable_span_at names (offset_of_place unit text at)))
+    (option_map (range_value_of_span unit text) (renamable_span_at_offset names (offset_of_place unit text at)))
 
 -- Returns the answer to a question about a text that isn't a well-typed module: an empty list for
 -- references, otherwise null.
@@ -99,8 +99,8 @@ AnswersQuestion unit text at question value =
 
 -- States that `content` is the text, as bytes, of a message that answers this question. The message
 -- has the id of the request that asks the question.
-abbrev pub RepliesToQuestion : Unit → Data → DocumentPlace → NameQuestion → List ℕ → List ℕ → Type 0
-RepliesToQuestion unit id at question text content =
+abbrev pub WritesAnswerToQuestion : Unit → Data → DocumentPlace → NameQuestion → List ℕ → List ℕ → Type 0
+WritesAnswerToQuestion unit id at question text content =
     (value : Data)
     × AnswersQuestion unit text at question value
     × Writes (result_message id value) content

@@ -4,18 +4,18 @@ use Rattle.std.specs.Prelude.{◌≡◌, ◌⊎◌, ℕ, ℤ, List, codes}
 use Rattle.serde_json.specs.Data.{Data}
 use Rattle.ob0_rpc.specs.Requests.{DocumentPlace}
 use Rattle.ob0_rpc.specs.MessageViews.{document_place_view, json_of_id}
-use Rattle.ob0_rpc.specs.Shapes.{result_message}
+use Rattle.ob0_rpc.specs.JsonShapes.{result_message}
 use Rattle.ob0_rpc.specs.WrittenMessages.{Writes}
-use Rattle.ob0_rpc.specs.declared.clients.ClientFeatures.{ClientFeatures}
+use Rattle.ob0_rpc.specs.declared.client_capabilities.ClientFeatures.{ClientFeatures}
 use Rattle.ob0_text.specs.RefusalTexts.{refusal_text}
 use Rattle.ob0_text.specs.declared.edits.Edit.{Edit}
 use Rattle.ob0_text.specs.declared.position_types.Unit.{Unit}
 use Rattle.ob0_text.specs.declared.refusals.EditRefusal.{EditRefusal}
 use Rattle.ob0_edits.specs.Renamings.{IsRenameRefusedInText, RenamesInText}
 use Rattle.ob0_analysis.specs.ReportedErrors.{IsWellTypedModule}
-use Rattle.ob0_analysis.specs.Texts.{utf8}
-use Rattle.ob0_session_json.specs.Shapes.{edit_refusal_message, workspace_edit}
-use Rattle.ob0_session_answers.specs.declared.renaming.RenameRequest.{RenameRequest}
+use Rattle.ob0_analysis.specs.TextBytes.{utf8}
+use Rattle.ob0_session_json.specs.JsonShapes.{edit_refusal_message, workspace_edit_value}
+use Rattle.ob0_session_answers.specs.declared.rename_request.RenameRequest.{RenameRequest}
 
 -- A request for renaming: its id, the client's capabilities, the document and position, the
 -- document's version, and the new name.
@@ -41,7 +41,7 @@ rename_request_view r version =
 -- Returns the JSON value of the edits, in the form that the client accepts.
 abbrev pub edits_for_client : VersionedRenameRequest → List Edit → Data
 edits_for_client requested edits =
-    workspace_edit requested.client requested.at.uri requested.version edits
+    workspace_edit_value requested.client requested.at.uri requested.version edits
 
 -- States that the message answers the request for renaming in a document with this text. It
 -- contains the edits, or refuses the renaming for a reason (`IsRenameRefusedInText`), or refuses the
@@ -57,6 +57,6 @@ AnswersRenameRequest unit requested text message =
     ⊎ (¬ IsWellTypedModule (utf8 text) × (message ≡ edit_refusal_message requested.id (codes "ill-typed"))))
 
 -- States that `content` is the text, as bytes, of a message that answers the request for renaming.
-abbrev pub RepliesToRenameRequest : Unit → VersionedRenameRequest → List ℕ → List ℕ → Type 0
-RepliesToRenameRequest unit requested text content =
+abbrev pub WritesAnswerToRenameRequest : Unit → VersionedRenameRequest → List ℕ → List ℕ → Type 0
+WritesAnswerToRenameRequest unit requested text content =
     (message : Data) × AnswersRenameRequest unit requested text message × Writes message content

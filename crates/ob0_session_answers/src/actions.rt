@@ -1,24 +1,24 @@
 //! Answers requests for code actions, which inline a constant at one use or everywhere.
 //!
-//! `inline_edits` of `ob0_edits` computes the edits. A range may end before its start, so actions
+//! `inlining_edits` of `ob0_edits` computes the edits. A range may end before its start, so actions
 //! apply at whichever end has the smaller byte offset (`first_position_in_range`, `first_offset_in_range`).
 //! Because offsets are compared, no law about the order of positions is needed. An action's title
-//! and edits depend on its `Inlining` (`OneUse` or `Everywhere`). To add an action, add a variant
-//! of `Inlining` and its title (`title_of`, here and in `specs/Actions.antt`).
+//! and edits depend on its `InliningKind` (`OneUse` or `Everywhere`). To add an action, add a variant
+//! of `InliningKind` and its title (`inlining_title`, here and in `specs/Actions.antt`).
 
 ghost use Rattle.std.specs.Prelude.{◌≡◌, IfOk, map, string_bytes};
 ghost use Rattle.std.specs.List.{list_any};
 ghost use Rattle.serde_json.specs.Data.{array, item, no_items};
 ghost use Rattle.ob0_rpc.specs.MessageViews.{json_of_id, action_kinds_view};
-ghost use Rattle.ob0_rpc.specs.Shapes.{result_message};
+ghost use Rattle.ob0_rpc.specs.JsonShapes.{result_message};
 ghost use Rattle.ob0_rpc.specs.WrittenMessages.{Writes};
 ghost use Rattle.ob0_text.specs.Texts.{offset_of};
 ghost use Rattle.ob0_text.specs.Units.{width_of};
-ghost use Rattle.ob0_session_answers.specs.Actions.{RepliesToActionsRequest, inlining_action_value, actions_request_view, actions_array, requested_kinds_include_inlining as allows, kind_includes_inlining as of_kind, first_offset_in_range as place_in, title, client_wants_inlining as wants};
+ghost use Rattle.ob0_session_answers.specs.Actions.{WritesAnswerToActionsRequest, inlining_action_value, actions_request_view, actions_array, requested_kinds_include_inlining as allows, kind_includes_inlining as of_kind, first_offset_in_range as place_in, inlining_title, client_wants_inlining as wants};
 ghost use Rattle.ob0_session_json.specs.JsonViews.{code_action_view};
 
 use ob0_analysis::Analysis;
-use ob0_edits::{Inlining, InliningEdits, inline_edits};
+use ob0_edits::{InliningEdits, InliningKind, inlining_edits};
 use ob0_rpc::{ClientFeatures, Id, success_response_text};
 use ob0_session_documents::DocumentRequest;
 use ob0_session_json::edits::{CodeAction, WorkspaceEdit};
@@ -51,7 +51,7 @@ pub struct ActionsRequest<'a> {
 
 impl<'a, T: TextStore> DocumentRequest<T> for ActionsRequest<'a> {
     ghost answers = { λ r version unit text content.
-        RepliesToActionsRequest unit (actions_request_view r version) text content };
+        WritesAnswerToActionsRequest unit (actions_request_view r version) text content };
 
     fn answer(
         &self,
@@ -64,7 +64,7 @@ impl<'a, T: TextStore> DocumentRequest<T> for ActionsRequest<'a> {
             return answer_without_actions(alloc, self.id);
         }
         let place = first_position_in_range(text, self.range);
-        match inline_edits(alloc, text, analysis, place)? {
+        match inlining_edits(alloc, text, analysis, place)? {
             Some(found) => self.answer_with_actions(alloc, version, &found),
             None => answer_without_actions(alloc, self.id),
         }
@@ -96,21 +96,21 @@ impl<'a> ActionsRequest<'a> {
         match (&found.here, &found.everywhere) {
             (Some(here), Some(everywhere)) => {
                 let actions = [
-                    self.action(version, Inlining::OneUse, here.as_slice()),
-                    self.action(version, Inlining::Everywhere, everywhere.as_slice()),
+                    self.inlining_action(version, InliningKind::OneUse, here.as_slice()),
+                    self.inlining_action(version, InliningKind::Everywhere, everywhere.as_slice()),
                 ];
                 success_response_text(alloc, self.id, &actions.as_slice())
             }
             (Some(here), None) => self.answer_with_one_action(
                 alloc,
                 version,
-                Inlining::OneUse,
+                InliningKind::OneUse,
                 here.as_slice(),
             ),
             (None, Some(everywhere)) => self.answer_with_one_action(
                 alloc,
                 version,
-                Inlining::Everywhere,
+                InliningKind::Everywhere,
                 everywhere.as_slice(),
             ),
             (None, None) => answer_without_actions(alloc, self.id),
@@ -122,20 +122,25 @@ impl<'a> ActionsRequest<'a> {
         &self,
         alloc: Global,
         version: i64,
-        how: Inlining,
+        how: InliningKind,
         edits: &[Edit],
     ) -> Result<Vec<u8>, AllocError>
         ensures { IfOk result (λ bytes. Writes (result_message (json_of_id self.now.id.now)
             (array (item (inlining_action_value (actions_request_view self.now version) how edits.now) no_items)))
             bytes.items) }
     {
-        let actions = [self.action(version, how, edits)];
+        let actions = [self.inlining_action(version, how, edits)];
         success_response_text(alloc, self.id, &actions.as_slice())
     }
 
     /// Returns the code action that applies these edits to this version of the document. The
     /// action's title depends on `how`.
-    fn action<'b>(&'b self, version: i64, how: Inlining, edits: &'b [Edit]) -> CodeAction<'b>
+    fn inlining_action<'b>(
+        &'b self,
+        version: i64,
+        how: InliningKind,
+        edits: &'b [Edit],
+    ) -> CodeAction<'b>
         ensures { code_action_view result ≡ inlining_action_value (actions_request_view self.now version) how edits.now }
     {
         let edit = WorkspaceEdit {
@@ -144,7 +149,7 @@ impl<'a> ActionsRequest<'a> {
             version,
             edits,
         };
-        let title = title_of(how);
+        let title = inlining_title(how);
         CodeAction { edit, title }
     }
 }
@@ -191,11 +196,11 @@ fn kind_includes_inlining(kind: &str) -> bool
 
 /// Returns the title of the action that inlines a constant at one use (`OneUse`) or at every use
 /// (`Everywhere`).
-fn title_of(how: Inlining) -> &'static str
-    ensures { result.now ≡ title how }
+fn inlining_title(how: InliningKind) -> &'static str
+    ensures { result.now ≡ inlining_title how }
 {
     match how {
-        Inlining::OneUse => "Inline here",
-        Inlining::Everywhere => "Inline everywhere",
+        InliningKind::OneUse => "Inline here",
+        InliningKind::Everywhere => "Inline everywhere",
     }
 }

@@ -10,7 +10,7 @@ ghost use Rattle.std.specs.Str.{chars};
 ghost use Rattle.ob0_analysis.specs.ReportedErrors.{reported_diagnosis_of};
 ghost use Rattle.ob0_session_json.specs.JsonViews.{AreSameDiagnostics, diagnostic_view};
 ghost use Rattle.ob0_session_answers.specs.Diagnostics.{AreDiagnosticsOf, PublishesDiagnostics, diagnostic_of};
-ghost use Rattle.ob0_session_json.specs.Shapes.{Diagnostic as Reported};
+ghost use Rattle.ob0_session_json.specs.JsonShapes.{Diagnostic as Reported};
 ghost use Rattle.ob0_text.specs.Texts.{position_of};
 ghost use Rattle.ob0_text.specs.Units.{width_of};
 

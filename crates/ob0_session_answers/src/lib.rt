@@ -5,12 +5,12 @@
 
 mod actions;
 pub mod diagnostics;
-mod formatting;
+mod formatting_request;
 mod questions;
-mod renaming;
+mod rename_request;
 
 pub use actions::ActionsRequest;
 pub use diagnostics::PublishDiagnosticsRequest;
-pub use formatting::FormattingRequest;
+pub use formatting_request::FormattingRequest;
 pub use questions::{DefinitionRequest, HoverRequest, PrepareRenameRequest, ReferencesRequest};
-pub use renaming::RenameRequest;
+pub use rename_request::RenameRequest;

@@ -8,14 +8,14 @@ ghost use Rattle.std.specs.Prelude.{◌≡◌, IfOk, option_map, map};
 ghost use Rattle.serde_json.specs.Data.{array};
 ghost use Rattle.serde_json.specs.View.{items_of};
 ghost use Rattle.ob0_rpc.specs.MessageViews.{document_place_view, json_of_id};
-ghost use Rattle.ob0_rpc.specs.Shapes.{result_message};
+ghost use Rattle.ob0_rpc.specs.JsonShapes.{result_message};
 ghost use Rattle.ob0_rpc.specs.WrittenMessages.{Writes};
 ghost use Rattle.ob0_refs.specs.AnswerViews.{hover_view};
-ghost use Rattle.ob0_refs.specs.Questions.{AreReferencesAt, hover_at_offset, definition_at, renamable_span_at};
-ghost use Rattle.ob0_session_answers.specs.Questions.{RepliesToQuestion, definition_question, hover_question, hover_value_with_range, location_value_of_span, range_value_of_span, references_question, prepare_rename_question, value_or_null};
+ghost use Rattle.ob0_refs.specs.Questions.{AreReferencesAtOffset, hover_at_offset, definition_at_offset, renamable_span_at_offset};
+ghost use Rattle.ob0_session_answers.specs.Questions.{WritesAnswerToQuestion, definition_question, hover_question, hover_value_with_range, location_value_of_span, range_value_of_span, references_question, prepare_rename_question, value_or_null};
 
 use ob0_analysis::{Analysis, Question, WellTyped, ask};
-use ob0_edits_tokens::{range_of, ranges};
+use ob0_edits_tokens::{range_of, ranges_of_spans};
 use ob0_refs::{definition, hover, references, renamable_span};
 use ob0_rpc::{DocumentPosition, Id, success_response_text};
 use ob0_scan::Span;
@@ -55,7 +55,7 @@ struct DefinitionQuestion {
 impl Question for DefinitionQuestion {
     type Answer = Option<Span>;
 
-    ghost answers = { λ q names found. found ≡ definition_at names q.offset };
+    ghost answers = { λ q names found. found ≡ definition_at_offset names q.offset };
 
     fn answer(&self, _alloc: Global, module: &WellTyped<'_>) -> Result<Option<Span>, AllocError> {
         Ok(definition(module, self.offset))
@@ -74,7 +74,7 @@ impl Question for ReferencesQuestion {
     type Answer = Vec<Span>;
 
     ghost answers = { λ q names found.
-        AreReferencesAt names q.offset q.include_declaration found.items };
+        AreReferencesAtOffset names q.offset q.include_declaration found.items };
 
     fn answer(&self, alloc: Global, module: &WellTyped<'_>) -> Result<Vec<Span>, AllocError> {
         references(alloc, module, self.offset, self.include_declaration)
@@ -91,7 +91,7 @@ struct RenamableSpanQuestion {
 impl Question for RenamableSpanQuestion {
     type Answer = Option<Span>;
 
-    ghost answers = { λ q names found. found ≡ renamable_span_at names q.offset };
+    ghost answers = { λ q names found. found ≡ renamable_span_at_offset names q.offset };
 
     fn answer(&self, _alloc: Global, module: &WellTyped<'_>) -> Result<Option<Span>, AllocError> {
         Ok(renamable_span(module, self.offset))
@@ -107,7 +107,7 @@ pub struct HoverRequest<'a> {
 
 impl<'a, T: TextStore> DocumentRequest<T> for HoverRequest<'a> {
     ghost answers = { λ r _ unit text content.
-        RepliesToQuestion unit (json_of_id r.id.now) (document_place_view r.place.now) hover_question text content };
+        WritesAnswerToQuestion unit (json_of_id r.id.now) (document_place_view r.place.now) hover_question text content };
 
     fn answer(
         &self,
@@ -133,7 +133,7 @@ pub struct DefinitionRequest<'a> {
 
 impl<'a, T: TextStore> DocumentRequest<T> for DefinitionRequest<'a> {
     ghost answers = { λ r _ unit text content.
-        RepliesToQuestion unit (json_of_id r.id.now) (document_place_view r.place.now)
+        WritesAnswerToQuestion unit (json_of_id r.id.now) (document_place_view r.place.now)
         definition_question text content };
 
     fn answer(
@@ -161,7 +161,7 @@ pub struct ReferencesRequest<'a> {
 
 impl<'a, T: TextStore> DocumentRequest<T> for ReferencesRequest<'a> {
     ghost answers = { λ r _ unit text content.
-        RepliesToQuestion unit (json_of_id r.id.now) (document_place_view r.place.now)
+        WritesAnswerToQuestion unit (json_of_id r.id.now) (document_place_view r.place.now)
         (references_question r.include_declaration) text content };
 
     fn answer(
@@ -194,7 +194,7 @@ pub struct PrepareRenameRequest<'a> {
 
 impl<'a, T: TextStore> DocumentRequest<T> for PrepareRenameRequest<'a> {
     ghost answers = { λ r _ unit text content.
-        RepliesToQuestion unit (json_of_id r.id.now) (document_place_view r.place.now)
+        WritesAnswerToQuestion unit (json_of_id r.id.now) (document_place_view r.place.now)
         prepare_rename_question text content };
 
     fn answer(
@@ -291,7 +291,7 @@ fn references_answer<T: TextStore>(
         (map (location_value_of_span (T.unit_of store.now) uri.now (T.content store.now)) spans.now))))
         bytes.items) }
 {
-    let ranges = ranges(alloc, store, spans)?;
+    let ranges = ranges_of_spans(alloc, store, spans)?;
     let ranges = ranges.as_slice();
     success_response_text(alloc, id, &LocationList { ranges, uri })
 }

@@ -7,10 +7,10 @@ use Rattle.std.specs.Str.{bytes_eq}
 use Rattle.std.specs.FinMap as map_of
 use Rattle.std.proofs.lemmas.Map.Text.{is_eq-slice_cmp}
 use Rattle.std.proofs.lemmas.Slice.Eq.{bytes_eq-Decides}
-use Rattle.ob0_text.specs.OpenDocuments.{Documents, Document, OpenDocuments, TextChange, InStep, OutOfStep, document_at, documents_after_open, documents_after_change, changed_document, documents_after_loss, documents_after_close, with_updated_document}
+use Rattle.ob0_text.specs.OpenDocuments.{Documents, Document, OpenDocuments, TextChange, InStep, OutOfStep, document_at, documents_after_open, documents_after_change, changed_document, documents_after_loss, documents_after_close, update_document_if_open}
 use Rattle.ob0_text.proofs.EntryLaws.{updated-some, updated-none}
 use Rattle.ob0_session_documents.specs.KeptAnalyses.{AnalysesMatchTexts, KeepsOnlyOtherAnalyses}
-use Rattle.ob0_session_documents.specs.declared.analyses.AnalysisCache.{AnalysisCache}
+use Rattle.ob0_session_documents.specs.declared.analysis_cache.AnalysisCache.{AnalysisCache}
 
 unequal : (u uri : List ℕ) → (u ≡ uri → ⊥) → bytes_eq u uri ≡ false
 unequal u uri other = (elim (bytes_eq u uri) as (λ b. bytes_eq u uri ≡ b → b ≡ false) [
@@ -28,7 +28,7 @@ module _ (m : Documents) (uri u : List ℕ) (other : u ≡ uri → ⊥) where
   removed : map_of.get (map_of.remove m uri) u ≡ map_of.get m u
   removed = map_of.get-remove nat_list_cmp_total m uri u ∙ ap (λ b. cond b None (map_of.get m u)) (apart u uri other)
 
-  updated_at : (f : Document → Document) (found : Option Document) → map_of.get m uri ≡ found → map_of.get (with_updated_document m uri f) u ≡ map_of.get m u
+  updated_at : (f : Document → Document) (found : Option Document) → map_of.get m uri ≡ found → map_of.get (update_document_if_open m uri f) u ≡ map_of.get m u
   updated_at f None e = ap (λ n. map_of.get n u) (updated-none m uri f e)
   updated_at f (Some d) e = ap (λ n. map_of.get n u) (updated-some m uri f d e) ∙ inserted (f d)
 

@@ -5,7 +5,7 @@ use Rattle.std.specs.Str.{chars}
 use Rattle.std.specs.declared.alloc.Global.{Global}
 use Rattle.lru.specs.LruCache.{LruCache}
 use Rattle.ob0_text.specs.OpenDocuments.{OpenDocuments, InStep, document_at}
-use Rattle.ob0_session_documents.specs.declared.analyses.AnalysisCache.{AnalysisCache}
+use Rattle.ob0_session_documents.specs.declared.analysis_cache.AnalysisCache.{AnalysisCache}
 
 -- States that the cache contains an analysis of the text `text` under this uri. In the specs, an
 -- analysis is represented by the text that it analyses. If there is no cache yet (None), this never

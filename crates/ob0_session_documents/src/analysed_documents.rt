@@ -13,7 +13,7 @@ ghost use Rattle.std.specs.Str.{chars};
 ghost use Rattle.ob0_text.specs.OpenDocuments.{documents_after_change, documents_after_close, document_at, documents_after_loss, documents_after_open, text_change_of};
 ghost use Rattle.ob0_session_documents.specs.DocumentRequests.{IsOutcomeOfRequest};
 
-use crate::analyses::AnalysisCache;
+use crate::analysis_cache::AnalysisCache;
 use crate::document_requests::{DocumentRequest, RequestOutcome};
 use ob0_analysis::Analysis;
 use ob0_text::{Change, Documents, Held, TextStore};

@@ -2,7 +2,7 @@
 #![tactic(auto)]
 
 mod analysed_documents;
-mod analyses;
+mod analysis_cache;
 mod document_requests;
 
 pub use analysed_documents::AnalysedDocuments;

@@ -4,11 +4,11 @@ use Rattle.std.proofs.lemmas.List.{drop-drop, drop_at, length-drop}
 use Rattle.serde_json.specs.Data.{string}
 use Rattle.serde_json.specs.Written.{comma_if, compact_text}
 use Rattle.ob0_text.specs.declared.position_types.Range.{Range}
-use Rattle.ob0_rpc.specs.Appending.{AppendsListItem, ReadsBack}
-use Rattle.ob0_rpc.specs.Shapes.{range_value}
-use Rattle.ob0_rpc.proofs.Appending.{name, object_text_of_two, read_two}
+use Rattle.ob0_rpc.specs.AppendedJson.{AppendsListItem, ReadsBack}
+use Rattle.ob0_rpc.specs.JsonShapes.{range_value}
+use Rattle.ob0_rpc.proofs.AppendedJson.{name, object_text_of_two, read_two}
 use Rattle.ob0_session_json.specs.LocationBuffer.{EndsWithUriMember}
-use Rattle.ob0_session_json.specs.Shapes.{location_value_of_range}
+use Rattle.ob0_session_json.specs.JsonShapes.{location_value_of_range}
 
 -- If a text was written right before index 192, the bytes at index 192 and later are unchanged.
 pub kept : (old new text : List ℕ) (at : ℕ) → length new ≡ length old → 192 ≤ length old → at ≤ 192 → drop at new ≡ text ++ drop 192 old → drop 192 new ≡ drop 192 old

@@ -3,10 +3,10 @@ use Rattle.std.proofs.Common.{◌≡◌, ◌≤◌, ℕ, ℤ, pos, negsuc, List,
 use Rattle.serde_json.specs.Data.{Data, array, depth, items_depth}
 use Rattle.serde_json.specs.View.{items_of}
 use Rattle.ob0_rpc.specs.WrittenMessages.{FitsInMessage}
-use Rattle.ob0_rpc.specs.Shapes.{whole_number_value}
+use Rattle.ob0_rpc.specs.JsonShapes.{whole_number_value}
 use Rattle.ob0_text.specs.declared.edits.Edit.{Edit}
-use Rattle.ob0_rpc.specs.declared.clients.ClientFeatures.{ClientFeatures}
-use Rattle.ob0_session_json.specs.Shapes.{Diagnostic, code_action_value, diagnostic_value, edit_value, edit_list_value, publication_params, workspace_edit}
+use Rattle.ob0_rpc.specs.declared.client_capabilities.ClientFeatures.{ClientFeatures}
+use Rattle.ob0_session_json.specs.JsonShapes.{Diagnostic, code_action_value, diagnostic_value, edit_value, edit_list_value, publication_params, workspace_edit_value}
 
 flat_whole : (z : ℤ) → depth (whole_number_value z) ≡ 0
 flat_whole (pos n) = refl
@@ -27,11 +27,11 @@ shallow_edits (e ∷ es) = omega (arith, shallow_edits es)
 pub edits_can_be_sent : (es : List Edit) → FitsInMessage (edit_list_value es)
 edits_can_be_sent es = record { shallow = omega (arith, shallow_edits es) }
 
-edits_of_can : (document_changes : Bool) (client : ClientFeatures) (uri : List ℕ) (version : ℤ) (es : List Edit) → client.accepts_document_changes ≡ document_changes → FitsInMessage (workspace_edit client uri version es)
+edits_of_can : (document_changes : Bool) (client : ClientFeatures) (uri : List ℕ) (version : ℤ) (es : List Edit) → client.accepts_document_changes ≡ document_changes → FitsInMessage (workspace_edit_value client uri version es)
 edits_of_can true client uri version es is = rw is (record { shallow = rw (flat_whole version) (omega (arith, shallow_edits es)) })
 edits_of_can false client uri version es is = rw is (record { shallow = omega (arith, shallow_edits es) })
 
-pub workspace_edit_can_be_sent : (client : ClientFeatures) (uri : List ℕ) (version : ℤ) (es : List Edit) → FitsInMessage (workspace_edit client uri version es)
+pub workspace_edit_can_be_sent : (client : ClientFeatures) (uri : List ℕ) (version : ℤ) (es : List Edit) → FitsInMessage (workspace_edit_value client uri version es)
 workspace_edit_can_be_sent client uri version es = edits_of_can client.accepts_document_changes client uri version es refl
 
 -- ---- actions
@@ -42,9 +42,9 @@ one_can d f = record { shallow = omega (arith, f) }
 pub two_can : (d e : Data) → depth d ≤ 8 → depth e ≤ 8 → FitsInMessage (array (items_of (d ∷ e ∷ [])))
 two_can d e f g = record { shallow = omega (arith, f, g) }
 
-shallow_edit : (document_changes : Bool) (client : ClientFeatures) (uri : List ℕ) (version : ℤ) (es : List Edit) → client.accepts_document_changes ≡ document_changes → depth (workspace_edit client uri version es) ≤ 7
+shallow_edit : (document_changes : Bool) (client : ClientFeatures) (uri : List ℕ) (version : ℤ) (es : List Edit) → client.accepts_document_changes ≡ document_changes → depth (workspace_edit_value client uri version es) ≤ 7
 shallow_edit true client uri version es is = rw (is, flat_whole version) (omega (arith, shallow_edits es))
 shallow_edit false client uri version es is = rw is (omega (arith, shallow_edits es))
 
-pub shallow_action : (client : ClientFeatures) (uri : List ℕ) (version : ℤ) (es : List Edit) (said : List ℕ) → depth (code_action_value (workspace_edit client uri version es) said) ≤ 8
+pub shallow_action : (client : ClientFeatures) (uri : List ℕ) (version : ℤ) (es : List Edit) (said : List ℕ) → depth (code_action_value (workspace_edit_value client uri version es) said) ≤ 8
 shallow_action client uri version es said = omega (arith, shallow_edit client.accepts_document_changes client uri version es refl)

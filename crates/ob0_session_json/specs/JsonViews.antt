@@ -2,14 +2,14 @@
 -- diagnostics of the specs.
 use Rattle.std.specs.Prelude.{◌≡◌, List, map, string_bytes}
 use Rattle.serde_json.specs.Data.{Data}
-use Rattle.ob0_session_json.specs.Shapes as shapes
+use Rattle.ob0_session_json.specs.JsonShapes as shapes
 use Rattle.ob0_session_json.specs.declared.edits.CodeAction.{CodeAction}
 use Rattle.ob0_session_json.specs.declared.edits.WorkspaceEdit.{WorkspaceEdit}
 use Rattle.ob0_session_json.specs.declared.publication.Diagnostic.{Diagnostic}
 
 -- Returns the JSON value of the code's `WorkspaceEdit`, the edits of one document.
 abbrev pub workspace_edit_view : WorkspaceEdit → Data
-workspace_edit_view e = shapes.workspace_edit e.client e.uri.now e.version e.edits.now
+workspace_edit_view e = shapes.workspace_edit_value e.client e.uri.now e.version e.edits.now
 
 -- Returns the JSON value of the code's `CodeAction`.
 abbrev pub code_action_view : CodeAction → Data

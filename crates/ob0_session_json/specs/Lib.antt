@@ -1,3 +1,3 @@
 pub mod JsonViews
 pub mod LocationBuffer
-pub mod Shapes
+pub mod JsonShapes

@@ -3,7 +3,7 @@
 use Rattle.std.specs.Prelude.{◌≡◌, ◌≤◌, ◌++◌, ◌∷◌, [], ℕ, List, codes, drop, length}
 use Rattle.serde_json.specs.Data.{string}
 use Rattle.serde_json.specs.Written.{compact_text}
-use Rattle.ob0_rpc.specs.Appending.{ReadsBack}
+use Rattle.ob0_rpc.specs.AppendedJson.{ReadsBack}
 
 -- States that the buffer has at least 192 bytes, and that the end of a location's text begins at
 -- the index 192: a comma, the member "uri" and the closing brace. The JSON text of the uri reads

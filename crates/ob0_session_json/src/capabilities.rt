@@ -1,10 +1,10 @@
 //! Writes the server's capabilities into the answer to `initialize`.
 ghost use Rattle.std.specs.Prelude.{IfOk, OnOk};
-ghost use Rattle.ob0_rpc.specs.Appending.{AppendsMembersAndBrace};
+ghost use Rattle.ob0_rpc.specs.AppendedJson.{AppendsMembersAndBrace};
 ghost use Rattle.ob0_rpc.specs.MessageViews.{json_of_id};
-ghost use Rattle.ob0_rpc.specs.Shapes.{result_message};
+ghost use Rattle.ob0_rpc.specs.JsonShapes.{result_message};
 ghost use Rattle.ob0_rpc.specs.WrittenMessages.{Writes};
-ghost use Rattle.ob0_session_json.specs.Shapes.{code_action_options, capabilities, members_after_definition_provider, members_after_position_encoding, rename_provider, server_capabilities, document_sync_options};
+ghost use Rattle.ob0_session_json.specs.JsonShapes.{code_action_options, capabilities, members_after_definition_provider, members_after_position_encoding, rename_provider, server_capabilities, document_sync_options};
 
 use ob0_rpc::{
     ClientFeatures, Id, WriteJson, end_object, success_response_text, write_first_member,

@@ -1,6 +1,6 @@
 //! Writes edits of documents, and the code actions that apply them.
 ghost use Rattle.ob0_session_json.specs.JsonViews.{code_action_view, workspace_edit_view};
-ghost use Rattle.ob0_session_json.specs.Shapes.{document_edit_value, versioned_document_value};
+ghost use Rattle.ob0_session_json.specs.JsonShapes.{document_edit_value, versioned_document_value};
 
 use ob0_rpc::{
     ClientFeatures, OneMemberObject, WriteJson, end_object, write_first_member, write_next_member,

@@ -3,10 +3,10 @@ ghost use Rattle.std.specs.Prelude.{◌≡◌, ◌++◌, ◌<◌, ◌≤◌, fal
 ghost use Rattle.serde_json.specs.Data.{array};
 ghost use Rattle.serde_json.specs.View.{items_of};
 ghost use Rattle.serde_json.specs.Written.{compact_text};
-ghost use Rattle.ob0_rpc.specs.Appending.{AppendsEachValue, ReadsBack};
-ghost use Rattle.ob0_rpc.specs.Shapes.{range_value};
+ghost use Rattle.ob0_rpc.specs.AppendedJson.{AppendsEachValue, ReadsBack};
+ghost use Rattle.ob0_rpc.specs.JsonShapes.{range_value};
 ghost use Rattle.ob0_session_json.specs.LocationBuffer.{EndsWithUriMember};
-ghost use Rattle.ob0_session_json.specs.Shapes.{hover_value, location_value_of_range, plain_text_value};
+ghost use Rattle.ob0_session_json.specs.JsonShapes.{hover_value, location_value_of_range, plain_text_value};
 
 use ob0_rpc::{
     WriteJson, begin_list, end_list, end_object, write_first_member, write_next_member,

@@ -1,7 +1,7 @@
 //! Writes the notification that publishes a document's diagnostics.
 ghost use Rattle.std.specs.Prelude.{IfOk, List, map};
 ghost use Rattle.ob0_rpc.specs.WrittenMessages.{Writes};
-ghost use Rattle.ob0_session_json.specs.Shapes.{Diagnostic as Reported, diagnostic_value, publication as publication_message, publication_params};
+ghost use Rattle.ob0_session_json.specs.JsonShapes.{Diagnostic as Reported, diagnostic_value, publication as publication_message, publication_params};
 ghost use Rattle.ob0_session_json.specs.JsonViews.{AreSameDiagnostics, diagnostic_view};
 
 use ob0_rpc::{WriteJson, end_object, notification_text, write_first_member, write_next_member};

@@ -2,7 +2,7 @@
 ghost use Rattle.std.specs.Prelude.{IfOk, codes};
 ghost use Rattle.ob0_rpc.specs.MessageViews.{json_of_id};
 ghost use Rattle.ob0_rpc.specs.WrittenMessages.{Writes};
-ghost use Rattle.ob0_session_json.specs.Shapes.{edit_refusal_message};
+ghost use Rattle.ob0_session_json.specs.JsonShapes.{edit_refusal_message};
 ghost use Rattle.ob0_text.specs.RefusalTexts.{refusal_text};
 
 use ob0_rpc::{Id, error};

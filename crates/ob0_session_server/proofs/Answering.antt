@@ -2,13 +2,13 @@
 use Rattle.std.proofs.Common.{◌≡◌, ◌≢◌, ◌∙◌, ℕ, ℤ, List, [], ◌∷◌, Option, Some, None, Result, Err, Vec, Global, option_map, map, sym, subst, ap, refl}
 use Rattle.std.specs.Option.{option_to_list}
 use Rattle.serde_json.specs.Data.{Data, null}
-use Rattle.ob0_session_server.specs.Answers.{ServerState, Reply, nothing, diagnoses, AreContentsOfReply, react_to_document_request, react_to_parsed_request, react_with_fault, react_to_message, publication_reply, react_with_publication, Answers, AnswersBeforeEnd, AnswersInPhase}
+use Rattle.ob0_session_server.specs.Answers.{ServerState, Reply, no_reply, diagnostics_reply, AreContentsOfReply, react_to_document_request, react_to_parsed_request, react_with_fault, react_to_message, publication_reply, react_with_publication, Answers, AnswersBeforeSessionEnd, AnswersInPhase}
 use Rattle.ob0_text.specs.OpenDocuments.{Document, OpenDocuments, document_at}
 use Rattle.ob0_text.specs.declared.position_types.Unit.{Unit}
-use Rattle.ob0_rpc.specs.declared.clients.ClientFeatures.{ClientFeatures}
-use Rattle.ob0_rpc.specs.declared.incoming.RpcFault.{RpcFault}
-use Rattle.ob0_rpc.specs.declared.incoming.RpcFault.TheVariants.{NotJson, NotAMessage, UnknownMethod, BadParams, Memory}
-use Rattle.ob0_rpc.specs.Messages.{ReadsContent, MessageMeaning, not_json, not_a_message, meaning_of_content}
+use Rattle.ob0_rpc.specs.declared.client_capabilities.ClientFeatures.{ClientFeatures}
+use Rattle.ob0_rpc.specs.declared.incoming_messages.RpcFault.{RpcFault}
+use Rattle.ob0_rpc.specs.declared.incoming_messages.RpcFault.TheVariants.{NotJson, NotAMessage, UnknownMethod, BadParams, Memory}
+use Rattle.ob0_rpc.specs.Messages.{IsJsonOfContent, MessageMeaning, not_json, not_a_message, meaning_of_content}
 use Rattle.ob0_rpc.specs.Requests.{ClientRequest}
 use Rattle.ob0_rpc.specs.MessageViews.{ReadsMessage, ReadsClientRequest}
 use Rattle.ob0_session_answers.specs.Diagnostics.{PublishesDiagnostics}
@@ -23,8 +23,8 @@ use Rattle.ob0_session_server.specs.declared.session.Step.{Step}
 use Rattle.ob0_session_server.specs.declared.session.Next.TheVariants.{End}
 
 pub answered : (before : ServerState) (content : List ℕ) (json : Option Data) (m : MessageMeaning) (sent : Option (Vec ℕ Global)) (after : ServerState)
-    → ReadsContent content json → meaning_of_content json ≡ m → MatchesReaction (react_to_message before m) sent after
-    → AnswersBeforeEnd before content (option_to_list (option_map (λ v. v.items) sent)) after
+    → IsJsonOfContent content json → meaning_of_content json ≡ m → MatchesReaction (react_to_message before m) sent after
+    → AnswersBeforeSessionEnd before content (option_to_list (option_map (λ v. v.items) sent)) after
 answered before content json m sent after reads means h =
     let P : MessageMeaning → Type 0 = λ x. MatchesReaction (react_to_message before x) sent after in
     (json, reads, subst P (sym means) h)
@@ -32,7 +32,7 @@ answered before content json m sent after reads means h =
 -- If a content can't be read, the server's refusal is the right answer.
 pub refused : (before : ServerState) (content : List ℕ) (fault : RpcFault) (sent : Option (Vec ℕ Global))
     → ReadsMessage content (Err fault) → fault ≢ Memory → MatchesReaction (react_with_fault before null fault) sent before
-    → AnswersBeforeEnd before content (option_to_list (option_map (λ v. v.items) sent)) before
+    → AnswersBeforeSessionEnd before content (option_to_list (option_map (λ v. v.items) sent)) before
 refused before content NotJson sent reads apart h = answered before content None not_json sent before reads refl h
 refused before content NotAMessage sent reads apart h = answered before content (Some reads.0) not_a_message sent before reads.1 reads.2 h
 refused before content Memory sent reads apart h = absurd (apart refl)
@@ -51,7 +51,7 @@ request_refused s id requested NotJson sent is apart h = absurd is
 request_refused s id requested NotAMessage sent is apart h = absurd is
 
 pub going_on : (phase : Phase) (before : ServerState) (content : List ℕ) (sent : List (List ℕ)) (after : ServerState)
-    → HasNotEnded phase → phase ≢ Failed → AnswersBeforeEnd before content sent after → AnswersInPhase phase before content sent after
+    → HasNotEnded phase → phase ≢ Failed → AnswersBeforeSessionEnd before content sent after → AnswersInPhase phase before content sent after
 going_on Starting before content sent after h works answers = answers
 going_on Running before content sent after h works answers = answers
 going_on ShutDown before content sent after h works answers = answers
@@ -119,13 +119,13 @@ pub published_with : (held : OpenDocuments) (uri : List ℕ) (outcome : RequestO
     → SendsReply (publication_reply held.unit uri (document_at held uri)) sent
 published_with held uri (Answered message) sent comes is =
     let P : Option Document → Type 0 = λ d. SendsReply (publication_reply held.unit uri d) sent in
-    let Q : Option (Vec ℕ Global) → Type 0 = λ o. SendsReply (diagnoses held.unit uri comes.0 comes.1) o in
+    let Q : Option (Vec ℕ Global) → Type 0 = λ o. SendsReply (diagnostics_reply held.unit uri comes.0 comes.1) o in
     subst P (sym comes.2) (subst Q (sym is) (comes.3.0, comes.3.1, (message.items, refl, comes.3.2)))
 published_with held uri OutOfStep sent comes is =
     let P : Option Document → Type 0 = λ d. SendsReply (publication_reply held.unit uri d) sent in
-    let Q : Option (Vec ℕ Global) → Type 0 = λ o. SendsReply nothing o in
+    let Q : Option (Vec ℕ Global) → Type 0 = λ o. SendsReply no_reply o in
     subst P (sym comes) (subst Q (sym is) refl)
 published_with held uri Unopened sent comes is =
     let P : Option Document → Type 0 = λ d. SendsReply (publication_reply held.unit uri d) sent in
-    let Q : Option (Vec ℕ Global) → Type 0 = λ o. SendsReply nothing o in
+    let Q : Option (Vec ℕ Global) → Type 0 = λ o. SendsReply no_reply o in
     subst P (sym comes) (subst Q (sym is) refl)

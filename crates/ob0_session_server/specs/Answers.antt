@@ -10,20 +10,20 @@ use Rattle.ob0_text.specs.declared.edits.Indent.{Indent}
 use Rattle.ob0_text.specs.declared.position_types.Range.{Range}
 use Rattle.ob0_rpc.specs.Requests.{DocumentPlace, ClientRequest, initialize, shutdown, hover, definition, references, prepare_rename, rename, code_action, formatting, request_by_method}
 use Rattle.ob0_rpc.specs.Faults.{negative_of, error_code, error_text}
-use Rattle.ob0_rpc.specs.Messages.{ReadsContent, MessageMeaning, not_json, not_a_message, response, request, notice, meaning_of_content}
+use Rattle.ob0_rpc.specs.Messages.{IsJsonOfContent, MessageMeaning, not_json, not_a_message, response, request, notice, meaning_of_content}
 use Rattle.ob0_rpc.specs.Notifications.{NotificationMeaning, exits, opens, changes, closes, unreadable, other, notification_by_method}
-use Rattle.ob0_rpc.specs.Shapes.{result_message, error_response_message}
+use Rattle.ob0_rpc.specs.JsonShapes.{result_message, error_response_message}
 use Rattle.ob0_rpc.specs.WrittenMessages.{Writes}
-use Rattle.ob0_rpc.specs.declared.clients.ClientFeatures.{ClientFeatures}
-use Rattle.ob0_rpc.specs.declared.incoming.RpcFault.{RpcFault}
-use Rattle.ob0_rpc.specs.declared.incoming.RpcFault.TheVariants.{NotJson, NotAMessage}
+use Rattle.ob0_rpc.specs.declared.client_capabilities.ClientFeatures.{ClientFeatures}
+use Rattle.ob0_rpc.specs.declared.incoming_messages.RpcFault.{RpcFault}
+use Rattle.ob0_rpc.specs.declared.incoming_messages.RpcFault.TheVariants.{NotJson, NotAMessage}
 use Rattle.ob0_session_answers.specs.Actions.{VersionedActionsRequest, AnswersActionsRequest}
-use Rattle.ob0_session_server.specs.Units.{unit_for_client}
+use Rattle.ob0_session_server.specs.ClientUnits.{unit_for_client}
 use Rattle.ob0_session_answers.specs.Diagnostics.{AreDiagnosticsOf}
 use Rattle.ob0_session_answers.specs.FormattingAnswers.{AnswersFormattingRequest}
 use Rattle.ob0_session_answers.specs.Questions.{AnswersQuestion, NameQuestion, hover_question, definition_question, references_question, prepare_rename_question}
 use Rattle.ob0_session_answers.specs.RenamingAnswers.{VersionedRenameRequest, AnswersRenameRequest}
-use Rattle.ob0_session_json.specs.Shapes.{Diagnostic, capabilities, edit_refusal_message, publication}
+use Rattle.ob0_session_json.specs.JsonShapes.{Diagnostic, capabilities, edit_refusal_message, publication}
 use Rattle.ob0_session_server.specs.declared.session.Phase.{Phase}
 use Rattle.ob0_session_server.specs.declared.session.Phase.TheVariants.{Starting, Running, ShutDown, Ended, Failed}
 
@@ -59,12 +59,12 @@ start = record { phase = Starting; client = no_client_features; held = no_open_d
 -- document's text. A computed message contains the text's diagnostics, or answers a request about
 -- the text.
 pub data Reply : Type 0 where
-  nothing : Reply
+  no_reply : Reply
   -- Exactly this message.
-  says : Data → Reply
+  fixed_reply : Data → Reply
   -- A publication of the diagnostics of a document. Arguments: the unit of positions, the uri, the
   -- version, and the characters of the text.
-  diagnoses : Unit → List ℕ → ℤ → List ℕ → Reply
+  diagnostics_reply : Unit → List ℕ → ℤ → List ℕ → Reply
   -- The edits that format a text, or a refusal to format it. Arguments: the unit of positions, the
   -- request's id, the indentation, and the characters of the text.
   formatting_reply : Unit → Data → Indent → List ℕ → Reply
@@ -83,12 +83,12 @@ abbrev pub SendsMessage : Data → List (List ℕ) → Type 0
 SendsMessage message sent = (bytes : List ℕ) × (sent ≡ bytes ∷ []) × Writes message bytes
 
 -- States that the session gives this reply by sending the contents `sent`. A content is the bytes
--- of one message without the header. For the reply `nothing`, `sent` is empty. For any other reply,
+-- of one message without the header. For the reply `no_reply`, `sent` is empty. For any other reply,
 -- `sent` is exactly one content: the text of a message that this reply allows.
 abbrev pub AreContentsOfReply : Reply → List (List ℕ) → Type 0
-AreContentsOfReply nothing sent = sent ≡ []
-AreContentsOfReply (says message) sent = SendsMessage message sent
-AreContentsOfReply (diagnoses unit uri version text) sent =
+AreContentsOfReply no_reply sent = sent ≡ []
+AreContentsOfReply (fixed_reply message) sent = SendsMessage message sent
+AreContentsOfReply (diagnostics_reply unit uri version text) sent =
     (ds : List Diagnostic) × AreDiagnosticsOf unit text ds × SendsMessage (publication uri (Some version) ds) sent
 AreContentsOfReply (formatting_reply unit id indent text) sent =
     (message : Data) × AnswersFormattingRequest unit id indent text message × SendsMessage message sent
@@ -118,7 +118,7 @@ reaction_with_documents held s say = record { after = record s { held = held }; 
 
 -- Returns the reaction that answers with this error code and text, and leaves the state unchanged.
 abbrev pub react_with_error : ServerState → Data → ℤ → List ℕ → Reaction
-react_with_error s id code said = reaction_without_change s (says (error_response_message id code said))
+react_with_error s id code said = reaction_without_change s (fixed_reply (error_response_message id code said))
 
 -- Returns the reaction that answers with the error for this fault, and leaves the state unchanged.
 abbrev pub react_with_fault : ServerState → Data → RpcFault → Reaction
@@ -136,8 +136,8 @@ state_after_initialize client = record { phase = Running; client = client; held 
 -- refusal.
 abbrev pub react_to_document_request : ServerState → Data → Option Document → (ℤ → List ℕ → Reply) → Reaction
 react_to_document_request s id (Some (InStep version text)) say = reaction_without_change s (say version text)
-react_to_document_request s id (Some OutOfStep) say = reaction_without_change s (says (edit_refusal_message id (codes "out of step")))
-react_to_document_request s id None say = reaction_without_change s (says (edit_refusal_message id (codes "unopened")))
+react_to_document_request s id (Some OutOfStep) say = reaction_without_change s (fixed_reply (edit_refusal_message id (codes "out of step")))
+react_to_document_request s id None say = reaction_without_change s (fixed_reply (edit_refusal_message id (codes "unopened")))
 
 -- Returns the reaction to hover, definition, references or prepareRename: a question about the name
 -- or field at a position.
@@ -173,8 +173,8 @@ react_to_formatting s id uri indent =
 -- read because of a fault (`Err`).
 abbrev pub react_to_parsed_request : ServerState → Data → Result ClientRequest RpcFault → Reaction
 react_to_parsed_request s id (Ok (initialize client)) =
-    record { after = state_after_initialize client; reply = says (result_message id (capabilities client)) }
-react_to_parsed_request s id (Ok shutdown) = reaction_with_phase ShutDown s (says (result_message id null))
+    record { after = state_after_initialize client; reply = fixed_reply (result_message id (capabilities client)) }
+react_to_parsed_request s id (Ok shutdown) = reaction_with_phase ShutDown s (fixed_reply (result_message id null))
 react_to_parsed_request s id (Ok (hover at)) = react_to_question s id at hover_question
 react_to_parsed_request s id (Ok (definition at)) = react_to_question s id at definition_question
 react_to_parsed_request s id (Ok (references at include)) = react_to_question s id at (references_question include)
@@ -200,7 +200,7 @@ react_to_request Running s id method params =
     then react_with_error s id (negative_of 32600) (codes "already initialized")
     else react_to_allowed_request s id method params
 react_to_request ShutDown s id method params = react_with_error s id (negative_of 32600) (codes "shut down")
-react_to_request phase s id method params = reaction_without_change s nothing
+react_to_request phase s id method params = reaction_without_change s no_reply
 
 -- ---- the reactions to notifications
 
@@ -212,14 +212,14 @@ exit_status_in_phase phase = 1
 
 -- Returns the reaction to `exit`, which ends the session with the status for its phase.
 abbrev pub react_to_exit : ServerState → Reaction
-react_to_exit s = reaction_with_phase (Ended (exit_status_in_phase s.phase)) s nothing
+react_to_exit s = reaction_with_phase (Ended (exit_status_in_phase s.phase)) s no_reply
 
--- Returns the reply that publishes the diagnostics of the document with this uri. Returns `nothing`
+-- Returns the reply that publishes the diagnostics of the document with this uri. Returns `no_reply`
 -- if the document isn't open or is out of step.
 abbrev pub publication_reply : Unit → List ℕ → Option Document → Reply
-publication_reply unit uri (Some (InStep version text)) = diagnoses unit uri version text
-publication_reply unit uri (Some OutOfStep) = nothing
-publication_reply unit uri None = nothing
+publication_reply unit uri (Some (InStep version text)) = diagnostics_reply unit uri version text
+publication_reply unit uri (Some OutOfStep) = no_reply
+publication_reply unit uri None = no_reply
 
 -- Returns the reaction that replaces the open documents and publishes the diagnostics of the
 -- document with this uri.
@@ -237,17 +237,17 @@ apply_notification s (changes uri version all) =
 -- Closing an open document clears its diagnostics.
 apply_notification s (closes uri) =
     reaction_with_documents (documents_after_close s.held uri) s
-    (if is_some (document_at s.held uri) then says (publication uri None []) else nothing)
-apply_notification s (unreadable (Some uri)) = reaction_with_documents (documents_after_loss s.held uri) s nothing
-apply_notification s (unreadable None) = reaction_without_change s nothing
-apply_notification s other = reaction_without_change s nothing
+    (if is_some (document_at s.held uri) then fixed_reply (publication uri None []) else no_reply)
+apply_notification s (unreadable (Some uri)) = reaction_with_documents (documents_after_loss s.held uri) s no_reply
+apply_notification s (unreadable None) = reaction_without_change s no_reply
+apply_notification s other = reaction_without_change s no_reply
 
 -- Returns the reaction to a notification in this phase. While the session runs, the notification is
 -- applied. In any other phase, `exit` ends the session, and every other notification is ignored.
 abbrev pub react_to_notification : Phase → ServerState → List ℕ → Data → Reaction
 react_to_notification Running s method params = apply_notification s (notification_by_method method params)
 react_to_notification phase s method params =
-    if bytes_eq method (codes "exit") then react_to_exit s else reaction_without_change s nothing
+    if bytes_eq method (codes "exit") then react_to_exit s else reaction_without_change s no_reply
 
 -- ---- the replies to the content of one message, and to the contents of a conversation
 
@@ -256,16 +256,16 @@ react_to_notification phase s method params =
 abbrev pub react_to_message : ServerState → MessageMeaning → Reaction
 react_to_message s not_json = react_with_fault s null NotJson
 react_to_message s not_a_message = react_with_fault s null NotAMessage
-react_to_message s response = reaction_without_change s nothing
+react_to_message s response = reaction_without_change s no_reply
 react_to_message s (request id method params) = react_to_request s.phase s id method params
 react_to_message s (notice method params) = react_to_notification s.phase s method params
 
 -- States that a server in the state `before` may reply to this content (the bytes of one message)
 -- with the messages `sent`, and is in the state `after` once it has replied. This is the case of
 -- `AnswersInPhase` in which the session has neither ended nor failed.
-abbrev pub AnswersBeforeEnd : ServerState → List ℕ → List (List ℕ) → ServerState → Type 0
-AnswersBeforeEnd before content sent after =
-    (json : Option Data) × ReadsContent content json
+abbrev pub AnswersBeforeSessionEnd : ServerState → List ℕ → List (List ℕ) → ServerState → Type 0
+AnswersBeforeSessionEnd before content sent after =
+    (json : Option Data) × IsJsonOfContent content json
     × (let r = react_to_message before (meaning_of_content json) in (after ≡ r.after) × AreContentsOfReply r.reply sent)
 
 -- States that a server in this phase and in the state `before` may reply to this content with the
@@ -275,7 +275,7 @@ AnswersBeforeEnd before content sent after =
 abbrev pub AnswersInPhase : Phase → ServerState → List ℕ → List (List ℕ) → ServerState → Type 0
 AnswersInPhase (Ended status) before content sent after = (sent ≡ []) × (after ≡ before)
 AnswersInPhase Failed before content sent after = ⊥
-AnswersInPhase phase before content sent after = AnswersBeforeEnd before content sent after
+AnswersInPhase phase before content sent after = AnswersBeforeSessionEnd before content sent after
 
 -- States that a server in the state `before` may reply to this content (the bytes of one message)
 -- with the messages `sent`, and is in the state `after` once it has replied.

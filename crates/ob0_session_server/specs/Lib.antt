@@ -1,4 +1,4 @@
 pub mod Answers
-pub mod Units
+pub mod ClientUnits
 pub mod ReplyViews
 pub mod Steps

@@ -8,16 +8,16 @@ use Rattle.ob0_text.specs.declared.position_types.Unit.{Unit}
 use Rattle.ob0_session_documents.specs.DocumentRequests.{IsOutcomeOfRequest}
 use Rattle.ob0_session_documents.specs.declared.document_requests.RequestOutcome.{RequestOutcome}
 use Rattle.ob0_session_documents.specs.declared.document_requests.RequestOutcome.TheVariants.{Answered, OutOfStep, Unopened}
-use Rattle.ob0_session_json.specs.Shapes.{edit_refusal_message}
-use Rattle.ob0_session_server.specs.Answers.{ServerState, Reaction, Reply, AreContentsOfReply, says}
+use Rattle.ob0_session_json.specs.JsonShapes.{edit_refusal_message}
+use Rattle.ob0_session_server.specs.Answers.{ServerState, Reaction, Reply, AreContentsOfReply, fixed_reply}
 
 -- States that the code's message `sent` is one that this reply allows. If `sent` is None, states
--- that the reply is `nothing`.
+-- that the reply is `no_reply`.
 abbrev pub SendsReply : Reply → Option (Vec ℕ Global) → Type 0
 SendsReply reply sent = AreContentsOfReply reply (option_to_list (option_map (λ v. v.items) sent))
 
 -- States that the code's message `sent` is the reply of the reaction `r`, and that `new` is the
--- session's state after the reaction. If there is no message (None), the reply is `nothing`.
+-- session's state after the reaction. If there is no message (None), the reply is `no_reply`.
 abbrev pub MatchesReaction : Reaction → Option (Vec ℕ Global) → ServerState → Type 0
 MatchesReaction r sent new = (new ≡ r.after) × SendsReply r.reply sent
 
@@ -25,8 +25,8 @@ MatchesReaction r sent new = (new ≡ r.after) × SendsReply r.reply sent
 -- outcome's message, or a refusal if the document is out of step or isn't open.
 abbrev pub RepliesForOutcome : Data → RequestOutcome → Option (Vec ℕ Global) → Type 0
 RepliesForOutcome id (Answered message) sent = sent ≡ Some message
-RepliesForOutcome id OutOfStep sent = SendsReply (says (edit_refusal_message id (codes "out of step"))) sent
-RepliesForOutcome id Unopened sent = SendsReply (says (edit_refusal_message id (codes "unopened"))) sent
+RepliesForOutcome id OutOfStep sent = SendsReply (fixed_reply (edit_refusal_message id (codes "out of step"))) sent
+RepliesForOutcome id Unopened sent = SendsReply (fixed_reply (edit_refusal_message id (codes "unopened"))) sent
 
 -- Returns the message in an outcome, or None if the document is out of step or isn't open.
 abbrev pub message_of_outcome : RequestOutcome → Option (Vec ℕ Global)

@@ -4,7 +4,7 @@ ghost use Rattle.std.specs.Prelude.{◌≡◌, ◌≢◌, Ok, IfOk, IfErr, map, 
 ghost use Rattle.ob0_rpc.specs.MessageViews.{json_of_id};
 ghost use Rattle.ob0_text.specs.OpenDocuments.{no_open_documents};
 ghost use Rattle.ob0_session_server.specs.ReplyViews.{RepliesForOutcome, message_of_outcome as spec_message_of};
-ghost use Rattle.ob0_session_server.specs.Units.{unit_for_client};
+ghost use Rattle.ob0_session_server.specs.ClientUnits.{unit_for_client};
 
 use ob0_rpc::{
     ClientFeatures, ClientNotification, ClientRequest, DocumentPosition, Id, Incoming, RpcFault,
@@ -86,7 +86,7 @@ impl<T: TextStore> Model for Session<T> {
 impl<T: TextStore> Session<T> {
     ghost use Rattle.serde_json.specs.View.{view};
     ghost use Rattle.std.specs.Option.{option_to_list};
-    ghost use Rattle.ob0_session_server.specs.Answers.{start, state_after_initialize, AnswersBeforeEnd, AreContentsOfReply, react_to_request, react_to_actions, react_to_question, react_to_rename, react_to_allowed_request, react_to_parsed_request, react_to_exit, react_to_notification, publication_reply, react_with_error, react_with_fault, apply_notification};
+    ghost use Rattle.ob0_session_server.specs.Answers.{start, state_after_initialize, AnswersBeforeSessionEnd, AreContentsOfReply, react_to_request, react_to_actions, react_to_question, react_to_rename, react_to_allowed_request, react_to_parsed_request, react_to_exit, react_to_notification, publication_reply, react_with_error, react_with_fault, apply_notification};
     ghost use Rattle.ob0_rpc.specs.Notifications.{opens, changes, closes, notification_by_method};
     ghost use Rattle.ob0_rpc.specs.MessageViews.{document_place_view, id_or_null, action_kinds_view, request_view, notification_view};
     ghost use Rattle.ob0_session_answers.specs.Questions.{references_question};
@@ -132,7 +132,7 @@ impl<T: TextStore> Session<T> {
         if self.phase == Phase::Failed {
             return Err(SessionFault::Failed);
         }
-        match self.next() {
+        match self.next_in_phase() {
             Next::Continue => {}
             Next::End(status) => {
                 return Ok(Step {
@@ -144,7 +144,7 @@ impl<T: TextStore> Session<T> {
         match self.reply_to_content_as_list(content) {
             Ok(send) => Ok(Step {
                 send,
-                next: self.next(),
+                next: self.next_in_phase(),
             }),
             Err(AllocError) => {
                 self.phase = Phase::Failed;
@@ -155,7 +155,7 @@ impl<T: TextStore> Session<T> {
 
     /// Returns `Continue` if the session continues. If it has ended, returns `End` with its exit
     /// status.
-    fn next(&self) -> Next
+    fn next_in_phase(&self) -> Next
         ensures { result ≡ next_in_phase self.now.phase }
     {
         match self.phase {
@@ -168,7 +168,7 @@ impl<T: TextStore> Session<T> {
     /// one.
     fn reply_to_content_as_list(&mut self, content: &[u8]) -> Result<Vec<Vec<u8>>, AllocError>
         ensures { IfOk result
-            (λ sent. AnswersBeforeEnd self.old content.now (map (λ v. v.items) sent.items) self.new) }
+            (λ sent. AnswersBeforeSessionEnd self.old content.now (map (λ v. v.items) sent.items) self.new) }
     {
         let mut sent = Vec::new(self.alloc);
         if let Some(message) = self.reply_to_content(content)? {
@@ -180,7 +180,7 @@ impl<T: TextStore> Session<T> {
     /// Processes the content of one message, and returns the message to send in reply, or None if
     /// there is no reply.
     fn reply_to_content(&mut self, content: &[u8]) -> Result<Option<Vec<u8>>, AllocError>
-        ensures { IfOk result (λ sent. AnswersBeforeEnd self.old content.now
+        ensures { IfOk result (λ sent. AnswersBeforeSessionEnd self.old content.now
             (option_to_list (option_map (λ v. v.items) sent)) self.new) }
     {
         match read(self.alloc, content) {
@@ -199,7 +199,7 @@ impl<T: TextStore> Session<T> {
     /// Returns the error response with this error code and error text (`said`). `id` is the id of
     /// the refused request, or None if the received bytes aren't a message. The result is never
     /// None.
-    fn refusal_message(
+    fn error_response(
         &self,
         id: Option<&Id>,
         code: i32,
@@ -239,18 +239,18 @@ impl<T: TextStore> Session<T> {
     {
         let is_initialize = method == "initialize";
         match self.phase {
-            Phase::Starting if !is_initialize => self.refusal_message(
+            Phase::Starting if !is_initialize => self.error_response(
                 Some(id),
                 -32002,
                 "not initialized",
             ),
-            Phase::Running if is_initialize => self.refusal_message(
+            Phase::Running if is_initialize => self.error_response(
                 Some(id),
                 -32600,
                 "already initialized",
             ),
             Phase::Starting | Phase::Running => self.reply_to_allowed_request(id, method, params),
-            Phase::ShutDown => self.refusal_message(Some(id), -32600, "shut down"),
+            Phase::ShutDown => self.error_response(Some(id), -32600, "shut down"),
             Phase::Ended(_) => Ok(None),
             Phase::Failed => Ok(None),
         }

@@ -2,7 +2,9 @@
 //! declaration is given by its ordinal: predeclared names have the ordinals 0 to 6, and the text's
 //! declarations follow.
 
-use crate::test_questions::TestQuestion::{BoundOrdinals, ConflictOf, TypeOf};
+use crate::test_questions::TestQuestion::{
+    ConflictAfterRename, OrdinalsAfterRename, TypeOfDeclaration,
+};
 use crate::test_questions::{
     CheckMode, QuestionCase, first_failing_row, push_number, push_span, rows,
 };
@@ -107,23 +109,23 @@ const GLOBAL_AND_LOCAL_VARIABLES: &str =
     "MODULE M;\nVAR x: INTEGER; y: INTEGER;\nPROCEDURE P; VAR z: INTEGER; BEGIN z := x END P;\nBEGIN P END M.";
 
 static DECLARATION_CASES: &[QuestionCase] = rows![
-    DECLARED_TYPES, TypeOf(0) => "INTEGER";
-    DECLARED_TYPES, TypeOf(4) => "none";
-    DECLARED_TYPES, TypeOf(7) => "INTEGER";
-    DECLARED_TYPES, TypeOf(8) => "RECORD 0 with 2";
-    DECLARED_TYPES, TypeOf(9) => "ARRAY 1 3 OF ARRAY 2 2 OF RECORD 0 with 2";
-    DECLARED_TYPES, TypeOf(10) => "BOOLEAN";
-    DECLARED_TYPES, TypeOf(11) => "none";
-    DECLARED_TYPES, TypeOf(12) => "none";
-    GLOBAL_AND_LOCAL_VARIABLES, ConflictOf(7, "y") => "14-15";
-    GLOBAL_AND_LOCAL_VARIABLES, ConflictOf(7, "z") => "78-79";
-    GLOBAL_AND_LOCAL_VARIABLES, ConflictOf(7, "w") => "free";
-    GLOBAL_AND_LOCAL_VARIABLES, ConflictOf(10, "x") => "78-79";
-    GLOBAL_AND_LOCAL_VARIABLES, ConflictOf(10, "y") => "free";
-    GLOBAL_AND_LOCAL_VARIABLES, BoundOrdinals(7, "w") => " 0 0 0 10 7 9";
-    GLOBAL_AND_LOCAL_VARIABLES, BoundOrdinals(7, "z") => " 0 0 0 10 10 9";
-    GLOBAL_AND_LOCAL_VARIABLES, BoundOrdinals(10, "x") => " 0 0 0 10 10 9";
-    GLOBAL_AND_LOCAL_VARIABLES, BoundOrdinals(9, "INTEGER") => " 0 0 9 10 7 9";
+    DECLARED_TYPES, TypeOfDeclaration(0) => "INTEGER";
+    DECLARED_TYPES, TypeOfDeclaration(4) => "none";
+    DECLARED_TYPES, TypeOfDeclaration(7) => "INTEGER";
+    DECLARED_TYPES, TypeOfDeclaration(8) => "RECORD 0 with 2";
+    DECLARED_TYPES, TypeOfDeclaration(9) => "ARRAY 1 3 OF ARRAY 2 2 OF RECORD 0 with 2";
+    DECLARED_TYPES, TypeOfDeclaration(10) => "BOOLEAN";
+    DECLARED_TYPES, TypeOfDeclaration(11) => "none";
+    DECLARED_TYPES, TypeOfDeclaration(12) => "none";
+    GLOBAL_AND_LOCAL_VARIABLES, ConflictAfterRename(7, "y") => "14-15";
+    GLOBAL_AND_LOCAL_VARIABLES, ConflictAfterRename(7, "z") => "78-79";
+    GLOBAL_AND_LOCAL_VARIABLES, ConflictAfterRename(7, "w") => "free";
+    GLOBAL_AND_LOCAL_VARIABLES, ConflictAfterRename(10, "x") => "78-79";
+    GLOBAL_AND_LOCAL_VARIABLES, ConflictAfterRename(10, "y") => "free";
+    GLOBAL_AND_LOCAL_VARIABLES, OrdinalsAfterRename(7, "w") => " 0 0 0 10 7 9";
+    GLOBAL_AND_LOCAL_VARIABLES, OrdinalsAfterRename(7, "z") => " 0 0 0 10 10 9";
+    GLOBAL_AND_LOCAL_VARIABLES, OrdinalsAfterRename(10, "x") => " 0 0 0 10 10 9";
+    GLOBAL_AND_LOCAL_VARIABLES, OrdinalsAfterRename(9, "INTEGER") => " 0 0 9 10 7 9";
 ];
 
 #[test]

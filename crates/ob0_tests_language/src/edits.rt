@@ -3,13 +3,13 @@
 ghost use Rattle.std.specs.Prelude.{◌≡◌};
 ghost use Rattle.std.specs.Str.{chars};
 
-use crate::test_questions::TestQuestion::{self, FormatWith, InlineAll, InlineHere, Rename};
+use crate::test_questions::TestQuestion::{self, FormatWithIndent, InlineAll, InlineHere, Rename};
 use crate::test_questions::{
     CheckMode, FIELDS_OF_TWO_RECORDS, NESTED_PROCEDURES, QuestionCase, RECURSIVE_PROCEDURE,
-    REPEAT_COUNTDOWN, faults_of, first_failing_row, position_at, rows,
+    REPEAT_COUNTDOWN, faults_of_analysis, first_failing_row, position_at, rows,
 };
 use ob0_analysis::Analysis;
-use ob0_edits::rename_edits;
+use ob0_edits::renaming_edits;
 use ob0_inline::{inline_all, inline_here};
 use ob0_layout::format;
 use ob0_rename::rename;
@@ -60,7 +60,7 @@ fn edits_for_question<T: TextStore>(
             module,
             position_at(line, character),
         ),
-        FormatWith(indent) => format(alloc, store, module.resolved().module(), indent),
+        FormatWithIndent(indent) => format(alloc, store, module.resolved().module(), indent),
         _ => Ok(Vec::new(alloc)),
     }
 }
@@ -92,9 +92,9 @@ pub fn renamed_text_or_faults(
         return Ok(String::new(alloc));
     };
     let store = Whole::from_str(alloc, analysis.text())?;
-    match rename_edits(alloc, &store, analysis, position_at(line, character), new)? {
+    match renaming_edits(alloc, &store, analysis, position_at(line, character), new)? {
         Some(edits) => edited_text_or_refusal(alloc, &store, edits),
-        None => faults_of(alloc, analysis),
+        None => faults_of_analysis(alloc, analysis),
     }
 }
 
@@ -158,13 +158,17 @@ static RENAME_CASES: &[QuestionCase] = rows![
         TYPE R = RECORD b, a: INTEGER END;\nVAR t: R;\nBEGIN r.a := s.b; t.a := t.b END P;\nBEGIN r.a := 1 END M.";
 ];
 
-fn rename_cases() -> &'static [QuestionCase] {
+fn all_rename_cases() -> &'static [QuestionCase] {
     RENAME_CASES
 }
 
 #[test]
 fn names_are_renamed_in_well_typed_modules(rt: HostRuntime) {
-    let (text, wanted) = first_failing_row(rt.alloc(), rename_cases(), CheckMode::AskingQuestions);
+    let (text, wanted) = first_failing_row(
+        rt.alloc(),
+        all_rename_cases(),
+        CheckMode::AskingQuestions,
+    );
     assert!(rt; text.is_empty(), "{wanted} in {text}");
 }
 
@@ -172,7 +176,7 @@ fn names_are_renamed_in_well_typed_modules(rt: HostRuntime) {
 fn names_are_renamed_in_analyses(rt: HostRuntime) {
     let (text, wanted) = first_failing_row(
         rt.alloc(),
-        rename_cases(),
+        all_rename_cases(),
         CheckMode::RenamingInAnalysis,
     );
     assert!(rt; text.is_empty(), "{wanted} in {text}");
@@ -242,7 +246,7 @@ const TWO_SPACES: Indent = Indent::Spaces(2);
 /// formatting the formatted text changes nothing.
 macro_rules! formatting_rows {
     ($($text:expr, $indent:expr => $wanted:expr;)*) => {
-        &[$(($text, FormatWith($indent), $wanted), ($wanted, FormatWith($indent), $wanted)),*]
+        &[$(($text, FormatWithIndent($indent), $wanted), ($wanted, FormatWithIndent($indent), $wanted)),*]
     };
 }
 

@@ -3,7 +3,7 @@
 
 use crate::test_questions::TestQuestion::Faults;
 use crate::test_questions::{
-    CheckMode, QuestionCase, faults_of, first_failing_row, position_at, rows,
+    CheckMode, QuestionCase, faults_of_analysis, first_failing_row, position_at, rows,
 };
 use ob0_analysis::Analysis;
 use ob0_text::{Range, TextStore, Whole};
@@ -150,13 +150,13 @@ static TEXTS_WITH_CHANGES: &[(&str, u64, u64, &str)] = changes![
 /// `old`.
 fn faults_after_change(alloc: Global, old: &str, new: &str) -> Result<String, AllocError> {
     let analysis = Analysis::analyse_text(alloc, old)?.reanalyse(alloc, new)?;
-    faults_of(alloc, &analysis)
+    faults_of_analysis(alloc, &analysis)
 }
 
 /// Returns the faults of a text that is analysed from scratch.
 fn faults_from_scratch(alloc: Global, text: &str) -> Result<String, AllocError> {
     let analysis = Analysis::analyse_text(alloc, text)?;
-    faults_of(alloc, &analysis)
+    faults_of_analysis(alloc, &analysis)
 }
 
 /// Returns whether an analysis of the text `new` that reuses the analysis of the text `old` finds

@@ -6,8 +6,8 @@
 
 use ob0_parse::{ParseRefusal, parse};
 use ob0_run::laws::{
-    free_field_renaming_keeps_typing_and_runs, numbered_tree_decides_runs,
-    numbered_tree_decides_typing, numbering_keeps_runs, runs_never_get_stuck,
+    numbered_tree_decides_runs, numbered_tree_decides_typing, numbering_keeps_runs,
+    renaming_field_to_free_name_keeps_typing_and_runs, runs_never_get_stuck,
 };
 use ob0_scan::{Tokens, scan};
 use ob0_scope::{Resolved, resolve};
@@ -117,6 +117,6 @@ fn laws_of_runs_can_be_called(_rt: HostRuntime) {
     numbering_keeps_runs();
     numbered_tree_decides_runs();
     numbered_tree_decides_typing();
-    free_field_renaming_keeps_typing_and_runs();
+    renaming_field_to_free_name_keeps_typing_and_runs();
     runs_never_get_stuck();
 }

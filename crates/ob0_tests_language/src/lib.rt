@@ -3,8 +3,6 @@
 #![tactic(auto)]
 
 #[cfg(test)]
-mod code;
-#[cfg(test)]
 mod declarations;
 #[cfg(test)]
 mod edits;
@@ -14,6 +12,8 @@ mod expression_forms;
 mod faults;
 #[cfg(test)]
 mod layers;
+#[cfg(test)]
+mod lowered_nodes;
 #[cfg(test)]
 mod names;
 #[cfg(test)]

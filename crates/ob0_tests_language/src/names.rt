@@ -1,6 +1,6 @@
 //! Tests the answers about names in example modules: referents, uses and hover texts.
 
-use crate::test_questions::TestQuestion::{AllHovers, NameAt};
+use crate::test_questions::TestQuestion::{AllHovers, NameAtOffset};
 use crate::test_questions::{
     CheckMode, FIELDS_OF_TWO_RECORDS, QuestionCase, RECURSIVE_PROCEDURE, first_failing_row,
     push_number, push_span, rows,
@@ -88,20 +88,20 @@ fn push_hover(out: &mut String, shown: &Hover, name: Span) -> Result<(), AllocEr
 }
 
 static NAME_CASES: &[QuestionCase] = rows![
-    RECURSIVE_PROCEDURE, NameAt(20) => "7 from 20-21, at 65-66 82-83 91-92, shown at 20-21: PROCEDURE F(n: INTEGER)";
-    RECURSIVE_PROCEDURE, NameAt(21) => "7 from 20-21, at 65-66 82-83 91-92, shown at 20-21: PROCEDURE F(n: INTEGER)";
-    RECURSIVE_PROCEDURE, NameAt(82) => "7 from 20-21, at 65-66 82-83 91-92, shown at 82-83: PROCEDURE F(n: INTEGER)";
-    RECURSIVE_PROCEDURE, NameAt(83) => "7 from 20-21, at 65-66 82-83 91-92, shown at 82-83: PROCEDURE F(n: INTEGER)";
-    RECURSIVE_PROCEDURE, NameAt(60) => "predeclared, at 55-60, shown at 55-60: predeclared Write";
-    RECURSIVE_PROCEDURE, NameAt(0) => "";
-    RECURSIVE_PROCEDURE, NameAt(7) => "";
-    RECURSIVE_PROCEDURE, NameAt(34) => "";
-    RECURSIVE_PROCEDURE, NameAt(104) => "";
-    FIELDS_OF_TWO_RECORDS, NameAt(26) => "0.0 from 26-27, at 101-102 126-127, shown at 26-27: FIELD a: INTEGER";
-    FIELDS_OF_TWO_RECORDS, NameAt(101) => "0.0 from 26-27, at 101-102 126-127, shown at 101-102: FIELD a: INTEGER";
-    FIELDS_OF_TWO_RECORDS, NameAt(29) => "0.1 from 29-30, at, shown at 29-30: FIELD b: INTEGER";
-    FIELDS_OF_TWO_RECORDS, NameAt(81) => "10 from 81-82, at 119-120 141-142, shown at 81-82: VAR a: INTEGER";
-    FIELDS_OF_TWO_RECORDS, NameAt(99) => "8 from 49-50, at 99-100 124-125, shown at 99-100: VAR r: RECORD with 2 fields";
+    RECURSIVE_PROCEDURE, NameAtOffset(20) => "7 from 20-21, at 65-66 82-83 91-92, shown at 20-21: PROCEDURE F(n: INTEGER)";
+    RECURSIVE_PROCEDURE, NameAtOffset(21) => "7 from 20-21, at 65-66 82-83 91-92, shown at 20-21: PROCEDURE F(n: INTEGER)";
+    RECURSIVE_PROCEDURE, NameAtOffset(82) => "7 from 20-21, at 65-66 82-83 91-92, shown at 82-83: PROCEDURE F(n: INTEGER)";
+    RECURSIVE_PROCEDURE, NameAtOffset(83) => "7 from 20-21, at 65-66 82-83 91-92, shown at 82-83: PROCEDURE F(n: INTEGER)";
+    RECURSIVE_PROCEDURE, NameAtOffset(60) => "predeclared, at 55-60, shown at 55-60: predeclared Write";
+    RECURSIVE_PROCEDURE, NameAtOffset(0) => "";
+    RECURSIVE_PROCEDURE, NameAtOffset(7) => "";
+    RECURSIVE_PROCEDURE, NameAtOffset(34) => "";
+    RECURSIVE_PROCEDURE, NameAtOffset(104) => "";
+    FIELDS_OF_TWO_RECORDS, NameAtOffset(26) => "0.0 from 26-27, at 101-102 126-127, shown at 26-27: FIELD a: INTEGER";
+    FIELDS_OF_TWO_RECORDS, NameAtOffset(101) => "0.0 from 26-27, at 101-102 126-127, shown at 101-102: FIELD a: INTEGER";
+    FIELDS_OF_TWO_RECORDS, NameAtOffset(29) => "0.1 from 29-30, at, shown at 29-30: FIELD b: INTEGER";
+    FIELDS_OF_TWO_RECORDS, NameAtOffset(81) => "10 from 81-82, at 119-120 141-142, shown at 81-82: VAR a: INTEGER";
+    FIELDS_OF_TWO_RECORDS, NameAtOffset(99) => "8 from 49-50, at 99-100 124-125, shown at 99-100: VAR r: RECORD with 2 fields";
 ];
 
 #[test]
@@ -187,13 +187,13 @@ static HOVER_CASES: &[QuestionCase] = rows![
     NESTED_RECORDS, AllHovers => HOVERS_OF_NESTED_RECORDS;
 ];
 
-fn hover_cases() -> &'static [QuestionCase] {
+fn all_hover_cases() -> &'static [QuestionCase] {
     HOVER_CASES
 }
 
 #[test]
 fn each_kind_of_name_has_its_hover_text(rt: HostRuntime) {
-    let (text, _) = first_failing_row(rt.alloc(), hover_cases(), CheckMode::AskingQuestions);
+    let (text, _) = first_failing_row(rt.alloc(), all_hover_cases(), CheckMode::AskingQuestions);
     assert!(rt; text.is_empty(), "{text}");
 }
 
@@ -202,7 +202,7 @@ fn each_kind_of_name_has_its_hover_text(rt: HostRuntime) {
 fn a_refused_allocation_changes_no_answer(rt: HostRuntime) {
     let (text, _) = first_failing_row(
         rt.alloc(),
-        hover_cases(),
+        all_hover_cases(),
         CheckMode::AllowingFailedAllocation,
     );
     assert!(rt; text.is_empty(), "{text}");

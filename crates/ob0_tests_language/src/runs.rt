@@ -159,13 +159,13 @@ static RUN_CASES: &[QuestionCase] = rows![
     "MODULE M; VAR a: ARRAY 1 OF INTEGER; BEGIN a[0 - 1] := 1 END M.", Run(&[], 0, 0) => "; Index";
 ];
 
-fn run_cases() -> &'static [QuestionCase] {
+fn all_run_cases() -> &'static [QuestionCase] {
     RUN_CASES
 }
 
 #[test]
 fn modules_run_as_expected(rt: HostRuntime) {
-    let (text, wanted) = first_failing_row(rt.alloc(), run_cases(), CheckMode::AskingQuestions);
+    let (text, wanted) = first_failing_row(rt.alloc(), all_run_cases(), CheckMode::AskingQuestions);
     assert!(rt; text.is_empty(), "{wanted} of {text}");
 }
 
@@ -174,7 +174,7 @@ fn modules_run_as_expected(rt: HostRuntime) {
 fn a_refused_allocation_changes_no_run(rt: HostRuntime) {
     let (text, wanted) = first_failing_row(
         rt.alloc(),
-        run_cases(),
+        all_run_cases(),
         CheckMode::AllowingFailedAllocation,
     );
     assert!(rt; text.is_empty(), "{wanted} of {text}");

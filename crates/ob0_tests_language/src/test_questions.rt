@@ -3,9 +3,9 @@
 
 ghost use Rattle.std.specs.Prelude.{⊤};
 
-use crate::code::push_names_of_nodes;
 use crate::declarations::{push_bound_ordinals, push_first_conflict, push_type};
 use crate::edits::{push_edited_text, renamed_text_or_faults};
+use crate::lowered_nodes::push_names_of_nodes;
 use crate::names::{push_all_hovers, push_name_description};
 use crate::runs::push_run;
 use ob0_analysis::{Analysis, Diagnosis, Question, ask};
@@ -20,16 +20,16 @@ pub enum TestQuestion {
     /// No question: only the faults of the text are reported.
     Faults,
     /// The type of the declaration with this ordinal.
-    TypeOf(usize),
+    TypeOfDeclaration(usize),
     /// The byte range of the first name conflict if the declaration with this ordinal is renamed to
     /// this new name. The answer is `free` if there is no conflict.
-    ConflictOf(usize, &'static str),
+    ConflictAfterRename(usize, &'static str),
     /// The ordinal of the declaration to which each occurrence would be bound if the declaration
     /// with this ordinal were renamed to this new name.
-    BoundOrdinals(usize, &'static str),
+    OrdinalsAfterRename(usize, &'static str),
     /// The declaration or field that the name with this byte offset refers to, its uses, and its
     /// hover text.
-    NameAt(usize),
+    NameAtOffset(usize),
     /// The hover text of each name, in text order, each followed by a bar.
     AllHovers,
     /// The output and the end of a run on this input. The two numbers bound the open calls and the
@@ -42,7 +42,7 @@ pub enum TestQuestion {
     Rename(u64, u64, &'static str),
     InlineHere(u64, u64),
     InlineAll(u64, u64),
-    FormatWith(Indent),
+    FormatWithIndent(Indent),
 }
 
 /// A text, a question about it, and the expected answer. If the text isn't a well-typed module, its
@@ -65,7 +65,7 @@ pub enum CheckMode {
     /// Each question is asked, and an allocation may fail. A row whose answer isn't found because
     /// of such a failure is accepted.
     AllowingFailedAllocation,
-    /// Each question is a renaming. `rename_edits` makes the edits: it takes the analysis instead
+    /// Each question is a renaming. `renaming_edits` makes the edits: it takes the analysis instead
     /// of the well-typed module.
     RenamingInAnalysis,
 }
@@ -107,22 +107,22 @@ fn push_answer(
 ) -> Result<(), AllocError> {
     match asked {
         TestQuestion::Faults => Ok(()),
-        TestQuestion::TypeOf(declaration) => push_type(out, module, declaration),
-        TestQuestion::ConflictOf(declaration, new) => push_first_conflict(
+        TestQuestion::TypeOfDeclaration(declaration) => push_type(out, module, declaration),
+        TestQuestion::ConflictAfterRename(declaration, new) => push_first_conflict(
             alloc,
             out,
             module,
             declaration,
             new,
         ),
-        TestQuestion::BoundOrdinals(declaration, new) => push_bound_ordinals(
+        TestQuestion::OrdinalsAfterRename(declaration, new) => push_bound_ordinals(
             alloc,
             out,
             module,
             declaration,
             new,
         ),
-        TestQuestion::NameAt(offset) => push_name_description(alloc, out, module, offset),
+        TestQuestion::NameAtOffset(offset) => push_name_description(alloc, out, module, offset),
         TestQuestion::AllHovers => push_all_hovers(alloc, out, module),
         TestQuestion::NodeNames => push_names_of_nodes(alloc, out, module),
         TestQuestion::Run(input, calls, turns) => push_run(alloc, out, module, input, calls, turns),
@@ -154,7 +154,7 @@ fn answer_or_faults(
     }
     match ask(alloc, analysis, asked)? {
         Some(answer) => Ok(answer),
-        None => faults_of(alloc, analysis),
+        None => faults_of_analysis(alloc, analysis),
     }
 }
 
@@ -189,7 +189,7 @@ pub fn position_at(line: u64, character: u64) -> Position {
 
 /// Returns the faults of an analysed text, one after another, each as `push_fault` writes it. The
 /// string is empty if the text has no faults.
-pub fn faults_of(alloc: Global, analysis: &Analysis) -> Result<String, AllocError> {
+pub fn faults_of_analysis(alloc: Global, analysis: &Analysis) -> Result<String, AllocError> {
     let faults = analysis.diagnoses(alloc)?;
     faults_as_text(alloc, faults.as_slice())
 }

@@ -1,10 +1,10 @@
 //! Tests the state of documents that are opened, changed, lost (their text becomes unknown) and
 //! closed, with both text stores. Also tests documents and a text after an allocation has failed.
 
-use crate::cases::{Case, first_failing_row};
+use crate::cases::{TestCase, first_failing_row};
 use crate::documents::DocumentAction::{ApplyChanges, Close, Lose, Open};
 use crate::documents::ExpectedState::{Closed, InStep, OutOfStep};
-use crate::text::{ASSIGNMENT_AFTER_EMOJI, range_of};
+use crate::text::{ASSIGNMENT_AFTER_EMOJI, range_between_positions};
 use ob0_text::{Change, Documents, Held, Lines, TextStore, Unit, Whole};
 use std::alloc::{AllocError, Global};
 use std::process::Abort;
@@ -68,7 +68,7 @@ static DOCUMENT_CASES: &[DocumentCase] = rows![
 fn change_of_row(alloc: Global, row: &ChangeRow) -> Result<Change, AllocError> {
     let (start, end, text) = *row;
     let text = String::from_str(alloc, text)?;
-    let range = Some(range_of(start, end));
+    let range = Some(range_between_positions(start, end));
     Ok(Change { range, text })
 }
 
@@ -141,7 +141,7 @@ fn performs_as_expected<T: TextStore>(
     Ok(perform_all_actions(alloc, &mut documents, row.1)? && documents.unit() == row.0)
 }
 
-impl Case for DocumentCase {
+impl TestCase for DocumentCase {
     fn has_expected_outcome(&self, alloc: Global) -> Result<bool, AllocError> {
         Ok(
             performs_as_expected::<Whole>(alloc, self)?
@@ -192,7 +192,10 @@ fn change_one_of_two_documents(alloc: Global) -> Result<bool, AllocError> {
 /// allocation failed.
 fn replaces_text_or_leaves_it_unchanged(alloc: Global) -> Result<bool, AllocError> {
     let mut store = Lines::from_str(alloc, OPENED_TEXT)?;
-    match store.replace(range_of((1, 0), (1, 0)), "\nmore than there was room for") {
+    match store.replace(
+        range_between_positions((1, 0), (1, 0)),
+        "\nmore than there was room for",
+    ) {
         Ok(()) => Ok(store.as_str() == "a\r\nmore than there was room forb"),
         Err(AllocError) => Ok(store.as_str() == OPENED_TEXT),
     }

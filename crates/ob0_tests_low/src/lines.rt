@@ -1,9 +1,9 @@
 //! Tests the store of lines (`Lines`) by comparing it with the store of a whole text (`Whole`):
 //! after many changes of short texts, and in long lines. Also tests which lines it has.
 
-use crate::cases::{Case, first_failing_row};
+use crate::cases::{TestCase, first_failing_row};
 use crate::lines::LinesCase::{CutIntoLines, LongLines, ShortText};
-use crate::text::{at, range_of};
+use crate::text::{position_at, range_between_positions};
 use ob0_text::{Lines, Range, TextStore, Unit, Whole};
 use std::alloc::{AllocError, Global};
 use std::process::Abort;
@@ -62,7 +62,7 @@ impl BothStores {
     fn have_same_text_and_positions(&self, lines: u64, characters: u64) -> bool {
         for line in 0..lines {
             for character in 0..characters {
-                let place = at(line, character);
+                let place = position_at(line, character);
                 if self.lines.offset(place) != self.whole.offset(place) {
                     return false;
                 }
@@ -85,7 +85,7 @@ impl BothStores {
     /// Replaces the two units that begin at this line and column by a short text, in both stores.
     /// Returns whether both stores have the same text.
     fn change_two_units(&mut self, line: u64, column: u64) -> Result<bool, AllocError> {
-        let range = range_of((line, column), (line, column.saturating_add(2)));
+        let range = range_between_positions((line, column), (line, column.saturating_add(2)));
         self.replace(range, "é-")?;
         Ok(self.lines.as_str() == self.whole.as_str())
     }
@@ -144,8 +144,8 @@ fn stores_agree_after_each_of_two_changes(
     line: u64,
     further: u64,
 ) -> Result<bool, AllocError> {
-    let wide = range_of((line, 1), (line.saturating_add(further), further));
-    let narrow = range_of((line, 0), (line, further));
+    let wide = range_between_positions((line, 1), (line.saturating_add(further), further));
+    let narrow = range_between_positions((line, 0), (line, further));
     Ok(
         stores_agree_after_change(alloc, text, Unit::Utf16, wide, new)?
             && stores_agree_after_change(alloc, text, Unit::Utf8, narrow, new)?,
@@ -215,7 +215,7 @@ fn has_lines(lines: &Lines, wanted: &[&str]) -> bool {
     lines.line(wanted.len()).is_none()
 }
 
-impl Case for LinesCase {
+impl TestCase for LinesCase {
     fn has_expected_outcome(&self, alloc: Global) -> Result<bool, AllocError> {
         match self {
             ShortText(text) => stores_agree_after_each_replacement(alloc, text),

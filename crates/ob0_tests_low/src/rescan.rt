@@ -4,8 +4,8 @@
 ghost use Rattle.std.specs.Prelude.{◌≡◌, ◌++◌, IfOk, string_bytes};
 ghost use Rattle.ob0_scan.specs.ReusedLexemes.{ReplacesRange};
 
-use crate::cases::{Case, first_failing_row};
-use crate::rescan::RescanCase::{Long, Short};
+use crate::cases::{TestCase, first_failing_row};
+use crate::rescan::RescanCase::{ChangeInLongText, ChangeInShortText};
 use crate::rescan::RescanOutcome::{Different, Refused, SameTokens, Unscanned};
 use ob0_scan::laws::new_middle_replaces_range;
 use ob0_scan::{
@@ -33,9 +33,9 @@ enum RescanOutcome {
 type ChangeInContext = (&'static str, &'static str, &'static str, &'static str);
 
 enum RescanCase {
-    Short(ChangeInContext, RescanOutcome),
+    ChangeInShortText(ChangeInContext, RescanOutcome),
     /// A change with 5,000 more statements before it and 5,000 more after it.
-    Long(ChangeInContext, RescanOutcome),
+    ChangeInLongText(ChangeInContext, RescanOutcome),
 }
 
 /// Returns the three texts joined.
@@ -195,30 +195,30 @@ fn outcome_in_long_text(
 
 /// Changes of long texts. After each, few tokens are read again.
 static CHANGES_OF_LONG_TEXTS: &[RescanCase] = rows![
-    Long(("x := ", "1", "2", "; "), SameTokens(1, true));
-    Long(("x := ", "1", "(* one *) 1", "; "), SameTokens(2, true));
-    Long(("x := ", "1", "1 + 1", "; "), SameTokens(3, false));
-    Long(("x := ", "1", "", "; "), SameTokens(0, false));
+    ChangeInLongText(("x := ", "1", "2", "; "), SameTokens(1, true));
+    ChangeInLongText(("x := ", "1", "(* one *) 1", "; "), SameTokens(2, true));
+    ChangeInLongText(("x := ", "1", "1 + 1", "; "), SameTokens(3, false));
+    ChangeInLongText(("x := ", "1", "", "; "), SameTokens(0, false));
 ];
 
 static CHANGES_OF_SHORT_TEXTS: &[RescanCase] = rows![
     // A comment is opened at the beginning of the text.
-    Short(("", "", "(*", "MODULE M; END M."), Refused);
-    Short(("", "", "(*", "x *)"), SameTokens(1, false));
-    Short(("", "", "(*", "$"), Unscanned);
+    ChangeInShortText(("", "", "(*", "MODULE M; END M."), Refused);
+    ChangeInShortText(("", "", "(*", "x *)"), SameTokens(1, false));
+    ChangeInShortText(("", "", "(*", "$"), Unscanned);
     // In some of these changes, all tokens keep their kinds.
-    Short(("x := ", "1", "21", " + y"), SameTokens(1, true));
-    Short(("x := ", "1", "(* one *) 1", " + y"), SameTokens(2, true));
-    Short(("x := ", "1", "z", " + y"), SameTokens(1, false));
-    Short(("x := ", "1", "1 + 1", " + y"), SameTokens(3, false));
-    Short(("x := ", "1", "", " + y"), SameTokens(0, false));
+    ChangeInShortText(("x := ", "1", "21", " + y"), SameTokens(1, true));
+    ChangeInShortText(("x := ", "1", "(* one *) 1", " + y"), SameTokens(2, true));
+    ChangeInShortText(("x := ", "1", "z", " + y"), SameTokens(1, false));
+    ChangeInShortText(("x := ", "1", "1 + 1", " + y"), SameTokens(3, false));
+    ChangeInShortText(("x := ", "1", "", " + y"), SameTokens(0, false));
 ];
 
-impl Case for RescanCase {
+impl TestCase for RescanCase {
     fn has_expected_outcome(&self, alloc: Global) -> Result<bool, AllocError> {
         match self {
-            Long(parts, outcome) => Ok(outcome_in_long_text(alloc, parts)? == *outcome),
-            Short((front, middle, other, following), outcome) => {
+            ChangeInLongText(parts, outcome) => Ok(outcome_in_long_text(alloc, parts)? == *outcome),
+            ChangeInShortText((front, middle, other, following), outcome) => {
                 Ok(outcome_of_change(alloc, front, middle, other, following)? == *outcome)
             }
         }

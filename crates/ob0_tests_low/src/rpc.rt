@@ -1,10 +1,10 @@
 //! Tests the meanings of a client's messages, contents that aren't messages, and the bytes of
 //! messages that are sent.
 
-use crate::cases::{Case, first_failing_row};
+use crate::cases::{TestCase, first_failing_row};
 use crate::rpc::SentMessage::*;
 use crate::rpc::TestedMessage::{Content, Notification, Request, Sent};
-use crate::text::at;
+use crate::text::position_at;
 use ob0_rpc::{
     Call, ClientFeatures, Id, Incoming, Note, OneMemberObject, RpcFault, error, notice,
     notification, notification_text, read, request, result, success_response_text,
@@ -272,13 +272,13 @@ fn answer_with_range(
     start: (u64, u64),
     end: (u64, u64),
 ) -> Result<Vec<u8>, AllocError> {
-    let (start, end) = (at(start.0, start.1), at(end.0, end.1));
+    let (start, end) = (position_at(start.0, start.1), position_at(end.0, end.1));
     success_response_text(alloc, &Id::Signed(1), &Range { start, end })
 }
 
 /// Returns the content of an answer whose result is an object with one member.
 fn answer_with_member(alloc: Global) -> Result<Vec<u8>, AllocError> {
-    let (key, value) = ("a b", Some(at(1, 2)));
+    let (key, value) = ("a b", Some(position_at(1, 2)));
     success_response_text(alloc, &Id::Signed(0), &OneMemberObject { key, value })
 }
 
@@ -301,7 +301,7 @@ fn content_of_sent_message(alloc: Global, message: SentMessage) -> Result<Vec<u8
     }
 }
 
-impl Case for MessageCase {
+impl TestCase for MessageCase {
     fn has_expected_outcome(&self, alloc: Global) -> Result<bool, AllocError> {
         match self.0 {
             Content(content) => Ok(content_kind_in_words(alloc, content) == self.1),

@@ -1,6 +1,6 @@
 //! Tests calculations with numbers and truth values.
 
-use crate::cases::{Case, first_failing_row};
+use crate::cases::{TestCase, first_failing_row};
 use crate::values::Computation::{Add, ApplyRelation, ApplySign, Multiply, Negate};
 use ob0_language_values::Scalar::{Number, Truth};
 use ob0_language_values::scalar::{add, apply_relation, apply_sign, multiply, negate};
@@ -50,7 +50,7 @@ fn compute(computation: Computation) -> Result<Scalar, OperatorFault> {
     }
 }
 
-impl Case for ComputationCase {
+impl TestCase for ComputationCase {
     fn has_expected_outcome(&self, _alloc: Global) -> Result<bool, AllocError> {
         Ok(compute(self.0) == self.1)
     }

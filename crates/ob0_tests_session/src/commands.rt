@@ -46,7 +46,7 @@ type CommandWithInput = (CommandLine<'static>, &'static [u8], &'static [u8]);
 /// line has no file, performs nothing and returns the status 2.
 fn status_and_passed_on_bytes(alloc: Global, call: CommandWithInput, flushes: u32) -> (u8, usize) {
     let (line, file, bytes) = call;
-    let Some(_path) = line.file() else {
+    let Some(_path) = line.file_path() else {
         return (2, 0);
     };
     let (mut printed, mut reported) = (WriterCounts::new(512, flushes), WriterCounts::new(512, 1));

@@ -5,6 +5,6 @@
 #[cfg(test)]
 mod commands;
 #[cfg(test)]
-mod devices;
+mod conversations;
 #[cfg(test)]
-mod serving;
+mod devices;

@@ -19,7 +19,7 @@ pub enum ShortEvent {
     NoChange,
     /// A change of a range in one line: the line, the range's start and end, and the new text. The
     /// end isn't in the range. Lines and characters are counted from 0.
-    Write(u64, u64, u64, &'static str),
+    ReplaceInLine(u64, u64, u64, &'static str),
     Close,
     Rename(u64, u64, &'static str),
     InlineHere(u64, u64),
@@ -56,7 +56,7 @@ pub struct Story {
     pub name: &'static str,
     pub unit: ob0_text::Unit,
     /// Each event with its expected report.
-    pub moments: &'static [(ShortEvent, ShortReport)],
+    pub events_with_reports: &'static [(ShortEvent, ShortReport)],
     /// The text before and the text after each applied edit, in order.
     pub applied: &'static [(&'static str, &'static str)],
     /// The version and text of each published list of diagnostics, in order, and whether the list
@@ -108,7 +108,7 @@ fn rename_ask(alloc: Global, position: Position, name: &str) -> Result<Ask, Allo
 
 /// Returns the request for edits whose short form is `act`. If `act` is neither a rename nor an
 /// inlining, returns a request for formatting.
-fn ask_of(alloc: Global, act: ShortEvent) -> Result<Ask, AllocError> {
+fn ask_from_short_form(alloc: Global, act: ShortEvent) -> Result<Ask, AllocError> {
     match act {
         ShortEvent::Rename(line, character, name) => rename_ask(
             alloc,
@@ -129,7 +129,7 @@ fn ask_of(alloc: Global, act: ShortEvent) -> Result<Ask, AllocError> {
 
 /// Returns the event whose short form is `act`, about the document with this uri. If `act` isn't an
 /// opening, a change or a closing, the event is a request for edits.
-fn event_about(alloc: Global, uri: String, act: ShortEvent) -> Result<Event, AllocError> {
+fn event_about_document(alloc: Global, uri: String, act: ShortEvent) -> Result<Event, AllocError> {
     match act {
         ShortEvent::Open(text) => {
             let text = String::from_str(alloc, text)?;
@@ -139,52 +139,52 @@ fn event_about(alloc: Global, uri: String, act: ShortEvent) -> Result<Event, All
             let changes = Vec::new(alloc);
             Ok(Event::ChangeDoc { uri, changes })
         }
-        ShortEvent::Write(line, start, end, text) => {
+        ShortEvent::ReplaceInLine(line, start, end, text) => {
             let (start, end) = (position_at(line, start), position_at(line, end));
             let changes = list_of_one_change(alloc, Range { start, end }, text)?;
             Ok(Event::ChangeDoc { uri, changes })
         }
         ShortEvent::Close => Ok(Event::CloseDoc { uri }),
         act => {
-            let ask = ask_of(alloc, act)?;
+            let ask = ask_from_short_form(alloc, act)?;
             Ok(Event::Ask { uri, ask })
         }
     }
 }
 
 /// Returns the event whose short form is `act`.
-fn event_of(alloc: Global, act: ShortEvent) -> Result<Event, AllocError> {
+fn event_from_short_form(alloc: Global, act: ShortEvent) -> Result<Event, AllocError> {
     match act {
         ShortEvent::Serve => Ok(Event::Serve),
         ShortEvent::Take => Ok(Event::Take),
         ShortEvent::Apply(k) => Ok(Event::Apply { k }),
         ShortEvent::Discard(k) => Ok(Event::Discard { k }),
-        ShortEvent::AboutOtherDocument(act) => event_about(
+        ShortEvent::AboutOtherDocument(act) => event_about_document(
             alloc,
             String::from_str(alloc, "v")?,
             *act,
         ),
-        act => event_about(alloc, String::from_str(alloc, "u")?, act),
+        act => event_about_document(alloc, String::from_str(alloc, "u")?, act),
     }
 }
 
 /// Returns the events with these short forms. The expected reports in the list are ignored.
-fn events_of_moments(
+fn events_from_short_forms(
     alloc: Global,
-    moments: &[(ShortEvent, ShortReport)],
+    events_with_reports: &[(ShortEvent, ShortReport)],
 ) -> Result<Vec<Event>, AllocError> {
     let mut events = Vec::new(alloc);
-    for moment in moments {
-        events.push(event_of(alloc, moment.0)?)?;
+    for pair in events_with_reports {
+        events.push(event_from_short_form(alloc, pair.0)?)?;
     }
     Ok(events)
 }
 
 /// Returns the events of a story. If an allocation fails, the list of events is built once more.
-pub fn events_with_retry(alloc: Global, story: &Story) -> Result<Vec<Event>, AllocError> {
-    match events_of_moments(alloc, story.moments) {
+pub fn build_events_with_retry(alloc: Global, story: &Story) -> Result<Vec<Event>, AllocError> {
+    match events_from_short_forms(alloc, story.events_with_reports) {
         Ok(events) => Ok(events),
-        Err(AllocError) => events_of_moments(alloc, story.moments),
+        Err(AllocError) => events_from_short_forms(alloc, story.events_with_reports),
     }
 }
 

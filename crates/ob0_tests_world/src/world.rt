@@ -1,8 +1,10 @@
 //! Tests whole lists of events, both step by step and by `play`, with positions in UTF-16 units and
 //! in bytes, and over both text stores.
 
-use crate::short_events::{StepsResult, Story, events_with_retry, join_results, make_event_happen};
-use crate::stories::stories;
+use crate::short_events::{
+    StepsResult, Story, build_events_with_retry, join_results, make_event_happen,
+};
+use crate::stories::all_stories;
 use ob0_text::{Lines, TextStore, Unit, Whole};
 use ob0_world::{Applied, Event, Made, PlayFault, Played, World, WorldFault};
 use std::alloc::{AllocError, Global};
@@ -12,8 +14,8 @@ use std::process::Abort;
 /// whole texts, or all by `play`.
 #[derive(Clone, Copy)]
 enum StoryMode {
-    OverLines,
-    OverWhole,
+    SteppedOverLineStore,
+    SteppedOverWholeTextStore,
     Played,
 }
 
@@ -89,10 +91,10 @@ fn make_story_events_happen<T: TextStore>(
     events: &[Event],
 ) -> StepsResult {
     let mut result = StepsResult::AsExpected;
-    for i in 0..events.len().min(story.moments.len()) {
+    for i in 0..events.len().min(story.events_with_reports.len()) {
         result = join_results(
             result,
-            make_event_happen(world, &events[i], story.moments[i].1),
+            make_event_happen(world, &events[i], story.events_with_reports[i].1),
         );
     }
     result
@@ -141,10 +143,18 @@ fn play_story(alloc: Global, story: &Story, events: &[Event]) -> StoryOutcome {
 /// Runs a story, and returns the outcome up to an event at which an allocation fails, or up to the
 /// story's end.
 fn run_story(alloc: Global, story: &Story, manner: StoryMode) -> StoryOutcome {
-    match events_with_retry(alloc, story) {
+    match build_events_with_retry(alloc, story) {
         Ok(events) => match manner {
-            StoryMode::OverLines => step_through_story::<Lines>(alloc, story, events.as_slice()),
-            StoryMode::OverWhole => step_through_story::<Whole>(alloc, story, events.as_slice()),
+            StoryMode::SteppedOverLineStore => step_through_story::<Lines>(
+                alloc,
+                story,
+                events.as_slice(),
+            ),
+            StoryMode::SteppedOverWholeTextStore => step_through_story::<Whole>(
+                alloc,
+                story,
+                events.as_slice(),
+            ),
             StoryMode::Played => play_story(alloc, story, events.as_slice()),
         },
         Err(AllocError) => UNEXPECTED_OUTCOME,
@@ -155,7 +165,7 @@ fn run_story(alloc: Global, story: &Story, manner: StoryMode) -> StoryOutcome {
 fn completes_as_expected(alloc: Global, story: &Story, manner: StoryMode) -> bool {
     let StoryOutcome(result, steps, applied, made) = run_story(alloc, story, manner);
     result == StepsResult::AsExpected
-        && steps == story.moments.len() as u64
+        && steps == story.events_with_reports.len() as u64
         && applied == story.applied.len()
         && made == story.made.len()
 }
@@ -164,16 +174,17 @@ fn completes_as_expected(alloc: Global, story: &Story, manner: StoryMode) -> boo
 /// expected only up to that failure.
 fn runs_as_expected(alloc: Global, story: &Story, may_fail: bool) -> bool {
     if may_fail {
-        return run_story(alloc, story, StoryMode::OverLines).0 != StepsResult::Unexpected;
+        return run_story(alloc, story, StoryMode::SteppedOverLineStore).0
+            != StepsResult::Unexpected;
     }
-    completes_as_expected(alloc, story, StoryMode::OverLines)
-        && completes_as_expected(alloc, story, StoryMode::OverWhole)
+    completes_as_expected(alloc, story, StoryMode::SteppedOverLineStore)
+        && completes_as_expected(alloc, story, StoryMode::SteppedOverWholeTextStore)
         && completes_as_expected(alloc, story, StoryMode::Played)
 }
 
 /// Returns the name of the first story that doesn't run as expected, or the empty string if all do.
 fn first_failing_story(alloc: Global, may_fail: bool) -> &'static str {
-    for story in stories() {
+    for story in all_stories() {
         if !runs_as_expected(alloc, story, may_fail) {
             return story.name;
         }
@@ -196,7 +207,7 @@ fn a_refused_event_ends_a_world(rt: HostRuntime) {
 /// Runs the first story and returns its outcome. If there is no story, returns
 /// `UNEXPECTED_OUTCOME`.
 fn run_first_story(alloc: Global, manner: StoryMode) -> StoryOutcome {
-    match stories().first() {
+    match all_stories().first() {
         Some(story) => run_story(alloc, story, manner),
         None => UNEXPECTED_OUTCOME,
     }
@@ -216,7 +227,7 @@ fn a_refused_event_keeps_earlier_results(rt: HostRuntime) {
 fn a_refused_step_keeps_earlier_results(rt: HostRuntime) {
     let StoryOutcome(result, steps, applied, made) = run_first_story(
         rt.alloc(),
-        StoryMode::OverLines,
+        StoryMode::SteppedOverLineStore,
     );
     assert!(rt; result != StepsResult::Unexpected);
     let _ = println!(rt; "played {steps} {applied} {made}");

@@ -11,7 +11,7 @@ use Rattle.std.proofs.Math.Seq.{take-append_seam, drop-append_seam}
 use Rattle.ob0_text.specs.Texts.{LF, CR, ends_line}
 use Rattle.ob0_text.specs.declared.passes.PlaceInText.{PlaceInText}
 use Rattle.ob0_text.specs.declared.position_types.Position.{Position}
-use Rattle.ob0_text.specs.PassInvariants.{CanCountPositions, CanFindOffsets, CanCountPositionsFrom, CanFindOffsetsFrom}
+use Rattle.ob0_text.specs.PassInvariants.{PositionsCanBeCountedInRest, OffsetsCanBeFoundInRest, PositionsCanBeCountedFromPlace, OffsetsCanBeFoundFromPlace}
 use Rattle.ob0_text.specs.LineStarts.{line_starts, line_starts_after_bytes, AreAllBelow, AreAllAtLeast}
 use Rattle.ob0_text.proofs.Prefixes.{halves}
 use Rattle.ob0_text.proofs.PositionSteps.{counted_at_start, counted_here_dropped, counted_past_end, counted_past_cr, counted_past_char}
@@ -30,9 +30,9 @@ at_next P line s starts here more (suc k) h = subst (P (get_or starts k 0)) (ome
 
 module _ (width : ℕ → ℕ) (narrow : (c : ℕ) → width c ≤ len_utf8 c) (text : List ℕ) where
   abbrev pub StartsLine : ℕ → ℕ → Type 0
-  StartsLine s line = CanCountPositions width text (drop s text) s line 0
+  StartsLine s line = PositionsCanBeCountedInRest width text (drop s text) s line 0
 
-  counted_from_here : (cs : List ℕ) → scalars cs ≡ true → (offset line character : ℕ) → CanCountPositions width text (encode_utf8_all cs) offset line character → AtEach StartsLine (line + 1) (following_ends offset cs)
+  counted_from_here : (cs : List ℕ) → scalars cs ≡ true → (offset line character : ℕ) → PositionsCanBeCountedInRest width text (encode_utf8_all cs) offset line character → AtEach StartsLine (line + 1) (following_ends offset cs)
   unfolding following_ends
   counted_from_here [] good offset line character h = λ k l. absurd (omega arith)
   counted_from_here (c ∷ cs) good offset line character h =
@@ -44,7 +44,7 @@ module _ (width : ℕ → ℕ) (narrow : (c : ℕ) → width c ≤ len_utf8 c) (
       test : ends_line c (chars (encode_utf8_all cs)) ≡ ends_line c cs
       test = ap (ends_line c) (chars-encodes cs more)
 
-      by_end : ((line' character' : ℕ) → CanCountPositions width text (encode_utf8_all cs) (offset + len_utf8 c) line' character' → AtEach StartsLine (line' + 1) (following_ends (offset + len_utf8 c) cs)) → (b : Bool) → ends_line c cs ≡ b → (r : Bool) → (c == CR) ≡ r → AtEach StartsLine (line + 1) (following_ends offset (c ∷ cs))
+      by_end : ((line' character' : ℕ) → PositionsCanBeCountedInRest width text (encode_utf8_all cs) (offset + len_utf8 c) line' character' → AtEach StartsLine (line' + 1) (following_ends (offset + len_utf8 c) cs)) → (b : Bool) → ends_line c cs ≡ b → (r : Bool) → (c == CR) ≡ r → AtEach StartsLine (line + 1) (following_ends offset (c ∷ cs))
       by_end later true e r p =
           let there = counted_past_end width text _ offset line character h c (encode_utf8_all cs) refl (test ∙ e) in
           subst (AtEach StartsLine (line + 1)) (sym (ends-here offset c cs e))
@@ -60,7 +60,7 @@ module _ (width : ℕ → ℕ) (narrow : (c : ℕ) → width c ≤ len_utf8 c) (
   pub line_counted : IsUtf8 text → (k : ℕ) → k < length (line_starts (chars text)) → StartsLine (get_or (line_starts (chars text)) k 0) k
   line_counted u k l =
       let start = counted_at_start width text u in
-      let more : AtEach StartsLine 1 (following_ends 0 (chars text)) = counted_from_here (chars text) (scalars-chars text u) 0 0 0 (subst (λ r. CanCountPositions width text r 0 0 0) (sym (encodes-chars text u)) start) in
+      let more : AtEach StartsLine 1 (following_ends 0 (chars text)) = counted_from_here (chars text) (scalars-chars text u) 0 0 0 (subst (λ r. PositionsCanBeCountedInRest width text r 0 0 0) (sym (encodes-chars text u)) start) in
       let all : AtEach StartsLine 0 (line_starts (chars text)) = subst (AtEach StartsLine 0) (sym (starts-lines 0 (chars text))) (at_next StartsLine 0 0 (following_ends 0 (chars text)) start more) in
       subst (StartsLine (get_or (line_starts (chars text)) k 0)) (omega arith) (all k l)
 
@@ -68,9 +68,9 @@ module _ (width : ℕ → ℕ) (text : List ℕ) (p : Position) where
   -- Holds if the position p can be found from the start s of the line `line`, in case that line
   -- isn't after p.
   abbrev pub SeeksFrom : ℕ → ℕ → Type 0
-  SeeksFrom s line = line ≤ p.line → CanFindOffsets width text p (drop s text) s line 0
+  SeeksFrom s line = line ≤ p.line → OffsetsCanBeFoundInRest width text p (drop s text) s line 0
 
-  sought_from_here : (cs : List ℕ) → scalars cs ≡ true → (offset line character : ℕ) → (line < p.line → CanFindOffsets width text p (encode_utf8_all cs) offset line character) → AtEach SeeksFrom (line + 1) (following_ends offset cs)
+  sought_from_here : (cs : List ℕ) → scalars cs ≡ true → (offset line character : ℕ) → (line < p.line → OffsetsCanBeFoundInRest width text p (encode_utf8_all cs) offset line character) → AtEach SeeksFrom (line + 1) (following_ends offset cs)
   unfolding following_ends
   sought_from_here [] good offset line character h = λ k l. absurd (omega arith)
   sought_from_here (c ∷ cs) good offset line character h =
@@ -82,19 +82,19 @@ module _ (width : ℕ → ℕ) (text : List ℕ) (p : Position) where
       test : ends_line c (chars (encode_utf8_all cs)) ≡ ends_line c cs
       test = ap (ends_line c) (chars-encodes cs more)
 
-      by_end : ((line' character' : ℕ) → (line' < p.line → CanFindOffsets width text p (encode_utf8_all cs) (offset + len_utf8 c) line' character') → AtEach SeeksFrom (line' + 1) (following_ends (offset + len_utf8 c) cs)) → (b : Bool) → ends_line c cs ≡ b → AtEach SeeksFrom (line + 1) (following_ends offset (c ∷ cs))
+      by_end : ((line' character' : ℕ) → (line' < p.line → OffsetsCanBeFoundInRest width text p (encode_utf8_all cs) (offset + len_utf8 c) line' character') → AtEach SeeksFrom (line' + 1) (following_ends (offset + len_utf8 c) cs)) → (b : Bool) → ends_line c cs ≡ b → AtEach SeeksFrom (line + 1) (following_ends offset (c ∷ cs))
       by_end later true e =
-          let there : line < p.line → CanFindOffsets width text p (encode_utf8_all cs) (offset + len_utf8 c) (line + 1) 0 = λ low. sought_past_end width text p _ offset line character (h low) c (encode_utf8_all cs) refl low (test ∙ e) in
+          let there : line < p.line → OffsetsCanBeFoundInRest width text p (encode_utf8_all cs) (offset + len_utf8 c) (line + 1) 0 = λ low. sought_past_end width text p _ offset line character (h low) c (encode_utf8_all cs) refl low (test ∙ e) in
           subst (AtEach SeeksFrom (line + 1)) (sym (ends-here offset c cs e))
           (at_next SeeksFrom (line + 1) (offset + len_utf8 c) (following_ends (offset + len_utf8 c) cs) (λ low. sought_dropped width text p _ _ _ _ (there (omega arith))) (later (line + 1) 0 (λ low. there (omega arith))))
       by_end later false e =
-          let there : line < p.line → CanFindOffsets width text p (encode_utf8_all cs) (offset + len_utf8 c) line character = λ low. sought_on width text p _ offset line character (h low) c (encode_utf8_all cs) refl low (test ∙ e) in
+          let there : line < p.line → OffsetsCanBeFoundInRest width text p (encode_utf8_all cs) (offset + len_utf8 c) line character = λ low. sought_on width text p _ offset line character (h low) c (encode_utf8_all cs) refl low (test ∙ e) in
           subst (AtEach SeeksFrom (line + 1)) (sym (ends-on offset c cs e)) (later line character there)
 
   pub line_sought : IsUtf8 text → (k : ℕ) → k < length (line_starts (chars text)) → SeeksFrom (get_or (line_starts (chars text)) k 0) k
   line_sought u k l =
       let start = sought_at_start width text p u in
-      let more : AtEach SeeksFrom 1 (following_ends 0 (chars text)) = sought_from_here (chars text) (scalars-chars text u) 0 0 0 (λ low. subst (λ r. CanFindOffsets width text p r 0 0 0) (sym (encodes-chars text u)) start) in
+      let more : AtEach SeeksFrom 1 (following_ends 0 (chars text)) = sought_from_here (chars text) (scalars-chars text u) 0 0 0 (λ low. subst (λ r. OffsetsCanBeFoundInRest width text p r 0 0 0) (sym (encodes-chars text u)) start) in
       let all : AtEach SeeksFrom 0 (line_starts (chars text)) = subst (AtEach SeeksFrom 0) (sym (starts-lines 0 (chars text))) (at_next SeeksFrom 0 0 (following_ends 0 (chars text)) (λ low. start) more) in
       subst (SeeksFrom (get_or (line_starts (chars text)) k 0)) (omega arith) (all k l)
 
@@ -104,21 +104,21 @@ some_start text = omega (arith, ap length (starts-lines 0 text))
 
 -- The place at which the search for a position begins is a place from which the position can be
 -- found.
-pub seeks : (width : ℕ → ℕ) (text starts : List ℕ) (p : Position) (place : PlaceInText) → IsUtf8 text → starts ≡ line_starts (chars text) → place.offset ≡ get_or starts place.line 0 → place.line ≡ min p.line (length starts - 1) → place.character ≡ 0 → CanFindOffsetsFrom width text p place
+pub seeks : (width : ℕ → ℕ) (text starts : List ℕ) (p : Position) (place : PlaceInText) → IsUtf8 text → starts ≡ line_starts (chars text) → place.offset ≡ get_or starts place.line 0 → place.line ≡ min p.line (length starts - 1) → place.character ≡ 0 → OffsetsCanBeFoundFromPlace width text p place
 seeks width text starts p place u is here line none =
     let some : 0 < length starts = subst (λ t. 0 < length t) (sym is) (some_start (chars text)) in
     let inside : place.line < length (line_starts (chars text)) = subst (λ t. place.line < length t) is (omega (arith, line)) in
     let start : place.offset ≡ get_or (line_starts (chars text)) place.line 0 = here ∙ ap (λ t. get_or t place.line 0) is in
-    subst (λ n. CanFindOffsets width text p (drop place.offset text) place.offset place.line n) (sym none)
-    (subst (λ o. CanFindOffsets width text p (drop o text) o place.line 0) (sym start) (line_sought width text p u place.line inside (omega (arith, line))))
+    subst (λ n. OffsetsCanBeFoundInRest width text p (drop place.offset text) place.offset place.line n) (sym none)
+    (subst (λ o. OffsetsCanBeFoundInRest width text p (drop o text) o place.line 0) (sym start) (line_sought width text p u place.line inside (omega (arith, line))))
 
-pub counts : (width : ℕ → ℕ) → ((c : ℕ) → width c ≤ len_utf8 c) → (text starts : List ℕ) (line : ℕ) (place : PlaceInText) → IsUtf8 text → starts ≡ line_starts (chars text) → place.offset ≡ get_or starts place.line 0 → place.line ≡ min line (length starts - 1) → place.character ≡ 0 → CanCountPositionsFrom width text place
+pub counts : (width : ℕ → ℕ) → ((c : ℕ) → width c ≤ len_utf8 c) → (text starts : List ℕ) (line : ℕ) (place : PlaceInText) → IsUtf8 text → starts ≡ line_starts (chars text) → place.offset ≡ get_or starts place.line 0 → place.line ≡ min line (length starts - 1) → place.character ≡ 0 → PositionsCanBeCountedFromPlace width text place
 counts width narrow text starts l place u is here line none =
     let some : 0 < length starts = subst (λ t. 0 < length t) (sym is) (some_start (chars text)) in
     let inside : place.line < length (line_starts (chars text)) = subst (λ t. place.line < length t) is (omega (arith, line)) in
     let start : place.offset ≡ get_or (line_starts (chars text)) place.line 0 = here ∙ ap (λ t. get_or t place.line 0) is in
-    subst (λ n. CanCountPositions width text (drop place.offset text) place.offset place.line n) (sym none)
-    (subst (λ o. CanCountPositions width text (drop o text) o place.line 0) (sym start) (line_counted width narrow text u place.line inside))
+    subst (λ n. PositionsCanBeCountedInRest width text (drop place.offset text) place.offset place.line n) (sym none)
+    (subst (λ o. PositionsCanBeCountedInRest width text (drop o text) o place.line 0) (sym start) (line_counted width narrow text u place.line inside))
 
 -- If `count` line starts are at or before the offset m, then `count` is at least 1. The last of
 -- these starts is at or before m.

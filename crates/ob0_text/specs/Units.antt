@@ -19,11 +19,11 @@ is_utf8 Utf8 = true
 
 -- Returns the unit UTF-8 if the argument is true, otherwise UTF-16. This is the inverse of
 -- `is_utf8`.
-abbrev pub unit_from_is_utf8 : Bool → unit.Unit
-unit_from_is_utf8 false = Utf16
-unit_from_is_utf8 true = Utf8
+abbrev pub unit_from_utf8_flag : Bool → unit.Unit
+unit_from_utf8_flag false = Utf16
+unit_from_utf8_flag true = Utf8
 
 -- The encoding (`Coded`) of a unit as a boolean. The encodings of texts and documents are made from
 -- it.
 abbrev pub coded_position_unit : Coded unit.Unit
-coded_position_unit = code_by Bool coded_bool is_utf8 unit_from_is_utf8 (elim [ Utf16 ↦ refl | Utf8 ↦ refl ])
+coded_position_unit = code_by Bool coded_bool is_utf8 unit_from_utf8_flag (elim [ Utf16 ↦ refl | Utf8 ↦ refl ])

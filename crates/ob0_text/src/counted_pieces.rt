@@ -4,9 +4,9 @@
 //! `Lines` keeps the counted part of the line of the last change: from the line's start to a place
 //! shortly before the change. The search for the start of the next change begins at the end of this
 //! part. Short runs of characters (`stretches.rt`) are removed from the end of the part or added to
-//! it (`shorten_to_units`, `extend_to_units`). So if an editor replaces all occurrences of a word
+//! it (`shorten_piece_to_units`, `extend_piece_within_units`). So if an editor replaces all occurrences of a word
 //! in one long line, forwards or backwards, only the text between two changes is passed over. The
-//! part contains only text before the change (`piece_or_empty_before`). So it remains a piece of a
+//! part contains only text before the change (`piece_or_empty_if_beyond`). So it remains a piece of a
 //! line (`IsPieceOfLine`), even if the change adds or removes lines. `place_from_counted_piece`
 //! tests whether a line still starts at the part's start. If changes alternate between two places
 //! of one long line, each change passes over the text between these places.
@@ -44,7 +44,7 @@ impl CountedPiece {
     /// piece. The result remains correct if the text after `offset` changes. More precisely: if
     /// this piece is a piece of a line of some text, the result is a piece of a line of every text
     /// with the same first `offset` bytes.
-    pub fn piece_or_empty_before(self, offset: usize) -> CountedPiece
+    pub fn piece_or_empty_if_beyond(self, offset: usize) -> CountedPiece
         ensures { (width : ℕ → ℕ) (text rest : List ℕ)
             → IsPieceOfLine width text self.start self.end_and_units
             → offset ≤ length text
@@ -61,7 +61,7 @@ impl CountedPiece {
 /// offset `start` and has at most `units` units. If the rest of the line has at least `units`
 /// units, the piece has nearly `units` units. If the piece `last` also begins at `start`, only the
 /// difference between the two pieces is counted.
-pub fn counted_piece_up_to(
+pub fn piece_end_within_units(
     text: &str,
     unit: Unit,
     start: usize,
@@ -74,20 +74,26 @@ pub fn counted_piece_up_to(
     ensures fits { result.units ≤ units }
 {
     if last.start == start {
-        let shorter = shorten_to_units(text, unit, start, last.end_and_units, units);
-        return extend_to_units(text, unit, start, shorter, units);
+        let shorter = shorten_piece_to_units(text, unit, start, last.end_and_units, units);
+        return extend_piece_within_units(text, unit, start, shorter, units);
     }
     let nothing = Stretch {
         end: start,
         units: 0,
     };
-    extend_to_units(text, unit, start, nothing, units)
+    extend_piece_within_units(text, unit, start, nothing, units)
 }
 
 /// Returns the piece `from`, which begins at the byte offset `start`, shortened to at most `units`
 /// units. Characters are removed from its end in steps of at most 64 bytes. A piece with at most
 /// `units` units is returned unchanged.
-fn shorten_to_units(text: &str, unit: Unit, start: usize, from: Stretch, units: u64) -> Stretch
+fn shorten_piece_to_units(
+    text: &str,
+    unit: Unit,
+    start: usize,
+    from: Stretch,
+    units: u64,
+) -> Stretch
     requires start { start ≤ length text.now }
     requires is { IsPieceOfLine (width_of unit) text.now start from }
     ensures is { IsPieceOfLine (width_of unit) text.now start result }
@@ -95,7 +101,7 @@ fn shorten_to_units(text: &str, unit: Unit, start: usize, from: Stretch, units: 
 {
     let mut kept = from;
     while kept.units > units {
-        let Some(less) = without_last_characters(text, unit, start, kept) else {
+        let Some(less) = piece_without_last_characters(text, unit, start, kept) else {
             return Stretch {
                 end: start,
                 units: 0,
@@ -108,7 +114,12 @@ fn shorten_to_units(text: &str, unit: Unit, start: usize, from: Stretch, units: 
 
 /// Returns `piece`, which begins at the byte offset `start`, without its last characters. At most
 /// 64 bytes are removed. Returns None if nothing would be left.
-fn without_last_characters(text: &str, unit: Unit, start: usize, piece: Stretch) -> Option<Stretch>
+fn piece_without_last_characters(
+    text: &str,
+    unit: Unit,
+    start: usize,
+    piece: Stretch,
+) -> Option<Stretch>
     requires { IsPieceOfLine (width_of unit) text.now start piece }
     ensures is { IfSome result (IsPieceOfLine (width_of unit) text.now start) }
     ensures shorter { IfSome result (λ s. s.end < piece.end) }
@@ -135,7 +146,13 @@ fn without_last_characters(text: &str, unit: Unit, start: usize, piece: Stretch)
 /// Returns the piece `from`, which begins at the byte offset `start`, extended by whole stretches
 /// (`Stretch`) of the same line. The extension stops before the result might have more than `units`
 /// units.
-fn extend_to_units(text: &str, unit: Unit, start: usize, from: Stretch, units: u64) -> Stretch
+fn extend_piece_within_units(
+    text: &str,
+    unit: Unit,
+    start: usize,
+    from: Stretch,
+    units: u64,
+) -> Stretch
     requires few { from.units ≤ units }
     requires is { IsPieceOfLine (width_of unit) text.now start from }
     ensures is { IsPieceOfLine (width_of unit) text.now start result }

@@ -12,7 +12,7 @@
 //! continues at the place of the previous one if this place is in the same line and not after it.
 //! The pass to an offset also continues there if the offset is less than 32 bytes ahead, even in
 //! another line. Otherwise the pass begins at the start of the line, which the table gives
-//! (`pass_start_for_offset`, `place_from_previous`). So ascending offsets or positions in one long
+//! (`pass_start_for_offset`, `place_from_previous_position`). So ascending offsets or positions in one long
 //! line take a single pass over that line, as in the plain store `Whole`. An offset that isn't near
 //! takes a binary search for its line. If both ends of a changed range are in one line, one pass
 //! finds both ends (`range_offsets`).
@@ -22,12 +22,12 @@ ghost use Rattle.std.specs.Option.{option_map};
 ghost use Rattle.std.specs.Str.{chars};
 ghost use Rattle.ob0_text.specs.Texts.{lines, offset_of, position_of};
 ghost use Rattle.ob0_text.specs.Units.{width_of};
-ghost use Rattle.ob0_text.specs.PassInvariants.{CanCountPositionsFrom, CanFindOffsetsFrom};
+ghost use Rattle.ob0_text.specs.PassInvariants.{PositionsCanBeCountedFromPlace, OffsetsCanBeFoundFromPlace};
 ghost use Rattle.ob0_text.specs.declared.position_types.Unit.{Unit};
 ghost use Rattle.ob0_text.specs.LineStarts.{IsLineTableOf, line_with_ending};
 ghost use Rattle.ob0_text.specs.Stretches.{IsPieceOfLine};
 
-use crate::counted_pieces::{CountedPiece, counted_piece_up_to};
+use crate::counted_pieces::{CountedPiece, piece_end_within_units};
 use crate::line_table::LineTable;
 use crate::passes::{
     PlaceInText, TEXT_START, advance_to_offset, advance_to_position, is_at_or_before,
@@ -79,7 +79,7 @@ pub fn range_offsets(
     ensures counted { IsPieceOfLine (width_of unit) text.now result.counted_piece.start
         result.counted_piece.end_and_units }
 {
-    let counted = counted_piece_before(text, table, unit, last, range.start);
+    let counted = counted_piece_before_position(text, table, unit, last, range.start);
     let start = place_from_counted_piece(text, table, unit, counted, range.start);
     let end = if range.start.line == range.end.line && is_at_or_before(range.start, range.end) {
         advance_to_position(text, unit, start, range.end)
@@ -96,7 +96,7 @@ pub fn range_offsets(
 /// Returns a counted piece of the position's line, or of the last line if the text has no such
 /// line. The piece ends at or before the position. Counting begins with `last`, the piece that was
 /// counted last.
-fn counted_piece_before(
+fn counted_piece_before_position(
     text: &str,
     table: &LineTable,
     unit: Unit,
@@ -113,7 +113,7 @@ fn counted_piece_before(
     }
     CountedPiece {
         start: start.offset,
-        end_and_units: counted_piece_up_to(text, unit, start.offset, last, position.character),
+        end_and_units: piece_end_within_units(text, unit, start.offset, last, position.character),
     }
 }
 
@@ -129,7 +129,7 @@ fn place_from_counted_piece(
 ) -> PlaceInText
     requires lines { IsLineTableOf text.now table.now }
     requires counted { IsPieceOfLine (width_of unit) text.now counted.start counted.end_and_units }
-    ensures place { CanFindOffsetsFrom (width_of unit) text.now position result }
+    ensures place { OffsetsCanBeFoundFromPlace (width_of unit) text.now position result }
     ensures offset { result.offset ≡ offset_of (width_of unit) (chars text.now) position }
 {
     let start = line_start_place(table, position.line);
@@ -151,7 +151,7 @@ fn place_from_counted_piece(
 /// the characters from there are counted.
 fn place_of_position(text: &str, table: &LineTable, unit: Unit, position: Position) -> PlaceInText
     requires { IsLineTableOf text.now table.now }
-    ensures place { CanFindOffsetsFrom (width_of unit) text.now position result }
+    ensures place { OffsetsCanBeFoundFromPlace (width_of unit) text.now position result }
     ensures offset { result.offset ≡ offset_of (width_of unit) (chars text.now) position }
 {
     let start = line_start_place(table, position.line);
@@ -213,7 +213,7 @@ pub fn offsets_from_line_table(
     let mut place = TEXT_START;
     let mut last = position_of_place(TEXT_START);
     for position in positions {
-        place = place_from_previous(text, table, unit, last, place, *position);
+        place = place_from_previous_position(text, table, unit, last, place, *position);
         last = *position;
         offsets.push(place.offset)?;
     }
@@ -222,7 +222,7 @@ pub fn offsets_from_line_table(
 
 /// Returns the place of `position`. If the previous position `last` is in the same line and not
 /// after `position`, the search begins at `place`, the place of `last`.
-fn place_from_previous(
+fn place_from_previous_position(
     text: &str,
     table: &LineTable,
     unit: Unit,
@@ -231,8 +231,8 @@ fn place_from_previous(
     position: Position,
 ) -> PlaceInText
     requires lines { IsLineTableOf text.now table.now }
-    requires last { CanFindOffsetsFrom (width_of unit) text.now last place }
-    ensures place { CanFindOffsetsFrom (width_of unit) text.now position result }
+    requires last { OffsetsCanBeFoundFromPlace (width_of unit) text.now last place }
+    ensures place { OffsetsCanBeFoundFromPlace (width_of unit) text.now position result }
     ensures offset { result.offset ≡ offset_of (width_of unit) (chars text.now) position }
 {
     if last.line == position.line && is_at_or_before(last, position) {
@@ -252,8 +252,8 @@ fn pass_start_for_offset(
     offset: usize,
 ) -> PlaceInText
     requires { IsLineTableOf text.now table.now }
-    ensures place { (unit : Unit) → CanCountPositionsFrom (width_of unit) text.now place
-        → CanCountPositionsFrom (width_of unit) text.now result }
+    ensures place { (unit : Unit) → PositionsCanBeCountedFromPlace (width_of unit) text.now place
+        → PositionsCanBeCountedFromPlace (width_of unit) text.now result }
     ensures following { result.offset ≤ offset }
 {
     if place.offset <= offset && offset - place.offset < NEAR_DISTANCE_BYTES {
@@ -269,7 +269,7 @@ fn pass_start_for_offset(
 /// Returns the place at which the line of a byte offset starts. The line is found by binary search.
 fn line_start_before_offset(text: &str, table: &LineTable, offset: usize) -> PlaceInText
     requires { IsLineTableOf text.now table.now }
-    ensures place { (unit : Unit) → CanCountPositionsFrom (width_of unit) text.now result }
+    ensures place { (unit : Unit) → PositionsCanBeCountedFromPlace (width_of unit) text.now result }
     ensures following { result.offset ≤ offset }
 {
     let started = table.count_starts_before(offset.min(text.len()) + 1);

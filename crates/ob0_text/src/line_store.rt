@@ -68,7 +68,7 @@ impl TextStore for Lines {
     ghost unit_of = { λ lines. lines.unit };
 
     fn from_str_in(alloc: Global, text: &str, unit: Unit) -> Result<Lines, AllocError> {
-        let table = LineTable::of(alloc, text)?;
+        let table = LineTable::of_text(alloc, text)?;
         let text = String::from_str(alloc, text)?;
         Ok(Lines {
             text,
@@ -112,7 +112,7 @@ impl TextStore for Lines {
         );
         let (from, to) = (found.start.min(found.end), found.start.max(found.end));
         self.table.replace(&mut self.text, from, to, text)?;
-        self.counted_piece = found.counted_piece.piece_or_empty_before(from);
+        self.counted_piece = found.counted_piece.piece_or_empty_if_beyond(from);
         Ok(())
     }
 

@@ -13,14 +13,14 @@
 //! the table, then for the text. After that no allocation can fail, as the contracts of `reserve`
 //! and `extend_from_slice` say. If an allocation fails while starts are moved, the two parts divide
 //! the table at another line, but the table still matches the text. At the end `replace` releases
-//! spare memory (`spare_room.rt`).
+//! spare memory (`spare_memory.rt`).
 
 ghost use Rattle.std.specs.Prelude.{◌≡◌, ◌+◌, ◌<◌, ◌≤◌, ◌++◌, IfOk, OnOk, OnErr, drop, length, min, slice_index, string_bytes, take};
 ghost use Rattle.std.specs.Str.{IsCharBoundary};
 ghost use Rattle.ob0_text.specs.LineStarts.{AreAllBelow, IsLineTableOf, IsCountOfStartsBefore, starts_in_front_and_back};
 
 use crate::line_starts::{line_starts_added_by_change, line_starts_of};
-use crate::spare_room::{release_spare_list_memory, release_spare_text_memory};
+use crate::spare_memory::{release_spare_list_memory, release_spare_text_memory};
 use std::alloc::{AllocError, Global};
 use std::marker::Model;
 
@@ -49,7 +49,7 @@ impl Model for LineTable {
 
 impl LineTable {
     /// Returns the table of a text: the starts of its lines, and its length in bytes.
-    pub fn of(alloc: Global, text: &str) -> Result<LineTable, AllocError>
+    pub fn of_text(alloc: Global, text: &str) -> Result<LineTable, AllocError>
         ensures { IfOk result (IsLineTableOf text.now) }
     {
         let front = line_starts_of(alloc, text)?;

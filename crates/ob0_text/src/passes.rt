@@ -6,8 +6,8 @@
 //! across lines, because the offset is usually only a few lines ahead. This pass decodes only CR
 //! and characters outside ASCII. The pass to a position decodes each remaining character. If the
 //! pass began in the position's line, fewer than 64 characters remain to be decoded. The pass to an
-//! offset preserves the invariant `CanCountPositionsFrom`, and the pass to a position preserves
-//! `CanFindOffsetsFrom`. `StretchSteps` proves that a step over a whole stretch preserves both,
+//! offset preserves the invariant `PositionsCanBeCountedFromPlace`, and the pass to a position preserves
+//! `OffsetsCanBeFoundFromPlace`. `StretchSteps` proves that a step over a whole stretch preserves both,
 //! because a step over one character does.
 
 ghost use Rattle.std.specs.Prelude.{◌≡◌, ◌↔◌, ◌==◌, ◌||◌, ◌+◌, ◌-◌, ◌<◌, ◌≤◌, IfOk, IfSome, IsTrue, None, map};
@@ -15,7 +15,7 @@ ghost use Rattle.std.specs.Str.{IsCharBoundary, chars};
 ghost use Rattle.ob0_text.specs.Texts.{LF, CR, ends_line, offset_of, position_of};
 ghost use Rattle.ob0_text.specs.Units.{width_of};
 ghost use Rattle.ob0_text.specs.Stretches.{IsStretch};
-ghost use Rattle.ob0_text.specs.PassInvariants.{at, PositionIsAtOrBefore, CanCountPositionsFrom, CanFindOffsetsFrom};
+ghost use Rattle.ob0_text.specs.PassInvariants.{position_at_character, PositionIsAtOrBefore, PositionsCanBeCountedFromPlace, OffsetsCanBeFoundFromPlace};
 
 use crate::position_types::{Position, Unit};
 use crate::stretches::{Stretch, next_stretch};
@@ -101,7 +101,7 @@ pub fn offset_of(text: &str, unit: Unit, position: Position) -> usize
 
 /// Returns the position of the place that a pass has reached.
 pub fn position_of_place(place: PlaceInText) -> Position
-    ensures { result ≡ at place.line place.character }
+    ensures { result ≡ position_at_character place.line place.character }
 {
     Position {
         line: place.line,
@@ -133,7 +133,7 @@ fn ends_line(c: char, rest: &str) -> bool
 }
 
 /// Returns the number of units of a character: its length in UTF-16 units or in bytes of UTF-8.
-fn width(c: char, unit: Unit) -> u64
+fn character_width(c: char, unit: Unit) -> u64
     ensures { result ≡ width_of unit c }
 {
     match unit {
@@ -146,11 +146,11 @@ fn width(c: char, unit: Unit) -> u64
 /// or before the offset. If the offset is inside a character, the result is the place before that
 /// character. If the offset is after the text's end, the result is the text's end.
 pub fn advance_to_offset(text: &str, unit: Unit, from: PlaceInText, offset: usize) -> PlaceInText
-    requires place { CanCountPositionsFrom (width_of unit) text.now from }
+    requires place { PositionsCanBeCountedFromPlace (width_of unit) text.now from }
     requires following { from.offset ≤ offset }
-    ensures place { CanCountPositionsFrom (width_of unit) text.now result }
+    ensures place { PositionsCanBeCountedFromPlace (width_of unit) text.now result }
     ensures within { result.offset ≤ offset }
-    ensures position { at result.line result.character
+    ensures position { position_at_character result.line result.character
         ≡ position_of (width_of unit) (chars text.now) offset }
 {
     let from = skip_stretches_to_offset(text, unit, from, offset);
@@ -164,9 +164,9 @@ pub fn advance_to_offset(text: &str, unit: Unit, from: PlaceInText, offset: usiz
 /// Advances from the place `from` by whole stretches (`Stretch`) of its line, but not beyond the
 /// byte offset `offset`. Returns the place reached.
 fn skip_stretches_to_offset(text: &str, unit: Unit, from: PlaceInText, offset: usize) -> PlaceInText
-    requires place { CanCountPositionsFrom (width_of unit) text.now from }
+    requires place { PositionsCanBeCountedFromPlace (width_of unit) text.now from }
     requires following { from.offset ≤ offset }
-    ensures place { CanCountPositionsFrom (width_of unit) text.now result }
+    ensures place { PositionsCanBeCountedFromPlace (width_of unit) text.now result }
     ensures within { result.offset ≤ offset }
 {
     let mut place = from;
@@ -189,9 +189,9 @@ fn skip_stretches_to_offset(text: &str, unit: Unit, from: PlaceInText, offset: u
 /// offset `offset`. Returns the place reached. The characters are recognized by their bytes,
 /// without decoding.
 fn skip_ascii(text: &str, unit: Unit, from: PlaceInText, offset: usize) -> PlaceInText
-    requires place { CanCountPositionsFrom (width_of unit) text.now from }
+    requires place { PositionsCanBeCountedFromPlace (width_of unit) text.now from }
     requires following { from.offset ≤ offset }
-    ensures place { CanCountPositionsFrom (width_of unit) text.now result }
+    ensures place { PositionsCanBeCountedFromPlace (width_of unit) text.now result }
     ensures within { result.offset ≤ offset }
     ensures onward { from.offset ≤ result.offset }
 {
@@ -226,12 +226,12 @@ fn skip_ascii(text: &str, unit: Unit, from: PlaceInText, offset: usize) -> Place
 /// Returns the place after the character that begins at `place`. Returns None if the result would
 /// be beyond the byte offset `offset`, or if no character follows `place`.
 fn skip_char(text: &str, unit: Unit, place: PlaceInText, offset: usize) -> Option<PlaceInText>
-    requires place { CanCountPositionsFrom (width_of unit) text.now place }
+    requires place { PositionsCanBeCountedFromPlace (width_of unit) text.now place }
     requires following { place.offset ≤ offset }
-    ensures next { IfSome result (λ p. CanCountPositionsFrom (width_of unit) text.now p) }
+    ensures next { IfSome result (λ p. PositionsCanBeCountedFromPlace (width_of unit) text.now p) }
     ensures onward { IfSome result (λ p. (place.offset < p.offset) × (p.offset ≤ offset)) }
     ensures last { result ≡ None
-        → at place.line place.character ≡ position_of (width_of unit) (chars text.now) offset }
+        → position_at_character place.line place.character ≡ position_of (width_of unit) (chars text.now) offset }
 {
     if offset <= place.offset {
         return None;
@@ -251,7 +251,11 @@ fn skip_char(text: &str, unit: Unit, place: PlaceInText, offset: usize) -> Optio
             character: 0,
         });
     }
-    let units = if c == '\r' { 0 } else { width(c, unit) };
+    let units = if c == '\r' {
+        0
+    } else {
+        character_width(c, unit)
+    };
     Some(PlaceInText {
         offset: reached,
         line: place.line,
@@ -267,8 +271,8 @@ pub fn advance_to_position(
     from: PlaceInText,
     position: Position,
 ) -> PlaceInText
-    requires place { CanFindOffsetsFrom (width_of unit) text.now position from }
-    ensures place { CanFindOffsetsFrom (width_of unit) text.now position result }
+    requires place { OffsetsCanBeFoundFromPlace (width_of unit) text.now position from }
+    ensures place { OffsetsCanBeFoundFromPlace (width_of unit) text.now position result }
     ensures offset { result.offset ≡ offset_of (width_of unit) (chars text.now) position }
 {
     let from = skip_stretches_to_position(text, unit, from, position);
@@ -284,7 +288,7 @@ pub fn advance_to_position(
             if is_line_break(c) {
                 break;
             }
-            let units = width(c, unit);
+            let units = character_width(c, unit);
             if position.character - character < units {
                 break;
             }
@@ -308,11 +312,11 @@ fn skip_stretches_to_position(
     from: PlaceInText,
     position: Position,
 ) -> PlaceInText
-    requires place { CanFindOffsetsFrom (width_of unit) text.now position from }
-    ensures place { CanFindOffsetsFrom (width_of unit) text.now position result }
+    requires place { OffsetsCanBeFoundFromPlace (width_of unit) text.now position from }
+    ensures place { OffsetsCanBeFoundFromPlace (width_of unit) text.now position result }
 {
     let mut place = from;
-    while let Some(stretch) = next_stretch_before(text, unit, place, position) {
+    while let Some(stretch) = next_stretch_before_position(text, unit, place, position) {
         place = PlaceInText {
             offset: stretch.end,
             line: place.line,
@@ -324,7 +328,7 @@ fn skip_stretches_to_position(
 
 /// Returns the stretch that begins at `place`. Returns None if `place` isn't in the line of
 /// `position`, if the stretch might end after `position`, or if `next_stretch` returns None.
-fn next_stretch_before(
+fn next_stretch_before_position(
     text: &str,
     unit: Unit,
     place: PlaceInText,

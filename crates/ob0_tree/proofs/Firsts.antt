@@ -28,14 +28,14 @@ module _ {A : Type 0} {i : GrammarItem} (f : A → Tree ℕ (item i)) {xs : List
   -- If the part here has an identifier, its first identifier is the first one of all parts.
   pub found_here : {found : Option ℕ} → Seeking f xs done → done < length xs → x ≡ get_or xs done x → found ≡ first_identifier (f x) → is_some found ≡ true → found ≡ first_identifier (items_of f xs)
   found_here w less here e some =
-      found_first (identifiers role.Declaring (f x)) (identifiers role.Declaring (items_of f (drop (done + 1) xs))) e some
+      found_first (identifiers role.DeclaringName (f x)) (identifiers role.DeclaringName (items_of f (drop (done + 1) xs))) e some
       ∙ (ap (λ ys. first_identifier (items_of f ys)) (sym (split xs done x less here)) ∙ w.so_far)
 
   -- If the part here has no identifier, the search continues with the next part.
   pub seeks_on : {found : Option ℕ} → Seeking f xs done → done < length xs → x ≡ get_or xs done x → found ≡ first_identifier (f x) → is_some found ≡ false → Seeking f xs (done + 1)
   seeks_on w less here e none =
       record {
-        so_far = found_later (identifiers role.Declaring (f x)) (identifiers role.Declaring (items_of f (drop (done + 1) xs))) e none
+        so_far = found_later (identifiers role.DeclaringName (f x)) (identifiers role.DeclaringName (items_of f (drop (done + 1) xs))) e none
             ∙ (ap (λ ys. first_identifier (items_of f ys)) (sym (split xs done x less here)) ∙ w.so_far);
       }
 

@@ -6,9 +6,9 @@ use Rattle.std.proofs.lemmas.List.{map-append}
 use Rattle.ob0_scan.specs.declared.lexeme.TokenKind.{TokenKind}
 use Rattle.ob0_scan.specs.declared.lexeme.TokenKind.TheVariants as kind
 use Rattle.ob0_scan.specs.declared.lexeme.Token.{Token}
-use Rattle.ob0_tree.specs.Lexeme.{Terminal, Name, Number, WordOrSymbol, EndOfText}
-use Rattle.ob0_tree.specs.Places.{indexed_terminal, indexed_terminals_from}
-use Rattle.ob0_tree.specs.ParsedModule.{ParsedModule, IsParsed, tree_of}
+use Rattle.ob0_tree.specs.Terminals.{Terminal, Name, Number, WordOrSymbol, EndOfText}
+use Rattle.ob0_tree.specs.TokenIndexLeaves.{indexed_terminal, indexed_terminals_from}
+use Rattle.ob0_tree.specs.ParsedModule.{ParsedModule, TreeMatchesText, tree_of}
 use Rattle.ob0_tree.proofs.Occurring.{looked_up_only, looked_up-occurrences}
 use Rattle.ob0_tree.specs.IdentifierIndexes.{AreAscendingWithin, names_without_roles, identifier_names, index_if_identifier, identifier_indexes_from, AreIdentifierTokens}
 use Rattle.ob0_tree.specs.declared.tree.Role.{Role}
@@ -73,14 +73,14 @@ leaves_spelled r (some_fields ns t) = simp (lexeme_names-append, map-append, lea
 leaves_spelled r (semicolon_then_fields f) = simp (leaves_spelled r f)
 leaves_spelled r no_formals = refl
 leaves_spelled r (some_formals first others) = simp (lexeme_names-append, map-append, append-nil, leaves_spelled r first, leaves_spelled r others)
-leaves_spelled r (value_section ns t) = simp (lexeme_names-append, map-append, leaves_spelled role.Declaring ns, leaves_spelled r t)
-leaves_spelled r (variable_section ns t) = simp (lexeme_names-append, map-append, leaves_spelled role.Declaring ns, leaves_spelled r t)
+leaves_spelled r (value_section ns t) = simp (lexeme_names-append, map-append, leaves_spelled role.DeclaringName ns, leaves_spelled r t)
+leaves_spelled r (variable_section ns t) = simp (lexeme_names-append, map-append, leaves_spelled role.DeclaringName ns, leaves_spelled r t)
 leaves_spelled r (semicolon_then_section s) = simp (leaves_spelled r s)
 leaves_spelled r (declares_constant name e) = simp (lexeme_names-append, append-nil, leaves_spelled r e)
 leaves_spelled r (declares_const_section cs) = simp (leaves_spelled r cs)
 leaves_spelled r (declares_type name t) = simp (lexeme_names-append, append-nil, leaves_spelled r t)
 leaves_spelled r (declares_type_section ts) = simp (leaves_spelled r ts)
-leaves_spelled r (declares_variable ns t) = simp (lexeme_names-append, map-append, append-nil, leaves_spelled role.Declaring ns, leaves_spelled r t)
+leaves_spelled r (declares_variable ns t) = simp (lexeme_names-append, map-append, append-nil, leaves_spelled role.DeclaringName ns, leaves_spelled r t)
 leaves_spelled r (declares_var_section vs) = simp (leaves_spelled r vs)
 leaves_spelled r (declares_procedure name fs b closing) = simp (lexeme_names-append, map-append, leaves_spelled r fs, leaves_spelled r b)
 leaves_spelled r (declares cs ts vs ps) = simp (lexeme_names-append, map-append, leaves_spelled r cs, leaves_spelled r ts, leaves_spelled r vs, leaves_spelled r ps)
@@ -98,9 +98,9 @@ names_from (t ∷ ts) i = name_first t.kind i (indexed_terminals_from (i + 1) ts
     name_first _ i xs = refl
 
 -- The identifiers of a module's tree are all identifiers of its text, in order.
-pub leaves_parsed : (m : ParsedModule) → IsParsed m → identifier_names (tree_of m) ≡ identifier_indexes_from 0 m.source.tokens
+pub leaves_parsed : (m : ParsedModule) → TreeMatchesText m → identifier_names (tree_of m) ≡ identifier_indexes_from 0 m.source.tokens
 leaves_parsed m p =
-    leaves_spelled role.Declaring (tree_of m)
+    leaves_spelled role.DeclaringName (tree_of m)
     ∙ (sym (append-nil (lexeme_names (spell (tree_of m))))
     ∙ (sym (lexeme_names-append (spell (tree_of m)) (EndOfText ∷ []))
     ∙ (ap lexeme_names p.places ∙ names_from m.source.tokens 0)))
@@ -129,7 +129,7 @@ identifiers_ascend (t ∷ ts) i =
     first _ i xs high p = ascending_lower i (i + 1) xs high (omega arith) p
 
 -- The identifiers of a module's tree ascend.
-pub leaves_ascend : (m : ParsedModule) → IsParsed m → AreAscendingWithin 0 (identifier_names (tree_of m)) (length m.source.tokens)
+pub leaves_ascend : (m : ParsedModule) → TreeMatchesText m → AreAscendingWithin 0 (identifier_names (tree_of m)) (length m.source.tokens)
 leaves_ascend m p = subst (λ l. AreAscendingWithin 0 l (length m.source.tokens)) (sym (leaves_parsed m p)) (subst (λ n. AreAscendingWithin 0 (identifier_indexes_from 0 m.source.tokens) n) (zero-add (length m.source.tokens)) (identifiers_ascend m.source.tokens 0))
 
 after_front : (front back : List Token) (t d : Token) → slice_index_or (front ++ (t ∷ back)) (length front) d ≡ t
@@ -158,14 +158,14 @@ are_identifiers_from all front (t ∷ back) e i at =
     first all i t _ e within at_index xs p = p
 
 -- Each identifier of a module's tree is the index of an identifier token.
-pub leaves_are_identifiers : (m : ParsedModule) → IsParsed m → AreIdentifierTokens m.source.tokens (identifier_names (tree_of m))
+pub leaves_are_identifiers : (m : ParsedModule) → TreeMatchesText m → AreIdentifierTokens m.source.tokens (identifier_names (tree_of m))
 leaves_are_identifiers m p =
     subst (AreIdentifierTokens m.source.tokens) (sym (leaves_parsed m p)) (are_identifiers_from m.source.tokens [] m.source.tokens refl 0 refl)
 
 ascending_looked_up : (low : ℕ) (xs : List (Role × ℕ)) (high : ℕ) → AreAscendingWithin low (names_without_roles xs) high → AreAscendingWithin low (looked_up_only xs) high
 ascending_looked_up low [] high p = p
-ascending_looked_up low ((role.LookedUp, n) ∷ xs) high p = (p.0, ascending_looked_up (n + 1) xs high p.1)
-ascending_looked_up low ((role.Declaring, n) ∷ xs) high p = ascending_lower low (n + 1) (looked_up_only xs) high (omega (arith, p.0)) (ascending_looked_up (n + 1) xs high p.1)
+ascending_looked_up low ((role.LookedUpName, n) ∷ xs) high p = (p.0, ascending_looked_up (n + 1) xs high p.1)
+ascending_looked_up low ((role.DeclaringName, n) ∷ xs) high p = ascending_lower low (n + 1) (looked_up_only xs) high (omega (arith, p.0)) (ascending_looked_up (n + 1) xs high p.1)
 ascending_looked_up low ((role.ClosingName, n) ∷ xs) high p = ascending_lower low (n + 1) (looked_up_only xs) high (omega (arith, p.0)) (ascending_looked_up (n + 1) xs high p.1)
 ascending_looked_up low ((role.FieldName, n) ∷ xs) high p = ascending_lower low (n + 1) (looked_up_only xs) high (omega (arith, p.0)) (ascending_looked_up (n + 1) xs high p.1)
 ascending_looked_up low ((role.ModuleName, n) ∷ xs) high p = ascending_lower low (n + 1) (looked_up_only xs) high (omega (arith, p.0)) (ascending_looked_up (n + 1) xs high p.1)
@@ -173,4 +173,4 @@ ascending_looked_up low ((role.ModuleName, n) ∷ xs) high p = ascending_lower l
 -- If the identifiers of a tree ascend, the ones that are looked up ascend as well.
 pub occurrences_ascend : {s : Sort} (t : Tree ℕ s) (low high : ℕ) → AreAscendingWithin low (identifier_names t) high → AreAscendingWithin low (occurrences t) high
 occurrences_ascend t low high p =
-    subst (λ l. AreAscendingWithin low l high) (looked_up-occurrences role.Declaring (λ n xs. refl) t) (ascending_looked_up low (identifiers role.Declaring t) high p)
+    subst (λ l. AreAscendingWithin low l high) (looked_up-occurrences role.DeclaringName (λ n xs. refl) t) (ascending_looked_up low (identifiers role.DeclaringName t) high p)

@@ -13,4 +13,4 @@ token_of_first_identifier (x ∷ xs) = Some x.1
 -- Returns the token index of the first identifier in a part of a module, or None if the part has no
 -- identifier.
 abbrev pub first_identifier : {s : Sort} → Tree ℕ s → Option ℕ
-first_identifier t = token_of_first_identifier (identifiers role.Declaring t)
+first_identifier t = token_of_first_identifier (identifiers role.DeclaringName t)

@@ -21,7 +21,7 @@ names_without_roles xs = map (λ x. x.1) xs
 
 -- Returns all identifiers of a tree, in text order, without their roles.
 abbrev pub identifier_names : {N : Type 0} {s : Sort} → Tree N s → List N
-identifier_names t = names_without_roles (identifiers role.Declaring t)
+identifier_names t = names_without_roles (identifiers role.DeclaringName t)
 
 -- Returns a list that contains only the index `i` if the given kind is `Identifier`. For any other
 -- kind, returns the empty list.

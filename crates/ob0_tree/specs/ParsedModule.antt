@@ -1,15 +1,15 @@
 -- Defines a parsed module: a text and a syntax tree of the code. Also states when the tree is the
--- right one for the text (`IsParsed`).
+-- right one for the text (`TreeMatchesText`).
 -- Rule: none; used in contracts about parsed modules.
 use Rattle.std.specs.Prelude.{◌≡◌, ℕ, List, [], ◌∷◌, ◌++◌}
 use Rattle.ob0_scan.specs.TextWithTokens.{TextWithTokens}
 use Rattle.ob0_tree.specs.declared.tree.Block.{Block}
 use Rattle.ob0_tree.specs.declared.tree.ModuleTree.{ModuleTree}
-use Rattle.ob0_tree.specs.Lexeme.{EndOfText}
+use Rattle.ob0_tree.specs.Terminals.{EndOfText}
 use Rattle.ob0_tree.specs.Tree.{Tree, module_text, forms_module, spell}
 use Rattle.ob0_tree.specs.View.{block_of}
 use Rattle.ob0_tree.specs.Module.{IsModuleWithTree}
-use Rattle.ob0_tree.specs.Places.{indexed_terminals, tree_with_names}
+use Rattle.ob0_tree.specs.TokenIndexLeaves.{indexed_terminals, tree_with_names}
 
 -- A parsed module: its text with the tokens and comments (`source`), its name, its block and its
 -- closing name. A name is given by the index of its token.
@@ -33,6 +33,6 @@ named_tree_of m = tree_with_names m.source (tree_of m)
 
 -- States that the text of `m` is a module and that `named_tree_of m` is its tree. Also states that
 -- each identifier and integer in `tree_of m` is the index of its token.
-pub record IsParsed (m : ParsedModule) : Type 0 where
+pub record TreeMatchesText (m : ParsedModule) : Type 0 where
   pub module_of : IsModuleWithTree m.source (named_tree_of m)
   pub places : spell (tree_of m) ++ (EndOfText ∷ []) ≡ indexed_terminals m.source.tokens

@@ -12,7 +12,7 @@ use Rattle.ob0_tree.specs.declared.tree.AddOperator.{AddOperator}
 use Rattle.ob0_tree.specs.declared.tree.MultiplyOperator.{MultiplyOperator}
 use Rattle.ob0_tree.specs.declared.tree.Role.{Role}
 use Rattle.ob0_tree.specs.declared.tree.Role.TheVariants as role
-use Rattle.ob0_tree.specs.Lexeme.{Terminal, Name, Number, WordOrSymbol, relation_token_kind, sign_tokens, add_operator_token_kind, multiply_operator_token_kind}
+use Rattle.ob0_tree.specs.Terminals.{Terminal, Name, Number, WordOrSymbol, relation_token_kind, sign_tokens, add_operator_token_kind, multiply_operator_token_kind}
 
 -- The kinds of items. An item is a part of a production of the grammar that may be repeated or
 -- omitted, such as a selector or an ELSE part.
@@ -362,7 +362,7 @@ identifiers r (sum sign first terms) = identifiers r first ++ identifiers r term
 identifiers r (adds operator t) = identifiers r t
 identifiers r (product first factors) = identifiers r first ++ identifiers r factors
 identifiers r (multiplies operator f) = identifiers r f
-identifiers r (designator name selectors) = (role.LookedUp, name) ∷ identifiers r selectors
+identifiers r (designator name selectors) = (role.LookedUpName, name) ∷ identifiers r selectors
 identifiers r (integer n) = []
 identifiers r (parenthesised e) = identifiers r e
 identifiers r (negation f) = identifiers r f
@@ -370,8 +370,8 @@ identifiers r (field name) = (role.FieldName, name) ∷ []
 identifiers r (index e) = identifiers r e
 identifiers r empty = []
 identifiers r (assigns name selectors e) =
-    (role.LookedUp, name) ∷ (identifiers r selectors ++ identifiers r e)
-identifiers r (calls name args) = (role.LookedUp, name) ∷ identifiers r args
+    (role.LookedUpName, name) ∷ (identifiers r selectors ++ identifiers r e)
+identifiers r (calls name args) = (role.LookedUpName, name) ∷ identifiers r args
 identifiers r (branches condition s elsifs rest) =
     identifiers r condition ++ (identifiers r s ++ (identifiers r elsifs ++ identifiers r rest))
 identifiers r (while_loop condition s) = identifiers r condition ++ identifiers r s
@@ -385,7 +385,7 @@ identifiers r (elsif_branch condition s) = identifiers r condition ++ identifier
 identifiers r (else_branch s) = identifiers r s
 identifiers r (listed name others) = (r, name) ∷ identifiers r others
 identifiers r (comma_then_name name) = (r, name) ∷ []
-identifiers r (named_type name) = (role.LookedUp, name) ∷ []
+identifiers r (named_type name) = (role.LookedUpName, name) ∷ []
 identifiers r (array_type size t) = identifiers r size ++ identifiers r t
 identifiers r (record_type first others) = identifiers r first ++ identifiers r others
 identifiers r no_fields = []
@@ -393,17 +393,17 @@ identifiers r (some_fields ns t) = identifiers role.FieldName ns ++ identifiers 
 identifiers r (semicolon_then_fields f) = identifiers r f
 identifiers r no_formals = []
 identifiers r (some_formals first others) = identifiers r first ++ identifiers r others
-identifiers r (value_section ns t) = identifiers role.Declaring ns ++ identifiers r t
-identifiers r (variable_section ns t) = identifiers role.Declaring ns ++ identifiers r t
+identifiers r (value_section ns t) = identifiers role.DeclaringName ns ++ identifiers r t
+identifiers r (variable_section ns t) = identifiers role.DeclaringName ns ++ identifiers r t
 identifiers r (semicolon_then_section s) = identifiers r s
-identifiers r (declares_constant name e) = (role.Declaring, name) ∷ identifiers r e
+identifiers r (declares_constant name e) = (role.DeclaringName, name) ∷ identifiers r e
 identifiers r (declares_const_section cs) = identifiers r cs
-identifiers r (declares_type name t) = (role.Declaring, name) ∷ identifiers r t
+identifiers r (declares_type name t) = (role.DeclaringName, name) ∷ identifiers r t
 identifiers r (declares_type_section ts) = identifiers r ts
-identifiers r (declares_variable ns t) = identifiers role.Declaring ns ++ identifiers r t
+identifiers r (declares_variable ns t) = identifiers role.DeclaringName ns ++ identifiers r t
 identifiers r (declares_var_section vs) = identifiers r vs
 identifiers r (declares_procedure name fs b closing) =
-    (role.Declaring, name)
+    (role.DeclaringName, name)
     ∷ (identifiers r fs ++ (identifiers r b ++ ((role.ClosingName, closing) ∷ [])))
 identifiers r (declares cs ts vs ps) =
     identifiers r cs ++ (identifiers r ts ++ (identifiers r vs ++ identifiers r ps))

@@ -16,6 +16,6 @@ state_after_identifiers step (x ∷ xs) known = state_after_identifiers step xs 
 -- Returns the state after visiting the identifiers of a part of a module in text order, starting in
 -- the state `known`. `step` returns the state after one identifier, given the identifier's role,
 -- its token index and the state before that identifier. If the part is only a list of names, these
--- names have the role `Declaring`.
+-- names have the role `DeclaringName`.
 abbrev pub state_after_visit : {A : Type 0} {s : Sort} → (Role → ℕ → A → A) → Tree ℕ s → A → A
-state_after_visit step t known = state_after_identifiers step (identifiers role.Declaring t) known
+state_after_visit step t known = state_after_identifiers step (identifiers role.DeclaringName t) known

@@ -5,8 +5,8 @@ ghost use Rattle.ob0_tree.specs.declared.tree.Role.TheVariants as roles;
 ghost use Rattle.ob0_tree.specs.Tree.{identifiers};
 ghost use Rattle.ob0_tree.specs.ParsedModule.{tree_of};
 
+use crate::identifier_walk::Visitor;
 use crate::tree::{Module, Role};
-use crate::walk::Visitor;
 use std::alloc::{AllocError, Global};
 use std::marker::Model;
 
@@ -27,9 +27,9 @@ impl Model for IdentifierCollector {
 }
 
 impl Visitor for IdentifierCollector {
-    ghost seen = { λ role token before. before ++ ((role, token) ∷ []) };
+    ghost state_after_one_identifier = { λ role token before. before ++ ((role, token) ∷ []) };
 
-    fn see_identifier(&mut self, role: Role, token: usize) -> Result<(), AllocError> {
+    fn visit_one_identifier(&mut self, role: Role, token: usize) -> Result<(), AllocError> {
         self.listed.push((role, token))?;
         Ok(())
     }
@@ -51,12 +51,12 @@ impl<'t> Module<'t> {
     /// Returns all identifiers of the module in text order, each with its role and the index of its
     /// token.
     pub fn identifiers(&self, alloc: Global) -> Result<Vec<(Role, usize)>, AllocError>
-        ensures { IfOk result (λ v. v.items ≡ identifiers roles.Declaring (tree_of self.now)) }
+        ensures { IfOk result (λ v. v.items ≡ identifiers roles.DeclaringName (tree_of self.now)) }
     {
         let mut seen = IdentifierCollector {
             listed: Vec::new(alloc),
         };
-        self.visit(&mut seen)?;
+        self.visit_identifiers(&mut seen)?;
         Ok(seen.into_identifiers())
     }
 }

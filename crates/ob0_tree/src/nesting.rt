@@ -11,9 +11,9 @@ ghost use Rattle.ob0_tree.specs.CappedDepth.{capped_to_u32};
 ghost use Rattle.ob0_tree.specs.View.{expression_of, compound_expression_of, simple_expression_of, term_of, factor_of, designator_of, selector_of, assignment_of, call_of, statement_of, if_of, elsifs_of_vec, sequence_of_vec, type_of, record_type_of, optional_field_group_of, parameter_section_of, formals_of, constant_section_of, type_section_of, variable_section_of, body_of, procedure_of, block_of};
 
 use crate::tree::{
-    Assignment, Block, Call, CompoundExpression, Constant, Designator, Elsif, Expression, Factor,
-    If, Module, OptionalFieldGroup, ParameterSection, Procedure, RecordType, Selector,
-    SimpleExpression, Statement, Term, TypeDeclaration, VariableDeclaration, WrittenType,
+    Assignment, Block, Call, CompoundExpression, ConstantDeclaration, Designator, Elsif,
+    Expression, Factor, If, Module, OptionalFieldGroup, ParameterSection, Procedure, RecordType,
+    Selector, SimpleExpression, Statement, Term, TypeDeclaration, VariableDeclaration, WrittenType,
 };
 
 /// The greatest number of constructs that may be nested in each other in a module.
@@ -262,7 +262,7 @@ fn formals_nesting(sections: &Option<Vec<ParameterSection>>) -> u32
 
 /// Returns the nesting depth of a block's CONST section, capped at 2^32 - 1. The result is 0 if
 /// there is no such section.
-fn constant_section_nesting(declared: &Option<Vec<Constant>>) -> u32
+fn constant_section_nesting(declared: &Option<Vec<ConstantDeclaration>>) -> u32
     ensures { result ≡ capped_to_u32 (nesting (constant_section_of declared.now)) }
 {
     let Some(declared) = declared else {

@@ -1,7 +1,7 @@
 //! Looks up the text of a token by the token's index.
 
 ghost use Rattle.std.specs.Prelude.{◌≡◌};
-ghost use Rattle.ob0_tree.specs.Places.{token_text_at};
+ghost use Rattle.ob0_tree.specs.TokenIndexLeaves.{token_text_at};
 
 use ob0_scan::Tokens;
 

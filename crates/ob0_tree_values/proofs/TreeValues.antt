@@ -22,7 +22,7 @@ use Rattle.ob0_tree.specs.declared.tree.While as while_module
 use Rattle.ob0_tree.specs.declared.tree.Repeat as repeat_module
 use Rattle.ob0_tree.specs.declared.tree.OptionalFieldGroup as fields_module
 use Rattle.ob0_tree.specs.declared.tree.ParameterSection.{ParameterSection}
-use Rattle.ob0_tree.specs.declared.tree.Constant.{Constant}
+use Rattle.ob0_tree.specs.declared.tree.ConstantDeclaration.{ConstantDeclaration}
 use Rattle.ob0_tree.specs.declared.tree.TypeDeclaration.{TypeDeclaration}
 use Rattle.ob0_tree.specs.declared.tree.VariableDeclaration.{VariableDeclaration}
 use Rattle.ob0_tree.specs.declared.tree.Procedure.{Procedure, roll-Procedure}
@@ -31,7 +31,7 @@ use Rattle.ob0_tree.specs.declared.tree.ModuleTree.{ModuleTree}
 use Rattle.ob0_tree.specs.Tree.{GrammarItem, selector, multiplier, addend, comparison, arguments, argument_after_comma, statement_after_semicolon, elsif_part, else_part, name_after_comma, fields_after_semicolon, formals, section_after_semicolon, constant, constants, type_definition, type_definitions, variable, variables, procedure, body, Sort, item, items, maybe, expression, simple, term, factor, statement, sequence, names, written_type, fields, section, declarations, block, module_text, Tree, spell, single_token_list, none, one, end, more, compares, relates, sum, adds, product, multiplies, designator, integer, parenthesised, negation, field, index, empty, assigns, calls, branches, while_loop, repeat_loop, no_arguments, some_arguments, comma_then_argument, runs, semicolon_then_statement, elsif_branch, else_branch, listed, comma_then_name, named_type, array_type, record_type, no_fields, some_fields, semicolon_then_fields, no_formals, some_formals, value_section, variable_section, semicolon_then_section, declares_constant, declares_const_section, declares_type, declares_type_section, declares_variable, declares_var_section, declares_procedure, declares, begins, forms_block, forms_module}
 use Rattle.ob0_scan.specs.declared.lexeme.TokenKind.TheVariants as kind
 use Rattle.ob0_scan.specs.declared.lexeme.Symbol.TheVariants as symbol
-use Rattle.ob0_tree.specs.Lexeme.{WordOrSymbol}
+use Rattle.ob0_tree.specs.Terminals.{WordOrSymbol}
 use Rattle.ob0_tree.specs.View.{expression_of, maybe_comparison_of, comparison_of, simple_expression_of, addend_of, term_of, multiplier_of, factor_of, selector_of, items_of, names_of, argument_after_comma_of, arguments_of_list, arguments_of, statement_of, statement_after_semicolon_of, sequence_of_list, elsif_of, else_part_of, type_of, optional_field_group_of, field_group_after_semicolon_of, record_type_of_list, parameter_section_of, parameter_section_after_semicolon_of, formals_of_list, formals_of, constant_of, constant_section_of, type_declaration_of, type_section_of, variable_of, variable_section_of, body_of, block_of, procedure_of}
 use Rattle.ob0_tree.proofs.Viewed.{simple_made, term_made, designator_made, compound_made, comparison_made, addend_made, made_record_type, while_made, repeat_made, block_made, procedure_made, if_made}
 
@@ -62,8 +62,8 @@ Part name_after_comma = ℕ
 Part fields_after_semicolon = fields_module.OptionalFieldGroup
 Part formals = Vec ParameterSection Global
 Part section_after_semicolon = ParameterSection
-Part constant = Constant
-Part constants = Vec Constant Global
+Part constant = ConstantDeclaration
+Part constants = Vec ConstantDeclaration Global
 Part type_definition = TypeDeclaration
 Part type_definitions = Vec TypeDeclaration Global
 Part variable = VariableDeclaration
@@ -99,7 +99,7 @@ maybe_of i None = none
 maybe_of i (Some x) = one (part_of i x)
 
 pub record Declarations : Type 0 where
-  pub constants_read : Option (Vec Constant Global)
+  pub constants_read : Option (Vec ConstantDeclaration Global)
   pub types_read : Option (Vec TypeDeclaration Global)
   pub variables_read : Option (Vec VariableDeclaration Global)
   pub procedures_read : List Procedure

@@ -4,14 +4,14 @@ use Rattle.std.proofs.lemmas.List.{nil_from_length}
 use Rattle.std.specs.List.{filter, list_any}
 use Rattle.ob0_language_names.specs.Names.{naming_by_spelling}
 use Rattle.ob0_language_names.specs.ConsistentNames.{has_consistent_names}
-use Rattle.ob0_scope_table.specs.Resolution.{IsResolution, Resolution, is_duplicate_or_end_name}
+use Rattle.ob0_scope_table.specs.Resolution.{IsResolution, Resolution, is_duplicate_or_end_name_fault}
 use Rattle.ob0_scope_table.specs.declared.faults.FaultAtTokens.{FaultAtTokens}
 use Rattle.ob0_tree.specs.ParsedModule.{named_tree_of}
 use Rattle.ob0_types_check.specs.DeclarationFaults.{undeclared_name_and_type_faults}
-use Rattle.ob0_types_check.specs.ModuleLaws.{HasDeclarations, ModulesWithoutFaultPassTypeCheck}
-use Rattle.ob0_types_check.specs.SomeBodies.{IsReportOf}
+use Rattle.ob0_types_check.specs.ModuleLaws.{TableHasDeclaredObjects, ModulesWithoutFaultPassTypeCheck}
+use Rattle.ob0_types_check.specs.WalksOverSomeBodies.{IsReportOfModule}
 use Rattle.ob0_types_check.specs.WellTypedLaws.{TypedModulesHaveNoFault}
-use Rattle.ob0_types_check.specs.declared.reporting.Report.{Report}
+use Rattle.ob0_types_check.specs.declared.reporting.ModuleReport.{ModuleReport}
 use Rattle.ob0_types.specs.FaultOrder.{all_faults_of}
 use Rattle.ob0_types.specs.CheckedModules.{HasTableIfWellTyped}
 use Rattle.ob0_types_table.specs.DeclarationTables.{DeclarationTableView}
@@ -28,16 +28,16 @@ length-nil xs e = ap length e
 pub empty_alike : (xs ys : List FaultAtTokens) → (length xs ≡ 0 → length ys ≡ 0) → (length ys ≡ 0 → length xs ≡ 0) → (xs ≡ []) ↔ (ys ≡ [])
 empty_alike xs ys there back = ((λ e. nil_from_length ys (there (length-nil xs e))), (λ e. nil_from_length xs (back (length-nil ys e))))
 
-none_kept : (scopes : List FaultAtTokens) → list_any is_duplicate_or_end_name scopes ≡ false → length (filter is_duplicate_or_end_name scopes) ≡ 0
+none_kept : (scopes : List FaultAtTokens) → list_any is_duplicate_or_end_name_fault scopes ≡ false → length (filter is_duplicate_or_end_name_fault scopes) ≡ 0
 none_kept [] none = refl
 none_kept (fault ∷ faults) none =
-    (elim (is_duplicate_or_end_name fault) as (λ b. (b || list_any is_duplicate_or_end_name faults) ≡ false → length (if b then fault ∷ filter is_duplicate_or_end_name faults else filter is_duplicate_or_end_name faults) ≡ 0)
+    (elim (is_duplicate_or_end_name_fault fault) as (λ b. (b || list_any is_duplicate_or_end_name_fault faults) ≡ false → length (if b then fault ∷ filter is_duplicate_or_end_name_fault faults else filter is_duplicate_or_end_name_fault faults) ≡ 0)
     [ true ↦ λ e. absurd (true≢false e) | false ↦ λ e. none_kept faults e ]) none
 
-kept_none : (scopes : List FaultAtTokens) → length (filter is_duplicate_or_end_name scopes) ≡ 0 → list_any is_duplicate_or_end_name scopes ≡ false
+kept_none : (scopes : List FaultAtTokens) → length (filter is_duplicate_or_end_name_fault scopes) ≡ 0 → list_any is_duplicate_or_end_name_fault scopes ≡ false
 kept_none [] none = refl
 kept_none (fault ∷ faults) none =
-    (elim (is_duplicate_or_end_name fault) as (λ b. length (if b then fault ∷ filter is_duplicate_or_end_name faults else filter is_duplicate_or_end_name faults) ≡ 0 → (b || list_any is_duplicate_or_end_name faults) ≡ false)
+    (elim (is_duplicate_or_end_name_fault fault) as (λ b. length (if b then fault ∷ filter is_duplicate_or_end_name_fault faults else filter is_duplicate_or_end_name_fault faults) ≡ 0 → (b || list_any is_duplicate_or_end_name_fault faults) ≡ false)
     [ true ↦ λ e. absurd (omega (arith, e)) | false ↦ λ e. kept_none faults e ]) none
 
 both_right : (a b : Bool) → a ≡ true → b ≡ false → (a && not b) ≡ true
@@ -54,17 +54,17 @@ second_right false b e = absurd (true≢false (sym e))
 
 -- If a list of faults is empty exactly if a test is true, consider the list with the faults of declarations appended.
 -- It is empty exactly if the test is true and there are no such faults.
-reported_with : (right : Bool) (first scopes : List FaultAtTokens) → IsReported right first → IsReported (right && not (list_any is_duplicate_or_end_name scopes)) (first ++ filter is_duplicate_or_end_name scopes)
+reported_with : (right : Bool) (first scopes : List FaultAtTokens) → IsReported right first → IsReported (right && not (list_any is_duplicate_or_end_name_fault scopes)) (first ++ filter is_duplicate_or_end_name_fault scopes)
 reported_with right first scopes reported = (
   (λ e.
-      let all : length first + length (filter is_duplicate_or_end_name scopes) ≡ 0 = sym (length-append first (filter is_duplicate_or_end_name scopes)) ∙ length-nil (first ++ filter is_duplicate_or_end_name scopes) e in
+      let all : length first + length (filter is_duplicate_or_end_name_fault scopes) ≡ 0 = sym (length-append first (filter is_duplicate_or_end_name_fault scopes)) ∙ length-nil (first ++ filter is_duplicate_or_end_name_fault scopes) e in
       let none : length first ≡ 0 = omega (arith, all) in
-      let others : length (filter is_duplicate_or_end_name scopes) ≡ 0 = omega (arith, all) in
-      both_right right (list_any is_duplicate_or_end_name scopes) (reported.0 (nil_from_length first none)) (kept_none scopes others)),
+      let others : length (filter is_duplicate_or_end_name_fault scopes) ≡ 0 = omega (arith, all) in
+      both_right right (list_any is_duplicate_or_end_name_fault scopes) (reported.0 (nil_from_length first none)) (kept_none scopes others)),
   (λ r.
-      let none : length first ≡ 0 = length-nil first (reported.1 (first_right right (list_any is_duplicate_or_end_name scopes) r)) in
-      let others : length (filter is_duplicate_or_end_name scopes) ≡ 0 = none_kept scopes (second_right right (list_any is_duplicate_or_end_name scopes) r) in
-      nil_from_length (first ++ filter is_duplicate_or_end_name scopes) (length-append first (filter is_duplicate_or_end_name scopes) ∙ omega (arith, none, others))),
+      let none : length first ≡ 0 = length-nil first (reported.1 (first_right right (list_any is_duplicate_or_end_name_fault scopes) r)) in
+      let others : length (filter is_duplicate_or_end_name_fault scopes) ≡ 0 = none_kept scopes (second_right right (list_any is_duplicate_or_end_name_fault scopes) r) in
+      nil_from_length (first ++ filter is_duplicate_or_end_name_fault scopes) (length-append first (filter is_duplicate_or_end_name_fault scopes) ∙ omega (arith, none, others))),
 )
 
 once_from : (b : Bool) (any : Bool) → any ≡ not b → any ≡ false → b ≡ true
@@ -90,10 +90,10 @@ unfolding WellTyped
 none_reported law r is w = law r is w.1
 
 -- A table in a report has the module's declarations, and the report of a well-typed module has a table.
-pub known_where_typed : (r : Resolution) (report : Report) → TypedModulesHaveNoFault → IsResolution r → IsReportOf r report → HasTableIfWellTyped r report.known
+pub known_where_typed : (r : Resolution) (report : ModuleReport) → TypedModulesHaveNoFault → IsResolution r → IsReportOfModule r report → HasTableIfWellTyped r report.known
 known_where_typed r report law is h = record {
-  holds = known_declares (undeclared_name_and_type_faults r ≡ []) report.known (HasDeclarations (named_tree_of r.module_read)) h.known;
-  kept = λ typed. known_there (undeclared_name_and_type_faults r ≡ []) report.known (HasDeclarations (named_tree_of r.module_read)) h.known (none_reported law r is typed);
+  holds = known_declares (undeclared_name_and_type_faults r ≡ []) report.known (TableHasDeclaredObjects (named_tree_of r.module_read)) h.known;
+  kept = λ typed. known_there (undeclared_name_and_type_faults r ≡ []) report.known (TableHasDeclaredObjects (named_tree_of r.module_read)) h.known (none_reported law r is typed);
 }
 
 -- A module is well-typed exactly if a list is empty that is empty exactly if the module has no fault.
@@ -102,7 +102,7 @@ unfolding WellTyped
 reported_if_faulty r faults reported_law none_law h alike =
     let m = named_tree_of r.module_read in
     let fits : Bool = passes_type_check naming_by_spelling m in
-    let any = list_any is_duplicate_or_end_name r.faults in
+    let any = list_any is_duplicate_or_end_name_fault r.faults in
     let of_types : IsReported fits (undeclared_name_and_type_faults r) = (reported_law r h, none_law r h) in
     let whole : IsReported (fits && not any) (all_faults_of r) = reported_with fits (undeclared_name_and_type_faults r) r.faults of_types in (
       (λ none.

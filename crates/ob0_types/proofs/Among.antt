@@ -3,27 +3,27 @@ use Rattle.std.proofs.Common.{◌≡◌, ℕ, Bool, true, false, ◌||◌, List,
 use Rattle.std.proofs.lemmas.List.Folds.{list_any-append}
 use Rattle.std.specs.List.{AllZip}
 use Rattle.std.proofs.lemmas.Bool.{or_left, or_right}
-use Rattle.ob0_types_check.specs.SomeBodies.{AllClosingNamesPass, is_among}
+use Rattle.ob0_types_check.specs.WalksOverSomeBodies.{AllClosingNamesPass, is_body_in_list}
 
 pub all_weaker : (test other : ℕ → Bool) (xs : List ℕ) → ((k : ℕ) → test k ≡ true → other k ≡ true) → AllClosingNamesPass test xs → AllClosingNamesPass other xs
 all_weaker test other [] f h = tt
 all_weaker test other (x ∷ xs) f h = (f x h.0, all_weaker test other xs f h.1)
 
-pub among_further : (xs ys : List ℕ) (k : ℕ) → is_among xs k ≡ true → is_among (xs ++ ys) k ≡ true
-among_further xs ys k h = list_any-append (λ y. nat_eq y k) xs ys ∙ or_left (is_among xs k) (is_among ys k) h
+pub among_further : (xs ys : List ℕ) (k : ℕ) → is_body_in_list xs k ≡ true → is_body_in_list (xs ++ ys) k ≡ true
+among_further xs ys k h = list_any-append (λ y. nat_eq y k) xs ys ∙ or_left (is_body_in_list xs k) (is_body_in_list ys k) h
 
-itself : (x : ℕ) → is_among (x ∷ []) x ≡ true
+itself : (x : ℕ) → is_body_in_list (x ∷ []) x ≡ true
 itself x = or_left (nat_eq x x) false (eq-eqb x x refl)
 
-pub among_last : (xs : List ℕ) (x : ℕ) → is_among (xs ++ x ∷ []) x ≡ true
-among_last xs x = list_any-append (λ y. nat_eq y x) xs (x ∷ []) ∙ or_right (is_among xs x) (is_among (x ∷ []) x) (itself x)
+pub among_last : (xs : List ℕ) (x : ℕ) → is_body_in_list (xs ++ x ∷ []) x ≡ true
+among_last xs x = list_any-append (λ y. nat_eq y x) xs (x ∷ []) ∙ or_right (is_body_in_list xs x) (is_body_in_list (x ∷ []) x) (itself x)
 
-pub all_among : (xs : List ℕ) → AllClosingNamesPass (is_among xs) xs
+pub all_among : (xs : List ℕ) → AllClosingNamesPass (is_body_in_list xs) xs
 all_among [] = tt
-all_among (x ∷ xs) = (itself_first, all_weaker (is_among xs) (is_among (x ∷ xs)) xs (λ k h. or_right (nat_eq x k) (is_among xs k) h) (all_among xs))
+all_among (x ∷ xs) = (itself_first, all_weaker (is_body_in_list xs) (is_body_in_list (x ∷ xs)) xs (λ k h. or_right (nat_eq x k) (is_body_in_list xs k) h) (all_among xs))
   where
-    itself_first : is_among (x ∷ xs) x ≡ true
-    itself_first = or_left (nat_eq x x) (is_among xs x) (eq-eqb x x refl)
+    itself_first : is_body_in_list (x ∷ xs) x ≡ true
+    itself_first = or_left (nat_eq x x) (is_body_in_list xs x) (eq-eqb x x refl)
 
 -- Two lists that are equal item by item are equal.
 pub copied_items : (xs ys : List ℕ) → AllZip (λ x y. y ≡ x) xs ys → ys ≡ xs

@@ -14,9 +14,9 @@ use Rattle.ob0_scope_table.specs.FaultsAtTokens.{fault_at_token, fault_with_span
 use Rattle.ob0_scope_table.specs.Resolution.{Resolution}
 use Rattle.ob0_scope_table.specs.declared.faults.FaultAtTokens.{FaultAtTokens}
 use Rattle.ob0_scope_table.proofs.TokenOrder.{end_order, start_order}
-use Rattle.ob0_types.specs.CheckedModules.{IsCheckResultOf, IsCorrectlyChecked, checked_module}
+use Rattle.ob0_types.specs.CheckedModules.{IsCheckResultOfModule, IsCorrectlyChecked, checked_module}
 use Rattle.ob0_types.specs.FaultOrder.{AreFirstFaultsWhenSorted, all_faults_of, fault_code_number, compare_faults, compare_faults_by_tokens}
-use Rattle.ob0_types.specs.declared.checked.CheckResult.{CheckResult}
+use Rattle.ob0_types.specs.declared.checked_modules.CheckResult.{CheckResult}
 
 module _ (source : TextWithTokens) (scan : IsScan source) where
   abbrev by_tokens : FaultAtTokens → FaultAtTokens → Ordering
@@ -45,7 +45,7 @@ module _ (source : TextWithTokens) (scan : IsScan source) where
     first = ap (map with_span) first.first ∙ sym (take-map with_span max_faults first.all);
   }
 
-pub types_checked : (names : Resolution) (types : CheckResult) → IsScan names.module_read.source → IsCheckResultOf names types → IsCorrectlyChecked (checked_module names types)
+pub types_checked : (names : Resolution) (types : CheckResult) → IsScan names.module_read.source → IsCheckResultOfModule names types → IsCorrectlyChecked (checked_module names types)
 types_checked names types scan t =
     let kept : List FaultAtTokens = types.faults.items in
     let with_spans = map (fault_with_span names.module_read.source) kept in

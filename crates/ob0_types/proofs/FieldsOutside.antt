@@ -2,24 +2,24 @@
 -- the body's statements.
 use Rattle.std.proofs.Common.{◌≡◌, ℕ, ◌+◌, true, false, if◌then◌else◌, nat_lt, List, [], ◌++◌, sym, ap, ◌∙◌, append_assoc, append-nil}
 use Rattle.ob0_tree.specs.Tree.{Tree, block, body, declares, declares_procedure, end, forms_block, forms_module, item, items, maybe, module_text, more, procedure}
-use Rattle.ob0_language_names.specs.BlockParts.{formal_sections, section_types, section_variables}
-use Rattle.ob0_language_types.specs.Declarations.{constructors_before_procedure_block, constructors_before_variables, constructors_before_procedures, procedure_constructor_count}
+use Rattle.ob0_language_names.specs.BlockParts.{formal_parameter_sections, section_types, section_variables}
+use Rattle.ob0_language_types.specs.Declarations.{constructor_count_before_procedure_block, constructor_count_before_variables, constructor_count_before_procedures, procedure_constructor_count}
 use Rattle.ob0_language_types.specs.Expressions.{Meanings}
 use Rattle.ob0_language_values.specs.Values.{Shape}
-use Rattle.ob0_scope_table.specs.TokenProperty.{EachTokenHas}
-use Rattle.ob0_scope_table.specs.OneBody.{closing_name}
+use Rattle.ob0_scope_table.specs.TokenProperty.{EachTokenSatisfies}
+use Rattle.ob0_scope_table.specs.SpellingChangesInOneBody.{closing_name}
 use Rattle.ob0_types.proofs.BodyFound.{AmongOutside, BlockOutside, Chosen, ModuleOutside, ProcedureOutside}
 use Rattle.ob0_types.specs.OneBody.{body_with_token_in_procedures, body_with_token_in_block, body_with_token_in_module, body_with_token_in_procedure}
-use Rattle.ob0_types_fields.specs.declared.field_name.FieldName.{FieldName}
+use Rattle.ob0_types_fields.specs.declared.field_identifier.FieldIdentifier.{FieldIdentifier}
 use Rattle.ob0_types_fields.specs.IdentifierOwners.{fields_in_block, fields_in_module, fields_in_procedure, fields_in_procedures, fields_in_parameter_sections, fields_in_tree, fields_in_types, fields_in_variables}
 use Rattle.ob0_types_fields.proofs.SameSelectedFields.{MeansSame, procedure_same, procedures_same, tree_same}
 
 module _ {Q : Type 0} (m n : Meanings ℕ Shape Q) where
   -- holds if two lists of fields differ only in the fields of the statements, which have the same lists before and
   -- after them
-  pub record AreAround (xs ys : List FieldName) (statements : Tree ℕ (maybe body)) : Type 0 where
-    pub before : List FieldName
-    pub after : List FieldName
+  pub record AreAround (xs ys : List FieldIdentifier) (statements : Tree ℕ (maybe body)) : Type 0 where
+    pub before : List FieldIdentifier
+    pub after : List FieldIdentifier
     pub first : xs ≡ before ++ (fields_in_tree m statements ++ after)
     pub second : ys ≡ before ++ (fields_in_tree n statements ++ after)
 
@@ -27,7 +27,7 @@ module _ {Q : Type 0} (m n : Meanings ℕ Shape Q) where
   alone statements = record { before = []; after = []; first = sym (append-nil (fields_in_tree m statements)); second = sym (append-nil (fields_in_tree n statements)) }
 
   -- Two lists that differ only in the fields of the statements still do if both get the same prefix.
-  in_front : (xs ys front : List FieldName) (statements : Tree ℕ (maybe body)) → AreAround xs ys statements → AreAround (front ++ xs) (front ++ ys) statements
+  in_front : (xs ys front : List FieldIdentifier) (statements : Tree ℕ (maybe body)) → AreAround xs ys statements → AreAround (front ++ xs) (front ++ ys) statements
   in_front xs ys front statements h = record {
     before = front ++ h.before;
     after = h.after;
@@ -35,12 +35,12 @@ module _ {Q : Type 0} (m n : Meanings ℕ Shape Q) where
     second = ap (λ l. front ++ l) h.second ∙ sym (append_assoc front h.before (fields_in_tree n statements ++ h.after));
   }
 
-  followed_by_one : (zs before inner after back : List FieldName) → zs ≡ before ++ (inner ++ after) → zs ++ back ≡ before ++ (inner ++ (after ++ back))
+  followed_by_one : (zs before inner after back : List FieldIdentifier) → zs ≡ before ++ (inner ++ after) → zs ++ back ≡ before ++ (inner ++ (after ++ back))
   followed_by_one zs before inner after back e =
       ap (λ l. l ++ back) e ∙ (append_assoc before (inner ++ after) back ∙ ap (λ l. before ++ l) (append_assoc inner after back))
 
   -- Two lists that differ only in the fields of the statements still do if both get the same suffix.
-  followed_by : (xs ys back : List FieldName) (statements : Tree ℕ (maybe body)) → AreAround xs ys statements → AreAround (xs ++ back) (ys ++ back) statements
+  followed_by : (xs ys back : List FieldIdentifier) (statements : Tree ℕ (maybe body)) → AreAround xs ys statements → AreAround (xs ++ back) (ys ++ back) statements
   followed_by xs ys back statements h = record {
     before = h.before;
     after = h.after ++ back;
@@ -48,7 +48,7 @@ module _ {Q : Type 0} (m n : Meanings ℕ Shape Q) where
     second = followed_by_one ys h.before (fields_in_tree n statements) h.after back h.second;
   }
 
-  as_these : {xs ys us vs : List FieldName} (statements : Tree ℕ (maybe body)) → us ≡ xs → vs ≡ ys → AreAround xs ys statements → AreAround us vs statements
+  as_these : {xs ys us vs : List FieldIdentifier} (statements : Tree ℕ (maybe body)) → us ≡ xs → vs ≡ ys → AreAround xs ys statements → AreAround us vs statements
   as_these statements e f h = record { before = h.before; after = h.after; first = e ∙ h.first; second = f ∙ h.second }
 
   abbrev Same : ℕ → Type 0
@@ -60,8 +60,8 @@ module _ {Q : Type 0} (m n : Meanings ℕ Shape Q) where
       block_around k own (forms_block (declares cs ts vs ps) statements) h =
           let b : Tree ℕ block = forms_block (declares cs ts vs ps) statements in
           let of_types = fields_in_types k (section_types ts) in
-          let of_variables = fields_in_variables (constructors_before_variables k b) (section_variables vs) in
-          let j : ℕ = constructors_before_procedures k b in
+          let of_variables = fields_in_variables (constructor_count_before_variables k b) (section_variables vs) in
+          let j : ℕ = constructor_count_before_procedures k b in
           let inner = (body_with_token_in_procedures low own ps statements).statements in
           as_these inner
           (joined of_types of_variables (fields_in_procedures m j ps) (fields_in_tree m statements))
@@ -69,7 +69,7 @@ module _ {Q : Type 0} (m n : Meanings ℕ Shape Q) where
           (in_front (of_variables ++ (fields_in_procedures m j ps ++ fields_in_tree m statements)) (of_variables ++ (fields_in_procedures n j ps ++ fields_in_tree n statements)) of_types inner
           (in_front (fields_in_procedures m j ps ++ fields_in_tree m statements) (fields_in_procedures n j ps ++ fields_in_tree n statements) of_variables inner (among_around j own ps statements h.3)))
         where
-          joined : (a b c d : List FieldName) → (a ++ (b ++ c)) ++ d ≡ a ++ (b ++ (c ++ d))
+          joined : (a b c d : List FieldIdentifier) → (a ++ (b ++ c)) ++ d ≡ a ++ (b ++ (c ++ d))
           joined a b c d = append_assoc a (b ++ c) d ∙ ap (λ l. a ++ l) (append_assoc b c d)
 
       among_around : (k own : ℕ) (ps : Tree ℕ (items procedure)) (statements : Tree ℕ (maybe body)) → AmongOutside Same low ps statements
@@ -81,7 +81,7 @@ module _ {Q : Type 0} (m n : Meanings ℕ Shape Q) where
           let first_n = fields_in_procedure n k p in
           let rest_m = fields_in_procedures m j rest in
           let rest_n = fields_in_procedures n j rest in
-          (elim (nat_lt (closing_name p) low) as (λ z. Chosen z (EachTokenHas Same p × AmongOutside Same low rest statements) (ProcedureOutside Same low p × EachTokenHas Same rest × EachTokenHas Same statements)
+          (elim (nat_lt (closing_name p) low) as (λ z. Chosen z (EachTokenSatisfies Same p × AmongOutside Same low rest statements) (ProcedureOutside Same low p × EachTokenSatisfies Same rest × EachTokenSatisfies Same statements)
           → AreAround ((first_m ++ rest_m) ++ fields_in_tree m statements) ((first_n ++ rest_n) ++ fields_in_tree n statements) (if z then body_with_token_in_procedures low own rest statements else body_with_token_in_procedure low p).statements) [
             | true ↦ λ h.
                 let inner = (body_with_token_in_procedures low own rest statements).statements in
@@ -97,8 +97,8 @@ module _ {Q : Type 0} (m n : Meanings ℕ Shape Q) where
 
       procedure_around : (k : ℕ) (p : Tree ℕ (item procedure)) → ProcedureOutside Same low p → AreAround (fields_in_procedure m k p) (fields_in_procedure n k p) (body_with_token_in_procedure low p).statements
       procedure_around k (declares_procedure x fs b closing) h =
-          let j : ℕ = constructors_before_procedure_block k (declares_procedure x fs b closing) in
-          in_front (fields_in_block m j b) (fields_in_block n j b) (fields_in_parameter_sections k (formal_sections fs)) (body_with_token_in_block low closing b).statements (block_around j closing b h.2)
+          let j : ℕ = constructor_count_before_procedure_block k (declares_procedure x fs b closing) in
+          in_front (fields_in_block m j b) (fields_in_block n j b) (fields_in_parameter_sections k (formal_parameter_sections fs)) (body_with_token_in_block low closing b).statements (block_around j closing b h.2)
 
     pub module_around : (t : Tree ℕ module_text) → ModuleOutside Same low t → AreAround (fields_in_module m t) (fields_in_module n t) (body_with_token_in_module low t).statements
     module_around (forms_module x b closing) h = block_around 0 closing b h.1

@@ -7,21 +7,21 @@ use Rattle.ob0_scan.specs.declared.lexeme.Token.{Token}
 use Rattle.ob0_scan.specs.declared.lexeme.TokenKind.{TokenKind}
 use Rattle.ob0_tree.specs.ParsedModule.{tree_of}
 use Rattle.ob0_scope_table.specs.Bindings.{resolution_with_bindings}
-use Rattle.ob0_scope_table.specs.OneBody.{is_outside_range}
+use Rattle.ob0_scope_table.specs.SpellingChangesInOneBody.{is_outside_range}
 use Rattle.ob0_scope_table.specs.Resolution.{IsResolution, Resolution}
 use Rattle.ob0_scope_table.proofs.BodyOutside.{module_outside}
 use Rattle.ob0_scope_table.proofs.BodyReplacement.{text_by_word, value_by_word}
 use Rattle.ob0_scope_table.proofs.Placed.{places_ascend}
 use Rattle.ob0_types_check.specs.EqualExceptBodies.{AreEqualExceptInBodies, IsSameTokenAt}
-use Rattle.ob0_types_check.specs.SomeBodies.{IncludesChangedAndFaultyBodies, faulty_bodies, is_among}
-use Rattle.ob0_types.specs.OneBody.{IsCheckResultBeforeBodyChange, body_with_token_in_module, with_source}
-use Rattle.ob0_types.specs.declared.checked.CheckResult.{CheckResult}
+use Rattle.ob0_types_check.specs.WalksOverSomeBodies.{IncludesChangedAndFaultyBodies, faulty_bodies, is_body_in_list}
+use Rattle.ob0_types.specs.OneBody.{IsCheckResultBeforeBodyChange, body_with_token_in_module, module_with_source}
+use Rattle.ob0_types.specs.declared.checked_modules.CheckResult.{CheckResult}
 use Rattle.ob0_types.proofs.Among.{all_weaker, among_further, among_last}
 use Rattle.ob0_types.proofs.BodyFound.{ModuleOutside, module_but, module_found}
 
 module _ (r : Resolution) (types : CheckResult) (low : ℕ) (w : IsCheckResultBeforeBodyChange r types low) where
   abbrev pub before : Resolution
-  before = resolution_with_bindings (with_source w.old r.module_read) w.bindings
+  before = resolution_with_bindings (module_with_source w.old r.module_read) w.bindings
 
   abbrev kind_of : Token → TokenKind
   kind_of t = kind_without_value t.kind
@@ -50,12 +50,12 @@ module _ (r : Resolution) (types : CheckResult) (low : ℕ) (w : IsCheckResultBe
         alike = module_but (IsSameTokenAt before r) low wanted (tree_of r.module_read) (alike_outside (IsSameTokenAt before r) (λ k h. h) is) is_wanted;
       }
 
-  abbrev pub were_faulty : IsResolution r → IncludesChangedAndFaultyBodies (is_among (types.bodies_with_faults.items ++ last_body ∷ [])) r
+  abbrev pub were_faulty : IsResolution r → IncludesChangedAndFaultyBodies (is_body_in_list (types.bodies_with_faults.items ++ last_body ∷ [])) r
   were_faulty is =
       let bodies = types.bodies_with_faults.items ++ last_body ∷ [] in
       record {
         old = before;
         resolved = w.types_are.resolved;
-        bodies_with_faults = all_weaker (is_among types.bodies_with_faults.items) (is_among bodies) (faulty_bodies before) (λ k h. among_further types.bodies_with_faults.items (last_body ∷ []) k h) w.types_are.bodies_with_faults;
-        alike = were_alike (is_among bodies) is (among_last types.bodies_with_faults.items last_body);
+        bodies_with_faults = all_weaker (is_body_in_list types.bodies_with_faults.items) (is_body_in_list bodies) (faulty_bodies before) (λ k h. among_further types.bodies_with_faults.items (last_body ∷ []) k h) w.types_are.bodies_with_faults;
+        alike = were_alike (is_body_in_list bodies) is (among_last types.bodies_with_faults.items last_body);
       }

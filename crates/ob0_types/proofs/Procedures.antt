@@ -5,7 +5,7 @@ use Rattle.ob0_tree.specs.Tree.{Tree, body, maybe}
 use Rattle.ob0_tree.specs.View.{items_of, procedure_of}
 use Rattle.ob0_tree.specs.declared.tree.Procedure.{Procedure, out-Procedure}
 use Rattle.ob0_tree.proofs.Viewed.{procedure_parts}
-use Rattle.ob0_scope_table.specs.OneBody.{closing_name}
+use Rattle.ob0_scope_table.specs.SpellingChangesInOneBody.{closing_name}
 use Rattle.ob0_types.specs.OneBody.{OneBody, body_with_token_in_procedures, body_with_token_in_procedure}
 
 module _ (low own : ℕ) (statements : Tree ℕ (maybe body)) where

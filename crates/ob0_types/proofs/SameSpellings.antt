@@ -9,17 +9,17 @@ use Rattle.ob0_tree.specs.declared.tree.ModuleTree.{ModuleTree}
 use Rattle.ob0_language_types.specs.Bindings.{declared_object}
 use Rattle.ob0_language_types.specs.WellTyped.{WellTyped}
 use Rattle.ob0_scope_table.specs.Bindings.{resolution_with_bindings}
-use Rattle.ob0_scope_table.specs.Resolution.{IsResolution, Resolution, is_duplicate_or_end_name, ordinal_in}
+use Rattle.ob0_scope_table.specs.Resolution.{IsResolution, Resolution, is_duplicate_or_end_name_fault, ordinal_in}
 use Rattle.ob0_scope_table.specs.declared.faults.FaultAtTokens.{FaultAtTokens}
 use Rattle.ob0_scope_table.specs.declared.resolved.Bindings.{Bindings}
 use Rattle.ob0_scope_table.proofs.Placed.{each_token}
 use Rattle.ob0_scope_table.proofs.SameWords.{same_count, same_named_tree, same_texts, same_values}
 use Rattle.ob0_types_check.specs.EqualExceptBodies.{IsSameTokenAt}
-use Rattle.ob0_types_check.specs.ModuleLaws.{HasDeclarations}
-use Rattle.ob0_types_check.specs.SomeBodies.{AllClosingNamesPass, faulty_bodies, is_among}
+use Rattle.ob0_types_check.specs.ModuleLaws.{TableHasDeclaredObjects}
+use Rattle.ob0_types_check.specs.WalksOverSomeBodies.{AllClosingNamesPass, faulty_bodies, is_body_in_list}
 use Rattle.ob0_types_check.proofs.SameModules.{module_same}
-use Rattle.ob0_types_check.proofs.SomeBodies.{faulty_stay}
-use Rattle.ob0_types_fields.specs.Identifiers.{field_identifiers}
+use Rattle.ob0_types_check.proofs.WalksOverSomeBodies.{faulty_stay}
+use Rattle.ob0_types_fields.specs.FieldIdentifiers.{field_identifiers}
 use Rattle.ob0_types_fields.specs.IdentifierOwners.{fields_with_owners, identifier_owners_in_module}
 use Rattle.ob0_types.proofs.BodyFound.{module_any}
 use Rattle.ob0_types.specs.FaultOrder.{AreFirstFaultsByTokens, AreFirstFaultsWhenSorted, all_faults_of, compare_faults_by_tokens}
@@ -38,7 +38,7 @@ module _ (old new : TextWithTokens) (tree : ModuleTree) (b : Bindings) (same : w
   first_stay : (faults : List FaultAtTokens) → AreFirstFaultsByTokens before faults → AreFirstFaultsByTokens after faults
   first_stay faults first =
       subst (λ count. AreFirstFaultsWhenSorted (compare_faults_by_tokens count) (all_faults_of after) faults) (sym (same_count old new same))
-      (subst (λ found. AreFirstFaultsWhenSorted (compare_faults_by_tokens (length old.tokens)) found faults) (ap (λ found. found ++ filter is_duplicate_or_end_name b.faults.items) (module_same old new same tree b)) first)
+      (subst (λ found. AreFirstFaultsWhenSorted (compare_faults_by_tokens (length old.tokens)) found faults) (ap (λ found. found ++ filter is_duplicate_or_end_name_fault b.faults.items) (module_same old new same tree b)) first)
 
   fields_stay : field_identifiers after ≡ field_identifiers before
   fields_stay = λ i. fields_with_owners (identifier_owners_in_module (record { object_for = λ token. option_and_then (declared_object (named i)) (ordinal_in b.ordinals.items token); written = λ token. same_texts old new same i token }) (tree_of (parsed_module old tree)))
@@ -46,16 +46,16 @@ module _ (old new : TextWithTokens) (tree : ModuleTree) (b : Bindings) (same : w
   alike_at : (k : ℕ) → IsSameTokenAt before after k
   alike_at k = record { written = λ i. same_texts old new same i k; value = λ i. same_values old new same i k; bound = refl }
 
-  bodies_stay : IsResolution before → IsResolution after → (bodies : List ℕ) → AllClosingNamesPass (is_among bodies) (faulty_bodies before) → AllClosingNamesPass (is_among bodies) (faulty_bodies after)
+  bodies_stay : IsResolution before → IsResolution after → (bodies : List ℕ) → AllClosingNamesPass (is_body_in_list bodies) (faulty_bodies before) → AllClosingNamesPass (is_body_in_list bodies) (faulty_bodies after)
   bodies_stay r s bodies were =
-      faulty_stay (is_among bodies) after s (record {
+      faulty_stay (is_body_in_list bodies) after s (record {
         old = before;
         resolved = r;
         bodies_with_faults = were;
         alike = record {
           tree = refl;
           count = same_count old new same;
-          alike = module_any (IsSameTokenAt before after) (is_among bodies) (tree_of before.module_read) (each_token (IsSameTokenAt before after) alike_at (tree_of before.module_read));
+          alike = module_any (IsSameTokenAt before after) (is_body_in_list bodies) (tree_of before.module_read) (each_token (IsSameTokenAt before after) alike_at (tree_of before.module_read));
         };
       })
 
@@ -67,7 +67,7 @@ check_result_depends_only_on_spellings old new tree b types same s t =
       reported = ((λ e. subst WellTyped (sym names) (t.reported.0 e)), (λ typed. t.reported.1 (subst WellTyped names typed)));
       first = first_stay old new tree b same types.faults.items t.first;
       table = record {
-        holds = subst (λ n. IfSome types.known (HasDeclarations n)) (sym names) t.table.holds;
+        holds = subst (λ n. IfSome types.known (TableHasDeclaredObjects n)) (sym names) t.table.holds;
         kept = λ typed. t.table.kept (subst WellTyped names typed);
       };
       fields = λ typed.

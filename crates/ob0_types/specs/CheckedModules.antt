@@ -6,13 +6,13 @@ use Rattle.ob0_scan.specs.declared.fault.Fault.{Fault}
 use Rattle.ob0_scope_table.specs.FaultsAtTokens.{fault_with_span}
 use Rattle.ob0_scope_table.specs.Resolution.{Resolution, IsResolution}
 use Rattle.ob0_tree.specs.ParsedModule.{named_tree_of}
-use Rattle.ob0_types_check.specs.ModuleLaws.{HasDeclarations}
-use Rattle.ob0_types_check.specs.SomeBodies.{AllClosingNamesPass, faulty_bodies, is_among}
+use Rattle.ob0_types_check.specs.ModuleLaws.{TableHasDeclaredObjects}
+use Rattle.ob0_types_check.specs.WalksOverSomeBodies.{AllClosingNamesPass, faulty_bodies, is_body_in_list}
 use Rattle.ob0_types_table.specs.DeclarationTables.{DeclarationTableView}
 use Rattle.ob0_language_types.specs.WellTyped.{WellTyped}
 use Rattle.ob0_types.specs.FaultOrder.{AreFirstFaultsOfModule, AreFirstFaultsByTokens}
-use Rattle.ob0_types.specs.declared.checked.CheckResult.{CheckResult}
-use Rattle.ob0_types_fields.specs.FieldLists.{AreFieldListsOf, FieldLists}
+use Rattle.ob0_types.specs.declared.checked_modules.CheckResult.{CheckResult}
+use Rattle.ob0_types_fields.specs.FieldLists.{AreFieldListsOfModule, FieldLists}
 
 -- a checked module: its bindings, its faults, and the table of its declarations if there is one
 pub record CheckedModule : Type 0 where
@@ -25,7 +25,7 @@ pub record CheckedModule : Type 0 where
 pub record IsCorrectlyChecked (c : CheckedModule) : Type 0 where
   pub resolved : IsResolution c.names
   pub reported : (c.faults ≡ []) ↔ WellTyped (named_tree_of c.names.module_read)
-  pub holds : IfSome c.known (HasDeclarations (named_tree_of c.names.module_read))
+  pub holds : IfSome c.known (TableHasDeclaredObjects (named_tree_of c.names.module_read))
   pub kept : c.faults ≡ [] → is_some c.known ≡ true
   pub few : length c.faults ≤ max_faults
   pub first : AreFirstFaultsOfModule c.names c.faults
@@ -42,23 +42,23 @@ checked_module names types =
 -- States that the table `known` has the module's declarations or is None. If the module is well-typed, the table isn't
 -- None.
 pub record HasTableIfWellTyped (names : Resolution) (known : Option DeclarationTableView) : Type 0 where
-  pub holds : IfSome known (HasDeclarations (named_tree_of names.module_read))
+  pub holds : IfSome known (TableHasDeclaredObjects (named_tree_of names.module_read))
   pub kept : WellTyped (named_tree_of names.module_read) → is_some known ≡ true
 
 -- states that the lists `fields` have the module's fields if the module is well-typed
 abbrev pub AreFieldListsIfWellTyped : Resolution → FieldLists → Type 0
 AreFieldListsIfWellTyped names fields =
-    WellTyped (named_tree_of names.module_read) → AreFieldListsOf names fields
+    WellTyped (named_tree_of names.module_read) → AreFieldListsOfModule names fields
 
 -- States that `types` is the result of checking a module. It has the module's first 100 faults, and no fault exactly if
 -- the module is well-typed. Each body with a fault of types is listed in `types.bodies_with_faults`.
-pub record IsCheckResultOf (names : Resolution) (types : CheckResult) : Type 0 where
+pub record IsCheckResultOfModule (names : Resolution) (types : CheckResult) : Type 0 where
   pub resolved : IsResolution names
   pub reported : (types.faults.items ≡ []) ↔ WellTyped (named_tree_of names.module_read)
   pub first : AreFirstFaultsByTokens names types.faults.items
   pub table : HasTableIfWellTyped names types.known
   pub fields : AreFieldListsIfWellTyped names types.fields
-  pub bodies_with_faults : AllClosingNamesPass (is_among types.bodies_with_faults.items) (faulty_bodies names)
+  pub bodies_with_faults : AllClosingNamesPass (is_body_in_list types.bodies_with_faults.items) (faulty_bodies names)
 
 -- states that `names` has the right bindings of its module (`IsResolution`), and that this module is well-typed
 pub record IsWellTyped (names : Resolution) : Type 0 where
@@ -69,5 +69,5 @@ pub record IsWellTyped (names : Resolution) : Type 0 where
 -- its fields
 pub record IsWellTypedWithTableAndFields (names : Resolution) (known : DeclarationTableView) (fields : FieldLists) : Type 0 where
   pub well_typed : IsWellTyped names
-  pub declarations : HasDeclarations (named_tree_of names.module_read) known
-  pub fields_are : AreFieldListsOf names fields
+  pub declarations : TableHasDeclaredObjects (named_tree_of names.module_read) known
+  pub fields_are : AreFieldListsOfModule names fields

@@ -10,7 +10,7 @@ use Rattle.ob0_scan.specs.declared.fault.FaultCode.{FaultCode}
 use Rattle.ob0_scan.specs.declared.fault.FaultCode.TheVariants as code
 use Rattle.ob0_scan.specs.declared.fault.Fault.{Fault}
 use Rattle.ob0_scope_table.specs.FaultsAtTokens.{fault_with_span, clamped_token_index}
-use Rattle.ob0_scope_table.specs.Resolution.{Resolution, is_duplicate_or_end_name}
+use Rattle.ob0_scope_table.specs.Resolution.{Resolution, is_duplicate_or_end_name_fault}
 use Rattle.ob0_scope_table.specs.declared.faults.FaultAtTokens.{FaultAtTokens}
 use Rattle.ob0_types_check.specs.DeclarationFaults.{undeclared_name_and_type_faults}
 
@@ -66,7 +66,7 @@ pub record AreFirstFaultsWhenSorted {F : Type 0} (cmp : F → F → Ordering) (f
 -- faults of types come first, then the duplicate declarations and wrong closing names. Only the first 100 faults in the
 -- order of `compare_faults` are reported.
 abbrev pub all_faults_of : Resolution → List FaultAtTokens
-all_faults_of r = undeclared_name_and_type_faults r ++ filter is_duplicate_or_end_name r.faults
+all_faults_of r = undeclared_name_and_type_faults r ++ filter is_duplicate_or_end_name_fault r.faults
 
 -- states that the list `faults` has the module's first 100 faults, with spans, in the order of `compare_faults`
 abbrev pub AreFirstFaultsOfModule : Resolution → List Fault → Type 0

@@ -4,8 +4,8 @@
 use Rattle.ob0_scan.specs.declared.tokens.CommonPrefixAndSuffix.{CommonPrefixAndSuffix}
 use Rattle.ob0_scope_table.specs.BodyReplacement.{ReplacesStatementsOfOneBody, PathToBody}
 use Rattle.ob0_scope_table.specs.Resolution.{Resolution}
-use Rattle.ob0_types.specs.CheckedModules.{IsCheckResultOf}
-use Rattle.ob0_types.specs.declared.checked.CheckResult.{CheckResult}
+use Rattle.ob0_types.specs.CheckedModules.{IsCheckResultOfModule}
+use Rattle.ob0_types.specs.declared.checked_modules.CheckResult.{CheckResult}
 
 -- States that `types` is the result of checking an older module, and that `r` is that module with the statements of one
 -- body replaced. All other tokens have the same spellings in both modules. `s` gives the ranges of these unchanged
@@ -14,4 +14,4 @@ pub record IsCheckResultBeforeBodyReplacement (r : Resolution) (types : CheckRes
   pub old : Resolution
   pub path : PathToBody
   pub replaced : ReplacesStatementsOfOneBody old.module_read r.module_read path s
-  pub types_are : IsCheckResultOf old types
+  pub types_are : IsCheckResultOfModule old types

@@ -5,12 +5,12 @@ use Rattle.ob0_tree.specs.Tree.{Tree, block, body, declares, declares_procedure,
 use Rattle.ob0_tree.specs.View.{body_of}
 use Rattle.ob0_scan.specs.TextWithTokens.{TextWithTokens}
 use Rattle.ob0_scope_table.specs.Bindings.{resolution_with_bindings}
-use Rattle.ob0_scope_table.specs.OneBody.{ChangesSpellingsInOneBody, closing_name, is_outside_range}
+use Rattle.ob0_scope_table.specs.SpellingChangesInOneBody.{ChangesSpellingsInOneBody, closing_name, is_outside_range}
 use Rattle.ob0_scope_table.specs.Resolution.{Resolution, ordinal_in}
 use Rattle.ob0_scope_table.specs.declared.resolved.Bindings.{Bindings}
 use Rattle.ob0_tree.specs.ParsedModule.{ParsedModule}
-use Rattle.ob0_types.specs.CheckedModules.{IsCheckResultOf}
-use Rattle.ob0_types.specs.declared.checked.CheckResult.{CheckResult}
+use Rattle.ob0_types.specs.CheckedModules.{IsCheckResultOfModule}
+use Rattle.ob0_types.specs.declared.checked_modules.CheckResult.{CheckResult}
 use Rattle.ob0_types.specs.declared.one_body.Body.{Body}
 
 -- a body: the statements of a block and the token of the block's closing name
@@ -50,8 +50,8 @@ abbrev pub body_with_token_in_module : ℕ → Tree ℕ module_text → OneBody
 body_with_token_in_module low (forms_module x b closing) = body_with_token_in_block low closing b
 
 -- replaces the tokens of a module by the tokens of another text; the tree is unchanged
-abbrev pub with_source : TextWithTokens → ParsedModule → ParsedModule
-with_source source m =
+abbrev pub module_with_source : TextWithTokens → ParsedModule → ParsedModule
+module_with_source source m =
     record { source = source; name = m.name; block = m.block; closing = m.closing }
 
 -- States that `types` is the result of checking the module before a change. The changed tokens have indexes of at least
@@ -63,4 +63,4 @@ pub record IsCheckResultBeforeBodyChange (r : Resolution) (types : CheckResult) 
   pub change : ChangesSpellingsInOneBody old r.module_read low high
   pub bound : (token : ℕ) → is_outside_range low high token ≡ true
       → ordinal_in r.ordinals token ≡ ordinal_in bindings.ordinals.items token
-  pub types_are : IsCheckResultOf (resolution_with_bindings (with_source old r.module_read) bindings) types
+  pub types_are : IsCheckResultOfModule (resolution_with_bindings (module_with_source old r.module_read) bindings) types

@@ -9,8 +9,8 @@ use Rattle.ob0_tree.specs.declared.tree.ModuleTree.{ModuleTree}
 use Rattle.ob0_scope_table.specs.Bindings.{resolution_with_bindings}
 use Rattle.ob0_scope_table.specs.Resolution.{IsResolution}
 use Rattle.ob0_scope_table.specs.declared.resolved.Bindings.{Bindings}
-use Rattle.ob0_types.specs.CheckedModules.{IsCheckResultOf}
-use Rattle.ob0_types.specs.declared.checked.CheckResult.{CheckResult}
+use Rattle.ob0_types.specs.CheckedModules.{IsCheckResultOfModule}
+use Rattle.ob0_types.specs.declared.checked_modules.CheckResult.{CheckResult}
 
 -- States that the result of checking a module is also the result for the same tree and bindings with the tokens of
 -- another text. The tokens of both texts must have the same kinds and spellings.
@@ -19,5 +19,5 @@ CheckResultDependsOnlyOnSpellings =
     (old new : TextWithTokens) (tree : ModuleTree) (b : Bindings) (types : CheckResult)
     → words_of_tokens new.text new.tokens ≡ words_of_tokens old.text old.tokens
     → IsResolution (resolution_with_bindings (parsed_module new tree) b)
-    → IsCheckResultOf (resolution_with_bindings (parsed_module old tree) b) types
-    → IsCheckResultOf (resolution_with_bindings (parsed_module new tree) b) types
+    → IsCheckResultOfModule (resolution_with_bindings (parsed_module old tree) b) types
+    → IsCheckResultOfModule (resolution_with_bindings (parsed_module new tree) b) types

@@ -3,16 +3,16 @@
 
 ghost use Rattle.std.specs.Prelude.{◌≡◌, IfOk, IfSome, length};
 ghost use Rattle.ob0_tree.specs.IdentifierIndexes.{AreIdentifierTokens, AreAscendingWithin, IsIdentifierToken};
-ghost use Rattle.ob0_types_fields.specs.Identifiers.{field_declaring_token, field_at, field_index_in_record, field_tokens};
+ghost use Rattle.ob0_types_fields.specs.FieldIdentifiers.{field_declaring_token, module_field_at_offset, field_index_in_record, field_tokens_in_module};
 
-use crate::checked::WellTyped;
-use ob0_types_fields::FieldName;
+use crate::checked_modules::WellTyped;
+use ob0_types_fields::FieldIdentifier;
 use std::alloc::{AllocError, Global};
 
 /// Returns the field identifier that contains the byte offset `offset` or ends there. Returns None
 /// if there is no such identifier.
-pub fn field_at(well_typed: &WellTyped<'_>, offset: usize) -> Option<FieldName>
-    ensures value { result ≡ field_at well_typed.now offset }
+pub fn module_field_at_offset(well_typed: &WellTyped<'_>, offset: usize) -> Option<FieldIdentifier>
+    ensures value { result ≡ module_field_at_offset well_typed.now offset }
     ensures are_identifiers { IfSome result
         (λ x. IsIdentifierToken well_typed.now.module_read.source.tokens x.token) }
 {
@@ -25,14 +25,14 @@ pub fn field_at(well_typed: &WellTyped<'_>, offset: usize) -> Option<FieldName>
 /// Returns the tokens of the field with this name in a record, in text order. These are the
 /// declaring identifier and all identifiers that select the field. `owner` is the record's ordinal:
 /// the number of words ARRAY and RECORD in the text before the record's own word.
-pub fn field_tokens(
+pub fn field_tokens_in_module(
     alloc: Global,
     well_typed: &WellTyped<'_>,
     owner: usize,
     name: &str,
 ) -> Result<Vec<usize>, AllocError>
     ensures value { IfOk result
-        (λ tokens. tokens.items ≡ field_tokens well_typed.now owner name.now) }
+        (λ tokens. tokens.items ≡ field_tokens_in_module well_typed.now owner name.now) }
     ensures ascend { IfOk result
         (λ tokens. AreAscendingWithin 0 tokens.items (length well_typed.now.module_read.source.tokens)) }
     ensures are_identifiers { IfOk result

@@ -1,14 +1,14 @@
 //! Finds the meaning of the identifier at an offset of the text: a declaration or a field.
 //!
 //! The handlers of hover, declarations, occurrences and renaming distinguish names and fields by
-//! the result of `identifier_meaning_at`.
+//! the result of `identifier_meaning_at_offset`.
 
 ghost use Rattle.std.specs.Prelude.{◌≡◌, IfSome};
 ghost use Rattle.ob0_tree.specs.IdentifierIndexes.{IsIdentifierToken};
-ghost use Rattle.ob0_types.specs.IdentifierMeanings.{MeansField, identifier_meaning_at};
+ghost use Rattle.ob0_types.specs.IdentifierMeanings.{MeansField, identifier_meaning_at_offset};
 
-use crate::checked::WellTyped;
-use crate::fields::field_at;
+use crate::checked_modules::WellTyped;
+use crate::fields::module_field_at_offset;
 use ob0_scope::name_at_offset;
 
 /// The meaning of an identifier: a declaration or a field.
@@ -30,11 +30,11 @@ pub struct IdentifierWithMeaning {
 /// Returns the identifier that contains the byte offset `offset` or ends there, with its meaning.
 /// The closing name of a procedure means the procedure. Returns None if there is no identifier at
 /// `offset`, and at the module's name.
-pub fn identifier_meaning_at(
+pub fn identifier_meaning_at_offset(
     well_typed: &WellTyped<'_>,
     offset: usize,
 ) -> Option<IdentifierWithMeaning>
-    ensures value { result ≡ identifier_meaning_at well_typed.now offset }
+    ensures value { result ≡ identifier_meaning_at_offset well_typed.now offset }
     ensures are_identifiers { IfSome result (λ x. MeansField x.means
         → IsIdentifierToken well_typed.now.module_read.source.tokens x.token) }
 {
@@ -43,7 +43,7 @@ pub fn identifier_meaning_at(
             token: name.token,
             means: IdentifierMeaning::Name(name.ordinal),
         }),
-        None => match field_at(well_typed, offset) {
+        None => match module_field_at_offset(well_typed, offset) {
             None => None,
             Some(field) => Some(IdentifierWithMeaning {
                 token: field.token,

@@ -5,16 +5,16 @@ use Rattle.std.proofs.lemmas.Bool.{and_parts}
 use Rattle.std.proofs.Math.Seq.{take-append_seam}
 use Rattle.ob0_tree.specs.Tree.{Tree, block, body, declares, declares_procedure, end, formals, forms_block, forms_module, item, items, maybe, module_text, more, procedure}
 use Rattle.ob0_language_names.specs.Names.{Label, Name, Naming, naming_by_label, naming_by_spelling, declared}
-use Rattle.ob0_language_names.specs.BlockParts.{constant_names, formal_names, formal_sections, module_block, declared_type_names, section_constants, section_types, section_variables, variable_names}
+use Rattle.ob0_language_names.specs.BlockParts.{constant_names, formal_parameter_names, formal_parameter_sections, module_block, declared_type_names, section_constants, section_types, section_variables, variable_names}
 use Rattle.ob0_language_names.specs.Scopes.{Scope, ordinal_after_block, ordinal_after_names, ordinal_after_procedure, ordinal_after_procedure_list, label_from_ordinal, declare_names, first_procedure_ordinal, first_type_ordinal, first_variable_ordinal, numbered, scope_before_procedures, relabel_block, relabel_formals, relabel_procedure_list, relabel_parameter_section_list, scope_before_types, scope_before_variables}
 use Rattle.ob0_language_names.proofs.Ordinals.{le-ordinal_after_procedure}
 use Rattle.ob0_language_names.proofs.Relabelled.{formals-section, types-section, variables-section}
-use Rattle.ob0_language_types.specs.Bindings.{block_bindings, list_if_some, module_bindings, procedure_bindings, procedures_bindings, bindings_since}
+use Rattle.ob0_language_types.specs.Bindings.{block_bindings, list_if_some, module_bindings, procedure_bindings, procedure_list_bindings, added_bindings}
 use Rattle.ob0_language_types.specs.BlockDeclarations.{declare_block, declare_procedure}
-use Rattle.ob0_language_types.specs.Declarations.{constructors_before_procedures, formals_constructor_count, procedure_constructor_count, types_constructor_count, variables_constructor_count}
+use Rattle.ob0_language_types.specs.Declarations.{constructor_count_before_procedures, formals_constructor_count, procedure_constructor_count, types_constructor_count, variables_constructor_count}
 use Rattle.ob0_language_types.specs.Environments.{outermost_environment}
 use Rattle.ob0_language_types.specs.Expressions.{a_procedure, a_variable}
-use Rattle.ob0_language_types.specs.WellTyped.{TypeEnvironment, TypedParameter, bind_typed_parameters, block_is_well_typed, passes_type_check, bind_procedure, procedure_is_well_typed, procedures_are_well_typed, typed_parameters}
+use Rattle.ob0_language_types.specs.WellTyped.{TypeEnvironment, TypedParameter, bind_typed_parameters, block_is_well_typed, passes_type_check, bind_procedure, procedure_is_well_typed, procedures_and_body_are_well_typed, typed_parameters}
 use Rattle.ob0_language_types.proofs.Agreeing.{Agree, HoldsOf}
 use Rattle.ob0_language_types.proofs.Constructors.{formals_constructor_count-relabel, procedure_constructor_count-relabel, types_constructor_count-relabel, variables_constructor_count-relabel}
 use Rattle.ob0_language_types.proofs.Literals.{some_inverse}
@@ -97,8 +97,8 @@ split-then k i n scope mid all s t = record {
   in_order = in_order-append k i n s.first t.first s.in_order t.in_order;
 }
 
-pub bindings_since-front : {A : Type 0} (before first rest : List A) → length before ≡ length rest → bindings_since before (first ++ rest) ≡ first
-bindings_since-front before first rest e = ap (λ n. take n (first ++ rest)) (omega (arith, e, length-append first rest)) ∙ take-append_seam first rest
+pub added_bindings-front : {A : Type 0} (before first rest : List A) → length before ≡ length rest → added_bindings before (first ++ rest) ≡ first
+added_bindings-front before first rest e = ap (λ n. take n (first ++ rest)) (omega (arith, e, length-append first rest)) ∙ take-append_seam first rest
 
 name-length : (noted : TypeNoted Name) → length (typed_by_name noted) ≡ length (typed_scope noted)
 name-length [] = refl
@@ -108,13 +108,13 @@ label-length : (noted : TypeNoted Name) → length (typed_by_ordinal noted) ≡ 
 label-length [] = refl
 label-length (b ∷ noted) = ap suc (label-length noted)
 
-bindings_since-ordered : (k n : ℕ) (noted all : TypeNoted Name) → Split k n (typed_scope noted) all → Ordered k n (bindings_since (typed_by_name noted) (typed_by_name all)) (bindings_since (typed_by_ordinal noted) (typed_by_ordinal all))
-bindings_since-ordered k n noted all s = record {
+added_bindings-ordered : (k n : ℕ) (noted all : TypeNoted Name) → Split k n (typed_scope noted) all → Ordered k n (added_bindings (typed_by_name noted) (typed_by_name all)) (added_bindings (typed_by_ordinal noted) (typed_by_ordinal all))
+added_bindings-ordered k n noted all s = record {
   noted = s.first;
-  by_name = ap (λ z. bindings_since (typed_by_name noted) (typed_by_name z)) s.both ∙ (ap (bindings_since (typed_by_name noted)) (by_name-append s.first s.rest)
-      ∙ bindings_since-front (typed_by_name noted) (typed_by_name s.first) (typed_by_name s.rest) (name-length noted ∙ (ap length (sym s.scoped) ∙ sym (name-length s.rest))));
-  by_label = ap (λ z. bindings_since (typed_by_ordinal noted) (typed_by_ordinal z)) s.both ∙ (ap (bindings_since (typed_by_ordinal noted)) (by_ordinal-append s.first s.rest)
-      ∙ bindings_since-front (typed_by_ordinal noted) (typed_by_ordinal s.first) (typed_by_ordinal s.rest) (label-length noted ∙ (ap length (sym s.scoped) ∙ sym (label-length s.rest))));
+  by_name = ap (λ z. added_bindings (typed_by_name noted) (typed_by_name z)) s.both ∙ (ap (added_bindings (typed_by_name noted)) (by_name-append s.first s.rest)
+      ∙ added_bindings-front (typed_by_name noted) (typed_by_name s.first) (typed_by_name s.rest) (name-length noted ∙ (ap length (sym s.scoped) ∙ sym (name-length s.rest))));
+  by_label = ap (λ z. added_bindings (typed_by_ordinal noted) (typed_by_ordinal z)) s.both ∙ (ap (added_bindings (typed_by_ordinal noted)) (by_ordinal-append s.first s.rest)
+      ∙ added_bindings-front (typed_by_ordinal noted) (typed_by_ordinal s.first) (typed_by_ordinal s.rest) (label-length noted ∙ (ap length (sym s.scoped) ∙ sym (label-length s.rest))));
   in_order = s.in_order;
 }
 
@@ -139,28 +139,28 @@ given-both {X} {Y} {Z} p q P r s (a, e, e', holds) y h = go a e' holds (sym e �
 
 module _ {N : Type 0} (naming : Naming N) (env : TypeEnvironment N) where
   block-listed : (j : ℕ) (cs : _) (ts : _) (vs : _) (ps : Tree N (items procedure)) (statements : Tree N (maybe body)) (inner : TypeEnvironment N) → declare_block naming env j (forms_block (declares cs ts vs ps) statements) ≡ Some inner
-      → block_bindings naming env j (forms_block (declares cs ts vs ps) statements) ≡ procedures_bindings naming inner (constructors_before_procedures j (forms_block (declares cs ts vs ps) statements)) ps ++ bindings_since env inner
+      → block_bindings naming env j (forms_block (declares cs ts vs ps) statements) ≡ procedure_list_bindings naming inner (constructor_count_before_procedures j (forms_block (declares cs ts vs ps) statements)) ps ++ added_bindings env inner
   unfolding block_bindings
-  block-listed j cs ts vs ps statements inner e = ap (λ o. list_if_some o (λ z. procedures_bindings naming z (constructors_before_procedures j (forms_block (declares cs ts vs ps) statements)) ps ++ bindings_since env z)) e
+  block-listed j cs ts vs ps statements inner e = ap (λ o. list_if_some o (λ z. procedure_list_bindings naming z (constructor_count_before_procedures j (forms_block (declares cs ts vs ps) statements)) ps ++ added_bindings env z)) e
 
-  pub procedure-listed : (j : ℕ) (x : N) (fs : Tree N (maybe formals)) (b : Tree N block) (closing : N) (listed : List (TypedParameter N)) → typed_parameters naming env j (formal_sections fs) ≡ Some listed
-      → procedure_bindings naming env j (declares_procedure x fs b closing) ≡ block_bindings naming (bind_typed_parameters listed (bind_procedure x listed env)) (j + formals_constructor_count (formal_sections fs)) b ++ bind_typed_parameters listed (bind_procedure x listed [])
+  pub procedure-listed : (j : ℕ) (x : N) (fs : Tree N (maybe formals)) (b : Tree N block) (closing : N) (listed : List (TypedParameter N)) → typed_parameters naming env j (formal_parameter_sections fs) ≡ Some listed
+      → procedure_bindings naming env j (declares_procedure x fs b closing) ≡ block_bindings naming (bind_typed_parameters listed (bind_procedure x listed env)) (j + formals_constructor_count (formal_parameter_sections fs)) b ++ bind_typed_parameters listed (bind_procedure x listed [])
   unfolding procedure_bindings
-  procedure-listed j x fs b closing listed e = ap (λ o. list_if_some o (λ ps. block_bindings naming (bind_typed_parameters ps (bind_procedure x ps env)) (j + formals_constructor_count (formal_sections fs)) b ++ bind_typed_parameters ps (bind_procedure x ps []))) e
+  procedure-listed j x fs b closing listed e = ap (λ o. list_if_some o (λ ps. block_bindings naming (bind_typed_parameters ps (bind_procedure x ps env)) (j + formals_constructor_count (formal_parameter_sections fs)) b ++ bind_typed_parameters ps (bind_procedure x ps []))) e
 
-  pub procedures-listed : (j : ℕ) (x : N) (fs : Tree N (maybe formals)) (b : Tree N block) (closing : N) (rest : Tree N (items procedure)) (listed : List (TypedParameter N)) → typed_parameters naming env j (formal_sections fs) ≡ Some listed
-      → block_is_well_typed naming (bind_typed_parameters listed (bind_procedure x listed env)) (j + formals_constructor_count (formal_sections fs)) b ≡ true
-      → procedures_bindings naming env j (more (declares_procedure x fs b closing) rest)
-      ≡ procedures_bindings naming (bind_procedure x listed env) (j + procedure_constructor_count (declares_procedure x fs b closing)) rest ++ procedure_bindings naming env j (declares_procedure x fs b closing)
+  pub procedures-listed : (j : ℕ) (x : N) (fs : Tree N (maybe formals)) (b : Tree N block) (closing : N) (rest : Tree N (items procedure)) (listed : List (TypedParameter N)) → typed_parameters naming env j (formal_parameter_sections fs) ≡ Some listed
+      → block_is_well_typed naming (bind_typed_parameters listed (bind_procedure x listed env)) (j + formals_constructor_count (formal_parameter_sections fs)) b ≡ true
+      → procedure_list_bindings naming env j (more (declares_procedure x fs b closing) rest)
+      ≡ procedure_list_bindings naming (bind_procedure x listed env) (j + procedure_constructor_count (declares_procedure x fs b closing)) rest ++ procedure_bindings naming env j (declares_procedure x fs b closing)
   unfolding block_bindings declare_procedure block_is_well_typed
   procedures-listed j x fs b closing rest listed typed right =
       let p : Tree N (item procedure) = declares_procedure x fs b closing in
       let given : declare_procedure naming env j p ≡ Some (bind_procedure x listed env) =
       ap (option_and_then (λ ps. if procedure_is_well_typed naming (bind_typed_parameters ps (bind_procedure x ps env)) j p then Some (bind_procedure x ps env) else None)) typed
       ∙ ap (λ t. if t then Some (bind_procedure x listed env) else None) right in
-      ap (λ o. list_if_some o (λ later. procedures_bindings naming later (j + procedure_constructor_count p) rest ++ procedure_bindings naming env j p)) given
+      ap (λ o. list_if_some o (λ later. procedure_list_bindings naming later (j + procedure_constructor_count p) rest ++ procedure_bindings naming env j p)) given
 
-none-listed : (noted : TypeNoted Name) (j k : ℕ) → Ordered k k (procedures_bindings naming_by_spelling (typed_by_name noted) j end) (procedures_bindings naming_by_label (typed_by_ordinal noted) j end)
+none-listed : (noted : TypeNoted Name) (j k : ℕ) → Ordered k k (procedure_list_bindings naming_by_spelling (typed_by_name noted) j end) (procedure_list_bindings naming_by_label (typed_by_ordinal noted) j end)
 unfolding block_bindings
 none-listed noted j k = record { noted = []; by_name = refl; by_label = refl; in_order = refl }
 
@@ -189,7 +189,7 @@ bind_procedure-ordered k x ps = record {
 }
 
 -- A block and its numbered tree give the same ordinals to their words ARRAY and RECORD.
-variables-same : (noted : TypeNoted Name) (j k : ℕ) (b : Tree Name block) → constructors_before_procedures j (relabel_block naming_by_spelling (label_from_ordinal naming_by_spelling) (typed_scope noted) k b) ≡ constructors_before_procedures j b
+variables-same : (noted : TypeNoted Name) (j k : ℕ) (b : Tree Name block) → constructor_count_before_procedures j (relabel_block naming_by_spelling (label_from_ordinal naming_by_spelling) (typed_scope noted) k b) ≡ constructor_count_before_procedures j b
 variables-same noted j k (forms_block (declares cs ts vs ps) statements) =
     let b : Tree Name block = forms_block (declares cs ts vs ps) statements in
     let scope : Scope Name = typed_scope noted in
@@ -199,25 +199,25 @@ variables-same noted j k (forms_block (declares cs ts vs ps) statements) =
 -- the parts of a procedure that fits, and the facts about each
 record Procedure (noted : TypeNoted Name) (j : ℕ) (statements : Tree Name (maybe body)) (x : Name) (fs : Tree Name (maybe formals)) (b : Tree Name block) (closing : Name) (rest : Tree Name (items procedure)) : Type 0 where
   listed : List (TypedParameter Name)
-  typed : typed_parameters naming_by_spelling (typed_by_name noted) j (formal_sections fs) ≡ Some listed
-  right : block_is_well_typed naming_by_spelling (bind_typed_parameters listed (bind_procedure x listed (typed_by_name noted))) (j + formals_constructor_count (formal_sections fs)) b ≡ true
-  others : procedures_are_well_typed naming_by_spelling (bind_procedure x listed (typed_by_name noted)) (j + procedure_constructor_count (declares_procedure x fs b closing)) statements rest ≡ true
+  typed : typed_parameters naming_by_spelling (typed_by_name noted) j (formal_parameter_sections fs) ≡ Some listed
+  right : block_is_well_typed naming_by_spelling (bind_typed_parameters listed (bind_procedure x listed (typed_by_name noted))) (j + formals_constructor_count (formal_parameter_sections fs)) b ≡ true
+  others : procedures_and_body_are_well_typed naming_by_spelling (bind_procedure x listed (typed_by_name noted)) (j + procedure_constructor_count (declares_procedure x fs b closing)) statements rest ≡ true
 
 procedure-parts : (noted : TypeNoted Name) (j : ℕ) (statements : Tree Name (maybe body)) (x : Name) (fs : Tree Name (maybe formals)) (b : Tree Name block) (closing : Name) (rest : Tree Name (items procedure))
-    → procedures_are_well_typed naming_by_spelling (typed_by_name noted) j statements (more (declares_procedure x fs b closing) rest) ≡ true → Procedure noted j statements x fs b closing rest
+    → procedures_and_body_are_well_typed naming_by_spelling (typed_by_name noted) j statements (more (declares_procedure x fs b closing) rest) ≡ true → Procedure noted j statements x fs b closing rest
 unfolding block_is_well_typed
 procedure-parts noted j statements x fs b closing rest h =
     let env : TypeEnvironment Name = typed_by_name noted in
     let p : Tree Name (item procedure) = declares_procedure x fs b closing in
-    let all = hold-true (typed_parameters naming_by_spelling env j (formal_sections fs)) (λ ps. procedure_is_well_typed naming_by_spelling (bind_typed_parameters ps (bind_procedure x ps env)) j p && procedures_are_well_typed naming_by_spelling (bind_procedure x ps env) (j + procedure_constructor_count p) statements rest) h in
-    let both = and_parts (procedure_is_well_typed naming_by_spelling (bind_typed_parameters all.0 (bind_procedure x all.0 env)) j p) (procedures_are_well_typed naming_by_spelling (bind_procedure x all.0 env) (j + procedure_constructor_count p) statements rest) all.2 in
+    let all = hold-true (typed_parameters naming_by_spelling env j (formal_parameter_sections fs)) (λ ps. procedure_is_well_typed naming_by_spelling (bind_typed_parameters ps (bind_procedure x ps env)) j p && procedures_and_body_are_well_typed naming_by_spelling (bind_procedure x ps env) (j + procedure_constructor_count p) statements rest) h in
+    let both = and_parts (procedure_is_well_typed naming_by_spelling (bind_typed_parameters all.0 (bind_procedure x all.0 env)) j p) (procedures_and_body_are_well_typed naming_by_spelling (bind_procedure x all.0 env) (j + procedure_constructor_count p) statements rest) all.2 in
     record { listed = all.0; typed = all.1; right = both.0; others = both.1 }
 
 block-rest : (noted : TypeNoted Name) (j : ℕ) (cs : _) (ts : _) (vs : _) (ps : Tree Name (items procedure)) (statements : Tree Name (maybe body)) → block_is_well_typed naming_by_spelling (typed_by_name noted) j (forms_block (declares cs ts vs ps) statements) ≡ true
-    → (inner : TypeEnvironment Name) × (declare_block naming_by_spelling (typed_by_name noted) j (forms_block (declares cs ts vs ps) statements) ≡ Some inner) × (procedures_are_well_typed naming_by_spelling inner (constructors_before_procedures j (forms_block (declares cs ts vs ps) statements)) statements ps ≡ true)
+    → (inner : TypeEnvironment Name) × (declare_block naming_by_spelling (typed_by_name noted) j (forms_block (declares cs ts vs ps) statements) ≡ Some inner) × (procedures_and_body_are_well_typed naming_by_spelling inner (constructor_count_before_procedures j (forms_block (declares cs ts vs ps) statements)) statements ps ≡ true)
 unfolding block_is_well_typed
 block-rest noted j cs ts vs ps statements h =
-    hold-true (declare_block naming_by_spelling (typed_by_name noted) j (forms_block (declares cs ts vs ps) statements)) (λ inner. procedures_are_well_typed naming_by_spelling inner (constructors_before_procedures j (forms_block (declares cs ts vs ps) statements)) statements ps) h
+    hold-true (declare_block naming_by_spelling (typed_by_name noted) j (forms_block (declares cs ts vs ps) statements)) (λ inner. procedures_and_body_are_well_typed naming_by_spelling inner (constructor_count_before_procedures j (forms_block (declares cs ts vs ps) statements)) statements ps) h
 
 mutual
   pub block-ordered : (noted : TypeNoted Name) (j k : ℕ) → TypedBelow k noted → (b : Tree Name block) → block_is_well_typed naming_by_spelling (typed_by_name noted) j b ≡ true
@@ -230,18 +230,18 @@ mutual
       let parts = block-rest noted j cs ts vs ps statements h in
       let o = given-both typed_by_name typed_by_ordinal (TypedWithin kp (scope_before_procedures k b scope)) (declare_block naming_by_spelling (typed_by_name noted) j b) (declare_block naming_by_label (typed_by_ordinal noted) j b') (declarations_typed naming_by_spelling j k noted below b) parts.0 parts.1 in
       let all : TypeNoted Name = o.0 in
-      let p = procedures-ordered all (constructors_before_procedures j b) kp o.1.1 statements ps ((λ i. procedures_are_well_typed naming_by_spelling (o.2 i) (constructors_before_procedures j b) statements ps) ∙ parts.2) in
-      let own = bindings_since-ordered k kp noted all (opened noted all k b o.1.0) in
-      let names : block_bindings naming_by_spelling (typed_by_name noted) j b ≡ procedures_bindings naming_by_spelling (typed_by_name all) (constructors_before_procedures j b) ps ++ bindings_since (typed_by_name noted) (typed_by_name all) =
+      let p = procedures-ordered all (constructor_count_before_procedures j b) kp o.1.1 statements ps ((λ i. procedures_and_body_are_well_typed naming_by_spelling (o.2 i) (constructor_count_before_procedures j b) statements ps) ∙ parts.2) in
+      let own = added_bindings-ordered k kp noted all (opened noted all k b o.1.0) in
+      let names : block_bindings naming_by_spelling (typed_by_name noted) j b ≡ procedure_list_bindings naming_by_spelling (typed_by_name all) (constructor_count_before_procedures j b) ps ++ added_bindings (typed_by_name noted) (typed_by_name all) =
       block-listed naming_by_spelling (typed_by_name noted) j cs ts vs ps statements (typed_by_name all) (parts.1 ∙ ap Some (sym o.2)) in
-      let labels : block_bindings naming_by_label (typed_by_ordinal noted) j b' ≡ procedures_bindings naming_by_label (typed_by_ordinal all) (constructors_before_procedures j b) (relabel_procedure_list naming_by_spelling (label_from_ordinal naming_by_spelling) (typed_scope all) kp ps) ++ bindings_since (typed_by_ordinal noted) (typed_by_ordinal all) =
+      let labels : block_bindings naming_by_label (typed_by_ordinal noted) j b' ≡ procedure_list_bindings naming_by_label (typed_by_ordinal all) (constructor_count_before_procedures j b) (relabel_procedure_list naming_by_spelling (label_from_ordinal naming_by_spelling) (typed_scope all) kp ps) ++ added_bindings (typed_by_ordinal noted) (typed_by_ordinal all) =
       block-listed naming_by_label (typed_by_ordinal noted) j _ _ _ (relabel_procedure_list naming_by_spelling (label_from_ordinal naming_by_spelling) (scope_before_procedures k b scope) kp ps) _ (typed_by_ordinal all) o.3
-      ∙ (λ i. procedures_bindings naming_by_label (typed_by_ordinal all) (variables-same noted j k b i) (relabel_procedure_list naming_by_spelling (label_from_ordinal naming_by_spelling) (sym o.1.0 i) kp ps) ++ bindings_since (typed_by_ordinal noted) (typed_by_ordinal all)) in
+      ∙ (λ i. procedure_list_bindings naming_by_label (typed_by_ordinal all) (variables-same noted j k b i) (relabel_procedure_list naming_by_spelling (label_from_ordinal naming_by_spelling) (sym o.1.0 i) kp ps) ++ added_bindings (typed_by_ordinal noted) (typed_by_ordinal all)) in
       subst₂ (Ordered k (ordinal_after_block k b)) (sym names) (sym labels)
-      (ordered-append k kp (ordinal_after_block k b) (procedures_bindings naming_by_spelling (typed_by_name all) (constructors_before_procedures j b) ps) (bindings_since (typed_by_name noted) (typed_by_name all)) (procedures_bindings naming_by_label (typed_by_ordinal all) (constructors_before_procedures j b) (relabel_procedure_list naming_by_spelling (label_from_ordinal naming_by_spelling) (typed_scope all) kp ps)) (bindings_since (typed_by_ordinal noted) (typed_by_ordinal all)) p own)
+      (ordered-append k kp (ordinal_after_block k b) (procedure_list_bindings naming_by_spelling (typed_by_name all) (constructor_count_before_procedures j b) ps) (added_bindings (typed_by_name noted) (typed_by_name all)) (procedure_list_bindings naming_by_label (typed_by_ordinal all) (constructor_count_before_procedures j b) (relabel_procedure_list naming_by_spelling (label_from_ordinal naming_by_spelling) (typed_scope all) kp ps)) (added_bindings (typed_by_ordinal noted) (typed_by_ordinal all)) p own)
 
-  pub procedures-ordered : (noted : TypeNoted Name) (j k : ℕ) → TypedBelow k noted → (statements : Tree Name (maybe body)) (ps : Tree Name (items procedure)) → procedures_are_well_typed naming_by_spelling (typed_by_name noted) j statements ps ≡ true
-      → Ordered k (ordinal_after_procedure_list k ps) (procedures_bindings naming_by_spelling (typed_by_name noted) j ps) (procedures_bindings naming_by_label (typed_by_ordinal noted) j (relabel_procedure_list naming_by_spelling (label_from_ordinal naming_by_spelling) (typed_scope noted) k ps))
+  pub procedures-ordered : (noted : TypeNoted Name) (j k : ℕ) → TypedBelow k noted → (statements : Tree Name (maybe body)) (ps : Tree Name (items procedure)) → procedures_and_body_are_well_typed naming_by_spelling (typed_by_name noted) j statements ps ≡ true
+      → Ordered k (ordinal_after_procedure_list k ps) (procedure_list_bindings naming_by_spelling (typed_by_name noted) j ps) (procedure_list_bindings naming_by_label (typed_by_ordinal noted) j (relabel_procedure_list naming_by_spelling (label_from_ordinal naming_by_spelling) (typed_scope noted) k ps))
   procedures-ordered noted j k below statements end h = none-listed noted j k
   procedures-ordered noted j k below statements (more (declares_procedure x fs b closing) rest) h =
       let p : Tree Name (item procedure) = declares_procedure x fs b closing in
@@ -250,46 +250,46 @@ mutual
       let labels : TypeEnvironment Label = typed_by_ordinal noted in
       let f = procedure-parts noted j statements x fs b closing rest h in
       let listed : List (TypedParameter Name) = f.listed in
-      let xs : List Name = formal_names (formal_sections fs) in
+      let xs : List Name = formal_parameter_names (formal_parameter_sections fs) in
       let m : ℕ = ordinal_after_names (suc k) xs in
       let q : ℕ = ordinal_after_procedure (suc k) p in
       let own : TypeNoted Name = named_procedure k x listed noted in
       let inner : TypeNoted Name = noted_parameters (suc k) listed own in
-      let jb : ℕ = j + formals_constructor_count (formal_sections fs) in
+      let jb : ℕ = j + formals_constructor_count (formal_parameter_sections fs) in
       let jr : ℕ = j + procedure_constructor_count p in
-      let g = given-both (λ ps. ps) (label_typed (suc k)) (λ ps. typed_names ps ≡ xs) (typed_parameters naming_by_spelling env j (formal_sections fs)) (typed_parameters naming_by_label labels j (relabel_parameter_section_list naming_by_spelling (label_from_ordinal naming_by_spelling) scope (suc k) (formal_sections fs)))
-      (parameters_typed naming_by_spelling j (suc k) noted (TypedBelow-weaken k (suc k) noted (le_of_lt (le_refl (suc k))) below) (formal_sections fs)) listed f.typed in
+      let g = given-both (λ ps. ps) (label_typed (suc k)) (λ ps. typed_names ps ≡ xs) (typed_parameters naming_by_spelling env j (formal_parameter_sections fs)) (typed_parameters naming_by_label labels j (relabel_parameter_section_list naming_by_spelling (label_from_ordinal naming_by_spelling) scope (suc k) (formal_parameter_sections fs)))
+      (parameters_typed naming_by_spelling j (suc k) noted (TypedBelow-weaken k (suc k) noted (le_of_lt (le_refl (suc k))) below) (formal_parameter_sections fs)) listed f.typed in
       let names_are : typed_names listed ≡ xs = ap typed_names (sym g.2) ∙ g.1 in
       let fs' : Tree Label (maybe formals) = relabel_formals naming_by_spelling (label_from_ordinal naming_by_spelling) scope (suc k) fs in
       let b' : Tree Label block = relabel_block naming_by_spelling (label_from_ordinal naming_by_spelling) (declare_names (suc k) xs ((x, k) ∷ scope)) m b in
       let rest' : Tree Label (items procedure) = relabel_procedure_list naming_by_spelling (label_from_ordinal naming_by_spelling) ((x, k) ∷ scope) q rest in
-      let sections : formal_sections fs' ≡ relabel_parameter_section_list naming_by_spelling (label_from_ordinal naming_by_spelling) scope (suc k) (formal_sections fs) = formals-section naming_by_spelling (label_from_ordinal naming_by_spelling) scope (suc k) fs in
-      let typed' : typed_parameters naming_by_label labels j (formal_sections fs') ≡ Some (label_typed (suc k) listed) = ap (typed_parameters naming_by_label labels j) sections ∙ (g.3 ∙ ap (λ ps. Some (label_typed (suc k) ps)) g.2) in
-      let jb_same : j + formals_constructor_count (formal_sections fs') ≡ jb = ap (λ n. j + n) (ap formals_constructor_count sections ∙ formals_constructor_count-relabel naming_by_spelling (label_from_ordinal naming_by_spelling) scope (suc k) (formal_sections fs)) in
+      let sections : formal_parameter_sections fs' ≡ relabel_parameter_section_list naming_by_spelling (label_from_ordinal naming_by_spelling) scope (suc k) (formal_parameter_sections fs) = formals-section naming_by_spelling (label_from_ordinal naming_by_spelling) scope (suc k) fs in
+      let typed' : typed_parameters naming_by_label labels j (formal_parameter_sections fs') ≡ Some (label_typed (suc k) listed) = ap (typed_parameters naming_by_label labels j) sections ∙ (g.3 ∙ ap (λ ps. Some (label_typed (suc k) ps)) g.2) in
+      let jb_same : j + formals_constructor_count (formal_parameter_sections fs') ≡ jb = ap (λ n. j + n) (ap formals_constructor_count sections ∙ formals_constructor_count-relabel naming_by_spelling (label_from_ordinal naming_by_spelling) scope (suc k) (formal_parameter_sections fs)) in
       let jr_same : j + procedure_constructor_count (declares_procedure (declared k) fs' b' (declared k)) ≡ jr = ap (λ n. j + n) (procedure_constructor_count-relabel naming_by_spelling (label_from_ordinal naming_by_spelling) scope k p) in
       let within : TypedWithin (ordinal_after_names (suc k) (typed_names listed)) (declare_names (suc k) (typed_names listed) ((x, k) ∷ scope)) inner = noted_parameters-within (suc k) listed own (le_refl (suc k), below) in
       let inner_scope : typed_scope inner ≡ declare_names (suc k) xs ((x, k) ∷ scope) = within.0 ∙ ap (λ ys. declare_names (suc k) ys ((x, k) ∷ scope)) names_are in
       let inner_below : TypedBelow m inner = subst (λ ys. TypedBelow (ordinal_after_names (suc k) ys) inner) names_are within.1 in
       let right : block_is_well_typed naming_by_spelling (typed_by_name inner) jb b ≡ true = ap (λ e. block_is_well_typed naming_by_spelling e jb b) (sym (bind_typed_parameters-by_name (suc k) listed own)) ∙ f.right in
-      let right' : block_is_well_typed naming_by_label (bind_typed_parameters (label_typed (suc k) listed) (bind_procedure (declared k) (label_typed (suc k) listed) labels)) (j + formals_constructor_count (formal_sections fs')) b' ≡ true =
+      let right' : block_is_well_typed naming_by_label (bind_typed_parameters (label_typed (suc k) listed) (bind_procedure (declared k) (label_typed (suc k) listed) labels)) (j + formals_constructor_count (formal_parameter_sections fs')) b' ≡ true =
       (λ i. block_is_well_typed naming_by_label (inside-labels k x listed noted i) (jb_same i) (relabel_block naming_by_spelling (label_from_ordinal naming_by_spelling) (sym inner_scope i) m b)) ∙ (block_is_well_typed-agrees naming_by_spelling jb m inner inner_below b ∙ right) in
       let block_part = block-ordered inner jb m inner_below b right in
       let heading_part : Ordered k m (bind_typed_parameters listed (bind_procedure x listed [])) (bind_typed_parameters (label_typed (suc k) listed) (bind_procedure (declared k) (label_typed (suc k) listed) [])) =
       subst (λ ys. Ordered k (ordinal_after_names (suc k) ys) (bind_typed_parameters listed (bind_procedure x listed [])) (bind_typed_parameters (label_typed (suc k) listed) (bind_procedure (declared k) (label_typed (suc k) listed) []))) names_are (bind_procedure-ordered k x listed) in
       let later = procedures-ordered own jr q (le-ordinal_after_procedure (suc k) p, below) statements rest f.others in
-      let names : procedures_bindings naming_by_spelling env j (more p rest) ≡ procedures_bindings naming_by_spelling (typed_by_name own) jr rest ++ (block_bindings naming_by_spelling (typed_by_name inner) jb b ++ bind_typed_parameters listed (bind_procedure x listed [])) =
+      let names : procedure_list_bindings naming_by_spelling env j (more p rest) ≡ procedure_list_bindings naming_by_spelling (typed_by_name own) jr rest ++ (block_bindings naming_by_spelling (typed_by_name inner) jb b ++ bind_typed_parameters listed (bind_procedure x listed [])) =
       procedures-listed naming_by_spelling env j x fs b closing rest listed f.typed f.right
-      ∙ ap (λ z. procedures_bindings naming_by_spelling (typed_by_name own) jr rest ++ z) (procedure-listed naming_by_spelling env j x fs b closing listed f.typed ∙ (λ i. block_bindings naming_by_spelling (bind_typed_parameters-by_name (suc k) listed own i) jb b ++ bind_typed_parameters listed (bind_procedure x listed []))) in
-      let by_label : procedures_bindings naming_by_label labels j (more (declares_procedure (declared k) fs' b' (declared k)) rest')
-      ≡ procedures_bindings naming_by_label (typed_by_ordinal own) jr (relabel_procedure_list naming_by_spelling (label_from_ordinal naming_by_spelling) (typed_scope own) q rest)
+      ∙ ap (λ z. procedure_list_bindings naming_by_spelling (typed_by_name own) jr rest ++ z) (procedure-listed naming_by_spelling env j x fs b closing listed f.typed ∙ (λ i. block_bindings naming_by_spelling (bind_typed_parameters-by_name (suc k) listed own i) jb b ++ bind_typed_parameters listed (bind_procedure x listed []))) in
+      let by_label : procedure_list_bindings naming_by_label labels j (more (declares_procedure (declared k) fs' b' (declared k)) rest')
+      ≡ procedure_list_bindings naming_by_label (typed_by_ordinal own) jr (relabel_procedure_list naming_by_spelling (label_from_ordinal naming_by_spelling) (typed_scope own) q rest)
       ++ (block_bindings naming_by_label (typed_by_ordinal inner) jb (relabel_block naming_by_spelling (label_from_ordinal naming_by_spelling) (typed_scope inner) m b) ++ bind_typed_parameters (label_typed (suc k) listed) (bind_procedure (declared k) (label_typed (suc k) listed) [])) =
       procedures-listed naming_by_label labels j (declared k) fs' b' (declared k) rest' (label_typed (suc k) listed) typed' right'
-      ∙ (ap (λ z. procedures_bindings naming_by_label (bind_procedure (declared k) (label_typed (suc k) listed) labels) (j + procedure_constructor_count (declares_procedure (declared k) fs' b' (declared k))) rest' ++ z) (procedure-listed naming_by_label labels j (declared k) fs' b' (declared k) (label_typed (suc k) listed) typed')
-      ∙ (λ i. procedures_bindings naming_by_label (bind_procedure-labels k x listed noted i) (jr_same i) rest'
+      ∙ (ap (λ z. procedure_list_bindings naming_by_label (bind_procedure (declared k) (label_typed (suc k) listed) labels) (j + procedure_constructor_count (declares_procedure (declared k) fs' b' (declared k))) rest' ++ z) (procedure-listed naming_by_label labels j (declared k) fs' b' (declared k) (label_typed (suc k) listed) typed')
+      ∙ (λ i. procedure_list_bindings naming_by_label (bind_procedure-labels k x listed noted i) (jr_same i) rest'
       ++ (block_bindings naming_by_label (inside-labels k x listed noted i) (jb_same i) (relabel_block naming_by_spelling (label_from_ordinal naming_by_spelling) (sym inner_scope i) m b) ++ bind_typed_parameters (label_typed (suc k) listed) (bind_procedure (declared k) (label_typed (suc k) listed) [])))) in
       subst₂ (Ordered k (ordinal_after_procedure_list q rest)) (sym names) (sym by_label)
-      (ordered-append k q (ordinal_after_procedure_list q rest) (procedures_bindings naming_by_spelling (typed_by_name own) jr rest) (block_bindings naming_by_spelling (typed_by_name inner) jb b ++ bind_typed_parameters listed (bind_procedure x listed []))
-      (procedures_bindings naming_by_label (typed_by_ordinal own) jr (relabel_procedure_list naming_by_spelling (label_from_ordinal naming_by_spelling) (typed_scope own) q rest)) (block_bindings naming_by_label (typed_by_ordinal inner) jb (relabel_block naming_by_spelling (label_from_ordinal naming_by_spelling) (typed_scope inner) m b) ++ bind_typed_parameters (label_typed (suc k) listed) (bind_procedure (declared k) (label_typed (suc k) listed) [])) later
+      (ordered-append k q (ordinal_after_procedure_list q rest) (procedure_list_bindings naming_by_spelling (typed_by_name own) jr rest) (block_bindings naming_by_spelling (typed_by_name inner) jb b ++ bind_typed_parameters listed (bind_procedure x listed []))
+      (procedure_list_bindings naming_by_label (typed_by_ordinal own) jr (relabel_procedure_list naming_by_spelling (label_from_ordinal naming_by_spelling) (typed_scope own) q rest)) (block_bindings naming_by_label (typed_by_ordinal inner) jb (relabel_block naming_by_spelling (label_from_ordinal naming_by_spelling) (typed_scope inner) m b) ++ bind_typed_parameters (label_typed (suc k) listed) (bind_procedure (declared k) (label_typed (suc k) listed) [])) later
       (ordered-append k m q (block_bindings naming_by_spelling (typed_by_name inner) jb b) (bind_typed_parameters listed (bind_procedure x listed [])) (block_bindings naming_by_label (typed_by_ordinal inner) jb (relabel_block naming_by_spelling (label_from_ordinal naming_by_spelling) (typed_scope inner) m b))
       (bind_typed_parameters (label_typed (suc k) listed) (bind_procedure (declared k) (label_typed (suc k) listed) [])) block_part heading_part))
 

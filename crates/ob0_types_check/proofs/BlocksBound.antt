@@ -4,14 +4,14 @@
 use Rattle.std.proofs.Common.{◌≡◌, ℕ, suc, ◌<◌, ◌≤◌, false, List, [], ◌∷◌, ◌++◌, length, Option, Some, None, slice_index_or, refl, sym, ap, ◌∙◌, subst, append_assoc, arith}
 use Rattle.ob0_language_names.specs.Names.{Name}
 use Rattle.ob0_language_names.specs.Scopes.{Scope, ordinal_after_names, declare_names}
-use Rattle.ob0_language_types.specs.Bindings.{bindings_since}
+use Rattle.ob0_language_types.specs.Bindings.{added_bindings}
 use Rattle.ob0_language_types.specs.Expressions as meant
 use Rattle.ob0_language_types.specs.WellTyped.{TypeEnvironment, TypedParameter, bind_typed_parameters}
 use Rattle.ob0_types_table.specs.declared.types.TypeId.{TypeId}
 use Rattle.ob0_language_values.specs.Values.{Shape}
 use Rattle.ob0_types_check.specs.Agreement.{IsKnownAndAgreesWithObject, is_standard_procedure, shape_of_type_in}
 use Rattle.ob0_types_check.specs.TypesAndMeanings.{Meaning}
-use Rattle.ob0_types_check.proofs.BindingsByOrdinal.{bindings_since-front}
+use Rattle.ob0_types_check.proofs.BindingsByOrdinal.{added_bindings-front}
 use Rattle.ob0_types_check.proofs.DeclaredShapes.{Longer}
 use Rattle.ob0_types_check.proofs.DeclaredKnown.{NamesKnown, holds_kept}
 
@@ -77,22 +77,22 @@ as_long shapes declared n [] (c ∷ env) h = absurd h
 as_long shapes declared n (b ∷ scope) [] h = absurd h
 as_long shapes declared n (b ∷ scope) (c ∷ env) h = ap suc (as_long shapes declared n scope env h.4)
 
-split_since : (shapes : List Shape) (declared : List (Option (Meaning TypeId))) (l n m : ℕ) (scope : Scope Name) (before env : TypeEnvironment Name) → length before ≡ length scope → Split shapes declared l n m scope env → BindingsKnown shapes declared n m (bindings_since before env)
+split_since : (shapes : List Shape) (declared : List (Option (Meaning TypeId))) (l n m : ℕ) (scope : Scope Name) (before env : TypeEnvironment Name) → length before ≡ length scope → Split shapes declared l n m scope env → BindingsKnown shapes declared n m (added_bindings before env)
 split_since shapes declared l n m scope before env long s =
-    subst (BindingsKnown shapes declared n m) (sym (ap (bindings_since before) s.both ∙ bindings_since-front before s.first s.rest (long ∙ sym (as_long shapes declared l scope s.rest s.holds)))) s.bound
+    subst (BindingsKnown shapes declared n m) (sym (ap (added_bindings before) s.both ∙ added_bindings-front before s.first s.rest (long ∙ sym (as_long shapes declared l scope s.rest s.holds)))) s.bound
 
 -- The bindings that names add to an environment agree with the meanings of their ordinals. `m` is the ordinal after the
 -- names.
 pub names_bind : (shapes : List Shape) (declared : List (Option (Meaning TypeId))) (l n m : ℕ) (xs : List Name) (scope : Scope Name) (before env : TypeEnvironment Name) → ordinal_after_names n xs ≡ m → length before ≡ length scope → NamesKnown shapes declared l (declare_names n xs scope) env
-    → BindingsKnown shapes declared n m (bindings_since before env)
-names_bind shapes declared l n m xs scope before env e long h = subst (λ z. BindingsKnown shapes declared n z (bindings_since before env)) e (split_since shapes declared l n (ordinal_after_names n xs) scope before env long (split shapes declared l n xs scope env h))
+    → BindingsKnown shapes declared n m (added_bindings before env)
+names_bind shapes declared l n m xs scope before env e long h = subst (λ z. BindingsKnown shapes declared n z (added_bindings before env)) e (split_since shapes declared l n (ordinal_after_names n xs) scope before env long (split shapes declared l n xs scope env h))
 
 split_to : (shapes : List Shape) (declared : List (Option (Meaning TypeId))) (l n m : ℕ) (xs : List Name) (scope : Scope Name) (env : TypeEnvironment Name) → ordinal_after_names n xs ≡ m → NamesKnown shapes declared l (declare_names n xs scope) env → Split shapes declared l n m scope env
 split_to shapes declared l n m xs scope env e h = subst (λ z. Split shapes declared l n z scope env) e (split shapes declared l n xs scope env h)
 
 -- The bindings that the names of three sections add to an environment agree with the meanings of their ordinals.
 pub sections_bind : (shapes : List Shape) (declared : List (Option (Meaning TypeId))) (l n i j m : ℕ) (xs ys zs : List Name) (scope : Scope Name) (before env : TypeEnvironment Name) → ordinal_after_names n xs ≡ i → ordinal_after_names i ys ≡ j → ordinal_after_names j zs ≡ m → length before ≡ length scope
-    → NamesKnown shapes declared l (declare_names j zs (declare_names i ys (declare_names n xs scope))) env → BindingsKnown shapes declared n m (bindings_since before env)
+    → NamesKnown shapes declared l (declare_names j zs (declare_names i ys (declare_names n xs scope))) env → BindingsKnown shapes declared n m (added_bindings before env)
 sections_bind shapes declared l n i j m xs ys zs scope before env ei ej em long h =
     let first : Scope Name = declare_names n xs scope in
     let second : Scope Name = declare_names i ys first in
@@ -106,5 +106,5 @@ bind_typed_parameters-before : (ps : List (TypedParameter Name)) (first env : Ty
 bind_typed_parameters-before [] first env = refl
 bind_typed_parameters-before (p ∷ ps) first env = bind_typed_parameters-before ps ((p.name, meant.a_variable p.formal.shape) ∷ first) env
 
-pub heading_since : (ps : List (TypedParameter Name)) (b : Name × meant.Object Shape _) (env : TypeEnvironment Name) → bindings_since env (bind_typed_parameters ps (b ∷ env)) ≡ bind_typed_parameters ps (b ∷ [])
-heading_since ps b env = ap (bindings_since env) (bind_typed_parameters-before ps (b ∷ []) env) ∙ bindings_since-front env (bind_typed_parameters ps (b ∷ [])) env refl
+pub heading_since : (ps : List (TypedParameter Name)) (b : Name × meant.Object Shape _) (env : TypeEnvironment Name) → added_bindings env (bind_typed_parameters ps (b ∷ env)) ≡ bind_typed_parameters ps (b ∷ [])
+heading_since ps b env = ap (added_bindings env) (bind_typed_parameters-before ps (b ∷ []) env) ∙ added_bindings-front env (bind_typed_parameters ps (b ∷ [])) env refl

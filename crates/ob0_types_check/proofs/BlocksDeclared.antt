@@ -1,7 +1,7 @@
 -- Constants, types, variables and parameters are declared if no fault is reported for them.
 use Rattle.std.proofs.Common.{◌≡◌, ℕ, suc, ◌+◌, ◌≤◌, true, List, [], ◌∷◌, ◌++◌, length, map, Option, Some, option_and_then, refl, sym, ap, ◌∙◌, subst, subst₂, le_refl, le_of_lt, arith}
 use Rattle.std.proofs.lemmas.List.{map-append}
-use Rattle.ob0_tree.specs.Places.{tree_with_names, token_text_at, token_value_at}
+use Rattle.ob0_tree.specs.TokenIndexLeaves.{tree_with_names, token_text_at, token_value_at}
 use Rattle.ob0_tree.specs.Tree.{Tree, constant, declares_constant, declares_type, declares_variable, end, items, mapped_tree, more, type_definition, variable}
 use Rattle.ob0_language_names.specs.Names.{Name, naming_by_spelling}
 use Rattle.ob0_language_names.specs.BlockParts.{constant_names, declared_type_names, names_in_list, variable_names}
@@ -10,12 +10,12 @@ use Rattle.ob0_language_names.proofs.Ordinals.{ordinal_after_names-append, decla
 use Rattle.ob0_language_types.specs.Declarations.{declare_constants, declare_types, types_constructor_count, variables_constructor_count}
 use Rattle.ob0_language_types.specs.Environments.{meanings}
 use Rattle.ob0_language_types.specs.Expressions as meant
-use Rattle.ob0_language_types.specs.Typing.{constant_value, constructor_count, denoted_type}
+use Rattle.ob0_language_types.specs.Typing.{constant_expression_value, constructor_count, denoted_type}
 use Rattle.ob0_language_types.specs.WellTyped.{TypeEnvironment, bind_names, declare_typed_variables}
 use Rattle.ob0_language_values.specs.Values.{Shape, Value}
 use Rattle.ob0_types_check.specs.DeclarationFaults.{report_on_constant_declaration, report_on_constant_declarations, report_on_type_declarations, report_on_variable_declarations, report_on_type_declaration, report_on_variable_group}
 use Rattle.ob0_types_check.specs.TypesAndMeanings.{ResultWithFaults, a_constant, a_type, a_variable}
-use Rattle.ob0_types_check.specs.KnownDeclarations.{KnownDeclarations, TypeWithFollowingDeclarations, define_name_at_token, define_names_at_tokens, facts_from_declarations}
+use Rattle.ob0_types_check.specs.KnownDeclarations.{KnownDeclarations, TypeWithFollowingDeclarations, define_name_at_token, define_listed_names, facts_from_declarations}
 use Rattle.ob0_types_check.specs.TypeFaults.{report_on_constant_expression}
 use Rattle.ob0_types_check.specs.WrittenTypeFaults.{report_on_written_type}
 use Rattle.ob0_types_check.proofs.MadeOnce.{Apart, apart_same, apart_then}
@@ -66,11 +66,11 @@ module _ (w : Numbering) (fit : PartsFit) where
       let q : KnownDeclarations = define_name_at_token p (a_constant v.known) x in
       let a = none-reported (v.faults ++ []) (report_on_constant_declarations q cs).faults h in
       let c = fit.constants p before (token_text_at w.source) (meanings naming_by_spelling env) e (agrees_where_seen w p true before n scope env st fit e placed.1) (none-reported v.faults [] a.0).0 in
-      let given : constant_value (meanings naming_by_spelling env) (tree_with_names w.source e) ≡ Some c.value = ap (λ s. constant_value (meanings naming_by_spelling env) (mapped_tree (token_text_at w.source) (token_value_at s) e)) (sym st.source) ∙ c.given in
+      let given : constant_expression_value (meanings naming_by_spelling env) (tree_with_names w.source e) ≡ Some c.value = ap (λ s. constant_expression_value (meanings naming_by_spelling env) (mapped_tree (token_text_at w.source) (token_value_at s) e)) (sym st.source) ∙ c.given in
       let d = defined w p before n (a_constant v.known) x st.ordinals st.room st.table placed.0 in
       let next = holds_defined w p q before n scope env (a_constant v.known) (token_text_at w.source x) (meant.a_constant c.value) st d refl (c.value, c.known, refl, c.scalar) in
       declared_then w n (suc n) (ordinal_after_names (suc n) (constant_names cs)) k k k p q (report_on_constant_declarations q cs).known before before (scope_following w (suc n) (constant_names cs) ((token_text_at w.source x, n) ∷ scope))
-      (constant_value (meanings naming_by_spelling env) (tree_with_names w.source e)) c.value (λ v. declare_constants naming_by_spelling ((token_text_at w.source x, meant.a_constant v) ∷ env) (tree_with_names w.source cs)) (next_le n) given (apart_same k k before refl) d.later
+      (constant_expression_value (meanings naming_by_spelling env) (tree_with_names w.source e)) c.value (λ v. declare_constants naming_by_spelling ((token_text_at w.source x, meant.a_constant v) ∷ env) (tree_with_names w.source cs)) (next_le n) given (apart_same k k before refl) d.later
       (constants_declare cs k (suc n) q before ((token_text_at w.source x, n) ∷ scope) ((token_text_at w.source x, meant.a_constant c.value) ∷ env) next placed.2 a.1)
 
   pub types_declare : (ds : Tree ℕ (items type_definition)) (k n : ℕ) (p : KnownDeclarations) (before : List Shape) (scope : Scope Name) (env : TypeEnvironment Name) → length before ≡ k → IsKnownAt w p before n scope env → TypesPlaced w scope n ds → (report_on_type_declarations p ds).faults ≡ []
@@ -105,7 +105,7 @@ module _ (w : Numbering) (fit : PartsFit) where
   variables_declare (more (declares_variable ns t) gs) k n p before scope env at st placed h =
       let xs : List ℕ = names_in_list ns in
       let u : ResultWithFaults TypeWithFollowingDeclarations = report_on_written_type 0 p t in
-      let q : KnownDeclarations = define_names_at_tokens u.known.following (a_variable u.known.of) xs in
+      let q : KnownDeclarations = define_listed_names u.known.following (a_variable u.known.of) xs in
       let a = none-reported (u.faults ++ []) (report_on_variable_declarations q gs).faults h in
       let s = type_denotes w fit n scope env 0 k t p before (omega (arith, at)) st placed.1 (none-reported u.faults [] a.0).0 in
       let following = holds_later w n n n p u.known.following before s.after scope env (le_refl n) (le_refl n) st s.later in

@@ -4,14 +4,14 @@ use Rattle.std.proofs.lemmas.Bool.{ltb-false, ltb-true, ne_eqb}
 use Rattle.std.proofs.lemmas.List.{get_or_past}
 use Rattle.std.specs.List.{filter}
 use Rattle.ob0_tree.specs.ParsedModule.{named_tree_of, tree_of}
-use Rattle.ob0_tree.specs.Places.{token_text_at, token_value_at}
+use Rattle.ob0_tree.specs.TokenIndexLeaves.{token_text_at, token_value_at}
 use Rattle.ob0_tree.specs.Tree.{Tree, block, forms_module, module_text}
 use Rattle.ob0_language_names.specs.Names.{Label, Name, naming_by_label, naming_by_spelling, declared}
 use Rattle.ob0_language_names.specs.BlockParts.{module_block}
 use Rattle.ob0_scope_table.specs.Resolution.{is_undeclared_fault}
 use Rattle.ob0_language_names.specs.Scopes.{ordinal_after_block, label_from_ordinal, numbered, predeclared_scope, relabel_block}
 use Rattle.ob0_language_types.specs.Bindings.{block_bindings, declared_object, module_bindings, object_of_ordinal}
-use Rattle.ob0_language_types.specs.Environments.{environment_from_binding, outermost_environment}
+use Rattle.ob0_language_types.specs.Environments.{suffix_from_newest_binding, outermost_environment}
 use Rattle.ob0_language_types.specs.Expressions as meant
 use Rattle.ob0_language_types.specs.WellTyped.{Signature, TypeEnvironment, passes_type_check}
 use Rattle.ob0_language_types.proofs.Bound.{newest_object-if}
@@ -19,10 +19,10 @@ use Rattle.ob0_language_types.proofs.TypesByOrdinal.{TypeNoted, typed_by_name, t
 use Rattle.ob0_types_table.specs.declared.types.TypeId.{TypeId}
 use Rattle.ob0_language_values.specs.Values.{Shape}
 use Rattle.ob0_types_check.specs.Agreement.{DeclarationAgreesWithObject, IsKnownAndAgreesWithObject, is_standard_procedure, shape_of_type_in}
-use Rattle.ob0_types_check.specs.DeclarationFaults.{every_body, undeclared_name_and_type_faults, report_on_module, walk_at_start}
+use Rattle.ob0_types_check.specs.DeclarationFaults.{includes_every_body, undeclared_name_and_type_faults, report_on_module, walk_progress_at_module_start}
 use Rattle.ob0_types_check.specs.TypesAndMeanings.{Meaning}
 use Rattle.ob0_types_check.specs.ModuleLaws.{WalkWithoutFaultFindsCorrectMeanings}
-use Rattle.ob0_types_check.specs.KnownDeclarations.{KnownDeclarations, known_declarations_at_start}
+use Rattle.ob0_types_check.specs.KnownDeclarations.{KnownDeclarations, known_declarations_at_module_start}
 use Rattle.ob0_types_check.proofs.BindingsByOrdinal.{InOrder, Ordered, module-block, module-ordered}
 use Rattle.ob0_types_check.proofs.BlocksBound.{BindingsKnown, bindings_both, bindings_later, names_bind}
 use Rattle.ob0_types_check.proofs.BlocksFit.{block_reported, first_holds, room_first}
@@ -41,7 +41,7 @@ module _ (shapes : List Shape) (known : List (Option (Meaning TypeId))) where
   known_at (b ∷ noted) m order h k less =
       let same : h.0 ≡ b.ordinal = omega (arith, order.0, h.1) in
       let rest : BindingsKnown shapes known 0 b.ordinal (typed_by_name noted) = subst (λ z. BindingsKnown shapes known 0 z (typed_by_name noted)) same h.4 in
-      subst (IsKnownAs shapes known k) (sym (newest_object-if (k == b.ordinal) (declared b.ordinal) b.object (typed_by_ordinal noted) (environment_from_binding naming_by_label (typed_by_ordinal noted) (declared k))))
+      subst (IsKnownAs shapes known k) (sym (newest_object-if (k == b.ordinal) (declared b.ordinal) b.object (typed_by_ordinal noted) (suffix_from_newest_binding naming_by_label (typed_by_ordinal noted) (declared k))))
       (elim (k == b.ordinal) as (λ t. (k == b.ordinal) ≡ t → IsKnownAs shapes known k (cond t (Some b.object) (object_of_ordinal (typed_by_ordinal noted) k))) [
         | true ↦ λ e. subst (λ z. IsKnownAs shapes known z (Some b.object)) (same ∙ sym (eqb-true k b.ordinal e)) (h.2, h.3)
         | false ↦ λ e. let other : k ≡ b.ordinal → ⊥ = λ s. true≢false (sym (eq-eqb k b.ordinal s) ∙ e) in known_at noted b.ordinal order.1 rest k (omega (arith, order.0, less, other))
@@ -50,7 +50,7 @@ module _ (shapes : List Shape) (known : List (Option (Meaning TypeId))) where
 none_at : (noted : TypeNoted Name) (m : ℕ) → InOrder 0 m noted → (k : ℕ) → m ≤ k → object_of_ordinal (typed_by_ordinal noted) k ≡ None
 none_at [] m order k le = refl
 none_at (b ∷ noted) m order k le =
-    newest_object-if (k == b.ordinal) (declared b.ordinal) b.object (typed_by_ordinal noted) (environment_from_binding naming_by_label (typed_by_ordinal noted) (declared k))
+    newest_object-if (k == b.ordinal) (declared b.ordinal) b.object (typed_by_ordinal noted) (suffix_from_newest_binding naming_by_label (typed_by_ordinal noted) (declared k))
     ∙ (ap (λ t. cond t (Some b.object) (object_of_ordinal (typed_by_ordinal noted) k)) (ne_eqb k b.ordinal (λ e. omega (arith, e, le, order.0)))
     ∙ none_at noted b.ordinal order.1 k (omega (arith, le, order.0)))
 
@@ -89,7 +89,7 @@ above_first n m (b ∷ noted) order = omega (arith, order.0, above_first n b.ord
 bound_before : (n m : ℕ) (noted : TypeNoted Name) → InOrder n m noted → (env : TypeEnvironment Label) (k : ℕ) → k < n → object_of_ordinal (typed_by_ordinal noted ++ env) k ≡ object_of_ordinal env k
 bound_before n m [] order env k less = refl
 bound_before n m (b ∷ noted) order env k less =
-    newest_object-if (k == b.ordinal) (declared b.ordinal) b.object (typed_by_ordinal noted ++ env) (environment_from_binding naming_by_label (typed_by_ordinal noted ++ env) (declared k))
+    newest_object-if (k == b.ordinal) (declared b.ordinal) b.object (typed_by_ordinal noted ++ env) (suffix_from_newest_binding naming_by_label (typed_by_ordinal noted ++ env) (declared k))
     ∙ (ap (λ t. cond t (Some b.object) (object_of_ordinal (typed_by_ordinal noted ++ env) k)) (ne_eqb k b.ordinal (λ e. omega (arith, e, less, above_first n b.ordinal noted order.1)))
     ∙ bound_before n b.ordinal noted order.1 env k less)
 
@@ -106,12 +106,12 @@ walk_without_fault_finds_correct_meanings-holds r is h =
     let m = r.module_read in
     let b : Tree ℕ block = module_block (tree_of m) in
     let last : ℕ = ordinal_after_block 7 b in
-    let q : KnownDeclarations = (report_on_module every_body r).known.so_far in
-    let a = none-reported (filter is_undeclared_fault r.faults) (report_on_module every_body r).faults h in
+    let q : KnownDeclarations = (report_on_module includes_every_body r).known.so_far in
+    let a = none-reported (filter is_undeclared_fault r.faults) (report_on_module includes_every_body r).faults h in
     let st = first_holds r in
-    let f = block_reported (numbering_of r) parts_fit b m.closing 0 7 (walk_at_start r) [] (predeclared_scope naming_by_spelling) (outermost_environment naming_by_spelling) refl st (module_placed r is a.0) a.1 in
+    let f = block_reported (numbering_of r) parts_fit b m.closing 0 7 (walk_progress_at_module_start r) [] (predeclared_scope naming_by_spelling) (outermost_environment naming_by_spelling) refl st (module_placed r is a.0) a.1 in
     let first : BindingsKnown f.after q.declared 0 7 (outermost_environment naming_by_spelling) =
-    bindings_later [] f.after (known_declarations_at_start r).declared q.declared 0 7 7 f.later.longer f.later.kept (le_refl 7) (outermost_environment naming_by_spelling) (names_bind [] (known_declarations_at_start r).declared 7 0 7 (map naming_by_spelling.predeclared (0 ∷ 1 ∷ 2 ∷ 3 ∷ 4 ∷ 5 ∷ 6 ∷ [])) [] [] (outermost_environment naming_by_spelling) refl refl st.names) in
+    bindings_later [] f.after (known_declarations_at_module_start r).declared q.declared 0 7 7 f.later.longer f.later.kept (le_refl 7) (outermost_environment naming_by_spelling) (names_bind [] (known_declarations_at_module_start r).declared 7 0 7 (map naming_by_spelling.predeclared (0 ∷ 1 ∷ 2 ∷ 3 ∷ 4 ∷ 5 ∷ 6 ∷ [])) [] [] (outermost_environment naming_by_spelling) refl refl st.names) in
     let bound : BindingsKnown f.after q.declared 0 last (module_bindings naming_by_spelling (named_tree_of m)) =
     bindings_both f.after q.declared 0 7 last (block_bindings naming_by_spelling (outermost_environment naming_by_spelling) 0 (module_block (named_tree_of m))) (outermost_environment naming_by_spelling) f.bound first in
     let all : Ordered 0 last (module_bindings naming_by_spelling (named_tree_of m)) (module_bindings naming_by_label (numbered (named_tree_of m))) =

@@ -3,10 +3,10 @@
 -- the procedure's name in the environment afterwards (`parameters_over`).
 use Rattle.std.proofs.Common.{◌≡◌, ℕ, suc, ◌+◌, ◌<◌, ◌≤◌, Bool, true, false, List, [], ◌∷◌, ◌++◌, length, map, Option, Some, None, option_and_then, slice_index_or, refl, sym, ap, ◌∙◌, subst, subst₂, le_refl, le_of_lt, le_trans, append_assoc, append-nil, arith}
 use Rattle.std.proofs.lemmas.List.{map-append}
-use Rattle.ob0_tree.specs.Places.{tree_with_names, token_text_at, token_value_at}
+use Rattle.ob0_tree.specs.TokenIndexLeaves.{tree_with_names, token_text_at, token_value_at}
 use Rattle.ob0_tree.specs.Tree.{Tree, end, section_after_semicolon, items, more, semicolon_then_section, value_section, variable_section, written_type}
 use Rattle.ob0_language_names.specs.Names.{Name, naming_by_spelling}
-use Rattle.ob0_language_names.specs.BlockParts.{formal_names, names_in_list}
+use Rattle.ob0_language_names.specs.BlockParts.{formal_parameter_names, names_in_list}
 use Rattle.ob0_language_names.specs.Scopes.{Scope, ordinal_after_names, declare_names}
 use Rattle.ob0_language_names.proofs.Ordinals.{le-ordinal_after_names}
 use Rattle.ob0_types_table.specs.DeclarationTableView.{mode_from_flag}
@@ -17,9 +17,9 @@ use Rattle.ob0_language_types.specs.Expressions as meant
 use Rattle.ob0_language_types.specs.Typing.{constructor_count, denoted_type}
 use Rattle.ob0_language_types.specs.WellTyped.{ParameterMode, Signature, TypeEnvironment, TypedParameter, bind_names, bind_typed_parameters, by_place, by_value, typed_parameters}
 use Rattle.ob0_language_values.specs.Values.{Shape}
-use Rattle.ob0_types_check.specs.DeclarationFaults.{KnownHeading, report_on_parameters, report_on_parameter_section, report_on_parameter_sections, with_parameters}
+use Rattle.ob0_types_check.specs.DeclarationFaults.{KnownHeading, report_on_parameters_of_one_type, report_on_parameter_section, report_on_parameter_sections, heading_with_parameters}
 use Rattle.ob0_types_check.specs.TypesAndMeanings.{KnownParameter, Meaning, ResultWithFaults, a_variable}
-use Rattle.ob0_types_check.specs.KnownDeclarations.{KnownDeclarations, TypeWithFollowingDeclarations, define_name_at_token, define_names_at_tokens}
+use Rattle.ob0_types_check.specs.KnownDeclarations.{KnownDeclarations, TypeWithFollowingDeclarations, define_name_at_token, define_listed_names}
 use Rattle.ob0_types_check.specs.WrittenTypeFaults.{report_on_written_type}
 use Rattle.ob0_types_check.specs.Agreement.{FormalsAgreeWithSignature, IsKnownAndAgreesWithObject, shape_of_type_in}
 use Rattle.ob0_types_check.proofs.BlocksDeclared.{more_constructors}
@@ -84,7 +84,7 @@ formals_same shape text by t s e [] = tt
 formals_same shape text by t s e (x ∷ xs) = (refl, e, formals_same shape text by t s e xs)
 
 own_known : (w : Numbering) (p : KnownDeclarations) (shapes : List Shape) (n : ℕ) (scope : Scope Name) (env : TypeEnvironment Name) (mode : ParameterMode) (t : TypeId) (s : Shape) (xs : List ℕ) → shape_of_type_in shapes t ≡ Some s → IsKnownAt w p shapes n scope env → NamesPlaced w n xs
-    → ParametersKnown shapes (define_names_at_tokens p (a_variable t) xs).declared n (map (token_text_at w.source) xs) (map (typed_as mode s) (map (token_text_at w.source) xs))
+    → ParametersKnown shapes (define_listed_names p (a_variable t) xs).declared n (map (token_text_at w.source) xs) (map (typed_as mode s) (map (token_text_at w.source) xs))
 own_known w p shapes n scope env mode t s [] is st placed = tt
 own_known w p shapes n scope env mode t s (x ∷ xs) is st placed =
     let q : KnownDeclarations = define_name_at_token p (a_variable t) x in
@@ -92,7 +92,7 @@ own_known w p shapes n scope env mode t s (x ∷ xs) is st placed =
     let d = defined w p shapes n (a_variable t) x st.ordinals st.room st.table placed.0 in
     let next = holds_defined w p q shapes n scope env (a_variable t) (token_text_at w.source x) o st d refl (s, is, refl) in
     let rest = all_defined w q shapes (suc n) ((token_text_at w.source x, n) ∷ scope) ((token_text_at w.source x, o) ∷ env) (a_variable t) xs o next placed.1 refl (s, is, refl) in
-    let slot : slice_index_or (define_names_at_tokens q (a_variable t) xs).declared n None ≡ Some (a_variable t) = rest.later.kept n (le_refl (suc n)) ∙ d.here in (
+    let slot : slice_index_or (define_listed_names q (a_variable t) xs).declared n None ≡ Some (a_variable t) = rest.later.kept n (le_refl (suc n)) ∙ d.here in (
       refl,
       subst (λ z. IsKnownAndAgreesWithObject (shape_of_type_in shapes) z (Some o)) (sym slot) (s, is, refl),
       own_known w q shapes (suc n) ((token_text_at w.source x, n) ∷ scope) ((token_text_at w.source x, o) ∷ env) mode t s xs is next placed.1,
@@ -122,7 +122,7 @@ pub record OneType (w : Numbering) (n m k l : ℕ) (h g : KnownHeading) (before 
 
 module _ (w : Numbering) (fit : PartsFit) where
   pub one_type : (by : Bool) (xs : List ℕ) (t : Tree ℕ written_type) (k n : ℕ) (h : KnownHeading) (before : List Shape) (scope : Scope Name) (env : TypeEnvironment Name) → length before ≡ k → IsKnownAt w h.following before n scope env → NamesPlaced w n xs → AreSeen w scope t → (report_on_written_type 0 h.following t).faults ≡ []
-      → OneType w n (ordinal_after_names n xs) k (k + constructor_count (tree_with_names w.source t)) h (with_parameters h by xs (report_on_written_type 0 h.following t).known) before (scope_following w n xs scope) env (mode_from_flag by) (map (token_text_at w.source) xs) (denoted_type (meanings naming_by_spelling env) k (tree_with_names w.source t))
+      → OneType w n (ordinal_after_names n xs) k (k + constructor_count (tree_with_names w.source t)) h (heading_with_parameters h by xs (report_on_written_type 0 h.following t).known) before (scope_following w n xs scope) env (mode_from_flag by) (map (token_text_at w.source) xs) (denoted_type (meanings naming_by_spelling env) k (tree_with_names w.source t))
   one_type by xs t k n h before scope env at st placed seen none =
       let u : TypeWithFollowingDeclarations = (report_on_written_type 0 h.following t).known in
       let s = type_denotes w fit n scope env 0 k t h.following before (omega (arith, at)) st seen none in
@@ -133,7 +133,7 @@ module _ (w : Numbering) (fit : PartsFit) where
         given_is = s.given_is;
         after = s.after;
         apart = s.apart;
-        later = later_then n n h.following u.following (define_names_at_tokens u.following (a_variable u.of) xs) before s.after s.after (le_refl n) s.later all.later;
+        later = later_then n n h.following u.following (define_listed_names u.following (a_variable u.of) xs) before s.after s.after (le_refl n) s.later all.later;
         holds = all.holds;
         own = own_known w u.following s.after n scope env (mode_from_flag by) u.of s.shape xs s.known following placed;
         formals = λ signature agree. formals_both (shape_of_type_in s.after) h.formals (map (λ x. record { by_place = by; of = u.of }) xs) signature (formals_of (map (typed_as (mode_from_flag by) s.shape) (map (token_text_at w.source) xs)))
@@ -164,8 +164,8 @@ module _ (w : Numbering) (fit : PartsFit) where
       }
 
   pub sections_declare : (fs : Tree ℕ (items section_after_semicolon)) (k n : ℕ) (h : KnownHeading) (before : List Shape) (scope : Scope Name) (env : TypeEnvironment Name) → length before ≡ k → IsKnownAt w h.following before n scope env → SectionsPlaced w scope n fs → (report_on_parameter_sections h fs).faults ≡ []
-      → Parameters n k (k + formals_constructor_count (tree_with_names w.source fs)) h (report_on_parameter_sections h fs).known before (map (token_text_at w.source) (formal_names fs)) (typed_parameters naming_by_spelling env k (tree_with_names w.source fs))
-  unfolding report_on_parameter_sections report_on_parameter_section report_on_parameters typed_parameters
+      → Parameters n k (k + formals_constructor_count (tree_with_names w.source fs)) h (report_on_parameter_sections h fs).known before (map (token_text_at w.source) (formal_parameter_names fs)) (typed_parameters naming_by_spelling env k (tree_with_names w.source fs))
+  unfolding report_on_parameter_sections report_on_parameter_section report_on_parameters_of_one_type typed_parameters
   sections_declare end k n h before scope env at st placed none = record {
     parameters = [];
     given_is = refl;
@@ -178,24 +178,24 @@ module _ (w : Numbering) (fit : PartsFit) where
   sections_declare (more (semicolon_then_section (value_section ns t)) fs) k n h before scope env at st placed none =
       let xs : List ℕ = names_in_list ns in
       let u : ResultWithFaults TypeWithFollowingDeclarations = report_on_written_type 0 h.following t in
-      let g : KnownHeading = with_parameters h false xs u.known in
+      let g : KnownHeading = heading_with_parameters h false xs u.known in
       let a = none-reported (u.faults ++ []) (report_on_parameter_sections g fs).faults none in
       let one = one_type false xs t k n h before scope env at st placed.0 placed.1 (none-reported u.faults [] a.0).0 in
       let rest = sections_declare fs (k + constructor_count (tree_with_names w.source t)) (ordinal_after_names n xs) g one.after (scope_following w n xs scope) (bind_names (map (token_text_at w.source) xs) (meant.a_variable one.shape) env) (omega (arith, at, one.apart.counted)) one.holds placed.2 a.1 in
       let own : ℕ = constructor_count (tree_with_names w.source t) in
       let others : ℕ = formals_constructor_count (tree_with_names w.source fs) in
-      subst₂ (λ l ys. Parameters n k l h (report_on_parameter_sections g fs).known before ys (typed_parameters naming_by_spelling env k (tree_with_names w.source (more (semicolon_then_section (value_section ns t)) fs)))) (more_constructors k own others) (sym (map-append (token_text_at w.source) xs (formal_names fs)))
-      (parameters_then by_value xs (names_in_list (tree_with_names w.source ns)) (map (token_text_at w.source) (formal_names fs)) n k (k + own) (k + own + others) h g (report_on_parameter_sections g fs).known before scope env (denoted_type (meanings naming_by_spelling env) k (tree_with_names w.source t))
+      subst₂ (λ l ys. Parameters n k l h (report_on_parameter_sections g fs).known before ys (typed_parameters naming_by_spelling env k (tree_with_names w.source (more (semicolon_then_section (value_section ns t)) fs)))) (more_constructors k own others) (sym (map-append (token_text_at w.source) xs (formal_parameter_names fs)))
+      (parameters_then by_value xs (names_in_list (tree_with_names w.source ns)) (map (token_text_at w.source) (formal_parameter_names fs)) n k (k + own) (k + own + others) h g (report_on_parameter_sections g fs).known before scope env (denoted_type (meanings naming_by_spelling env) k (tree_with_names w.source t))
       (λ e. typed_parameters naming_by_spelling e (k + constructor_count (tree_with_names w.source t)) (tree_with_names w.source fs)) (names_in_list-mapped_tree (token_text_at w.source) (token_value_at w.source) ns) one rest)
   sections_declare (more (semicolon_then_section (variable_section ns t)) fs) k n h before scope env at st placed none =
       let xs : List ℕ = names_in_list ns in
       let u : ResultWithFaults TypeWithFollowingDeclarations = report_on_written_type 0 h.following t in
-      let g : KnownHeading = with_parameters h true xs u.known in
+      let g : KnownHeading = heading_with_parameters h true xs u.known in
       let a = none-reported (u.faults ++ []) (report_on_parameter_sections g fs).faults none in
       let one = one_type true xs t k n h before scope env at st placed.0 placed.1 (none-reported u.faults [] a.0).0 in
       let rest = sections_declare fs (k + constructor_count (tree_with_names w.source t)) (ordinal_after_names n xs) g one.after (scope_following w n xs scope) (bind_names (map (token_text_at w.source) xs) (meant.a_variable one.shape) env) (omega (arith, at, one.apart.counted)) one.holds placed.2 a.1 in
       let own : ℕ = constructor_count (tree_with_names w.source t) in
       let others : ℕ = formals_constructor_count (tree_with_names w.source fs) in
-      subst₂ (λ l ys. Parameters n k l h (report_on_parameter_sections g fs).known before ys (typed_parameters naming_by_spelling env k (tree_with_names w.source (more (semicolon_then_section (variable_section ns t)) fs)))) (more_constructors k own others) (sym (map-append (token_text_at w.source) xs (formal_names fs)))
-      (parameters_then by_place xs (names_in_list (tree_with_names w.source ns)) (map (token_text_at w.source) (formal_names fs)) n k (k + own) (k + own + others) h g (report_on_parameter_sections g fs).known before scope env (denoted_type (meanings naming_by_spelling env) k (tree_with_names w.source t))
+      subst₂ (λ l ys. Parameters n k l h (report_on_parameter_sections g fs).known before ys (typed_parameters naming_by_spelling env k (tree_with_names w.source (more (semicolon_then_section (variable_section ns t)) fs)))) (more_constructors k own others) (sym (map-append (token_text_at w.source) xs (formal_parameter_names fs)))
+      (parameters_then by_place xs (names_in_list (tree_with_names w.source ns)) (map (token_text_at w.source) (formal_parameter_names fs)) n k (k + own) (k + own + others) h g (report_on_parameter_sections g fs).known before scope env (denoted_type (meanings naming_by_spelling env) k (tree_with_names w.source t))
       (λ e. typed_parameters naming_by_spelling e (k + constructor_count (tree_with_names w.source t)) (tree_with_names w.source fs)) (names_in_list-mapped_tree (token_text_at w.source) (token_value_at w.source) ns) one rest)

@@ -7,15 +7,15 @@ use Rattle.ob0_tree.specs.ParsedModule.{named_tree_of, tree_of}
 use Rattle.ob0_tree.specs.Tree.{Tree, begins, block, body, constant, constants, declares, declares_constant, declares_const_section, declares_procedure, declares_type, declares_type_section, declares_variable, declares_var_section, end, formals, section_after_semicolon, forms_block, forms_module, item, items, maybe, module_text, more, no_formals, none, occurrences, one, procedure, section, some_formals, semicolon_then_section, type_definition, type_definitions, value_section, variable, variable_section, variables}
 use Rattle.ob0_language_names.specs.Names.{Label, Naming, naming_by_label, as_written, declared}
 use Rattle.ob0_language_names.specs.Occurrences.{bindings}
-use Rattle.ob0_language_names.specs.BlockParts.{formal_sections, names_in_list, procedure_formals, procedure_name, section_constants, parameter_section_names, parameter_section_type, section_types, section_variables}
+use Rattle.ob0_language_names.specs.BlockParts.{formal_parameter_sections, names_in_list, procedure_formals, procedure_name, section_constants, parameter_section_names, parameter_section_type, section_types, section_variables}
 use Rattle.ob0_scope_table.specs.FaultsAtTokens.{fault_at_token}
 use Rattle.ob0_scope_table.specs.Resolution.{is_unbound, undeclared_faults_from_labels}
 use Rattle.ob0_language_names.specs.Scopes.{numbered}
-use Rattle.ob0_language_types.specs.Declarations.{constructors_before_variables, constructors_before_procedures, declare_constants, declare_constants_and_types, declare_types, formals_constructor_count, procedure_constructor_count}
-use Rattle.ob0_language_types.specs.Environments.{environment_from_binding, meanings, newest_object, outermost_environment}
+use Rattle.ob0_language_types.specs.Declarations.{constructor_count_before_variables, constructor_count_before_procedures, declare_constants, declare_constants_and_types, declare_types, formals_constructor_count, procedure_constructor_count}
+use Rattle.ob0_language_types.specs.Environments.{suffix_from_newest_binding, meanings, newest_object, outermost_environment}
 use Rattle.ob0_language_types.specs.Expressions.{Object, a_constant, a_type, a_variable}
-use Rattle.ob0_language_types.specs.Typing.{constant_value, constructor_count, denoted_type}
-use Rattle.ob0_language_types.specs.WellTyped.{Signature, TypeEnvironment, TypedParameter, bind_names, bind_typed_parameters, block_is_well_typed, body_is_well_typed, declare_typed_variables, passes_type_check, bind_procedure, procedure_is_well_typed, procedures_are_well_typed, parameter_section_mode, typed_parameters}
+use Rattle.ob0_language_types.specs.Typing.{constant_expression_value, constructor_count, denoted_type}
+use Rattle.ob0_language_types.specs.WellTyped.{Signature, TypeEnvironment, TypedParameter, bind_names, bind_typed_parameters, block_is_well_typed, body_is_well_typed, declare_typed_variables, passes_type_check, bind_procedure, procedure_is_well_typed, procedures_and_body_are_well_typed, parameter_section_mode, typed_parameters}
 use Rattle.ob0_language_types.proofs.Proved.{numbering_keeps_type_check-holds}
 use Rattle.ob0_language_types.proofs.Conditions.{hold-true}
 use Rattle.ob0_language_values.specs.Values.{Shape}
@@ -24,12 +24,12 @@ use Rattle.ob0_types_check.proofs.BoundParts.{each-of-both, sequence-bound, type
 use Rattle.ob0_types_check.proofs.DeclaredNames.{Each}
 use Rattle.ob0_types_check.proofs.TypedOperands.{and-then}
 
-module _ {N : Type 0} (P : N → Type 0) (naming : Naming N) (bound : (env : TypeEnvironment N) (x : N) (o : Object Shape Signature) → newest_object (environment_from_binding naming env x) ≡ Some o → P x) where
+module _ {N : Type 0} (P : N → Type 0) (naming : Naming N) (bound : (env : TypeEnvironment N) (x : N) (o : Object Shape Signature) → newest_object (suffix_from_newest_binding naming env x) ≡ Some o → P x) where
   constants-bound : (cs : Tree N (items constant)) (env after : TypeEnvironment N) → declare_constants naming env cs ≡ Some after → Each P (occurrences cs)
   unfolding declare_constants
   constants-bound end env after h = tt
   constants-bound (more (declares_constant x e) cs) env after h =
-      let (v, hv, later) = and-then (λ v. declare_constants naming ((x, a_constant v) ∷ env) cs) (constant_value (meanings naming env) e) after h in
+      let (v, hv, later) = and-then (λ v. declare_constants naming ((x, a_constant v) ∷ env) cs) (constant_expression_value (meanings naming env) e) after h in
       each-of-both P (occurrences e) (occurrences cs) (value-bound P (meanings naming env) (bound env) e v hv) (constants-bound cs ((x, a_constant v) ∷ env) after later)
 
   types-bound : (ds : Tree N (items type_definition)) (k : ℕ) (env after : TypeEnvironment N) → declare_types naming env k ds ≡ Some after → Each P (occurrences ds)
@@ -75,7 +75,7 @@ module _ {N : Type 0} (P : N → Type 0) (naming : Naming N) (bound : (env : Typ
   variable-section none h = tt
   variable-section (one (declares_var_section vs)) h = h
 
-  formal-section : (fs : Tree N (maybe formals)) → Each P (occurrences (formal_sections fs)) → Each P (occurrences fs)
+  formal-section : (fs : Tree N (maybe formals)) → Each P (occurrences (formal_parameter_sections fs)) → Each P (occurrences fs)
   formal-section none h = tt
   formal-section (one no_formals) h = tt
   formal-section (one (some_formals s rest)) h = h
@@ -91,34 +91,34 @@ module _ {N : Type 0} (P : N → Type 0) (naming : Naming N) (bound : (env : Typ
     pub block-bound : (b : Tree N block) (k : ℕ) (env : TypeEnvironment N) → block_is_well_typed naming env k b ≡ true → Each P (occurrences b)
     block-bound (forms_block (declares cs ts vs ps) statements) k env h =
         let b : Tree N block = forms_block (declares cs ts vs ps) statements in
-        let (inner, whole, fitting) = hold-true (option_and_then (declare_typed_variables naming (constructors_before_variables k b) (section_variables vs)) (declare_constants_and_types naming env k b)) (λ inner. procedures_are_well_typed naming inner (constructors_before_procedures k b) statements ps) h in
-        let (first, hf, hv) = and-then (declare_typed_variables naming (constructors_before_variables k b) (section_variables vs)) (declare_constants_and_types naming env k b) inner whole in
+        let (inner, whole, fitting) = hold-true (option_and_then (declare_typed_variables naming (constructor_count_before_variables k b) (section_variables vs)) (declare_constants_and_types naming env k b)) (λ inner. procedures_and_body_are_well_typed naming inner (constructor_count_before_procedures k b) statements ps) h in
+        let (first, hf, hv) = and-then (declare_typed_variables naming (constructor_count_before_variables k b) (section_variables vs)) (declare_constants_and_types naming env k b) inner whole in
         let (first_env, hc, ht) = and-then (λ with_constants. declare_types naming with_constants k (section_types ts)) (declare_constants naming env (section_constants cs)) first hf in
-        let rest = procedures-bound ps statements (constructors_before_procedures k b) inner fitting in
+        let rest = procedures-bound ps statements (constructor_count_before_procedures k b) inner fitting in
         each-of-both P (occurrences cs ++ (occurrences ts ++ (occurrences vs ++ occurrences ps))) (occurrences statements)
         (each-of-both P (occurrences cs) (occurrences ts ++ (occurrences vs ++ occurrences ps)) (constant-section cs (constants-bound (section_constants cs) env first_env hc))
         (each-of-both P (occurrences ts) (occurrences vs ++ occurrences ps) (type-section ts (types-bound (section_types ts) k first_env first ht))
-        (each-of-both P (occurrences vs) (occurrences ps) (variable-section vs (variables-bound (section_variables vs) (constructors_before_variables k b) first inner hv)) rest.0))) rest.1
+        (each-of-both P (occurrences vs) (occurrences ps) (variable-section vs (variables-bound (section_variables vs) (constructor_count_before_variables k b) first inner hv)) rest.0))) rest.1
 
-    procedures-bound : (ps : Tree N (items procedure)) (statements : Tree N (maybe body)) (k : ℕ) (env : TypeEnvironment N) → procedures_are_well_typed naming env k statements ps ≡ true → Each P (occurrences ps) × Each P (occurrences statements)
+    procedures-bound : (ps : Tree N (items procedure)) (statements : Tree N (maybe body)) (k : ℕ) (env : TypeEnvironment N) → procedures_and_body_are_well_typed naming env k statements ps ≡ true → Each P (occurrences ps) × Each P (occurrences statements)
     procedures-bound end statements k env h = (tt, body-bound statements env h)
     procedures-bound (more p rest) statements k env h =
-        let (ps, hp, fit) = hold-true (typed_parameters naming env k (procedure_formals p)) (λ ps. procedure_is_well_typed naming (bind_typed_parameters ps (bind_procedure (procedure_name p) ps env)) k p && procedures_are_well_typed naming (bind_procedure (procedure_name p) ps env) (k + procedure_constructor_count p) statements rest) h in
+        let (ps, hp, fit) = hold-true (typed_parameters naming env k (procedure_formals p)) (λ ps. procedure_is_well_typed naming (bind_typed_parameters ps (bind_procedure (procedure_name p) ps env)) k p && procedures_and_body_are_well_typed naming (bind_procedure (procedure_name p) ps env) (k + procedure_constructor_count p) statements rest) h in
         let parts = and_parts (procedure_is_well_typed naming (bind_typed_parameters ps (bind_procedure (procedure_name p) ps env)) k p) _ fit in
         let others = procedures-bound rest statements (k + procedure_constructor_count p) (bind_procedure (procedure_name p) ps env) parts.1 in
         (each-of-both P (occurrences p) (occurrences rest) (procedure-bound p k (bind_typed_parameters ps (bind_procedure (procedure_name p) ps env)) (sections-bound (procedure_formals p) k env ps hp) parts.0) others.0, others.1)
 
     procedure-bound : (p : Tree N (item procedure)) (k : ℕ) (env : TypeEnvironment N) → Each P (occurrences (procedure_formals p)) → procedure_is_well_typed naming env k p ≡ true → Each P (occurrences p)
     procedure-bound (declares_procedure x fs b closing) k env own h =
-        each-of-both P (occurrences fs) (occurrences b) (formal-section fs own) (block-bound b (k + formals_constructor_count (formal_sections fs)) env h)
+        each-of-both P (occurrences fs) (occurrences b) (formal-section fs own) (block-bound b (k + formals_constructor_count (formal_parameter_sections fs)) env h)
 
 -- A label that has only a spelling is bound in no environment of labels.
-only-written : (env : TypeEnvironment Label) (x : List ℕ) → newest_object (environment_from_binding naming_by_label env (as_written x)) ≡ None
+only-written : (env : TypeEnvironment Label) (x : List ℕ) → newest_object (suffix_from_newest_binding naming_by_label env (as_written x)) ≡ None
 only-written [] x = refl
 only-written ((declared k, o) ∷ env) x = only-written env x
 only-written ((as_written y, o) ∷ env) x = only-written env x
 
-label-bound : (env : TypeEnvironment Label) (x : Label) (o : Object Shape Signature) → newest_object (environment_from_binding naming_by_label env x) ≡ Some o → is_unbound x ≡ false
+label-bound : (env : TypeEnvironment Label) (x : Label) (o : Object Shape Signature) → newest_object (suffix_from_newest_binding naming_by_label env x) ≡ Some o → is_unbound x ≡ false
 label-bound env (declared k) o h = refl
 label-bound env (as_written x) o h = let no : None ≡ Some o = sym (only-written env x) ∙ h in absurd (cc)
 

@@ -7,7 +7,7 @@ use Rattle.ob0_tree.specs.Tree.{Tree, GrammarItem, item, items, end, more}
 use Rattle.ob0_tree.specs.View.{items_of}
 use Rattle.ob0_scope_table.specs.declared.faults.FaultAtTokens.{FaultAtTokens}
 use Rattle.ob0_types_check.specs.TypesAndMeanings.{ResultWithFaults}
-use Rattle.ob0_types_check.specs.OperandFaults.{ReturnsAndReports, with_earlier_faults, without_fault, ◌>>=◌}
+use Rattle.ob0_types_check.specs.OperandFaults.{ReturnsAndReports, prepend_faults, without_fault, ◌>>=◌}
 
 pub reported_equal : {A : Type 0} {a b : ResultWithFaults A} → a.known ≡ b.known → a.faults ≡ b.faults → a ≡ b
 reported_equal p q = λ i. record { known = p i; faults = q i }
@@ -38,9 +38,9 @@ pub record IsChain {O : Type 0} {i : GrammarItem} (chain : O → Tree ℕ (items
 
 -- holds if the faults so far, followed by the faults of the remaining items, are the faults of all items
 pub record Chained {O A : Type 0} {i : GrammarItem} (chain : O → Tree ℕ (items i) → ResultWithFaults O) (f : A → Tree ℕ (item i)) (before : List FaultAtTokens) (start : O) (xs : List A) (done : ℕ) (now : List FaultAtTokens) (out : O) : Type 0 where
-  pub so_far : with_earlier_faults now (chain out (items_of f (drop done xs))) ≡ with_earlier_faults before (chain start (items_of f xs))
+  pub so_far : prepend_faults now (chain out (items_of f (drop done xs))) ≡ prepend_faults before (chain start (items_of f xs))
 
-then_following : {A B : Type 0} {f0 f1 : List FaultAtTokens} {x : A} {a : ResultWithFaults A} (next : A → ResultWithFaults B) → ReturnsAndReports f0 f1 x a → with_earlier_faults f1 (next x) ≡ with_earlier_faults f0 (a >>= next)
+then_following : {A B : Type 0} {f0 f1 : List FaultAtTokens} {x : A} {a : ResultWithFaults A} (next : A → ResultWithFaults B) → ReturnsAndReports f0 f1 x a → prepend_faults f1 (next x) ≡ prepend_faults f0 (a >>= next)
 then_following {f0 = f0} {x = x} {a = a} next s = reported_equal (ap (λ z. (next z).known) s.known)
     (ap (λ f. f ++ (next x).faults) s.reported ∙ append_assoc f0 a.faults (next x).faults ∙ ap (λ z. f0 ++ (a.faults ++ (next z).faults)) s.known)
 
@@ -51,13 +51,13 @@ chain_goes_on {chain = chain} {f = f} {xs = xs} {done = done} {now = now} {out =
     let rest = items_of f (drop (done + 1) xs) in
     record {
       so_far = then_following (λ z. chain z rest) s
-          ∙ sym (ap (with_earlier_faults now) (h.stepped out (f x) rest))
-          ∙ sym (ap (λ ys. with_earlier_faults now (chain out (items_of f ys))) split)
+          ∙ sym (ap (prepend_faults now) (h.stepped out (f x) rest))
+          ∙ sym (ap (λ ys. prepend_faults now (chain out (items_of f ys))) split)
           ∙ c.so_far;
     }
 
 pub chain_ends : {O A : Type 0} {i : GrammarItem} {chain : O → Tree ℕ (items i) → ResultWithFaults O} {step : O → Tree ℕ (item i) → ResultWithFaults O} {f : A → Tree ℕ (item i)} {before : List FaultAtTokens} {start : O} {xs : List A} {done : ℕ} {now : List FaultAtTokens} {out : O}
     → IsChain chain step → Chained chain f before start xs done now out → length xs ≤ done → ReturnsAndReports before now out (chain start (items_of f xs))
 chain_ends {chain = chain} {f = f} {xs = xs} {done = done} {now = now} {out = out} h c all =
-    let whole = sym (ap (with_earlier_faults now) (h.ended out)) ∙ sym (ap (λ ys. with_earlier_faults now (chain out (items_of f ys))) (drop_all done xs all)) ∙ c.so_far in
+    let whole = sym (ap (prepend_faults now) (h.ended out)) ∙ sym (ap (λ ys. prepend_faults now (chain out (items_of f ys))) (drop_all done xs all)) ∙ c.so_far in
     record { known = ap (λ t. t.known) whole; reported = sym (append-nil now) ∙ ap (λ t. t.faults) whole }

@@ -11,13 +11,13 @@ use Rattle.ob0_tree.specs.ParsedModule.{named_tree_of}
 use Rattle.ob0_tree.specs.Tree.{Tree, module_text}
 use Rattle.ob0_types_table.specs.declared.types.TypeId.{TypeId}
 use Rattle.ob0_types_check.specs.Agreement.{DeclarationAgreesWithObject, EntriesAgreeWithShapes, FieldsAgreeWithShapes, FormalsAgreeWithSignature, PartsAgreeWithShape, TableAgreesWithShapes, is_standard_procedure, shape_of_type_in}
-use Rattle.ob0_types_check.specs.DeclarationFaults.{every_body, undeclared_name_and_type_faults, report_on_module}
+use Rattle.ob0_types_check.specs.DeclarationFaults.{includes_every_body, undeclared_name_and_type_faults, report_on_module}
 use Rattle.ob0_types_check.specs.TypesAndMeanings.{KnownParameter, Meaning, a_constant, a_procedure, a_type, a_variable}
-use Rattle.ob0_types_check.specs.ModuleLaws.{KnowsDeclarations}
+use Rattle.ob0_types_check.specs.ModuleLaws.{KnownDeclarationsAgreeWithModule}
 use Rattle.ob0_types_check.specs.KnownDeclarations.{KnownField, CompositeType, CompositeParts, KnownDeclarations, of_elements, of_fields}
-use Rattle.ob0_types_check.specs.SomeBodies.{IncludesChangedAndFaultyBodies}
+use Rattle.ob0_types_check.specs.WalksOverSomeBodies.{IncludesChangedAndFaultyBodies}
 use Rattle.ob0_types_check.proofs.BlocksKnown.{walk_without_fault_finds_correct_meanings-holds}
-use Rattle.ob0_types_check.proofs.SomeBodies.{IsKnownAlike, known_alike}
+use Rattle.ob0_types_check.proofs.WalksOverSomeBodies.{IsKnownAlike, known_alike}
 use Rattle.ob0_types_check.proofs.TableKnown.{procedure_there}
 use Rattle.ob0_types_check.proofs.Unreported.{some-same}
 
@@ -70,7 +70,7 @@ agrees_once shapes (Some (a_variable t)) o p (s, there, is) (u, here, its) own o
 agrees_once shapes (Some (a_procedure fs)) o p (s, there, formals) (u, here, others) own other =
     sym (procedure_there o s own there) ∙ (ap (λ z. Some (meant.a_procedure z)) (formals_have_distinct_fields shapes fs s u formals others) ∙ procedure_there p u other here)
 
-module _ (p q : KnownDeclarations) (m n : Tree Name module_text) (h : KnowsDeclarations p m) (g : KnowsDeclarations q n) (declared : p.declared ≡ q.declared) (made : p.made ≡ q.made) where
+module _ (p q : KnownDeclarations) (m n : Tree Name module_text) (h : KnownDeclarationsAgreeWithModule p m) (g : KnownDeclarationsAgreeWithModule q n) (declared : p.declared ≡ q.declared) (made : p.made ≡ q.made) where
   shapes_once : h.shapes ≡ g.shapes
   shapes_once = made_once [] q.made h.shapes g.shapes (subst (λ ms. TableAgreesWithShapes ms h.shapes) made h.table) g.table
 
@@ -90,7 +90,7 @@ module _ (p q : KnownDeclarations) (m n : Tree Name module_text) (h : KnowsDecla
 
 -- returns the state at the end of a module
 abbrev last_known : Resolution → KnownDeclarations
-last_known r = (report_on_module every_body r).known.so_far
+last_known r = (report_on_module includes_every_body r).known.so_far
 
 pub declarations_stay : (wanted : ℕ → Bool) (r : Resolution) → IsResolution r → (w : IncludesChangedAndFaultyBodies wanted r) → undeclared_name_and_type_faults w.old ≡ [] → undeclared_name_and_type_faults r ≡ []
     → (k : ℕ) → declared_object (named_tree_of r.module_read) k ≡ declared_object (named_tree_of w.old.module_read) k

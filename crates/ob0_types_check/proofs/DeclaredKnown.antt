@@ -9,7 +9,7 @@
 use Rattle.std.proofs.Common.{map, ◌≡◌, ◌≢◌, ℕ, suc, ◌<◌, ◌≤◌, Bool, true, false, List, [], ◌∷◌, length, Option, Some, None, option_and_then, slice_index_or, slice_set, refl, sym, ap, ◌∙◌, subst, arith, le_trans, le_of_lt, le_refl, get_or-set_other, get_or-set_same}
 use Rattle.std.proofs.lemmas.List.{length-set}
 use Rattle.ob0_tree.proofs.Occurring.{looked_up-occurrences, looked_up_only}
-use Rattle.ob0_tree.specs.Places.{token_text_at}
+use Rattle.ob0_tree.specs.TokenIndexLeaves.{token_text_at}
 use Rattle.ob0_tree.specs.Tree.{Sort, Tree, identifiers}
 use Rattle.ob0_tree.specs.declared.tree.Role.{Role}
 use Rattle.ob0_tree.specs.declared.tree.Role.TheVariants as role
@@ -17,12 +17,12 @@ use Rattle.ob0_language_names.specs.Names.{Name, naming_by_spelling, same_name}
 use Rattle.ob0_scope_table.specs.Resolution.{ordinal_in}
 use Rattle.ob0_language_names.specs.Scopes.{Scope, ordinal_after_names, ordinal_in_scope}
 use Rattle.ob0_types_table.specs.declared.types.TypeId.{TypeId}
-use Rattle.ob0_language_types.specs.Environments.{environment_from_binding, meanings, newest_object}
+use Rattle.ob0_language_types.specs.Environments.{suffix_from_newest_binding, meanings, newest_object}
 use Rattle.ob0_language_types.specs.Expressions as meant
 use Rattle.ob0_language_types.specs.WellTyped.{Signature, TypeEnvironment, bind_names}
 use Rattle.ob0_language_values.specs.Values.{Shape}
 use Rattle.ob0_types_check.specs.TypesAndMeanings.{KnownParameter, Meaning, a_constant, a_procedure, a_type, a_variable}
-use Rattle.ob0_types_check.specs.KnownDeclarations.{KnownDeclarations, define_name_at_token, define_names_at_tokens, facts_from_declarations, with_meaning}
+use Rattle.ob0_types_check.specs.KnownDeclarations.{KnownDeclarations, define_name_at_token, define_listed_names, facts_from_declarations, declarations_with_meaning}
 use Rattle.ob0_types_check.specs.Agreement.{FactsAgreeWithShapesAndLabels, FormalsAgreeWithSignature, MeaningAgreesWithObject, IsKnownAndAgreesWithObject, TableAgreesWithShapes, TokensAgreeWithLabels, is_standard_procedure, shape_of_type_in}
 use Rattle.ob0_types_check.proofs.PartsFitting.{PartsFit}
 use Rattle.ob0_types_check.proofs.DeclaredNames.{AreSeen, Each, IsPlaced, IsSeen, NamesPlaced, Numbering, scope_following}
@@ -75,13 +75,13 @@ first_found shapes declared j k c env below true o h next e = subst (λ i. IsKno
 first_found shapes declared j k c env below false o h next e = next e
 
 name_found : (shapes : List Shape) (declared : List (Option (Meaning TypeId))) (n : ℕ) (scope : Scope Name) (env : TypeEnvironment Name) → NamesKnown shapes declared n scope env → (x : Name) (k : ℕ) → ordinal_in_scope naming_by_spelling scope x ≡ Some k
-    → IsKnownAndAgreesWithObject (shape_of_type_in shapes) (slice_index_or declared k None) (newest_object (environment_from_binding naming_by_spelling env x))
+    → IsKnownAndAgreesWithObject (shape_of_type_in shapes) (slice_index_or declared k None) (newest_object (suffix_from_newest_binding naming_by_spelling env x))
 name_found shapes declared n [] [] h x k e = absurd (cc)
 name_found shapes declared n [] (c ∷ env) h x k e = absurd h
 name_found shapes declared n (b ∷ scope) [] h x k e = absurd h
 name_found shapes declared n (b ∷ scope) (c ∷ env) h x k e =
-    subst (λ v. FoundAlike shapes declared (elim v [ true ↦ c ∷ env | false ↦ environment_from_binding naming_by_spelling env x ]) k) (ap (same_name x) (sym h.1))
-    (first_found shapes declared b.1 k c env (environment_from_binding naming_by_spelling env x) (same_name x b.0) (ordinal_in_scope naming_by_spelling scope x) h.2 (name_found shapes declared n scope env h.4 x k) e)
+    subst (λ v. FoundAlike shapes declared (elim v [ true ↦ c ∷ env | false ↦ suffix_from_newest_binding naming_by_spelling env x ]) k) (ap (same_name x) (sym h.1))
+    (first_found shapes declared b.1 k c env (suffix_from_newest_binding naming_by_spelling env x) (same_name x b.0) (ordinal_in_scope naming_by_spelling scope x) h.2 (name_found shapes declared n scope env h.4 x k) e)
 
 -- holds if the state at a place agrees with the scope and the environment there; `n` is the next ordinal
 pub record IsKnownAt (w : Numbering) (p : KnownDeclarations) (shapes : List Shape) (n : ℕ) (scope : Scope Name) (env : TypeEnvironment Name) : Type 0 where
@@ -127,7 +127,7 @@ holds_later w n m l p q before after scope env le up h f = record {
 
 -- Defining a name sets the declaration with its ordinal.
 with_one : (p : KnownDeclarations) (m : Meaning TypeId) (token k : ℕ) → ordinal_in p.ordinals token ≡ Some k → define_name_at_token p m token ≡ record { source = p.source; ordinals = p.ordinals; declared = slice_set p.declared k (Some m); made = p.made }
-with_one p m token k e = ap (with_meaning p m) e
+with_one p m token k e = ap (declarations_with_meaning p m) e
 
 apart : (k n : ℕ) → k < n → k ≢ n
 apart k n less e = absurd (omega (arith, e, less))
@@ -175,13 +175,13 @@ holds_defined w p q shapes n scope env m x o h d own agrees =
 module _ (w : Numbering) (p : KnownDeclarations) (only_constants : Bool) (shapes : List Shape) (n : ℕ) (scope : Scope Name) (env : TypeEnvironment Name) (h : IsKnownAt w p shapes n scope env) where
   pub seen_holds : (x : ℕ) → IsSeen w scope x → IsKnownAndAgreesWithObject (shape_of_type_in shapes) ((facts_from_declarations p only_constants).object_for x) ((meanings naming_by_spelling env).object_for (token_text_at w.source x))
   seen_holds x (k, at, there) =
-      subst (λ o. IsKnownAndAgreesWithObject (shape_of_type_in shapes) (option_and_then (λ j. slice_index_or p.declared j None) o) (newest_object (environment_from_binding naming_by_spelling env (token_text_at w.source x)))) (sym (ap (λ os. ordinal_in os x) h.ordinals ∙ at))
+      subst (λ o. IsKnownAndAgreesWithObject (shape_of_type_in shapes) (option_and_then (λ j. slice_index_or p.declared j None) o) (newest_object (suffix_from_newest_binding naming_by_spelling env (token_text_at w.source x)))) (sym (ap (λ os. ordinal_in os x) h.ordinals ∙ at))
       (name_found shapes p.declared n scope env h.names (token_text_at w.source x) k there)
 
   tokens_agree : (xs : List (Role × ℕ)) → Each (IsSeen w scope) (looked_up_only xs) → TokensAgreeWithLabels (facts_from_declarations p only_constants) (shape_of_type_in shapes) (token_text_at w.source) (meanings naming_by_spelling env) xs
   tokens_agree [] seen = tt
-  tokens_agree ((role.LookedUp, x) ∷ xs) seen = (seen_holds x seen.0, tokens_agree xs seen.1)
-  tokens_agree ((role.Declaring, x) ∷ xs) seen = (tt, tokens_agree xs seen)
+  tokens_agree ((role.LookedUpName, x) ∷ xs) seen = (seen_holds x seen.0, tokens_agree xs seen.1)
+  tokens_agree ((role.DeclaringName, x) ∷ xs) seen = (tt, tokens_agree xs seen)
   tokens_agree ((role.ClosingName, x) ∷ xs) seen = (tt, tokens_agree xs seen)
   tokens_agree ((role.FieldName, x) ∷ xs) seen = (ap (λ s. token_text_at s x) (sym h.source), tokens_agree xs seen)
   tokens_agree ((role.ModuleName, x) ∷ xs) seen = (tt, tokens_agree xs seen)
@@ -189,7 +189,7 @@ module _ (w : Numbering) (p : KnownDeclarations) (only_constants : Bool) (shapes
   pub agrees_where_seen : {s : Sort} → PartsFit → (t : Tree ℕ s) → AreSeen w scope t → FactsAgreeWithShapesAndLabels (facts_from_declarations p only_constants) (shape_of_type_in shapes) (token_text_at w.source) (meanings naming_by_spelling env) t
   agrees_where_seen fit t seen = record {
     types = fit.tables p.made shapes h.table;
-    tokens = tokens_agree (identifiers role.Declaring t) (subst (Each (IsSeen w scope)) (sym (looked_up-occurrences role.Declaring (λ x xs. refl) t)) seen);
+    tokens = tokens_agree (identifiers role.DeclaringName t) (subst (Each (IsSeen w scope)) (sym (looked_up-occurrences role.DeclaringName (λ x xs. refl) t)) seen);
   }
 
 -- holds if `q` is a later state than `p` and agrees with the scope and the environment, in which several names of one
@@ -199,13 +199,13 @@ pub record AllDefined (w : Numbering) (p q : KnownDeclarations) (shapes : List S
   pub holds : IsKnownAt w q shapes m scope env
 
 pub all_defined : (w : Numbering) (p : KnownDeclarations) (shapes : List Shape) (n : ℕ) (scope : Scope Name) (env : TypeEnvironment Name) (m : Meaning TypeId) (xs : List ℕ) (o : meant.Object Shape Signature) → IsKnownAt w p shapes n scope env → NamesPlaced w n xs → is_standard_procedure (Some o) ≡ false → MeaningAgreesWithObject (shape_of_type_in shapes) m (Some o)
-    → AllDefined w p (define_names_at_tokens p m xs) shapes n (ordinal_after_names n xs) (scope_following w n xs scope) (bind_names (map (token_text_at w.source) xs) o env)
+    → AllDefined w p (define_listed_names p m xs) shapes n (ordinal_after_names n xs) (scope_following w n xs scope) (bind_names (map (token_text_at w.source) xs) o env)
 all_defined w p shapes n scope env m [] o h placed own agrees = record { later = later_same n p shapes h.table; holds = h }
 all_defined w p shapes n scope env m (x ∷ xs) o h placed own agrees =
     let one = defined w p shapes n m x h.ordinals h.room h.table placed.0 in
     let first = holds_defined w p (define_name_at_token p m x) shapes n scope env m (token_text_at w.source x) o h one own agrees in
     let rest = all_defined w (define_name_at_token p m x) shapes (suc n) ((token_text_at w.source x, n) ∷ scope) ((token_text_at w.source x, o) ∷ env) m xs o first placed.1 own agrees in
     record {
-      later = later_then n (suc n) p (define_name_at_token p m x) (define_names_at_tokens (define_name_at_token p m x) m xs) shapes shapes shapes (le_of_lt (le_refl (suc n))) one.later rest.later;
+      later = later_then n (suc n) p (define_name_at_token p m x) (define_listed_names (define_name_at_token p m x) m xs) shapes shapes shapes (le_of_lt (le_refl (suc n))) one.later rest.later;
       holds = rest.holds;
     }

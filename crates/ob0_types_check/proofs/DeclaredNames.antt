@@ -5,12 +5,12 @@
 use Rattle.std.proofs.Common.{◌≡◌, ℕ, suc, ◌<◌, ◌≤◌, Option, Some, None, List, [], ◌∷◌, ◌++◌, map, refl, sym, ap, ◌∙◌, subst, le_trans}
 use Rattle.std.proofs.lemmas.List.{map-append}
 use Rattle.ob0_scan.specs.TextWithTokens.{TextWithTokens}
-use Rattle.ob0_tree.specs.Places.{tree_with_names, token_text_at, token_value_at}
+use Rattle.ob0_tree.specs.TokenIndexLeaves.{tree_with_names, token_text_at, token_value_at}
 use Rattle.ob0_tree.specs.Tree.{GrammarItem, Sort, Tree, block, body, constant, constants, declares, declares_constant, declares_const_section, declares_procedure, declares_type, declares_type_section, declares_variable, declares_var_section, end, expression, formals, name_after_comma, section_after_semicolon, forms_block, item, items, listed, mapped_tree, maybe, more, names, no_formals, none, occurrences, one, procedure, section, some_formals, comma_then_name, semicolon_then_section, type_definition, type_definitions, value_section, variable, variable_section, variables, written_type}
 use Rattle.ob0_language_names.specs.Names.{Name, naming_by_spelling}
-use Rattle.ob0_language_names.specs.BlockParts.{block_constants, block_procedures, block_statements, block_types, block_variables, constant_names, formal_names, formal_sections, names_after_first, declared_type_names, names_in_list, procedure_block, procedure_formals, procedure_name, section_constants, parameter_section_names, parameter_section_type, section_types, section_variables, variable_names}
-use Rattle.ob0_scope_table.specs.Resolution.{ordinal_and_spelling_at, ordinal_in, ordinal_and_spelling}
-use Rattle.ob0_language_names.specs.Scopes.{Scope, ordinal_after_block, ordinal_after_names, ordinal_after_procedure, ordinal_after_procedure_list, declare_names, declare_procedure_names, first_procedure_ordinal, first_type_ordinal, first_variable_ordinal, labels_of_declared_names, label_of, ordinal_in_scope, scope_before_procedures, relabel_block, relabel_constants, relabel_procedure, relabel_procedure_list, relabel_parameter_section_list, relabel_types, relabel_uses, relabel_variables, scope_before_types, scope_before_variables}
+use Rattle.ob0_language_names.specs.BlockParts.{block_constants, block_procedures, block_statements, block_types, block_variables, constant_names, formal_parameter_names, formal_parameter_sections, names_after_first, declared_type_names, names_in_list, procedure_block, procedure_formals, procedure_name, section_constants, parameter_section_names, parameter_section_type, section_types, section_variables, variable_names}
+use Rattle.ob0_scope_table.specs.Resolution.{ordinal_and_spelling_at_token, ordinal_in, ordinal_and_spelling}
+use Rattle.ob0_language_names.specs.Scopes.{Scope, ordinal_after_block, ordinal_after_names, ordinal_after_procedure, ordinal_after_procedure_list, declare_names, declare_procedure_names, first_procedure_ordinal, first_type_ordinal, first_variable_ordinal, labels_of_declared_names, label_in_scope, ordinal_in_scope, scope_before_procedures, relabel_block, relabel_constants, relabel_procedure, relabel_procedure_list, relabel_parameter_section_list, relabel_types, relabel_uses, relabel_variables, scope_before_types, scope_before_variables}
 use Rattle.ob0_language_names.proofs.OccurrencesMapped.{occurrences-mapped}
 use Rattle.ob0_language_names.proofs.Ordinals.{ordinal_after_names-append, le-ordinal_after_block, le-ordinal_after_names, le-ordinal_after_procedure_list}
 use Rattle.ob0_language_names.proofs.Peeling.{heads}
@@ -99,7 +99,7 @@ pub variables-mapped_tree : {N M : Type 0} (f : N → M) (g : ℕ → ℕ) (vs :
 variables-mapped_tree f g none = refl
 variables-mapped_tree f g (one (declares_var_section vs)) = refl
 
-pub formals-mapped_tree : {N M : Type 0} (f : N → M) (g : ℕ → ℕ) (fs : Tree N (maybe formals)) → formal_sections (mapped_tree f g fs) ≡ mapped_tree f g (formal_sections fs)
+pub formals-mapped_tree : {N M : Type 0} (f : N → M) (g : ℕ → ℕ) (fs : Tree N (maybe formals)) → formal_parameter_sections (mapped_tree f g fs) ≡ mapped_tree f g (formal_parameter_sections fs)
 formals-mapped_tree f g none = refl
 formals-mapped_tree f g (one no_formals) = refl
 formals-mapped_tree f g (one (some_formals s rest)) = refl
@@ -120,10 +120,10 @@ variable_names-mapped_tree f g end = refl
 variable_names-mapped_tree f g (more (declares_variable ns t) gs) =
     joined f (names_in_list ns) (variable_names gs) (names_in_list (mapped_tree f g ns)) (variable_names (mapped_tree f g gs)) (names_in_list-mapped_tree f g ns) (variable_names-mapped_tree f g gs)
 
-pub formal_names-mapped_tree : {N M : Type 0} (f : N → M) (g : ℕ → ℕ) (fs : Tree N (items section_after_semicolon)) → formal_names (mapped_tree f g fs) ≡ map f (formal_names fs)
-formal_names-mapped_tree f g end = refl
-formal_names-mapped_tree f g (more (semicolon_then_section s) fs) =
-    joined f (parameter_section_names s) (formal_names fs) (parameter_section_names (mapped_tree f g s)) (formal_names (mapped_tree f g fs)) (parameter_section_names-mapped_tree f g s) (formal_names-mapped_tree f g fs)
+pub formal_parameter_names-mapped_tree : {N M : Type 0} (f : N → M) (g : ℕ → ℕ) (fs : Tree N (items section_after_semicolon)) → formal_parameter_names (mapped_tree f g fs) ≡ map f (formal_parameter_names fs)
+formal_parameter_names-mapped_tree f g end = refl
+formal_parameter_names-mapped_tree f g (more (semicolon_then_section s) fs) =
+    joined f (parameter_section_names s) (formal_parameter_names fs) (parameter_section_names (mapped_tree f g s)) (formal_parameter_names (mapped_tree f g fs)) (parameter_section_names-mapped_tree f g s) (formal_parameter_names-mapped_tree f g fs)
 
 -- The names in optional sections of a mapped tree are the mapped names.
 constants-names : {N M : Type 0} (f : N → M) (g : ℕ → ℕ) (cs : Tree N (maybe constants)) → constant_names (section_constants (mapped_tree f g cs)) ≡ map f (constant_names (section_constants cs))
@@ -135,8 +135,8 @@ types-names f g ts = ap declared_type_names (types-mapped_tree f g ts) ∙ decla
 variables-names : {N M : Type 0} (f : N → M) (g : ℕ → ℕ) (vs : Tree N (maybe variables)) → variable_names (section_variables (mapped_tree f g vs)) ≡ map f (variable_names (section_variables vs))
 variables-names f g vs = ap variable_names (variables-mapped_tree f g vs) ∙ variable_names-mapped_tree f g (section_variables vs)
 
-pub formals-names : {N M : Type 0} (f : N → M) (g : ℕ → ℕ) (fs : Tree N (maybe formals)) → formal_names (formal_sections (mapped_tree f g fs)) ≡ map f (formal_names (formal_sections fs))
-formals-names f g fs = ap formal_names (formals-mapped_tree f g fs) ∙ formal_names-mapped_tree f g (formal_sections fs)
+pub formals-names : {N M : Type 0} (f : N → M) (g : ℕ → ℕ) (fs : Tree N (maybe formals)) → formal_parameter_names (formal_parameter_sections (mapped_tree f g fs)) ≡ map f (formal_parameter_names (formal_parameter_sections fs))
+formals-names f g fs = ap formal_parameter_names (formals-mapped_tree f g fs) ∙ formal_parameter_names-mapped_tree f g (formal_parameter_sections fs)
 
 procedure_name-mapped_tree : {N M : Type 0} (f : N → M) (g : ℕ → ℕ) (p : Tree N (item procedure)) → procedure_name (mapped_tree f g p) ≡ f (procedure_name p)
 procedure_name-mapped_tree f g (declares_procedure x fs b closing) = refl
@@ -158,7 +158,7 @@ mutual
 
   pub ordinal_after_procedure-mapped_tree : {N M : Type 0} (f : N → M) (g : ℕ → ℕ) (j k : ℕ) → j ≡ k → (p : Tree N (item procedure)) → ordinal_after_procedure j (mapped_tree f g p) ≡ ordinal_after_procedure k p
   ordinal_after_procedure-mapped_tree f g j k e (declares_procedure x fs b closing) =
-      ordinal_after_block-mapped_tree f g (ordinal_after_names j (formal_names (formal_sections (mapped_tree f g fs)))) (ordinal_after_names k (formal_names (formal_sections fs))) (after-mapped_tree f j k (formal_names (formal_sections fs)) (formal_names (formal_sections (mapped_tree f g fs))) (formals-names f g fs) e) b
+      ordinal_after_block-mapped_tree f g (ordinal_after_names j (formal_parameter_names (formal_parameter_sections (mapped_tree f g fs)))) (ordinal_after_names k (formal_parameter_names (formal_parameter_sections fs))) (after-mapped_tree f j k (formal_parameter_names (formal_parameter_sections fs)) (formal_parameter_names (formal_parameter_sections (mapped_tree f g fs))) (formals-names f g fs) e) b
 
 -- The names of a module by token: the text with their spellings, their ordinals, and the number of ordinals.
 pub record Numbering : Type 0 where
@@ -225,7 +225,7 @@ abbrev pub following_procedure : Numbering → Scope Name → ℕ → Tree ℕ (
 following_procedure n scope k p = (token_text_at n.source (procedure_name p), k) ∷ scope
 
 abbrev pub inside_procedure : Numbering → Scope Name → ℕ → Tree ℕ (item procedure) → Scope Name
-inside_procedure n scope k p = scope_following n (suc k) (formal_names (procedure_formals p)) (following_procedure n scope k p)
+inside_procedure n scope k p = scope_following n (suc k) (formal_parameter_names (procedure_formals p)) (following_procedure n scope k p)
 
 abbrev mutual
   pub BlockPlaced : Numbering → Scope Name → ℕ → Tree ℕ block → Type 0
@@ -243,27 +243,27 @@ abbrev mutual
 
   pub ProcedurePlaced : Numbering → Scope Name → ℕ → Tree ℕ (item procedure) → Type 0
   ProcedurePlaced n scope k (declares_procedure x fs b closing) =
-      IsPlaced n k x × SectionsPlaced n scope (suc k) (formal_sections fs) × BlockPlaced n (inside_procedure n scope k (declares_procedure x fs b closing)) (ordinal_after_names (suc k) (formal_names (formal_sections fs))) b
+      IsPlaced n k x × SectionsPlaced n scope (suc k) (formal_parameter_sections fs) × BlockPlaced n (inside_procedure n scope k (declares_procedure x fs b closing)) (ordinal_after_names (suc k) (formal_parameter_names (formal_parameter_sections fs))) b
 
 module _ (n : Numbering) where
   -- returns the tree in which each token is replaced by its ordinal and its spelling
   abbrev bound_by : {s : Sort} → Tree ℕ s → Tree (Option ℕ × Name) s
-  bound_by t = mapped_tree (ordinal_and_spelling_at n.source n.ordinals) (token_value_at n.source) t
+  bound_by t = mapped_tree (ordinal_and_spelling_at_token n.source n.ordinals) (token_value_at n.source) t
 
-  seen : (scope : Scope Name) (x : ℕ) → label_of naming_by_spelling ordinal_and_spelling scope (token_text_at n.source x) ≡ ordinal_and_spelling_at n.source n.ordinals x → IsBound n x → IsSeen n scope x
+  seen : (scope : Scope Name) (x : ℕ) → label_in_scope naming_by_spelling ordinal_and_spelling scope (token_text_at n.source x) ≡ ordinal_and_spelling_at_token n.source n.ordinals x → IsBound n x → IsSeen n scope x
   seen scope x e (k, h) = (k, h, ap (λ p. p.0) e ∙ h)
 
   uses_seen : {s : Sort} (scope : Scope Name) (t : Tree ℕ s) → relabel_uses naming_by_spelling ordinal_and_spelling scope (tree_with_names n.source t) ≡ bound_by t → Each (IsBound n) (occurrences t) → AreSeen n scope t
   uses_seen scope t e all =
-      let look : Name → Option ℕ × Name = label_of naming_by_spelling ordinal_and_spelling scope in
+      let look : Name → Option ℕ × Name = label_in_scope naming_by_spelling ordinal_and_spelling scope in
       let text : ℕ → Name = token_text_at n.source in
-      let bound : ℕ → Option ℕ × Name = ordinal_and_spelling_at n.source n.ordinals in
+      let bound : ℕ → Option ℕ × Name = ordinal_and_spelling_at_token n.source n.ordinals in
       let left : occurrences (relabel_uses naming_by_spelling ordinal_and_spelling scope (tree_with_names n.source t)) ≡ map (λ x. look (text x)) (occurrences t) =
       occurrences-mapped look (ordinal_and_spelling None) (λ n. n) (tree_with_names n.source t) ∙ (ap (map look) (occurrences-mapped text text (token_value_at n.source) t) ∙ map-twice look text (occurrences t)) in
       each_with (λ x. look (text x) ≡ bound x) (IsBound n) (IsSeen n scope) (seen scope) (occurrences t)
       (each_same (λ x. look (text x)) bound (occurrences t) (sym left ∙ (ap occurrences e ∙ occurrences-mapped bound bound (token_value_at n.source) t))) all
 
-  names_placed : (k : ℕ) (xs : List ℕ) → labels_of_declared_names ordinal_and_spelling k (map (token_text_at n.source) xs) ≡ map (ordinal_and_spelling_at n.source n.ordinals) xs → ordinal_after_names k xs ≤ n.room → NamesPlaced n k xs
+  names_placed : (k : ℕ) (xs : List ℕ) → labels_of_declared_names ordinal_and_spelling k (map (token_text_at n.source) xs) ≡ map (ordinal_and_spelling_at_token n.source n.ordinals) xs → ordinal_after_names k xs ≤ n.room → NamesPlaced n k xs
   names_placed k [] e room = tt
   names_placed k (x ∷ xs) e room = let h = heads e in ((ap (λ p. p.0) (sym h.0), le_trans (le-ordinal_after_names (suc k) xs) room), names_placed (suc k) xs h.1 room)
 
@@ -295,8 +295,8 @@ module _ (n : Numbering) where
       let parts = each_part (IsBound n) (occurrences t) (occurrences gs) all in
       let own : names_in_list (tree_with_names n.source ns) ≡ map text (names_in_list ns) = names_in_list-mapped_tree text (token_value_at n.source) ns in
       let following : ordinal_after_names (ordinal_after_names k (names_in_list ns)) (variable_names gs) ≤ n.room = subst (λ j. j ≤ n.room) (ordinal_after_names-append k (names_in_list ns) (variable_names gs)) room in
-      let labels : labels_of_declared_names ordinal_and_spelling k (map text (names_in_list ns)) ≡ map (ordinal_and_spelling_at n.source n.ordinals) (names_in_list ns) =
-      sym (names-relabel ordinal_and_spelling k (tree_with_names n.source ns) ∙ ap (labels_of_declared_names ordinal_and_spelling k) own) ∙ (ap variables_left first ∙ names_in_list-mapped_tree (ordinal_and_spelling_at n.source n.ordinals) (token_value_at n.source) ns) in
+      let labels : labels_of_declared_names ordinal_and_spelling k (map text (names_in_list ns)) ≡ map (ordinal_and_spelling_at_token n.source n.ordinals) (names_in_list ns) =
+      sym (names-relabel ordinal_and_spelling k (tree_with_names n.source ns) ∙ ap (labels_of_declared_names ordinal_and_spelling k) own) ∙ (ap variables_left first ∙ names_in_list-mapped_tree (ordinal_and_spelling_at_token n.source n.ordinals) (token_value_at n.source) ns) in
       let rest : relabel_variables naming_by_spelling ordinal_and_spelling (scope_following n k (names_in_list ns) scope) (ordinal_after_names k (names_in_list ns)) (tree_with_names n.source gs) ≡ bound_by gs =
       sym (λ i. relabel_variables naming_by_spelling ordinal_and_spelling (declare_names k (own i) scope) (after-mapped_tree text k k (names_in_list ns) (names_in_list (tree_with_names n.source ns)) own refl i) (tree_with_names n.source gs)) ∙ ap rest_of e in (
         names_placed k (names_in_list ns) labels (le_trans (le-ordinal_after_names (ordinal_after_names k (names_in_list ns)) (variable_names gs)) following),
@@ -308,21 +308,21 @@ module _ (n : Numbering) where
   section_occurrences (value_section ns t) = refl
   section_occurrences (variable_section ns t) = refl
 
-  sections_placed : (scope : Scope Name) (k : ℕ) (fs : Tree ℕ (items section_after_semicolon)) → relabel_parameter_section_list naming_by_spelling ordinal_and_spelling scope k (tree_with_names n.source fs) ≡ bound_by fs → Each (IsBound n) (occurrences fs) → ordinal_after_names k (formal_names fs) ≤ n.room → SectionsPlaced n scope k fs
+  sections_placed : (scope : Scope Name) (k : ℕ) (fs : Tree ℕ (items section_after_semicolon)) → relabel_parameter_section_list naming_by_spelling ordinal_and_spelling scope k (tree_with_names n.source fs) ≡ bound_by fs → Each (IsBound n) (occurrences fs) → ordinal_after_names k (formal_parameter_names fs) ≤ n.room → SectionsPlaced n scope k fs
   sections_placed scope k end e all room = tt
   sections_placed scope k (more (semicolon_then_section f) fs) e all room =
       let text : ℕ → Name = token_text_at n.source in
       let first = ap (λ t. section_in (first_of (bound_by (semicolon_then_section f)) t)) e in
       let parts = each_part (IsBound n) (occurrences f) (occurrences fs) all in
       let own : parameter_section_names (tree_with_names n.source f) ≡ map text (parameter_section_names f) = parameter_section_names-mapped_tree text (token_value_at n.source) f in
-      let following : ordinal_after_names (ordinal_after_names k (parameter_section_names f)) (formal_names fs) ≤ n.room = subst (λ j. j ≤ n.room) (ordinal_after_names-append k (parameter_section_names f) (formal_names fs)) room in
-      let labels : labels_of_declared_names ordinal_and_spelling k (map text (parameter_section_names f)) ≡ map (ordinal_and_spelling_at n.source n.ordinals) (parameter_section_names f) =
-      sym (parameter_section_names-relabel naming_by_spelling ordinal_and_spelling scope k (tree_with_names n.source f) ∙ ap (labels_of_declared_names ordinal_and_spelling k) own) ∙ (ap parameter_section_names first ∙ parameter_section_names-mapped_tree (ordinal_and_spelling_at n.source n.ordinals) (token_value_at n.source) f) in
+      let following : ordinal_after_names (ordinal_after_names k (parameter_section_names f)) (formal_parameter_names fs) ≤ n.room = subst (λ j. j ≤ n.room) (ordinal_after_names-append k (parameter_section_names f) (formal_parameter_names fs)) room in
+      let labels : labels_of_declared_names ordinal_and_spelling k (map text (parameter_section_names f)) ≡ map (ordinal_and_spelling_at_token n.source n.ordinals) (parameter_section_names f) =
+      sym (parameter_section_names-relabel naming_by_spelling ordinal_and_spelling scope k (tree_with_names n.source f) ∙ ap (labels_of_declared_names ordinal_and_spelling k) own) ∙ (ap parameter_section_names first ∙ parameter_section_names-mapped_tree (ordinal_and_spelling_at_token n.source n.ordinals) (token_value_at n.source) f) in
       let sided : relabel_uses naming_by_spelling ordinal_and_spelling scope (tree_with_names n.source (parameter_section_type f)) ≡ bound_by (parameter_section_type f) =
-      sym (parameter_section_type-relabel naming_by_spelling ordinal_and_spelling scope k (tree_with_names n.source f) ∙ ap (relabel_uses naming_by_spelling ordinal_and_spelling scope) (parameter_section_type-mapped_tree text (token_value_at n.source) f)) ∙ (ap parameter_section_type first ∙ parameter_section_type-mapped_tree (ordinal_and_spelling_at n.source n.ordinals) (token_value_at n.source) f) in
+      sym (parameter_section_type-relabel naming_by_spelling ordinal_and_spelling scope k (tree_with_names n.source f) ∙ ap (relabel_uses naming_by_spelling ordinal_and_spelling scope) (parameter_section_type-mapped_tree text (token_value_at n.source) f)) ∙ (ap parameter_section_type first ∙ parameter_section_type-mapped_tree (ordinal_and_spelling_at_token n.source n.ordinals) (token_value_at n.source) f) in
       let rest : relabel_parameter_section_list naming_by_spelling ordinal_and_spelling (scope_following n k (parameter_section_names f) scope) (ordinal_after_names k (parameter_section_names f)) (tree_with_names n.source fs) ≡ bound_by fs =
       sym (λ i. relabel_parameter_section_list naming_by_spelling ordinal_and_spelling (declare_names k (own i) scope) (after-mapped_tree text k k (parameter_section_names f) (parameter_section_names (tree_with_names n.source f)) own refl i) (tree_with_names n.source fs)) ∙ ap rest_of e in (
-        names_placed k (parameter_section_names f) labels (le_trans (le-ordinal_after_names (ordinal_after_names k (parameter_section_names f)) (formal_names fs)) following),
+        names_placed k (parameter_section_names f) labels (le_trans (le-ordinal_after_names (ordinal_after_names k (parameter_section_names f)) (formal_parameter_names fs)) following),
         uses_seen scope (parameter_section_type f) sided (subst (Each (IsBound n)) (section_occurrences f) parts.0),
         sections_placed (scope_following n k (parameter_section_names f) scope) (ordinal_after_names k (parameter_section_names f)) fs rest parts.1 following,
       )
@@ -339,7 +339,7 @@ module _ (n : Numbering) where
   variables_occurrences none = refl
   variables_occurrences (one (declares_var_section vs)) = refl
 
-  formals_occurrences : (fs : Tree ℕ (maybe formals)) → occurrences fs ≡ occurrences (formal_sections fs)
+  formals_occurrences : (fs : Tree ℕ (maybe formals)) → occurrences fs ≡ occurrences (formal_parameter_sections fs)
   formals_occurrences none = refl
   formals_occurrences (one no_formals) = refl
   formals_occurrences (one (some_formals s rest)) = refl
@@ -348,7 +348,7 @@ module _ (n : Numbering) where
     pub block_placed : (scope : Scope Name) (k : ℕ) (b : Tree ℕ block) → relabel_block naming_by_spelling ordinal_and_spelling scope k (tree_with_names n.source b) ≡ bound_by b → Each (IsBound n) (occurrences b) → ordinal_after_block k b ≤ n.room → BlockPlaced n scope k b
     block_placed scope k (forms_block (declares cs ts vs ps) statements) e all room =
         let text : ℕ → Name = token_text_at n.source in
-        let bound : ℕ → Option ℕ × Name = ordinal_and_spelling_at n.source n.ordinals in
+        let bound : ℕ → Option ℕ × Name = ordinal_and_spelling_at_token n.source n.ordinals in
         let value : ℕ → ℕ = token_value_at n.source in
         let b : Tree ℕ block = forms_block (declares cs ts vs ps) statements in
         let both = each_part (IsBound n) (occurrences cs ++ (occurrences ts ++ (occurrences vs ++ occurrences ps))) (occurrences statements) all in
@@ -401,14 +401,14 @@ module _ (n : Numbering) where
         let value : ℕ → ℕ = token_value_at n.source in
         let p : Tree ℕ (item procedure) = declares_procedure x fs b closing in
         let parts = each_part (IsBound n) (occurrences fs) (occurrences b) all in
-        let own : formal_names (formal_sections (tree_with_names n.source fs)) ≡ map text (formal_names (formal_sections fs)) = formals-names text value fs in
-        let next : ordinal_after_names (suc k) (formal_names (formal_sections (tree_with_names n.source fs))) ≡ ordinal_after_names (suc k) (formal_names (formal_sections fs)) = after-mapped_tree text (suc k) (suc k) (formal_names (formal_sections fs)) (formal_names (formal_sections (tree_with_names n.source fs))) own refl in
-        let inner : ordinal_after_names (suc k) (formal_names (formal_sections fs)) ≤ n.room = le_trans (le-ordinal_after_block (ordinal_after_names (suc k) (formal_names (formal_sections fs))) b) room in
-        let of_formals : relabel_parameter_section_list naming_by_spelling ordinal_and_spelling scope (suc k) (tree_with_names n.source (formal_sections fs)) ≡ bound_by (formal_sections fs) =
-        sym (formals-section naming_by_spelling ordinal_and_spelling scope (suc k) (tree_with_names n.source fs) ∙ ap (relabel_parameter_section_list naming_by_spelling ordinal_and_spelling scope (suc k)) (formals-mapped_tree text value fs)) ∙ (ap procedure_formals e ∙ formals-mapped_tree (ordinal_and_spelling_at n.source n.ordinals) value fs) in
-        let of_block : relabel_block naming_by_spelling ordinal_and_spelling (inside_procedure n scope k p) (ordinal_after_names (suc k) (formal_names (formal_sections fs))) (tree_with_names n.source b) ≡ bound_by b =
+        let own : formal_parameter_names (formal_parameter_sections (tree_with_names n.source fs)) ≡ map text (formal_parameter_names (formal_parameter_sections fs)) = formals-names text value fs in
+        let next : ordinal_after_names (suc k) (formal_parameter_names (formal_parameter_sections (tree_with_names n.source fs))) ≡ ordinal_after_names (suc k) (formal_parameter_names (formal_parameter_sections fs)) = after-mapped_tree text (suc k) (suc k) (formal_parameter_names (formal_parameter_sections fs)) (formal_parameter_names (formal_parameter_sections (tree_with_names n.source fs))) own refl in
+        let inner : ordinal_after_names (suc k) (formal_parameter_names (formal_parameter_sections fs)) ≤ n.room = le_trans (le-ordinal_after_block (ordinal_after_names (suc k) (formal_parameter_names (formal_parameter_sections fs))) b) room in
+        let of_formals : relabel_parameter_section_list naming_by_spelling ordinal_and_spelling scope (suc k) (tree_with_names n.source (formal_parameter_sections fs)) ≡ bound_by (formal_parameter_sections fs) =
+        sym (formals-section naming_by_spelling ordinal_and_spelling scope (suc k) (tree_with_names n.source fs) ∙ ap (relabel_parameter_section_list naming_by_spelling ordinal_and_spelling scope (suc k)) (formals-mapped_tree text value fs)) ∙ (ap procedure_formals e ∙ formals-mapped_tree (ordinal_and_spelling_at_token n.source n.ordinals) value fs) in
+        let of_block : relabel_block naming_by_spelling ordinal_and_spelling (inside_procedure n scope k p) (ordinal_after_names (suc k) (formal_parameter_names (formal_parameter_sections fs))) (tree_with_names n.source b) ≡ bound_by b =
         sym (λ i. relabel_block naming_by_spelling ordinal_and_spelling (declare_names (suc k) (own i) (following_procedure n scope k p)) (next i) (tree_with_names n.source b)) ∙ ap procedure_block e in (
-          (ap (λ (q : Tree (Option ℕ × Name) (item procedure)). (procedure_name q).0) (sym e), le_trans (le-ordinal_after_names (suc k) (formal_names (formal_sections fs))) inner),
-          sections_placed scope (suc k) (formal_sections fs) of_formals (subst (Each (IsBound n)) (formals_occurrences fs) parts.0) inner,
-          block_placed (inside_procedure n scope k p) (ordinal_after_names (suc k) (formal_names (formal_sections fs))) b of_block parts.1 room,
+          (ap (λ (q : Tree (Option ℕ × Name) (item procedure)). (procedure_name q).0) (sym e), le_trans (le-ordinal_after_names (suc k) (formal_parameter_names (formal_parameter_sections fs))) inner),
+          sections_placed scope (suc k) (formal_parameter_sections fs) of_formals (subst (Each (IsBound n)) (formals_occurrences fs) parts.0) inner,
+          block_placed (inside_procedure n scope k p) (ordinal_after_names (suc k) (formal_parameter_names (formal_parameter_sections fs))) b of_block parts.1 room,
         )

@@ -3,14 +3,14 @@
 -- other, so lists needn't be reassociated.
 use Rattle.std.proofs.Common.{◌≡◌, ℕ, zero, suc, ◌+◌, ◌*◌, max, true, ◌&&◌, List, [], ◌∷◌, ◌++◌, length, Option, Some, None, option_and_then, slice_get, nat_le, if◌then◌else◌, map, refl, sym, ap, ◌∙◌, subst, append_assoc, append-nil, arith}
 use Rattle.std.proofs.Math.Nat.{max_comm, mul_comm}
-use Rattle.ob0_tree.specs.Places.{token_text_at}
+use Rattle.ob0_tree.specs.TokenIndexLeaves.{token_text_at}
 use Rattle.ob0_language_names.specs.Names.{Name}
 use Rattle.ob0_types_table.specs.declared.types.TypeId.{TypeId}
 use Rattle.ob0_types_table.specs.declared.types.TypeId.TheVariants as type
-use Rattle.ob0_language_types.specs.Typing.{depth, field_depth, field_scalars, scalars, prepend_fields, type_within_limits}
+use Rattle.ob0_language_types.specs.Typing.{depth, deepest_field_depth, scalar_count_of_fields, scalars, prepend_fields, type_within_limits}
 use Rattle.ob0_language_values.specs.Values.{FieldShapes, Shape, array_shape, boolean_shape, integer_shape, next_field_shape, no_field_shape, record_shape}
-use Rattle.ob0_types_check.specs.KnownDeclarations.{CompositeType, CompositeParts, TypeSize, KnownField, is_within_limits, of_elements, of_fields, scalar_size, size_of_type_so_far, composite_size}
-use Rattle.ob0_types_check.specs.WrittenTypeFaults.{KnownFields, array_size, record_size, with_known_field, with_known_fields}
+use Rattle.ob0_types_check.specs.KnownDeclarations.{CompositeType, CompositeParts, TypeSize, KnownField, is_within_limits, of_elements, of_fields, scalar_size, size_of_known_type, composite_size}
+use Rattle.ob0_types_check.specs.WrittenTypeFaults.{KnownFields, array_size, record_size, append_known_field, append_known_fields}
 use Rattle.ob0_types_check.specs.Agreement.{EntriesAgreeWithShapes, FieldsAgreeWithShapes, CompositeAgreesWithShape, PartsAgreeWithShape, TableAgreesWithShapes, shape_if_array, shape_if_record, shape_of_type_in}
 
 -- holds if each type that has a shape in `before` has the same shape in `after`
@@ -116,7 +116,7 @@ entered known f is (m ∷ ms) (x ∷ ss) (suc i) s h e = entered (known ++ x ∷
 sized : {m : Option CompositeType} (s : Shape) → Entered m s → SizeAgrees (composite_size m) s
 sized s h = subst (λ o. SizeAgrees (composite_size o) s) (sym h.there) h.sizes
 
-pub size_agrees : (ms : List CompositeType) (shapes : List Shape) (t : TypeId) (s : Shape) → TableAgreesWithShapes ms shapes → shape_of_type_in shapes t ≡ Some s → SizeAgrees (size_of_type_so_far ms t) s
+pub size_agrees : (ms : List CompositeType) (shapes : List Shape) (t : TypeId) (s : Shape) → TableAgreesWithShapes ms shapes → shape_of_type_in shapes t ≡ Some s → SizeAgrees (size_of_known_type ms t) s
 size_agrees ms shapes type.Integer s h e = subst (SizeAgrees scalar_size) (some_same integer_shape s e) (record { scalars_are = refl; depth_is = refl })
 size_agrees ms shapes type.Boolean s h e = subst (SizeAgrees scalar_size) (some_same boolean_shape s e) (record { scalars_are = refl; depth_is = refl })
 size_agrees ms shapes (type.Array i) s h e = sized s (entered [] shape_if_array array_is ms shapes i s h e)
@@ -146,11 +146,11 @@ pub prepend_fields-followed : (xs : List Name) (s : Shape) (later : FieldShapes)
 prepend_fields-followed [] s later = refl
 prepend_fields-followed (x ∷ xs) s later = ap (next_field_shape x s) (prepend_fields-followed xs s later)
 
-scalars-followed : (fs gs : FieldShapes) → field_scalars (followed fs gs) ≡ field_scalars fs + field_scalars gs
+scalars-followed : (fs gs : FieldShapes) → scalar_count_of_fields (followed fs gs) ≡ scalar_count_of_fields fs + scalar_count_of_fields gs
 scalars-followed no_field_shape gs = omega arith
 scalars-followed (next_field_shape x s fs) gs = omega (arith, scalars-followed fs gs)
 
-depth-followed : (fs gs : FieldShapes) → field_depth (followed fs gs) ≡ max (field_depth fs) (field_depth gs)
+depth-followed : (fs gs : FieldShapes) → deepest_field_depth (followed fs gs) ≡ max (deepest_field_depth fs) (deepest_field_depth gs)
 depth-followed no_field_shape gs = omega arith
 depth-followed (next_field_shape x s fs) gs = omega (arith, depth-followed fs gs)
 
@@ -164,11 +164,11 @@ field_put shapes (f ∷ fields) (next_field_shape y u fs) x t s h is = (h.0, h.1
 -- holds if the fields of a record so far have these shapes, and their total size is right
 pub record GatheredAgrees (shapes : List Shape) (g : KnownFields) (fs : FieldShapes) : Type 0 where
   pub fields : FieldsAgreeWithShapes (shape_of_type_in shapes) g.fields fs
-  pub scalars_are : g.size.scalars ≡ field_scalars fs
-  pub depth_is : g.size.depth ≡ field_depth fs
+  pub scalars_are : g.size.scalars ≡ scalar_count_of_fields fs
+  pub depth_is : g.size.depth ≡ deepest_field_depth fs
 
 name_put : (shapes : List Shape) (g : KnownFields) (fs : FieldShapes) (x : ℕ) (t : TypeId) (s : Shape) → GatheredAgrees shapes g fs → TableAgreesWithShapes g.following.made shapes → shape_of_type_in shapes t ≡ Some s
-    → GatheredAgrees shapes (with_known_field t g x) (followed fs (next_field_shape (token_text_at g.following.source x) s no_field_shape))
+    → GatheredAgrees shapes (append_known_field t g x) (followed fs (next_field_shape (token_text_at g.following.source x) s no_field_shape))
 name_put shapes g fs x t s h table is =
     let z = size_agrees g.following.made shapes t s table is in
     let one : FieldShapes = next_field_shape (token_text_at g.following.source x) s no_field_shape in
@@ -179,15 +179,15 @@ name_put shapes g fs x t s h table is =
     }
 
 pub names_put : (shapes : List Shape) (g : KnownFields) (fs : FieldShapes) (xs : List ℕ) (t : TypeId) (s : Shape) → GatheredAgrees shapes g fs → TableAgreesWithShapes g.following.made shapes → shape_of_type_in shapes t ≡ Some s
-    → GatheredAgrees shapes (with_known_fields t g xs) (followed fs (prepend_fields (map (token_text_at g.following.source) xs) s no_field_shape))
+    → GatheredAgrees shapes (append_known_fields t g xs) (followed fs (prepend_fields (map (token_text_at g.following.source) xs) s no_field_shape))
 names_put shapes g fs [] t s h table is = subst (GatheredAgrees shapes g) (sym (followed-nothing fs)) h
 names_put shapes g fs (x ∷ xs) t s h table is =
     let one : FieldShapes = next_field_shape (token_text_at g.following.source x) s no_field_shape in
-    subst (GatheredAgrees shapes (with_known_fields t (with_known_field t g x) xs)) (followed-assoc fs one (prepend_fields (map (token_text_at g.following.source) xs) s no_field_shape))
-    (names_put shapes (with_known_field t g x) (followed fs one) xs t s (name_put shapes g fs x t s h table is) table is)
+    subst (GatheredAgrees shapes (append_known_fields t (append_known_field t g x) xs)) (followed-assoc fs one (prepend_fields (map (token_text_at g.following.source) xs) s no_field_shape))
+    (names_put shapes (append_known_field t g x) (followed fs one) xs t s (name_put shapes g fs x t s h table is) table is)
 
 pub record_sized : (shapes : List Shape) (g : KnownFields) (k : ℕ) (fs : FieldShapes) → GatheredAgrees shapes g fs → SizeAgrees (record_size g.size) (record_shape k fs)
-record_sized shapes g k fs h = record { scalars_are = ap (λ a. max a 1) h.scalars_are ∙ max_comm (field_scalars fs) 1; depth_is = omega (arith, h.depth_is) }
+record_sized shapes g k fs h = record { scalars_are = ap (λ a. max a 1) h.scalars_are ∙ max_comm (scalar_count_of_fields fs) 1; depth_is = omega (arith, h.depth_is) }
 
 pub gathered_kept : (before after : List Shape) → Longer before after → (g : KnownFields) (fs : FieldShapes) → GatheredAgrees before g fs → GatheredAgrees after g fs
 gathered_kept before after longer g fs h = record { fields = fields_kept before after longer g.fields fs h.fields; scalars_are = h.scalars_are; depth_is = h.depth_is }

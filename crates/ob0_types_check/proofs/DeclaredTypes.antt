@@ -2,7 +2,7 @@
 -- gathered from the left, but their shapes are built from the right. So `GroupGathers` is about the fields of a group
 -- before any fields that follow. Definitions nest two sums differently; `grouped` proves that they are equal.
 use Rattle.std.proofs.Common.{◌≡◌, ℕ, suc, ◌+◌, Bool, true, false, List, [], ◌∷◌, ◌++◌, length, map, Option, Some, None, option_and_then, if◌then◌else◌, refl, sym, ap, ◌∙◌, subst, subst₂, le_refl, arith}
-use Rattle.ob0_tree.specs.Places.{tree_with_names, token_text_at, token_value_at}
+use Rattle.ob0_tree.specs.TokenIndexLeaves.{tree_with_names, token_text_at, token_value_at}
 use Rattle.ob0_tree.specs.Tree.{Tree, array_type, end, fields, fields_after_semicolon, items, mapped_tree, more, named_type, no_fields, occurrences, record_type, some_fields, semicolon_then_fields, written_type}
 use Rattle.ob0_language_names.specs.Names.{Name, naming_by_spelling}
 use Rattle.ob0_language_names.specs.BlockParts.{names_in_list}
@@ -10,15 +10,15 @@ use Rattle.ob0_language_names.specs.Scopes.{Scope}
 use Rattle.ob0_types_table.specs.declared.types.TypeId.{TypeId}
 use Rattle.ob0_language_types.specs.Environments.{meanings}
 use Rattle.ob0_language_types.specs.Expressions as meant
-use Rattle.ob0_language_types.specs.Typing.{array_length, constant_value, denoted_type, denoted_group_fields, denoted_further_fields, constructor_count, group_constructor_count, groups_constructor_count, type_of_type_object, prepend_fields, type_within_limits}
+use Rattle.ob0_language_types.specs.Typing.{array_length_from_value, constant_expression_value, denoted_type, denoted_group_fields, denoted_further_fields, constructor_count, group_constructor_count, later_groups_constructor_count, type_of_type_object, prepend_fields, type_within_limits}
 use Rattle.ob0_language_types.specs.WellTyped.{Signature, TypeEnvironment}
 use Rattle.ob0_language_values.specs.Values.{FieldShapes, Shape, Value, array_shape, no_field_shape, record_shape}
 use Rattle.ob0_types_check.specs.ExpressionFaults.{report_on_expression}
 use Rattle.ob0_types_check.specs.TypesAndMeanings.{Meaning, Operand, ResultWithFaults, a_constant, a_procedure, a_type, a_variable}
 use Rattle.ob0_types_check.specs.OperandFaults.{without_fault}
-use Rattle.ob0_types_check.specs.KnownDeclarations.{CompositeParts, TypeSize, KnownDeclarations, TypeWithFollowingDeclarations, facts_from_declarations, is_within_limits, append_composite, make_composite_type, of_elements, of_fields, size_of_type_so_far, report_on_too_large_type, type_at_index}
+use Rattle.ob0_types_check.specs.KnownDeclarations.{CompositeParts, TypeSize, KnownDeclarations, TypeWithFollowingDeclarations, facts_from_declarations, is_within_limits, append_composite, make_composite_type, of_elements, of_fields, size_of_known_type, report_on_too_large_type, type_id_of_parts}
 use Rattle.ob0_types_check.specs.TypeFaults.{length_from_operand, type_from_meaning}
-use Rattle.ob0_types_check.specs.WrittenTypeFaults.{KnownFields, made_array_type, array_size, with_field_group, no_known_fields, made_record_type, record_size, record_keyword_token, report_on_field_group, report_on_further_field_groups, next_type_ordinal, report_on_written_type, with_known_field, with_known_fields, token_before_group}
+use Rattle.ob0_types_check.specs.WrittenTypeFaults.{KnownFields, made_array_type, array_size, append_field_group, no_known_fields, made_record_type, record_size, record_keyword_token, report_on_field_group, report_on_further_field_groups, next_type_ordinal, report_on_written_type, append_known_field, append_known_fields, token_before_group}
 use Rattle.ob0_types_check.specs.Agreement.{PartsAgreeWithShape, IsKnownAndAgreesWithObject, TableAgreesWithShapes, shape_of_type_in}
 use Rattle.ob0_types_check.specs.WellTypedLaws.{ordinal_of_shape}
 use Rattle.ob0_types_check.proofs.MadeOnce.{Apart, apart_made, apart_same, apart_then}
@@ -52,7 +52,7 @@ pub record MadeDenotes (n : ℕ) (p : KnownDeclarations) (before : List Shape) (
   pub limited : type_within_limits s ≡ Some s
   pub denotes : Denotes n p before k l (Some s) u
 
-made_denotes : (n : ℕ) (p q : KnownDeclarations) (before mid : List Shape) (k l word ordinal : ℕ) (parts : CompositeParts) (size : TypeSize) (s : Shape) → ordinal ≡ k → ordinal_of_shape s ≡ Some k → Apart (suc k) l before mid → Later n p q before mid → PartsAgreeWithShape (shape_of_type_in mid) k parts s → SizeAgrees size s → shape_of_type_in (mid ++ s ∷ []) (type_at_index parts (length q.made)) ≡ Some s
+made_denotes : (n : ℕ) (p q : KnownDeclarations) (before mid : List Shape) (k l word ordinal : ℕ) (parts : CompositeParts) (size : TypeSize) (s : Shape) → ordinal ≡ k → ordinal_of_shape s ≡ Some k → Apart (suc k) l before mid → Later n p q before mid → PartsAgreeWithShape (shape_of_type_in mid) k parts s → SizeAgrees size s → shape_of_type_in (mid ++ s ∷ []) (type_id_of_parts parts (length q.made)) ≡ Some s
     → (make_composite_type q word ordinal parts size).faults ≡ [] → MadeDenotes n p before k l s (make_composite_type q word ordinal parts size).known
 made_denotes n p q before mid k l word ordinal parts size s here number own later agrees sized last none =
     by_size (is_within_limits size) refl none
@@ -83,8 +83,8 @@ array_denotes : (n : ℕ) (p : KnownDeclarations) (before : List Shape) (k l ord
     → Denotes n p before k l (option_and_then (λ s. type_within_limits (array_shape k count s)) given) (made_array_type ordinal o (Some count) u).known
 array_denotes n p before k l ordinal count o given u here d none =
     let s : Shape = array_shape k count d.shape in
-    let size = array_sized (size_of_type_so_far u.following.made u.of) k count d.shape (size_agrees u.following.made d.after u.of d.shape d.later.table d.known) in
-    let m = made_denotes n p u.following before d.after k l _ ordinal (of_elements count u.of) (array_size count (size_of_type_so_far u.following.made u.of)) s here refl d.apart d.later (d.shape, refl, d.known) size (last_array u.following.made d.after k count d.shape d.later.table) none in
+    let size = array_sized (size_of_known_type u.following.made u.of) k count d.shape (size_agrees u.following.made d.after u.of d.shape d.later.table d.known) in
+    let m = made_denotes n p u.following before d.after k l _ ordinal (of_elements count u.of) (array_size count (size_of_known_type u.following.made u.of)) s here refl d.apart d.later (d.shape, refl, d.known) size (last_array u.following.made d.after k count d.shape d.later.table) none in
     record {
       shape = m.denotes.shape;
       given_is = ap (option_and_then (λ s. type_within_limits (array_shape k count s))) d.given_is ∙ (m.limited ∙ m.denotes.given_is);
@@ -100,7 +100,7 @@ sized_array n p before k l ordinal o reported count given u e here d none =
     subst (λ z. (made_array_type ordinal o z u).faults ≡ [] → Denotes n p before k l (option_and_then (λ s. type_within_limits (array_shape k count s)) given) (made_array_type ordinal o z u).known) (sym e) (array_denotes n p before k l ordinal count o given u here d) none
 
 -- holds if the fields gathered so far agree with the earlier shapes `first` followed by the shapes `own`
-pub record AddsKnownFields (n : ℕ) (p : KnownDeclarations) (before : List Shape) (k l : ℕ) (first : FieldShapes) (own : FieldShapes) (g : KnownFields) : Type 0 where
+pub record CodeFindsFieldsAndReports (n : ℕ) (p : KnownDeclarations) (before : List Shape) (k l : ℕ) (first : FieldShapes) (own : FieldShapes) (g : KnownFields) : Type 0 where
   pub after : List Shape
   pub apart : Apart k l before after
   pub later : Later n p g.following before after
@@ -109,20 +109,20 @@ pub record AddsKnownFields (n : ℕ) (p : KnownDeclarations) (before : List Shap
 pub record GroupGathers (n : ℕ) (p : KnownDeclarations) (before : List Shape) (k l : ℕ) (first : FieldShapes) (given : FieldShapes → Option FieldShapes) (g : KnownFields) : Type 0 where
   pub own : FieldShapes
   pub given_is : (later : FieldShapes) → given later ≡ Some (followed own later)
-  pub gathers : AddsKnownFields n p before k l first own g
+  pub gathers : CodeFindsFieldsAndReports n p before k l first own g
 
 pub record GroupsGather (n : ℕ) (p : KnownDeclarations) (before : List Shape) (k l : ℕ) (first : FieldShapes) (given : Option FieldShapes) (g : KnownFields) : Type 0 where
   pub own : FieldShapes
   pub given_is : given ≡ Some own
-  pub gathers : AddsKnownFields n p before k l first own g
+  pub gathers : CodeFindsFieldsAndReports n p before k l first own g
 
-names_following : (t : TypeId) (g : KnownFields) (xs : List ℕ) → (with_known_fields t g xs).following ≡ g.following
+names_following : (t : TypeId) (g : KnownFields) (xs : List ℕ) → (append_known_fields t g xs).following ≡ g.following
 names_following t g [] = refl
-names_following t g (x ∷ xs) = names_following t (with_known_field t g x) xs
+names_following t g (x ∷ xs) = names_following t (append_known_field t g x) xs
 
 -- Fields of one type have shapes if their type denotes one.
 names_gather : (n : ℕ) (w : Numbering) (g : KnownFields) (before : List Shape) (k l : ℕ) (first : FieldShapes) (xs : List ℕ) (ys : List Name) (given : Option Shape) (u : TypeWithFollowingDeclarations) → g.following.source ≡ w.source → ys ≡ map (token_text_at w.source) xs → GatheredAgrees before g first → Denotes n g.following before k l given u
-    → GroupGathers n g.following before k l first (λ later. option_and_then (λ s. Some (prepend_fields ys s later)) given) (with_field_group g xs u)
+    → GroupGathers n g.following before k l first (λ later. option_and_then (λ s. Some (prepend_fields ys s later)) given) (append_field_group g xs u)
 names_gather n w g before k l first xs ys given u source texts h d =
     let own : FieldShapes = prepend_fields ys d.shape no_field_shape in
     let start : KnownFields = record { fields = g.fields; size = g.size; following = u.following } in
@@ -136,7 +136,7 @@ names_gather n w g before k l first xs ys given u source texts h d =
         after = d.after;
         apart = d.apart;
         later = subst (λ z. Later n g.following z before d.after) (sym (names_following u.of start xs)) d.later;
-        agrees = subst (λ zs. GatheredAgrees d.after (with_known_fields u.of start xs) (followed first (prepend_fields zs d.shape no_field_shape))) ((λ i. map (token_text_at (text i)) xs) ∙ sym texts) put;
+        agrees = subst (λ zs. GatheredAgrees d.after (append_known_fields u.of start xs) (followed first (prepend_fields zs d.shape no_field_shape))) ((λ i. map (token_text_at (text i)) xs) ∙ sym texts) put;
       };
     }
 
@@ -147,7 +147,7 @@ map-same (x ∷ xs) = λ i. x ∷ map-same xs i
 pub nothing_agrees : (shapes : List Shape) (p : KnownDeclarations) → GatheredAgrees shapes (no_known_fields p) no_field_shape
 nothing_agrees shapes p = record { fields = tt; scalars_are = refl; depth_is = refl }
 
-nothing_more : (n : ℕ) (g : KnownFields) (before : List Shape) (k l : ℕ) → l ≡ k → (first : FieldShapes) → TableAgreesWithShapes g.following.made before → GatheredAgrees before g first → AddsKnownFields n g.following before k l first no_field_shape g
+nothing_more : (n : ℕ) (g : KnownFields) (before : List Shape) (k l : ℕ) → l ≡ k → (first : FieldShapes) → TableAgreesWithShapes g.following.made before → GatheredAgrees before g first → CodeFindsFieldsAndReports n g.following before k l first no_field_shape g
 nothing_more n g before k l last first table h = record { after = before; apart = apart_same k l before last; later = later_same n g.following before table; agrees = subst (GatheredAgrees before g) (sym (followed-nothing first)) h }
 
 -- If a group of fields and the later groups have shapes, all of them together do.
@@ -183,8 +183,8 @@ record_denotes n p before k l word ordinal given g here h none =
 abbrev pub of_limits : ℕ → ℕ → Option Shape → Option Shape
 of_limits k count given = option_and_then (λ s. type_within_limits (array_shape k count s)) given
 
-pub array_given : (k : ℕ) (value : Option Value) (v : Value) (count : ℕ) (given : Option Shape) → value ≡ Some v → array_length v ≡ Some count → option_and_then (λ v. option_and_then (λ c. of_limits k c given) (array_length v)) value ≡ of_limits k count given
-array_given k value v count given e h = ap (option_and_then (λ v. option_and_then (λ c. of_limits k c given) (array_length v))) e ∙ ap (option_and_then (λ c. of_limits k c given)) h
+pub array_given : (k : ℕ) (value : Option Value) (v : Value) (count : ℕ) (given : Option Shape) → value ≡ Some v → array_length_from_value v ≡ Some count → option_and_then (λ v. option_and_then (λ c. of_limits k c given) (array_length_from_value v)) value ≡ of_limits k count given
+array_given k value v count given e h = ap (option_and_then (λ v. option_and_then (λ c. of_limits k c given) (array_length_from_value v))) e ∙ ap (option_and_then (λ c. of_limits k c given)) h
 
 pub grouped : (o : Option FieldShapes) (f : FieldShapes → Option FieldShapes) (g : FieldShapes → Option Shape) → option_and_then g (option_and_then f o) ≡ option_and_then (λ a. option_and_then g (f a)) o
 grouped None f g = refl
@@ -219,10 +219,10 @@ module _ (w : Numbering) (fit : PartsFit) (n : ℕ) (scope : Scope Name) (env : 
         let b = none-reported l.faults (el.faults ++ (made_array_type ordinal o l.known el.known).faults) a.1 in
         let c = none-reported el.faults (made_array_type ordinal o l.known el.known).faults b.1 in
         let long = fit.lengths p before (token_text_at w.source) (meanings naming_by_spelling env) e (agrees_where_seen w p true before n scope env st fit e parts.0) (λ i. a.0 i ++ b.0 i) in
-        let given : constant_value (meanings naming_by_spelling env) (tree_with_names w.source e) ≡ Some long.value = ap (λ s. constant_value (meanings naming_by_spelling env) (mapped_tree (token_text_at w.source) (token_value_at s) e)) (sym st.source) ∙ long.given in
+        let given : constant_expression_value (meanings naming_by_spelling env) (tree_with_names w.source e) ≡ Some long.value = ap (λ s. constant_expression_value (meanings naming_by_spelling env) (mapped_tree (token_text_at w.source) (token_value_at s) e)) (sym st.source) ∙ long.given in
         let element = type_denotes (suc around) (suc k) u p before (omega (arith, at)) st parts.1 c.0 in
         let inner : ℕ = constructor_count (tree_with_names w.source u) in
-        subst₂ (λ j z. Denotes n p before k j z (made_array_type ordinal o l.known el.known).known) (later_constructor k inner) (sym (array_given k (constant_value (meanings naming_by_spelling env) (tree_with_names w.source e)) long.value long.length (denoted_type (meanings naming_by_spelling env) (suc k) (tree_with_names w.source u)) given long.counted))
+        subst₂ (λ j z. Denotes n p before k j z (made_array_type ordinal o l.known el.known).known) (later_constructor k inner) (sym (array_given k (constant_expression_value (meanings naming_by_spelling env) (tree_with_names w.source e)) long.value long.length (denoted_type (meanings naming_by_spelling env) (suc k) (tree_with_names w.source u)) given long.counted))
         (sized_array n p before k (suc k + inner) ordinal o l.known long.length (denoted_type (meanings naming_by_spelling env) (suc k) (tree_with_names w.source u)) el.known long.known here element c.1)
     type_denotes around k (record_type g rest) p before at st seen h =
         let parts = each_part (IsSeen w scope) (occurrences g) (occurrences rest) seen in
@@ -237,7 +237,7 @@ module _ (w : Numbering) (fit : PartsFit) (n : ℕ) (scope : Scope Name) (env : 
         let later = holds_later w n n n p first.known.following before one.gathers.after scope env (le_refl n) (le_refl n) st one.gathers.later in
         let other = groups_gather (suc around) (suc k + group_constructor_count (tree_with_names w.source g)) rest first.known one.gathers.after one.own (omega (arith, at, one.gathers.apart.counted)) later parts.1 one.gathers.agrees b.0 in
         let c : ℕ = group_constructor_count (tree_with_names w.source g) in
-        let d : ℕ = groups_constructor_count (tree_with_names w.source rest) in
+        let d : ℕ = later_groups_constructor_count (tree_with_names w.source rest) in
         subst₂ (λ j z. Denotes n p before k j z (made_record_type word ordinal all.known).known) (later_groups k c d) (grouped (denoted_further_fields (meanings naming_by_spelling env) (suc k + group_constructor_count (tree_with_names w.source g)) (tree_with_names w.source rest)) (λ ys. denoted_group_fields (meanings naming_by_spelling env) (suc k) ys (tree_with_names w.source g)) (λ fs. type_within_limits (record_shape k fs)))
         (record_denotes n p before k (suc k + c + d) word ordinal (option_and_then (λ ys. denoted_group_fields (meanings naming_by_spelling env) (suc k) ys (tree_with_names w.source g)) (denoted_further_fields (meanings naming_by_spelling env) (suc k + group_constructor_count (tree_with_names w.source g)) (tree_with_names w.source rest))) all.known here
         (both_gather n p before (suc k) (suc k + c) (suc k + c + d) no_field_shape (λ ys. denoted_group_fields (meanings naming_by_spelling env) (suc k) ys (tree_with_names w.source g)) first.known all.known (denoted_further_fields (meanings naming_by_spelling env) (suc k + group_constructor_count (tree_with_names w.source g)) (tree_with_names w.source rest)) one other) b.1)
@@ -252,7 +252,7 @@ module _ (w : Numbering) (fit : PartsFit) (n : ℕ) (scope : Scope Name) (env : 
         (map-same (names_in_list (tree_with_names w.source ns)) ∙ names_in_list-mapped_tree (token_text_at w.source) (token_value_at w.source) ns) agrees d
 
     pub groups_gather : (around k : ℕ) (t : Tree ℕ (items fields_after_semicolon)) (g : KnownFields) (before : List Shape) (first : FieldShapes) → length before + around ≡ k → IsKnownAt w g.following before n scope env → AreSeen w scope t → GatheredAgrees before g first → (report_on_further_field_groups around g t).faults ≡ []
-        → GroupsGather n g.following before k (k + groups_constructor_count (tree_with_names w.source t)) first (denoted_further_fields (meanings naming_by_spelling env) k (tree_with_names w.source t)) (report_on_further_field_groups around g t).known
+        → GroupsGather n g.following before k (k + later_groups_constructor_count (tree_with_names w.source t)) first (denoted_further_fields (meanings naming_by_spelling env) k (tree_with_names w.source t)) (report_on_further_field_groups around g t).known
     groups_gather around k end g before first at st seen agrees h = record { own = no_field_shape; given_is = refl; gathers = nothing_more n g before k (k + 0) (omega arith) first st.table agrees }
     groups_gather around k (more (semicolon_then_fields f) rest) g before first at st seen agrees h =
         let parts = each_part (IsSeen w scope) (occurrences f) (occurrences rest) seen in
@@ -263,6 +263,6 @@ module _ (w : Numbering) (fit : PartsFit) (n : ℕ) (scope : Scope Name) (env : 
         let later = holds_later w n n n g.following next.known.following before one.gathers.after scope env (le_refl n) (le_refl n) st one.gathers.later in
         let other = groups_gather around (k + group_constructor_count (tree_with_names w.source f)) rest next.known one.gathers.after (followed first one.own) (omega (arith, at, one.gathers.apart.counted)) later parts.1 one.gathers.agrees a.1 in
         let c : ℕ = group_constructor_count (tree_with_names w.source f) in
-        let d : ℕ = groups_constructor_count (tree_with_names w.source rest) in
+        let d : ℕ = later_groups_constructor_count (tree_with_names w.source rest) in
         subst (λ j. GroupsGather n g.following before k j first (denoted_further_fields (meanings naming_by_spelling env) k (tree_with_names w.source (more (semicolon_then_fields f) rest))) all.known) (more_groups k c d)
         (both_gather n g.following before k (k + c) (k + c + d) first (λ ys. denoted_group_fields (meanings naming_by_spelling env) k ys (tree_with_names w.source f)) next.known all.known (denoted_further_fields (meanings naming_by_spelling env) (k + group_constructor_count (tree_with_names w.source f)) (tree_with_names w.source rest)) one other)

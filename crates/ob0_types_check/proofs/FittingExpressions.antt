@@ -10,11 +10,11 @@ use Rattle.ob0_tree.specs.declared.tree.Relation.{Relation}
 use Rattle.ob0_tree.specs.declared.tree.Role.{Role}
 use Rattle.ob0_tree.specs.declared.tree.Role.TheVariants as role
 use Rattle.ob0_tree.specs.declared.tree.Sign.{Sign}
-use Rattle.ob0_tree.specs.Places.{token_text_at, token_value_at}
+use Rattle.ob0_tree.specs.TokenIndexLeaves.{token_text_at, token_value_at}
 use Rattle.ob0_tree.specs.Tree.{Sort, Tree, addend, adds, compares, designator, end, expression, factor, field, identifiers, index, integer, item, items, mapped_tree, more, multiplier, multiplies, negation, none, one, parenthesised, product, relates, selector, simple, sum, term}
-use Rattle.ob0_language_types.specs.Expressions.{Meanings, a_variable, evaluate, evaluate_addends, evaluate_factor, evaluate_multipliers, evaluate_simple, evaluate_term}
+use Rattle.ob0_language_types.specs.Expressions.{Meanings, a_variable, evaluate, evaluate_addends, evaluate_factor, evaluate_multipliers, evaluate_simple_expression, evaluate_term}
 use Rattle.ob0_language_types.specs.DesignatorSelectors.{apply_to_both_options}
-use Rattle.ob0_language_types.specs.Typing.{addition_type, negation_type, constant_of, constant_meanings, element_type, field_type, outcome_value, multiplication_type, type_of_variable_or_constant, relation_type, sign_type, type_after_selectors, type_of, type_of_addends, type_of_factor, type_of_multipliers, type_of_simple, type_of_term}
+use Rattle.ob0_language_types.specs.Typing.{addition_type, negation_type, value_of_constant_object, meanings_in_constant_expressions, element_type, field_type, outcome_value, multiplication_type, type_of_variable_or_constant, relation_type, signed_operand_type, type_after_selectors, type_of_expression, type_after_addends, type_of_factor, type_after_multipliers, type_of_simple_expression, type_of_term}
 use Rattle.ob0_types_table.specs.Operators.{product_value, sum_value}
 use Rattle.ob0_language_values.specs.Values.{Place, Shape, Value, boolean_shape, integer_shape, negate, number, apply_relation}
 use Rattle.ob0_language_values.specs.Values.{apply_sign as with_sign}
@@ -37,13 +37,13 @@ pub record Fits {T : Type 0} (shape : T → Option Shape) (o : Operand T) (type 
 -- holds if the operand of a name has the type and the value of its object; an operand that may be a place is a
 -- variable's
 pub record NameFits {T N P : Type 0} (facts : Facts T) (shape : T → Option Shape) (label : ℕ → N) (meaning : Meanings N Shape P) (x : ℕ) : Type 0 where
-  pub fits : Fits shape (name_operand facts x).known (type_of_variable_or_constant (meaning.object_for (label x))) (constant_of (meaning.object_for (label x)))
+  pub fits : Fits shape (name_operand facts x).known (type_of_variable_or_constant (meaning.object_for (label x))) (value_of_constant_object (meaning.object_for (label x)))
   pub placed : (name_operand facts x).known.may_be_variable ≡ true → meaning.object_for (label x) ≡ Some (a_variable fits.of)
 
 abbrev pub TokenFits : {T N P : Type 0} → Facts T → (T → Option Shape) → (ℕ → N) → Meanings N Shape P → Role → ℕ → Type 0
-TokenFits facts shape label meaning role.LookedUp x = (name_operand facts x).faults ≡ [] → NameFits facts shape label meaning x
+TokenFits facts shape label meaning role.LookedUpName x = (name_operand facts x).faults ≡ [] → NameFits facts shape label meaning x
 TokenFits facts shape label meaning role.FieldName x = meaning.written (label x) ≡ token_text_at facts.source x
-TokenFits facts shape label meaning role.Declaring x = Unit {0}
+TokenFits facts shape label meaning role.DeclaringName x = Unit {0}
 TokenFits facts shape label meaning role.ClosingName x = Unit {0}
 TokenFits facts shape label meaning role.ModuleName x = Unit {0}
 
@@ -90,18 +90,18 @@ module _ {T N P : Type 0} (facts : Facts T) (shape : T → Option Shape) (types 
   tree t = mapped_tree label (token_value_at facts.source) t
 
   abbrev pub All : {s : Sort} → Tree ℕ s → Type 0
-  All t = TokensFit facts shape label meaning (identifiers role.Declaring t)
+  All t = TokensFit facts shape label meaning (identifiers role.DeclaringName t)
 
   abbrev pub among : Meanings N Place (Unit {0})
-  among = constant_meanings meaning
+  among = meanings_in_constant_expressions meaning
 
   -- holds if the operand of an expression has the expression's type and value; the next three are about a simple
   -- expression, a term and a factor
   abbrev pub FitsExpression : Tree ℕ expression → Type 0
-  FitsExpression e = Fits shape (report_on_expression facts e).known (type_of meaning (tree e)) (outcome_value (evaluate among [] (tree e)))
+  FitsExpression e = Fits shape (report_on_expression facts e).known (type_of_expression meaning (tree e)) (outcome_value (evaluate among [] (tree e)))
 
   abbrev pub FitsSimple : Tree ℕ simple → Type 0
-  FitsSimple a = Fits shape (report_on_simple_expression facts a).known (type_of_simple meaning (tree a)) (outcome_value (evaluate_simple among [] (tree a)))
+  FitsSimple a = Fits shape (report_on_simple_expression facts a).known (type_of_simple_expression meaning (tree a)) (outcome_value (evaluate_simple_expression among [] (tree a)))
 
   abbrev pub FitsTerm : Tree ℕ term → Type 0
   FitsTerm t = Fits shape (report_on_term facts t).known (type_of_term meaning (tree t)) (outcome_value (evaluate_term among [] (tree t)))
@@ -112,11 +112,11 @@ module _ {T N P : Type 0} (facts : Facts T) (shape : T → Option Shape) (types 
   -- holds if the operand after further terms, which follow an operand `x`, has the right type and value; the next one
   -- is about factors
   abbrev pub FitsAddends : Operand T → Shape → Tree ℕ (items addend) → Type 0
-  FitsAddends x s rest = Fits shape (report_on_addends facts x rest).known (type_of_addends meaning s (tree rest)) (option_and_then (λ v. outcome_value (evaluate_addends among [] v (tree rest))) x.value)
+  FitsAddends x s rest = Fits shape (report_on_addends facts x rest).known (type_after_addends meaning s (tree rest)) (option_and_then (λ v. outcome_value (evaluate_addends among [] v (tree rest))) x.value)
 
   abbrev pub FitsMultipliers : Operand T → Shape → Tree ℕ (items multiplier) → Type 0
   FitsMultipliers x s rest =
-      Fits shape (report_on_multipliers facts x rest).known (type_of_multipliers meaning s (tree rest)) (option_and_then (λ v. outcome_value (evaluate_multipliers among [] v (tree rest))) x.value)
+      Fits shape (report_on_multipliers facts x rest).known (type_after_multipliers meaning s (tree rest)) (option_and_then (λ v. outcome_value (evaluate_multipliers among [] v (tree rest))) x.value)
 
   -- holds if the operand after selectors has the right type
   pub record FitsSelectors (o : Operand T) (s : Shape) (path : Tree ℕ (items selector)) : Type 0 where
@@ -127,26 +127,26 @@ module _ {T N P : Type 0} (facts : Facts T) (shape : T → Option Shape) (types 
   -- Each production fits if its parts fit.
 
   related-whole : (r : Relation) (a b : Tree ℕ simple) → FitsSimple a → FitsSimple b → (relate_operands facts r (report_on_simple_expression facts a).known (report_on_simple_expression facts b).known).faults ≡ [] → FitsExpression (compares a (one (relates r b)))
-  unfolding report_on_expression type_of evaluate
+  unfolding report_on_expression type_of_expression evaluate
   related-whole r a b fa fb h =
       let (known, typed) = related-fits facts shape types r (report_on_simple_expression facts a).known (report_on_simple_expression facts b).known fa.of fb.of fa.known fb.known h in
       record {
         of = boolean_shape;
         known = known;
-        typed = goes-on (λ x. option_and_then (relation_type r x) (type_of_simple meaning (tree b))) (type_of_simple meaning (tree a)) fa.of (Some boolean_shape) fa.typed
-            (goes-on (relation_type r fa.of) (type_of_simple meaning (tree b)) fb.of (Some boolean_shape) fb.typed typed);
+        typed = goes-on (λ x. option_and_then (relation_type r x) (type_of_simple_expression meaning (tree b))) (type_of_simple_expression meaning (tree a)) fa.of (Some boolean_shape) fa.typed
+            (goes-on (relation_type r fa.of) (type_of_simple_expression meaning (tree b)) fb.of (Some boolean_shape) fb.typed typed);
         value_agrees = (λ i. apply_to_both_options (λ x y. outcome_value (apply_relation r x y)) (fa.value_agrees i) (fb.value_agrees i)) ∙ sym (related-value_agrees among r (tree a) (tree b));
         scalar = relation-of r (report_on_simple_expression facts a).known.value (report_on_simple_expression facts b).known.value;
       }
 
   addend-whole : (x : Operand T) (s : Shape) (o : AddOperator) (t : Tree ℕ term) (rest : Tree ℕ (items addend)) (ft : FitsTerm t) (w : Shape) → addition_type o s ft.of ≡ Some w
       → FitsAddends (add_operands facts o x (report_on_term facts t).known).known w rest → FitsAddends x s (more (adds o t) rest)
-  unfolding report_on_expression type_of evaluate
+  unfolding report_on_expression type_of_expression evaluate
   addend-whole x s o t rest ft w typed fr = record {
     of = fr.of;
     known = fr.known;
-    typed = goes-on (λ y. option_and_then (λ z. type_of_addends meaning z (tree rest)) (addition_type o s y)) (type_of_term meaning (tree t)) ft.of (Some fr.of) ft.typed
-        (goes-on (λ z. type_of_addends meaning z (tree rest)) (addition_type o s ft.of) w (Some fr.of) typed fr.typed);
+    typed = goes-on (λ y. option_and_then (λ z. type_after_addends meaning z (tree rest)) (addition_type o s y)) (type_of_term meaning (tree t)) ft.of (Some fr.of) ft.typed
+        (goes-on (λ z. type_after_addends meaning z (tree rest)) (addition_type o s ft.of) w (Some fr.of) typed fr.typed);
     value_agrees = fr.value_agrees
         ∙ (then-assoc (sum_value o (report_on_term facts t).known.value) (λ v. outcome_value (evaluate_addends among [] v (tree rest))) x.value
         ∙ (λ i. option_and_then (λ v. (ap (λ y. option_and_then (λ u. outcome_value (evaluate_addends among [] u (tree rest))) (sum_value o y v)) ft.value_agrees ∙ sym (addend-value_agrees among o (tree t) (tree rest) v)) i) x.value));
@@ -155,12 +155,12 @@ module _ {T N P : Type 0} (facts : Facts T) (shape : T → Option Shape) (types 
 
   multiplier-whole : (x : Operand T) (s : Shape) (o : MultiplyOperator) (f : Tree ℕ factor) (rest : Tree ℕ (items multiplier)) (ff : FitsFactor f) (w : Shape) → multiplication_type o s ff.of ≡ Some w
       → FitsMultipliers (multiply_operands facts o x (report_on_factor facts f).known).known w rest → FitsMultipliers x s (more (multiplies o f) rest)
-  unfolding report_on_expression type_of evaluate
+  unfolding report_on_expression type_of_expression evaluate
   multiplier-whole x s o f rest ff w typed fr = record {
     of = fr.of;
     known = fr.known;
-    typed = goes-on (λ y. option_and_then (λ z. type_of_multipliers meaning z (tree rest)) (multiplication_type o s y)) (type_of_factor meaning (tree f)) ff.of (Some fr.of) ff.typed
-        (goes-on (λ z. type_of_multipliers meaning z (tree rest)) (multiplication_type o s ff.of) w (Some fr.of) typed fr.typed);
+    typed = goes-on (λ y. option_and_then (λ z. type_after_multipliers meaning z (tree rest)) (multiplication_type o s y)) (type_of_factor meaning (tree f)) ff.of (Some fr.of) ff.typed
+        (goes-on (λ z. type_after_multipliers meaning z (tree rest)) (multiplication_type o s ff.of) w (Some fr.of) typed fr.typed);
     value_agrees = fr.value_agrees
         ∙ (then-assoc (product_value o (report_on_factor facts f).known.value) (λ v. outcome_value (evaluate_multipliers among [] v (tree rest))) x.value
         ∙ (λ i. option_and_then (λ v. (ap (λ y. option_and_then (λ u. outcome_value (evaluate_multipliers among [] u (tree rest))) (product_value o y v)) ff.value_agrees ∙ sym (multiplier-value_agrees among o (tree f) (tree rest) v)) i) x.value));
@@ -171,14 +171,14 @@ module _ {T N P : Type 0} (facts : Facts T) (shape : T → Option Shape) (types 
   sign-value None o = then-itself o.value
   sign-value (Some g) o = refl
 
-  simple-whole : (g : Option Sign) (t : Tree ℕ term) (rest : Tree ℕ (items addend)) (ft : FitsTerm t) (w : Shape) → sign_type g ft.of ≡ Some w
+  simple-whole : (g : Option Sign) (t : Tree ℕ term) (rest : Tree ℕ (items addend)) (ft : FitsTerm t) (w : Shape) → signed_operand_type g ft.of ≡ Some w
       → FitsAddends (signed_operand facts g (report_on_term facts t).known).known w rest → FitsSimple (sum g t rest)
-  unfolding report_on_expression type_of evaluate
+  unfolding report_on_expression type_of_expression evaluate
   simple-whole g t rest ft w typed fr = record {
     of = fr.of;
     known = fr.known;
-    typed = goes-on (λ x. option_and_then (λ y. type_of_addends meaning y (tree rest)) (sign_type g x)) (type_of_term meaning (tree t)) ft.of (Some fr.of) ft.typed
-        (goes-on (λ y. type_of_addends meaning y (tree rest)) (sign_type g ft.of) w (Some fr.of) typed fr.typed);
+    typed = goes-on (λ x. option_and_then (λ y. type_after_addends meaning y (tree rest)) (signed_operand_type g x)) (type_of_term meaning (tree t)) ft.of (Some fr.of) ft.typed
+        (goes-on (λ y. type_after_addends meaning y (tree rest)) (signed_operand_type g ft.of) w (Some fr.of) typed fr.typed);
     value_agrees = fr.value_agrees
         ∙ (ap (option_and_then (λ v. outcome_value (evaluate_addends among [] v (tree rest)))) (sign-value g (report_on_term facts t).known ∙ ap (option_and_then (λ x. outcome_value (with_sign g x))) ft.value_agrees)
         ∙ (then-assoc (λ x. outcome_value (with_sign g x)) (λ v. outcome_value (evaluate_addends among [] v (tree rest))) (outcome_value (evaluate_term among [] (tree t)))
@@ -187,22 +187,22 @@ module _ {T N P : Type 0} (facts : Facts T) (shape : T → Option Shape) (types 
   }
 
   term-whole : (f : Tree ℕ factor) (rest : Tree ℕ (items multiplier)) (ff : FitsFactor f) → FitsMultipliers (report_on_factor facts f).known ff.of rest → FitsTerm (product f rest)
-  unfolding report_on_expression type_of evaluate
+  unfolding report_on_expression type_of_expression evaluate
   term-whole f rest ff fr = record {
     of = fr.of;
     known = fr.known;
-    typed = goes-on (λ x. type_of_multipliers meaning x (tree rest)) (type_of_factor meaning (tree f)) ff.of (Some fr.of) ff.typed fr.typed;
+    typed = goes-on (λ x. type_after_multipliers meaning x (tree rest)) (type_of_factor meaning (tree f)) ff.of (Some fr.of) ff.typed fr.typed;
     value_agrees = fr.value_agrees ∙ (ap (option_and_then (λ v. outcome_value (evaluate_multipliers among [] v (tree rest)))) ff.value_agrees ∙ sym (term-value_agrees among (tree f) (tree rest)));
     scalar = fr.scalar;
   }
 
   designator-value_agrees : (x : ℕ) (path : Tree ℕ (items selector)) → NameFits facts shape label meaning x
       → (report_on_factor facts (designator x path)).known.value ≡ outcome_value (evaluate_factor among [] (tree (designator x path)))
-  unfolding report_on_expression type_of evaluate
-  designator-value_agrees x end name = name.fits.value_agrees ∙ sym (name-value_agrees among (label x) (constant_of (meaning.object_for (label x))) refl)
+  unfolding report_on_expression type_of_expression evaluate
+  designator-value_agrees x end name = name.fits.value_agrees ∙ sym (name-value_agrees among (label x) (value_of_constant_object (meaning.object_for (label x))) refl)
   designator-value_agrees x (more s path) name =
       parts-have-none facts (name_operand facts x).known s path
-      ∙ sym (parts-value_agrees among (label x) (constant_of (meaning.object_for (label x))) (tree s) (tree path) refl (λ v e. ap is_some (name.fits.scalar v (name.fits.value_agrees ∙ e))))
+      ∙ sym (parts-value_agrees among (label x) (value_of_constant_object (meaning.object_for (label x))) (tree s) (tree path) refl (λ v e. ap is_some (name.fits.scalar v (name.fits.value_agrees ∙ e))))
 
   designator-scalar : (x : ℕ) (path : Tree ℕ (items selector)) (name : NameFits facts shape label meaning x) (fs : FitsSelectors (name_operand facts x).known name.fits.of path) → IsOf fs.of (report_on_factor facts (designator x path)).known.value
   unfolding report_on_expression
@@ -210,7 +210,7 @@ module _ {T N P : Type 0} (facts : Facts T) (shape : T → Option Shape) (types 
   designator-scalar x (more s path) name fs = λ v e. none-of fs.of v (sym (parts-have-none facts (name_operand facts x).known s path) ∙ e)
 
   designator-whole : (x : ℕ) (path : Tree ℕ (items selector)) (name : NameFits facts shape label meaning x) → FitsSelectors (name_operand facts x).known name.fits.of path → FitsFactor (designator x path)
-  unfolding report_on_expression type_of evaluate
+  unfolding report_on_expression type_of_expression evaluate
   designator-whole x path name fs = record {
     of = fs.of;
     known = fs.known;
@@ -220,7 +220,7 @@ module _ {T N P : Type 0} (facts : Facts T) (shape : T → Option Shape) (types 
   }
 
   negation-whole : (f : Tree ℕ factor) (ff : FitsFactor f) → (negated_operand facts (report_on_factor facts f).known).faults ≡ [] → FitsFactor (negation f)
-  unfolding report_on_expression type_of evaluate
+  unfolding report_on_expression type_of_expression evaluate
   negation-whole f ff h =
       let (known, typed) = complemented-fits facts shape types (report_on_factor facts f).known ff.of ff.known h in
       record {
@@ -232,16 +232,16 @@ module _ {T N P : Type 0} (facts : Facts T) (shape : T → Option Shape) (types 
       }
 
   parentheses-whole : (e : Tree ℕ expression) → FitsExpression e → FitsFactor (parenthesised e)
-  unfolding report_on_expression type_of evaluate
+  unfolding report_on_expression type_of_expression evaluate
   parentheses-whole e fe = record { of = fe.of; known = fe.known; typed = fe.typed; value_agrees = fe.value_agrees; scalar = fe.scalar }
 
   integer-whole : (n : ℕ) → FitsFactor (integer n)
-  unfolding report_on_expression type_of evaluate
+  unfolding report_on_expression type_of_expression evaluate
   integer-whole n = record { of = integer_shape; known = types.integer; typed = refl; value_agrees = refl; scalar = some-of integer_shape (number (pos (token_value_at facts.source n))) refl }
 
   field-whole : (x : Operand T) (s : Shape) (n : ℕ) (rest : Tree ℕ (items selector)) (u : Shape) → field_type s (token_text_at facts.source n) ≡ Some u → meaning.written (label n) ≡ token_text_at facts.source n
       → FitsSelectors (field_operand facts x n).known u rest → FitsSelectors x s (more (field n) rest)
-  unfolding report_on_expression type_of
+  unfolding report_on_expression type_of_expression
   field-whole x s n rest u typed written fs = record {
     of = fs.of;
     known = fs.known;
@@ -250,34 +250,34 @@ module _ {T N P : Type 0} (facts : Facts T) (shape : T → Option Shape) (types 
 
   index-whole : (x : Operand T) (s : Shape) (e : Tree ℕ expression) (rest : Tree ℕ (items selector)) (fe : FitsExpression e) (u : Shape) → element_type s fe.of ≡ Some u
       → FitsSelectors (element_operand facts x (report_on_expression facts e).known).known u rest → FitsSelectors x s (more (index e) rest)
-  unfolding report_on_expression type_of
+  unfolding report_on_expression type_of_expression
   index-whole x s e rest fe u typed fs = record {
     of = fs.of;
     known = fs.known;
-    typed = goes-on (λ i. option_and_then (λ t. type_after_selectors meaning t (tree rest)) (element_type s i)) (type_of meaning (tree e)) fe.of (Some fs.of) fe.typed
+    typed = goes-on (λ i. option_and_then (λ t. type_after_selectors meaning t (tree rest)) (element_type s i)) (type_of_expression meaning (tree e)) fe.of (Some fs.of) fe.typed
         (goes-on (λ t. type_after_selectors meaning t (tree rest)) (element_type s fe.of) u (Some fs.of) typed fs.typed);
   }
 
   ended-addends : (x : Operand T) (s : Shape) → shape x.of ≡ Some s → IsOf s x.value → FitsAddends x s end
-  unfolding report_on_expression type_of evaluate
+  unfolding report_on_expression type_of_expression evaluate
   ended-addends x s hx scalar = record { of = s; known = hx; typed = refl; value_agrees = then-itself x.value; scalar = scalar }
 
   ended-multipliers : (x : Operand T) (s : Shape) → shape x.of ≡ Some s → IsOf s x.value → FitsMultipliers x s end
-  unfolding report_on_expression type_of evaluate
+  unfolding report_on_expression type_of_expression evaluate
   ended-multipliers x s hx scalar = record { of = s; known = hx; typed = refl; value_agrees = then-itself x.value; scalar = scalar }
 
   ended-selectors : (x : Operand T) (s : Shape) → shape x.of ≡ Some s → FitsSelectors x s end
-  unfolding report_on_expression type_of
+  unfolding report_on_expression type_of_expression
   ended-selectors x s hx = record { of = s; known = hx; typed = refl }
 
   split : (xs ys : List (Role × ℕ)) → TokensFit facts shape label meaning (xs ++ ys) → TokensFit facts shape label meaning xs × TokensFit facts shape label meaning ys
   split = split-tokens facts shape label meaning
 
   abbrev pub ids : {s : Sort} → Tree ℕ s → List (Role × ℕ)
-  ids t = identifiers role.Declaring t
+  ids t = identifiers role.DeclaringName t
 
   mutual
-    unfolding report_on_expression type_of evaluate
+    unfolding report_on_expression type_of_expression evaluate
 
     pub expression-fits : (e : Tree ℕ expression) → All e → (report_on_expression facts e).faults ≡ [] → FitsExpression e
     expression-fits (compares a none) k h = simple-fits a (split (ids a) [] k).0 h

@@ -6,7 +6,7 @@ use Rattle.ob0_tree.specs.declared.tree.Role.{Role}
 use Rattle.ob0_tree.specs.declared.tree.Role.TheVariants as role
 use Rattle.ob0_language_types.specs.Expressions as meant
 use Rattle.ob0_language_types.specs.Expressions.{Object}
-use Rattle.ob0_language_types.specs.Typing.{constant_of, constant_meanings, type_of_variable_or_constant, value_type}
+use Rattle.ob0_language_types.specs.Typing.{value_of_constant_object, meanings_in_constant_expressions, type_of_variable_or_constant, value_type}
 use Rattle.ob0_language_types.specs.WellTyped.{Signature, TypeMeanings}
 use Rattle.ob0_language_values.specs.Values.{Shape, Value, boolean_shape, elements, integer_shape, members, number, truth}
 use Rattle.ob0_types_check.specs.TypesAndMeanings.{Facts, Meaning, Operand, a_constant, a_procedure, a_type, a_variable}
@@ -18,7 +18,7 @@ use Rattle.ob0_scan.specs.declared.fault.FaultCode.TheVariants as code
 
 -- holds if the operand of a name has the type and the value of the name's object
 pub record RunObjectAgrees {T P : Type 0} (shape : T → Option Shape) (k : Operand T) (o : Option (Object Shape P)) : Type 0 where
-  pub fits : Fits shape k (type_of_variable_or_constant o) (constant_of o)
+  pub fits : Fits shape k (type_of_variable_or_constant o) (value_of_constant_object o)
   pub placed : k.may_be_variable ≡ true → o ≡ Some (meant.a_variable fits.of)
 
 module _ {T : Type 0} (facts : Facts T) (shape : T → Option Shape) (types : TypesAgreeWithShapes facts.types shape) where
@@ -56,19 +56,19 @@ module _ {T : Type 0} (facts : Facts T) (shape : T → Option Shape) (types : Ty
   no-variable x t false only h = true≢false (sym only)
 
   only-fits : {Q : Type 0} (x : ℕ) (m : Option (Meaning T)) (o : Option (Object Shape Signature)) → facts.only_constants ≡ true → IsKnownAndAgreesWithObject shape m o → (operand_from_meaning facts x m).faults ≡ []
-      → RunObjectAgrees {P = Q} shape (operand_from_meaning facts x m).known (option_map meant.a_constant (constant_of o))
+      → RunObjectAgrees {P = Q} shape (operand_from_meaning facts x m).known (option_map meant.a_constant (value_of_constant_object o))
   only-fits x None o only a h = absurd a
   only-fits x (Some (a_type t)) o only a h = absurd (cc)
   only-fits x (Some (a_procedure fs)) o only a h = absurd (cc)
   only-fits {Q = Q} x (Some (a_constant c)) o only (v, reported, holds, scalar) h =
-      subst₂ (λ c o. RunObjectAgrees {P = Q} shape (constant_name_operand facts.types c x) (option_map meant.a_constant (constant_of o))) (sym reported) (sym holds) (constant-fits x v scalar)
+      subst₂ (λ c o. RunObjectAgrees {P = Q} shape (constant_name_operand facts.types c x) (option_map meant.a_constant (value_of_constant_object o))) (sym reported) (sym holds) (constant-fits x v scalar)
   only-fits x (Some (a_variable t)) o only a h = absurd (no-variable x t facts.only_constants only h)
 
 module _ {T N : Type 0} (facts : Facts T) (shape : T → Option Shape) (types : TypesAgreeWithShapes facts.types shape) (label : ℕ → N) (meaning : TypeMeanings N) where
   token-fits : (r : Role) (x : ℕ) → TokenAgreesWithLabel facts shape label meaning r x → TokenFits facts shape label meaning r x
-  token-fits role.LookedUp x a = λ h. let o = holds-fits facts shape types x (facts.object_for x) (meaning.object_for (label x)) a h in record { fits = o.fits; placed = o.placed }
+  token-fits role.LookedUpName x a = λ h. let o = holds-fits facts shape types x (facts.object_for x) (meaning.object_for (label x)) a h in record { fits = o.fits; placed = o.placed }
   token-fits role.FieldName x a = a
-  token-fits role.Declaring x a = tt
+  token-fits role.DeclaringName x a = tt
   token-fits role.ClosingName x a = tt
   token-fits role.ModuleName x a = tt
 
@@ -76,13 +76,13 @@ module _ {T N : Type 0} (facts : Facts T) (shape : T → Option Shape) (types : 
   tokens-fit [] a = tt
   tokens-fit (x ∷ xs) a = (token-fits x.0 x.1 a.0, tokens-fit xs a.1)
 
-  only-token : (Q : Type 0) → facts.only_constants ≡ true → (r : Role) (x : ℕ) → TokenAgreesWithLabel facts shape label meaning r x → TokenFits {P = Q} facts shape label (constant_meanings meaning) r x
-  only-token Q only role.LookedUp x a = λ h. let o = only-fits facts shape types x (facts.object_for x) (meaning.object_for (label x)) only a h in record { fits = o.fits; placed = o.placed }
+  only-token : (Q : Type 0) → facts.only_constants ≡ true → (r : Role) (x : ℕ) → TokenAgreesWithLabel facts shape label meaning r x → TokenFits {P = Q} facts shape label (meanings_in_constant_expressions meaning) r x
+  only-token Q only role.LookedUpName x a = λ h. let o = only-fits facts shape types x (facts.object_for x) (meaning.object_for (label x)) only a h in record { fits = o.fits; placed = o.placed }
   only-token Q only role.FieldName x a = a
-  only-token Q only role.Declaring x a = tt
+  only-token Q only role.DeclaringName x a = tt
   only-token Q only role.ClosingName x a = tt
   only-token Q only role.ModuleName x a = tt
 
-  pub only-tokens : (Q : Type 0) → facts.only_constants ≡ true → (xs : List (Role × ℕ)) → TokensAgreeWithLabels facts shape label meaning xs → TokensFit {P = Q} facts shape label (constant_meanings meaning) xs
+  pub only-tokens : (Q : Type 0) → facts.only_constants ≡ true → (xs : List (Role × ℕ)) → TokensAgreeWithLabels facts shape label meaning xs → TokensFit {P = Q} facts shape label (meanings_in_constant_expressions meaning) xs
   only-tokens Q only [] a = tt
   only-tokens Q only (x ∷ xs) a = (only-token Q only x.0 x.1 a.0, only-tokens Q only xs a.1)

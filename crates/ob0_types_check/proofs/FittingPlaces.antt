@@ -2,11 +2,11 @@
 use Rattle.std.proofs.Common.{◌≡◌, ℕ, true, false, true≢false, List, [], ◌++◌, Option, Some, None, refl, sym, ap, ◌∙◌}
 use Rattle.ob0_tree.specs.declared.tree.Role.{Role}
 use Rattle.ob0_tree.specs.declared.tree.Role.TheVariants as role
-use Rattle.ob0_tree.specs.Places.{token_value_at}
+use Rattle.ob0_tree.specs.TokenIndexLeaves.{token_value_at}
 use Rattle.ob0_tree.specs.Tree.{Sort, Tree, adds, compares, designator, end, expression, factor, identifiers, integer, items, mapped_tree, more, multiplies, negation, none, one, parenthesised, product, relates, selector, sum}
 use Rattle.ob0_language_types.specs.Expressions.{Meanings, a_variable}
 use Rattle.ob0_language_types.specs.Typing.{lone_designator, type_after_selectors}
-use Rattle.ob0_language_types.specs.WellTyped.{variable_type}
+use Rattle.ob0_language_types.specs.WellTyped.{assignable_type}
 use Rattle.ob0_language_values.specs.Values.{Shape}
 use Rattle.ob0_types_check.specs.ExpressionFaults.{report_on_expression, report_on_factor, report_on_selectors, report_on_term}
 use Rattle.ob0_types_check.specs.TypesAndMeanings.{Facts, Operand}
@@ -21,24 +21,24 @@ module _ {T N P : Type 0} (facts : Facts T) (shape : T → Option Shape) (types 
   here t = mapped_tree label (token_value_at facts.source) t
 
   abbrev Agreed : {s : Sort} → Tree ℕ s → Type 0
-  Agreed t = TokensFit facts shape label meaning (identifiers role.Declaring t)
+  Agreed t = TokensFit facts shape label meaning (identifiers role.DeclaringName t)
 
   abbrev ids : {s : Sort} → Tree ℕ s → List (Role × ℕ)
-  ids t = identifiers role.Declaring t
+  ids t = identifiers role.DeclaringName t
 
   split : (xs ys : List (Role × ℕ)) → TokensFit facts shape label meaning (xs ++ ys) → TokensFit facts shape label meaning xs × TokensFit facts shape label meaning ys
   split = split-tokens facts shape label meaning
 
   pub variable-typed : (x : ℕ) (path : Tree ℕ (items selector)) (s : Shape) (u : Option Shape) → meaning.object_for (label x) ≡ Some (a_variable s)
-      → type_after_selectors meaning s (mapped_tree label (token_value_at facts.source) path) ≡ u → variable_type meaning (Some (label x, mapped_tree label (token_value_at facts.source) path)) ≡ u
-  unfolding variable_type
+      → type_after_selectors meaning s (mapped_tree label (token_value_at facts.source) path) ≡ u → assignable_type meaning (Some (label x, mapped_tree label (token_value_at facts.source) path)) ≡ u
+  unfolding assignable_type
   variable-typed x path s u holds typed = ap (λ o. elim o [ Some (a_variable s) ↦ type_after_selectors meaning s (here path) | _ ↦ None ]) holds ∙ typed
 
   -- holds if an operand has the type of the variable that the expression designates
   pub record IsPlaced (o : Operand T) (e : Tree N expression) : Type 0 where
     pub of : Shape
     pub known : shape o.of ≡ Some of
-    pub placed : variable_type meaning (lone_designator e) ≡ Some of
+    pub placed : assignable_type meaning (lone_designator e) ≡ Some of
 
   designator-placed : (x : ℕ) (path : Tree ℕ (items selector)) (f : Tree N factor) → NameFits facts shape label meaning x → Agreed path → (report_on_selectors facts (name_operand facts x).known path).faults ≡ []
       → (report_on_selectors facts (name_operand facts x).known path).known.may_be_variable ≡ true

@@ -6,20 +6,20 @@ use Rattle.ob0_types_table.specs.DeclarationTableView.{mode_from_flag}
 use Rattle.ob0_types_table.proofs.SameShapes.{same_shape-refl}
 use Rattle.ob0_tree.specs.declared.tree.Role.{Role}
 use Rattle.ob0_tree.specs.declared.tree.Role.TheVariants as role
-use Rattle.ob0_tree.specs.Places.{token_value_at}
+use Rattle.ob0_tree.specs.TokenIndexLeaves.{token_value_at}
 use Rattle.ob0_tree.specs.Tree.{Sort, Tree, arguments, assigns, branches, calls, else_branch, else_part, elsif_branch, elsif_part, empty, end, expression, argument_after_comma, statement_after_semicolon, identifiers, items, mapped_tree, maybe, more, no_arguments, none, one, repeat_loop, runs, selector, sequence, some_arguments, statement, comma_then_argument, semicolon_then_statement, while_loop}
 use Rattle.ob0_language_types.specs.Arguments.{call_arguments, further_arguments}
 use Rattle.ob0_language_types.specs.Expressions as meant
 use Rattle.ob0_language_types.specs.Expressions.{Object}
-use Rattle.ob0_language_types.specs.Typing.{lone_designator, type_of}
-use Rattle.ob0_language_types.specs.WellTyped.{FormalParameter, Signature, TypeMeanings, same_known_shape, argument_matches, arguments_match, by_place, by_value, call_is_well_typed, condition_is_boolean, else_is_well_typed, elsifs_are_well_typed, sequence_is_well_typed, signature_of, statement_is_well_typed, further_statements_are_well_typed, variable_type}
+use Rattle.ob0_language_types.specs.Typing.{lone_designator, type_of_expression}
+use Rattle.ob0_language_types.specs.WellTyped.{FormalParameter, Signature, TypeMeanings, same_known_shape, argument_matches_parameter, arguments_match_signature, by_place, by_value, call_is_well_typed, condition_is_boolean, else_is_well_typed, elsifs_are_well_typed, sequence_is_well_typed, signature_of, statement_is_well_typed, further_statements_are_well_typed, assignable_type}
 use Rattle.ob0_language_values.specs.Values.{Shape, boolean_shape}
 use Rattle.ob0_types_check.specs.ExpressionFaults.{report_on_expression}
 use Rattle.ob0_types_check.specs.TypesAndMeanings.{Facts, Meaning, Operand, ResultWithFaults, a_constant, a_procedure, a_type, a_variable}
 use Rattle.ob0_types_check.specs.TypesAndMeanings as known
-use Rattle.ob0_types_check.specs.OperandFaults.{typed_name_operand, required_type, fault_at_operand}
+use Rattle.ob0_types_check.specs.OperandFaults.{typed_name_operand, require_type, fault_at_operand}
 use Rattle.ob0_types_check.specs.KnownDeclarations.{facts_from_declarations}
-use Rattle.ob0_types_check.specs.StatementFaults.{target_name_type, target_type_from_meaning, call_faults_from_meaning, faults_of_argument, faults_of_arguments, typed_expression_faults, assignment_faults, call_faults, condition_faults, else_faults, elsif_faults, sequence_faults, statement_faults, further_statement_faults, report_on_target}
+use Rattle.ob0_types_check.specs.StatementFaults.{target_name_type, target_type_from_meaning, call_faults_from_meaning, faults_of_argument, faults_of_arguments, faults_of_expression_of_type, assignment_faults, call_faults, condition_faults, else_faults, elsif_faults, sequence_faults, statement_faults, further_statement_faults, report_on_assignment_target}
 use Rattle.ob0_types_check.specs.Agreement.{FormalsAgreeWithSignature, IsKnownAndAgreesWithObject, TokensAgreeWithLabels, TypesAgreeWithShapes, shape_of_type_in}
 use Rattle.ob0_types_check.specs.ReportLaws.{OperandAgreesWithExpression, FaultlessStatementsAreWellTyped}
 use Rattle.ob0_types_check.proofs.FittingExpressions.{FitsSelectors, selectors-fit}
@@ -45,10 +45,10 @@ module _ {T N : Type 0} (facts : Facts T) (shape : T → Option Shape) (types : 
   here t = mapped_tree label (token_value_at facts.source) t
 
   abbrev ids : {s : Sort} → Tree ℕ s → List (Role × ℕ)
-  ids t = identifiers role.Declaring t
+  ids t = identifiers role.DeclaringName t
 
   abbrev pub Agreed : {s : Sort} → Tree ℕ s → Type 0
-  Agreed t = TokensAgreeWithLabels facts shape label meaning (identifiers role.Declaring t)
+  Agreed t = TokensAgreeWithLabels facts shape label meaning (identifiers role.DeclaringName t)
 
   pub split : (xs ys : List (Role × ℕ)) → TokensAgreeWithLabels facts shape label meaning (xs ++ ys) → TokensAgreeWithLabels facts shape label meaning xs × TokensAgreeWithLabels facts shape label meaning ys
   split [] ys h = (tt, h)
@@ -58,8 +58,8 @@ module _ {T N : Type 0} (facts : Facts T) (shape : T → Option Shape) (types : 
   known-operand e k h = operand-fits facts shape types label meaning e (tokens-fit facts shape types label meaning (ids e) k) h
 
   -- An expression that must have a type has it if no fault is reported.
-  requested-typed : (wanted : T) (w : Shape) (e : Tree ℕ expression) → shape wanted ≡ Some w → Agreed e → typed_expression_faults facts wanted e ≡ [] → type_of meaning (here e) ≡ Some w
-  unfolding typed_expression_faults
+  requested-typed : (wanted : T) (w : Shape) (e : Tree ℕ expression) → shape wanted ≡ Some w → Agreed e → faults_of_expression_of_type facts wanted e ≡ [] → type_of_expression meaning (here e) ≡ Some w
+  unfolding faults_of_expression_of_type
   requested-typed wanted w e hw k h =
       let parts = none-reported (report_on_expression facts e).faults _ h in
       let o : OperandAgreesWithExpression shape meaning (report_on_expression facts e).known (here e) = known-operand e k parts.0 in
@@ -84,47 +84,47 @@ module _ {T N : Type 0} (facts : Facts T) (shape : T → Option Shape) (types : 
   assigned-holds x (Some (a_procedure fs)) o a h = absurd (cc)
   assigned-holds x (Some (a_variable t)) o (s, reported, holds) h = record { of = s; known = reported; holds = holds }
 
-  assignment-fits : (x : ℕ) (path : Tree ℕ (items selector)) (e : Tree ℕ expression) → Agreed (assigns x path e) → assignment_faults facts (report_on_target facts x path) e ≡ [] → statement_is_well_typed meaning (here (assigns x path e)) ≡ true
-  unfolding report_on_target statement_is_well_typed
+  assignment-fits : (x : ℕ) (path : Tree ℕ (items selector)) (e : Tree ℕ expression) → Agreed (assigns x path e) → assignment_faults facts (report_on_assignment_target facts x path) e ≡ [] → statement_is_well_typed meaning (here (assigns x path e)) ≡ true
+  unfolding report_on_assignment_target statement_is_well_typed
   assignment-fits x path e k h =
-      let parts = none-reported (report_on_target facts x path).faults _ h in
+      let parts = none-reported (report_on_assignment_target facts x path).faults _ h in
       let target = none-reported (target_name_type facts x).faults _ parts.0 in
       let rest = split (ids path) (ids e) k.1 in
       let a : IsAssigned (target_name_type facts x) (meaning.object_for (label x)) = assigned-holds x (facts.object_for x) (meaning.object_for (label x)) k.0 target.0 in
       let fs : FitsSelectors facts shape types label meaning (typed_name_operand (target_name_type facts x).known x) a.of path
       = selectors-fit facts shape types label meaning (typed_name_operand (target_name_type facts x).known x) a.of path a.known (tokens-fit facts shape types label meaning (ids path) rest.0) target.1 in
-      same_known_shape-same fs.of (variable_type meaning (Some (label x, here path))) (type_of meaning (here e))
+      same_known_shape-same fs.of (assignable_type meaning (Some (label x, here path))) (type_of_expression meaning (here e))
       (variable-typed facts shape types label meaning x path a.of (Some fs.of) a.holds fs.typed)
-      (requested-typed (report_on_target facts x path).known.of fs.of e fs.known rest.1 parts.1)
+      (requested-typed (report_on_assignment_target facts x path).known.of fs.of e fs.known rest.1 parts.1)
 
   -- Arguments and calls fit if no fault is reported for them.
 
-  required_type_of_argument-fits : (b : Bool) (of : T) (g : FormalParameter) (e : Tree ℕ expression) (o : Operand T) → OperandAgreesWithExpression shape meaning o (here e) → g.mode ≡ mode_from_flag b → shape of ≡ Some g.shape
-      → (if b && not o.may_be_variable then record { known = facts.types.unknown; faults = fault_at_operand code.NotVariable o } else required_type facts of o).faults ≡ [] → argument_matches meaning g (here e) ≡ true
-  unfolding argument_matches
-  required_type_of_argument-fits true of g e o fe mode wanted h =
-      let parts = second-reported (not o.may_be_variable) (record { known = facts.types.unknown; faults = fault_at_operand code.NotVariable o }) (required_type facts of o) _ refl h in
+  require_type_of_argument-fits : (b : Bool) (of : T) (g : FormalParameter) (e : Tree ℕ expression) (o : Operand T) → OperandAgreesWithExpression shape meaning o (here e) → g.mode ≡ mode_from_flag b → shape of ≡ Some g.shape
+      → (if b && not o.may_be_variable then record { known = facts.types.unknown; faults = fault_at_operand code.NotVariable o } else require_type facts of o).faults ≡ [] → argument_matches_parameter meaning g (here e) ≡ true
+  unfolding argument_matches_parameter
+  require_type_of_argument-fits true of g e o fe mode wanted h =
+      let parts = second-reported (not o.may_be_variable) (record { known = facts.types.unknown; faults = fault_at_operand code.NotVariable o }) (require_type facts of o) _ refl h in
       let (given, same) = requested-fits facts shape types of o fe.of g.shape fe.known wanted parts.1 in
-      (λ i. same_known_shape (Some g.shape) (elim (mode i) [ by_value ↦ type_of meaning (here e) | by_place ↦ variable_type meaning (lone_designator (here e)) ]))
-      ∙ same_known_shape-same g.shape (Some g.shape) (variable_type meaning (lone_designator (here e))) refl (fe.placed (not-false o.may_be_variable parts.0) ∙ ap (λ s. Some s) same)
-  required_type_of_argument-fits false of g e o fe mode wanted h =
+      (λ i. same_known_shape (Some g.shape) (elim (mode i) [ by_value ↦ type_of_expression meaning (here e) | by_place ↦ assignable_type meaning (lone_designator (here e)) ]))
+      ∙ same_known_shape-same g.shape (Some g.shape) (assignable_type meaning (lone_designator (here e))) refl (fe.placed (not-false o.may_be_variable parts.0) ∙ ap (λ s. Some s) same)
+  require_type_of_argument-fits false of g e o fe mode wanted h =
       let (given, same) = requested-fits facts shape types of o fe.of g.shape fe.known wanted h in
-      (λ i. same_known_shape (Some g.shape) (elim (mode i) [ by_value ↦ type_of meaning (here e) | by_place ↦ variable_type meaning (lone_designator (here e)) ]))
-      ∙ same_known_shape-same g.shape (Some g.shape) (type_of meaning (here e)) refl (fe.typed ∙ ap (λ s. Some s) same)
+      (λ i. same_known_shape (Some g.shape) (elim (mode i) [ by_value ↦ type_of_expression meaning (here e) | by_place ↦ assignable_type meaning (lone_designator (here e)) ]))
+      ∙ same_known_shape-same g.shape (Some g.shape) (type_of_expression meaning (here e)) refl (fe.typed ∙ ap (λ s. Some s) same)
 
-  argument-fits : (f : known.KnownParameter T) (g : FormalParameter) (e : Tree ℕ expression) → g.mode ≡ mode_from_flag f.by_place → shape f.of ≡ Some g.shape → Agreed e → faults_of_argument facts f e ≡ [] → argument_matches meaning g (here e) ≡ true
+  argument-fits : (f : known.KnownParameter T) (g : FormalParameter) (e : Tree ℕ expression) → g.mode ≡ mode_from_flag f.by_place → shape f.of ≡ Some g.shape → Agreed e → faults_of_argument facts f e ≡ [] → argument_matches_parameter meaning g (here e) ≡ true
   unfolding faults_of_argument
   argument-fits f g e mode wanted k h =
       let parts = none-reported (report_on_expression facts e).faults _ h in
-      required_type_of_argument-fits f.by_place f.of g e (report_on_expression facts e).known (known-operand e k parts.0) mode wanted parts.1
+      require_type_of_argument-fits f.by_place f.of g e (report_on_expression facts e).known (known-operand e k parts.0) mode wanted parts.1
 
   abbrev pub EachAgreed : List (Tree ℕ expression) → Type 0
   EachAgreed [] = Unit {0}
   EachAgreed (e ∷ es) = Agreed e × EachAgreed es
 
   arguments-fit : (fs : List (known.KnownParameter T)) (gs : Signature) (es : List (Tree ℕ expression)) → FormalsAgreeWithSignature shape fs gs → length fs ≡ length es → EachAgreed es → faults_of_arguments facts fs es ≡ []
-      → arguments_match meaning gs (map here es) ≡ true
-  unfolding arguments_match
+      → arguments_match_signature meaning gs (map here es) ≡ true
+  unfolding arguments_match_signature
   arguments-fit [] [] [] a n k h = refl
   arguments-fit [] [] (e ∷ es) a n k h = absurd (omega (arith, n))
   arguments-fit [] (g ∷ gs) es a n k h = absurd a
@@ -132,7 +132,7 @@ module _ {T N : Type 0} (facts : Facts T) (shape : T → Option Shape) (types : 
   arguments-fit (f ∷ fs) (g ∷ gs) [] a n k h = absurd (omega (arith, n))
   arguments-fit (f ∷ fs) (g ∷ gs) (e ∷ es) a n k h =
       let parts = none-reported (faults_of_argument facts f e) _ h in
-      and_from (argument_matches meaning g (here e)) (arguments_match meaning gs (map here es)) (argument-fits f g e a.0 a.1 k.0 parts.0) (arguments-fit fs gs es a.2 (omega (arith, n)) k.1 parts.1)
+      and_from (argument_matches_parameter meaning g (here e)) (arguments_match_signature meaning gs (map here es)) (argument-fits f g e a.0 a.1 k.0 parts.0) (arguments-fit fs gs es a.2 (omega (arith, n)) k.1 parts.1)
 
   further-mapped_tree : (es : Tree ℕ (items argument_after_comma)) → further_arguments (here es) ≡ map here (further_arguments es)
   further-mapped_tree end = refl

@@ -43,7 +43,7 @@ pub mod TypedDeclarations
 pub mod TypedModules
 pub mod SameFaults
 pub mod SameModules
-pub mod SomeBodies
+pub mod WalksOverSomeBodies
 pub mod DeclarationsStay
 pub mod WithoutNames
 pub mod NewBody

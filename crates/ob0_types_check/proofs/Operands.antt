@@ -11,13 +11,13 @@ use Rattle.ob0_tree.specs.declared.tree.Relation.{Relation}
 use Rattle.ob0_tree.specs.declared.tree.Relation.TheVariants as relation
 use Rattle.ob0_tree.specs.declared.tree.Sign.{Sign}
 use Rattle.ob0_tree.specs.declared.tree.Sign.TheVariants as sign
-use Rattle.ob0_tree.specs.Places.{token_text_at}
+use Rattle.ob0_tree.specs.TokenIndexLeaves.{token_text_at}
 use Rattle.ob0_language_types.specs.DesignatorSelectors.{apply_to_both_options}
-use Rattle.ob0_language_types.specs.Typing.{addition_type, negation_type, element_type, field_type, outcome_value, multiplication_type, relation_type, shape_of_field, sign_type, value_type}
+use Rattle.ob0_language_types.specs.Typing.{addition_type, negation_type, element_type, field_type, outcome_value, multiplication_type, relation_type, named_field_shape, signed_operand_type, value_type}
 use Rattle.ob0_language_values.specs.Values.{Overflow, Shape, Value, add, add_operator_short_circuits, boolean_shape, checked_division, division_outcome, ends_run_with, succeeds_with, checked_number, integer_shape, multiply, multiply_operator_short_circuits, negate, number, quotient, apply_relation, remainder, truth}
 use Rattle.ob0_language_values.specs.Values as values
 use Rattle.ob0_types_check.specs.TypesAndMeanings.{Facts, TypeForm, Operand, ResultWithFaults, a_record, a_scalar, an_array, unknown_form}
-use Rattle.ob0_types_check.specs.OperandFaults.{add_operands, required_type, required_type_of_both, fault_at_operand, negated_operand, element_type_from_form, element_operand, field_type_from_form, field_operand, may_be_same_type, field_type_or_fault, multiply_operands, relate_operands, signed_operand, comparison_type, operand_type_of_addition, operand_type_of_equality, operand_type_of_multiplication, operand_type_of_relation}
+use Rattle.ob0_types_check.specs.OperandFaults.{add_operands, require_type, require_type_of_both_operands, fault_at_operand, negated_operand, element_type_from_form, element_operand, field_type_from_form, field_operand, may_be_same_type, field_type_or_fault, multiply_operands, relate_operands, signed_operand, comparison_type, operand_type_of_addition, operand_type_of_equality, operand_type_of_multiplication, operand_type_of_relation}
 use Rattle.ob0_types_check.specs.Agreement.{FormAgreesWithShape, TypesAgreeWithShapes}
 use Rattle.ob0_types_check.proofs.Unreported.{first-of, first-reported, none-if, none-reported, not-true, some-none, some-same}
 
@@ -121,7 +121,7 @@ multiply-typed multiply_operator.Divide = refl
 multiply-typed multiply_operator.Modulo = refl
 multiply-typed multiply_operator.And = refl
 
-sign-typed : (s : Sign) → sign_type (Some s) integer_shape ≡ Some integer_shape
+sign-typed : (s : Sign) → signed_operand_type (Some s) integer_shape ≡ Some integer_shape
 sign-typed sign.Plus = refl
 sign-typed sign.Minus = refl
 
@@ -136,20 +136,20 @@ module _ {T : Type 0} (facts : Facts T) (shape : T → Option Shape) (types : Ty
   same-where-fits t u s w ht hu e =
       first-of (facts.types.same t u) (facts.types.same t facts.types.unknown) (facts.types.same u facts.types.unknown) e (is-known t s ht) (is-known u w hu)
 
-  pub requested-fits : (wanted : T) (o : Operand T) (s w : Shape) → shape o.of ≡ Some s → shape wanted ≡ Some w → (required_type facts wanted o).faults ≡ [] → ((required_type facts wanted o).known ≡ wanted) × (s ≡ w)
+  pub requested-fits : (wanted : T) (o : Operand T) (s w : Shape) → shape o.of ≡ Some s → shape wanted ≡ Some w → (require_type facts wanted o).faults ≡ [] → ((require_type facts wanted o).known ≡ wanted) × (s ≡ w)
   requested-fits wanted o s w hs hw h =
       let same : facts.types.same o.of wanted ≡ true = same-where-fits o.of wanted s w hs hw (none-if (may_be_same_type facts.types o.of wanted) _ h) in
       (ap (λ b. if b then wanted else facts.types.unknown) same, same-shape o.of wanted s w hs hw same)
 
-  apply_to_both_options-requested : (wanted : T) (a b : Operand T) (s t w : Shape) → shape a.of ≡ Some s → shape b.of ≡ Some t → shape wanted ≡ Some w → (required_type_of_both facts wanted a b).faults ≡ []
-      → ((required_type_of_both facts wanted a b).known ≡ wanted) × (s ≡ w) × (t ≡ w)
+  apply_to_both_options-requested : (wanted : T) (a b : Operand T) (s t w : Shape) → shape a.of ≡ Some s → shape b.of ≡ Some t → shape wanted ≡ Some w → (require_type_of_both_operands facts wanted a b).faults ≡ []
+      → ((require_type_of_both_operands facts wanted a b).known ≡ wanted) × (s ≡ w) × (t ≡ w)
   apply_to_both_options-requested wanted a b s t w hs ht hw h =
-      let left : ResultWithFaults T = record { known = if facts.types.same a.of wanted then (required_type facts wanted b).known else facts.types.unknown; faults = (required_type facts wanted b).faults } in
+      let left : ResultWithFaults T = record { known = if facts.types.same a.of wanted then (require_type facts wanted b).known else facts.types.unknown; faults = (require_type facts wanted b).faults } in
       let wrong : ResultWithFaults T = record { known = facts.types.unknown; faults = fault_at_operand code.TypeMismatch a } in
       let (fit, none) = first-reported (may_be_same_type facts.types a.of wanted) left wrong _ refl h in
       let same : facts.types.same a.of wanted ≡ true = same-where-fits a.of wanted s w hs hw fit in
       let (known, right) = requested-fits wanted b t w ht hw none in
-      (ap (λ c. (if c then left else wrong).known) fit ∙ (ap (λ c. if c then (required_type facts wanted b).known else facts.types.unknown) same ∙ known), same-shape a.of wanted s w hs hw same, right)
+      (ap (λ c. (if c then left else wrong).known) fit ∙ (ap (λ c. if c then (require_type facts wanted b).known else facts.types.unknown) same ∙ known), same-shape a.of wanted s w hs hw same, right)
 
   -- The types that operators require have shapes.
 
@@ -206,11 +206,11 @@ module _ {T : Type 0} (facts : Facts T) (shape : T → Option Shape) (types : Ty
       (ap (λ u. shape (comparison_type facts.types u)) known ∙ truth-known (operand_type_of_relation facts.types r a.of) w hw, (λ i. relation_type r (left i) (right i)) ∙ typed)
 
   pub apply_sign-fits : (g : Option Sign) (o : Operand T) (s : Shape) → shape o.of ≡ Some s → (signed_operand facts g o).faults ≡ []
-      → (w : Shape) × (shape (signed_operand facts g o).known.of ≡ Some w) × (sign_type g s ≡ Some w) × (IsOf s o.value → IsOf w (signed_operand facts g o).known.value)
+      → (w : Shape) × (shape (signed_operand facts g o).known.of ≡ Some w) × (signed_operand_type g s ≡ Some w) × (IsOf s o.value → IsOf w (signed_operand facts g o).known.value)
   apply_sign-fits None o s hs h = (s, hs, refl, λ has_value. has_value)
   apply_sign-fits (Some g) o s hs h =
       let (known, right) = requested-fits facts.types.integer o s integer_shape hs types.integer (none-reported _ _ h).0 in
-      (integer_shape, ap shape known ∙ types.integer, ap (sign_type (Some g)) right ∙ sign-typed g, λ has_value. sign-of g o.value)
+      (integer_shape, ap shape known ∙ types.integer, ap (signed_operand_type (Some g)) right ∙ sign-typed g, λ has_value. sign-of g o.value)
 
   pub complemented-fits : (o : Operand T) (s : Shape) → shape o.of ≡ Some s → (negated_operand facts o).faults ≡ []
       → (shape (negated_operand facts o).known.of ≡ Some boolean_shape) × (negation_type s ≡ Some boolean_shape)
@@ -229,7 +229,7 @@ module _ {T : Type 0} (facts : Facts T) (shape : T → Option Shape) (types : Ty
   field-found a_scalar s a x h = absurd (cc)
   field-found (an_array t) s a x h = absurd (cc)
   field-found (a_record fields) s (k, fs, e, each) x h =
-      let (u, known, found) = found-fits x (fields (token_text_at facts.source x)) (shape_of_field fs (token_text_at facts.source x)) (each (token_text_at facts.source x)) h in
+      let (u, known, found) = found-fits x (fields (token_text_at facts.source x)) (named_field_shape fs (token_text_at facts.source x)) (each (token_text_at facts.source x)) h in
       (u, known, ap (λ s. field_type s (token_text_at facts.source x)) e ∙ found)
   field-found unknown_form s a x h = absurd a
 
@@ -248,7 +248,7 @@ module _ {T : Type 0} (facts : Facts T) (shape : T → Option Shape) (types : Ty
   pub element-fits : (o i : Operand T) (s t : Shape) → shape o.of ≡ Some s → shape i.of ≡ Some t → (element_operand facts o i).faults ≡ []
       → (u : Shape) × (shape (element_operand facts o i).known.of ≡ Some u) × (element_type s t ≡ Some u)
   element-fits o i s t hs ht h =
-      let parts = none-reported (required_type facts facts.types.integer i).faults _ h in
+      let parts = none-reported (require_type facts facts.types.integer i).faults _ h in
       let (known, index) = requested-fits facts.types.integer i t integer_shape ht types.integer parts.0 in
-      let (u, found, typed) = element-found (facts.types.form o.of) s (types.form_agrees o.of s hs) i (required_type facts facts.types.integer i).known known (none-reported _ _ parts.1).0 in
+      let (u, found, typed) = element-found (facts.types.form o.of) s (types.form_agrees o.of s hs) i (require_type facts facts.types.integer i).known known (none-reported _ _ parts.1).0 in
       (u, found, ap (element_type s) index ∙ typed)

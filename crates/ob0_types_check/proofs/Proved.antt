@@ -1,15 +1,15 @@
 -- The proofs of the laws about reported expressions.
 use Rattle.std.proofs.Common.{◌≡◌, ℕ, Bool, true, false, [], Option, Some, None, option_map, is_some, if◌then◌else◌, refl, sym, ap, ◌∙◌}
 use Rattle.ob0_tree.specs.declared.tree.Role.TheVariants as role
-use Rattle.ob0_tree.specs.Places.{token_value_at}
+use Rattle.ob0_tree.specs.TokenIndexLeaves.{token_value_at}
 use Rattle.ob0_tree.specs.Tree.{Tree, expression, identifiers, mapped_tree}
 use Rattle.ob0_language_types.specs.Expressions.{Meanings, Object, a_constant, evaluate}
-use Rattle.ob0_language_types.specs.Typing.{array_length, constant_of, constant_value, constant_meanings, outcome_value, type_of}
+use Rattle.ob0_language_types.specs.Typing.{array_length_from_value, value_of_constant_object, constant_expression_value, meanings_in_constant_expressions, outcome_value, type_of_expression}
 use Rattle.ob0_language_types.specs.WellTyped.{TypeMeanings}
 use Rattle.ob0_language_values.specs.Values.{Place, Shape, Value, integer_shape}
 use Rattle.ob0_types_check.specs.ExpressionFaults.{report_on_expression}
 use Rattle.ob0_types_check.specs.TypesAndMeanings.{Facts, Operand}
-use Rattle.ob0_types_check.specs.OperandFaults.{required_type, without_fault}
+use Rattle.ob0_types_check.specs.OperandFaults.{require_type, without_fault}
 use Rattle.ob0_types_check.specs.KnownDeclarations.{facts_from_declarations}
 use Rattle.ob0_types_check.specs.TypeFaults.{operand_value, length_or_fault, length_from_value, length_from_operand, report_on_constant_expression, value_or_fault}
 use Rattle.ob0_types_check.specs.Agreement.{FactsAgreeWithShapesAndLabels, TypesAgreeWithShapes, shape_of_type_in}
@@ -20,33 +20,33 @@ use Rattle.ob0_types_check.proofs.FittingPlaces.{operand-fits}
 use Rattle.ob0_types_check.proofs.Operands.{IsOf, requested-fits, is-known}
 use Rattle.ob0_types_check.proofs.Unreported.{goes-on, none-reported, not-true}
 
-only-once : {V P : Type 0} (o : Option (Object V P)) → option_map {U = Object Place (Unit {0})} a_constant (constant_of {V = Shape} {P = Unit {0}} (option_map a_constant (constant_of o))) ≡ option_map a_constant (constant_of o)
-only-once o = elim (constant_of o) as (λ c. option_map {U = Object Place (Unit {0})} a_constant (constant_of {V = Shape} {P = Unit {0}} (option_map a_constant c)) ≡ option_map a_constant c) [ None ↦ refl | Some v ↦ refl ]
+only-once : {V P : Type 0} (o : Option (Object V P)) → option_map {U = Object Place (Unit {0})} a_constant (value_of_constant_object {V = Shape} {P = Unit {0}} (option_map a_constant (value_of_constant_object o))) ≡ option_map a_constant (value_of_constant_object o)
+only-once o = elim (value_of_constant_object o) as (λ c. option_map {U = Object Place (Unit {0})} a_constant (value_of_constant_object {V = Shape} {P = Unit {0}} (option_map a_constant c)) ≡ option_map a_constant c) [ None ↦ refl | Some v ↦ refl ]
 
-pub constants-again : {N V P : Type 0} (meaning : Meanings N V P) → constant_meanings {W = Place} {Q = Unit {0}} (constant_meanings {W = Shape} {Q = Unit {0}} meaning) ≡ constant_meanings meaning
+pub constants-again : {N V P : Type 0} (meaning : Meanings N V P) → meanings_in_constant_expressions {W = Place} {Q = Unit {0}} (meanings_in_constant_expressions {W = Shape} {Q = Unit {0}} meaning) ≡ meanings_in_constant_expressions meaning
 constants-again meaning = λ i. record { object_for = λ x. only-once (meaning.object_for x) i; written = meaning.written }
 
 module _ {T N : Type 0} (facts : Facts T) (shape : T → Option Shape) (label : ℕ → N) (meaning : TypeMeanings N) (e : Tree ℕ expression) (agrees : FactsAgreeWithShapesAndLabels facts shape label meaning e) where
   pub here-fits : (b : Bool) → facts.only_constants ≡ b → (report_on_expression facts e).faults ≡ [] → OperandAgreesWithExpression shape (allowed_meanings b meaning) (report_on_expression facts e).known (mapped_tree label (token_value_at facts.source) e)
-  here-fits true only h = operand-fits facts shape agrees.types label (constant_meanings meaning) e (only-tokens facts shape agrees.types label meaning _ only (identifiers role.Declaring e) agrees.tokens) h
-  here-fits false only h = operand-fits facts shape agrees.types label meaning e (tokens-fit facts shape agrees.types label meaning (identifiers role.Declaring e) agrees.tokens) h
+  here-fits true only h = operand-fits facts shape agrees.types label (meanings_in_constant_expressions meaning) e (only-tokens facts shape agrees.types label meaning _ only (identifiers role.DeclaringName e) agrees.tokens) h
+  here-fits false only h = operand-fits facts shape agrees.types label meaning e (tokens-fit facts shape agrees.types label meaning (identifiers role.DeclaringName e) agrees.tokens) h
 
   -- holds if an operand has a type, and its value, when present, is the constant's value
   pub record IsConstant : Type 0 where
     pub of : Shape
     pub known : shape (report_on_expression facts e).known.of ≡ Some of
-    pub given : (v : Value) → (report_on_expression facts e).known.value ≡ Some v → constant_value meaning (mapped_tree label (token_value_at facts.source) e) ≡ Some v
+    pub given : (v : Value) → (report_on_expression facts e).known.value ≡ Some v → constant_expression_value meaning (mapped_tree label (token_value_at facts.source) e) ≡ Some v
     pub scalar : IsOf of (report_on_expression facts e).known.value
 
   pub constant-known : facts.only_constants ≡ true → (report_on_expression facts e).faults ≡ [] → IsConstant
-  unfolding constant_value
+  unfolding constant_expression_value
   constant-known only h =
-      let fe : FitsExpression facts shape agrees.types label (constant_meanings {W = Shape} {Q = Unit {0}} meaning) e
-      = expression-fits facts shape agrees.types label (constant_meanings {W = Shape} {Q = Unit {0}} meaning) e (only-tokens facts shape agrees.types label meaning _ only (identifiers role.Declaring e) agrees.tokens) h in
+      let fe : FitsExpression facts shape agrees.types label (meanings_in_constant_expressions {W = Shape} {Q = Unit {0}} meaning) e
+      = expression-fits facts shape agrees.types label (meanings_in_constant_expressions {W = Shape} {Q = Unit {0}} meaning) e (only-tokens facts shape agrees.types label meaning _ only (identifiers role.DeclaringName e) agrees.tokens) h in
       record {
         of = fe.of;
         known = fe.known;
-        given = λ v is. goes-on (λ s. outcome_value (evaluate {P = Unit {0}} (constant_meanings meaning) [] (mapped_tree label (token_value_at facts.source) e))) (type_of {P = Unit {0}} (constant_meanings meaning) (mapped_tree label (token_value_at facts.source) e)) fe.of (Some v) fe.typed
+        given = λ v is. goes-on (λ s. outcome_value (evaluate {P = Unit {0}} (meanings_in_constant_expressions meaning) [] (mapped_tree label (token_value_at facts.source) e))) (type_of_expression {P = Unit {0}} (meanings_in_constant_expressions meaning) (mapped_tree label (token_value_at facts.source) e)) fe.of (Some v) fe.typed
             (ap (λ m. outcome_value (evaluate {P = Unit {0}} m [] (mapped_tree label (token_value_at facts.source) e))) (sym (constants-again meaning)) ∙ (sym fe.value_agrees ∙ is));
         scalar = fe.scalar;
       }
@@ -85,21 +85,21 @@ pub record IsLong {T : Type 0} (o : Operand T) (reported : Option ℕ) : Type 0 
   pub length : ℕ
   pub known : reported ≡ Some length
   pub there : o.value ≡ Some value
-  pub counted : array_length value ≡ Some length
+  pub counted : array_length_from_value value ≡ Some length
 
-bounded : {T : Type 0} (o : Operand T) (v : Value) (n : Option ℕ) → o.value ≡ Some v → array_length v ≡ n → (length_or_fault o n).faults ≡ [] → IsLong o (length_or_fault o n).known
+bounded : {T : Type 0} (o : Operand T) (v : Value) (n : Option ℕ) → o.value ≡ Some v → array_length_from_value v ≡ n → (length_or_fault o n).faults ≡ [] → IsLong o (length_or_fault o n).known
 bounded o v None there e h = absurd (cc)
 bounded o v (Some n) there e h = record { value = v; length = n; known = refl; there = there; counted = e }
 
 length-given : {T : Type 0} (o : Operand T) (c : Option Value) → o.value ≡ c → (length_from_value o c).faults ≡ [] → IsLong o (length_from_value o c).known
 length-given o None e h = absurd (cc)
-length-given o (Some v) e h = bounded o v (array_length v) e refl h
+length-given o (Some v) e h = bounded o v (array_length_from_value v) e refl h
 
 pub length-there : {T : Type 0} (facts : Facts T) (shape : T → Option Shape) (types : TypesAgreeWithShapes facts.types shape) (o : Operand T) (s : Shape) → shape o.of ≡ Some s → (length_from_operand facts o).faults ≡ [] → IsLong o (length_from_operand facts o).known
 length-there facts shape types o s hs h =
-    let parts = none-reported (required_type facts facts.types.integer o).faults _ h in
+    let parts = none-reported (require_type facts facts.types.integer o).faults _ h in
     let (given, same) = requested-fits facts shape types facts.types.integer o s integer_shape hs types.integer parts.0 in
-    let alone : facts.types.same (required_type facts facts.types.integer o).known facts.types.integer ≡ true = ap (λ t. facts.types.same t facts.types.integer) given ∙ types.integer_same in
+    let alone : facts.types.same (require_type facts facts.types.integer o).known facts.types.integer ≡ true = ap (λ t. facts.types.same t facts.types.integer) given ∙ types.integer_same in
     let long : IsLong o (length_from_value o o.value).known = length-given o o.value refl (sym (ap (λ b. (if b then length_from_value o o.value else without_fault None).faults) alone) ∙ parts.1) in
     record {
       value = long.value;

@@ -3,7 +3,7 @@ use Rattle.std.proofs.Common.{◌≡◌, ◌≢◌, ℕ, List, [], ◌∷◌, �
 use Rattle.std.proofs.lemmas.Bool.{eq-eqb}
 use Rattle.std.proofs.lemmas.List.{length-map}
 use Rattle.ob0_scan.specs.declared.fault.FaultCode.TheVariants as code
-use Rattle.ob0_types_table.specs.declared.known.FormalParameter as formal
+use Rattle.ob0_types_table.specs.declared.declaration_table.FormalParameter as formal
 use Rattle.ob0_types_table.specs.declared.types.TypeId.{TypeId}
 use Rattle.ob0_tree.specs.Tree.{Tree, arguments, assigns, branches, calls, elsif_branch, elsif_part, else_branch, else_part, empty, end, expression, items, maybe, more, none, one, repeat_loop, selector, sequence, while_loop}
 use Rattle.ob0_tree.specs.View.{elsif_of, expression_of, argument_after_comma_of, statement_after_semicolon_of, items_of, sequence_of_list, statement_of}
@@ -13,9 +13,9 @@ use Rattle.ob0_tree.specs.declared.tree.Statement.{Statement}
 use Rattle.ob0_language_types.specs.Arguments.{call_arguments, further_arguments}
 use Rattle.ob0_types_check.specs.ExpressionFaults.{report_on_expression, report_on_selectors}
 use Rattle.ob0_types_check.specs.TypesAndMeanings.{Facts, KnownParameter, a_procedure}
-use Rattle.ob0_types_check.specs.OperandFaults.{typed_name_operand, required_type, fault_at_token, ◌>>=◌}
-use Rattle.ob0_types_check.specs.StatementFaults.{target_name_type, call_faults_from_meaning, required_type_of_argument, faults_of_argument, faults_of_arguments, typed_expression_faults, assignment_faults, call_faults, condition_faults, else_faults, elsif_faults, untyped_argument_faults, sequence_faults, statement_faults, further_statement_faults, report_on_target}
-use Rattle.ob0_types_check.specs.CheckerViews.{formal_of}
+use Rattle.ob0_types_check.specs.OperandFaults.{typed_name_operand, require_type, fault_at_token, ◌>>=◌}
+use Rattle.ob0_types_check.specs.StatementFaults.{target_name_type, call_faults_from_meaning, require_type_of_argument, faults_of_argument, faults_of_arguments, faults_of_expression_of_type, assignment_faults, call_faults, condition_faults, else_faults, elsif_faults, untyped_argument_faults, sequence_faults, statement_faults, further_statement_faults, report_on_assignment_target}
+use Rattle.ob0_types_check.specs.CheckerViews.{known_parameter_of}
 use Rattle.ob0_types_check.proofs.Listed.{IsEach, IsPairwise}
 
 further_listed : (es : List Expression) → further_arguments (items_of argument_after_comma_of es) ≡ map expression_of es
@@ -27,15 +27,15 @@ all_listed [] = refl
 all_listed (e ∷ es) = ap (λ z. expression_of e ∷ z) (further_listed es)
 
 module _ {T : Type 0} (facts : Facts T) where
-  pub requested_reported : (wanted : T) (e : Tree ℕ expression) → typed_expression_faults facts wanted e ≡ (report_on_expression facts e >>= required_type facts wanted).faults
-  unfolding typed_expression_faults
+  pub requested_reported : (wanted : T) (e : Tree ℕ expression) → faults_of_expression_of_type facts wanted e ≡ (report_on_expression facts e >>= require_type facts wanted).faults
+  unfolding faults_of_expression_of_type
   requested_reported wanted e = refl
 
-  pub target_reported : (x : ℕ) (path : Tree ℕ (items selector)) → report_on_target facts x path ≡ (target_name_type facts x >>= (λ t. report_on_selectors facts (typed_name_operand t x) path))
-  unfolding report_on_target
+  pub target_reported : (x : ℕ) (path : Tree ℕ (items selector)) → report_on_assignment_target facts x path ≡ (target_name_type facts x >>= (λ t. report_on_selectors facts (typed_name_operand t x) path))
+  unfolding report_on_assignment_target
   target_reported x path = refl
 
-  pub argument_reported : (f : KnownParameter T) (e : Tree ℕ expression) → faults_of_argument facts f e ≡ (report_on_expression facts e >>= required_type_of_argument facts f).faults
+  pub argument_reported : (f : KnownParameter T) (e : Tree ℕ expression) → faults_of_argument facts f e ≡ (report_on_expression facts e >>= require_type_of_argument facts f).faults
   unfolding faults_of_argument
   argument_reported f e = refl
 
@@ -43,7 +43,7 @@ module _ {T : Type 0} (facts : Facts T) where
   unfolding statement_faults
   empty_reported = refl
 
-  pub assigned_reported : (x : ℕ) (path : Tree ℕ (items selector)) (e : Tree ℕ expression) → statement_faults facts (assigns x path e) ≡ assignment_faults facts (report_on_target facts x path) e
+  pub assigned_reported : (x : ℕ) (path : Tree ℕ (items selector)) (e : Tree ℕ expression) → statement_faults facts (assigns x path e) ≡ assignment_faults facts (report_on_assignment_target facts x path) e
   unfolding statement_faults
   assigned_reported x path e = refl
 
@@ -112,18 +112,18 @@ module _ {T : Type 0} (facts : Facts T) where
   parts_each = record { ended = refl; stepped = λ e es. refl }
 
 module _ (facts : Facts TypeId) where
-  pub argument_pairs : IsPairwise (λ (fs : List formal.FormalParameter) (es : List Expression). faults_of_arguments facts (map formal_of fs) (map expression_of es)) (λ f e. faults_of_argument facts (formal_of f) (expression_of e))
+  pub argument_pairs : IsPairwise (λ (fs : List formal.FormalParameter) (es : List Expression). faults_of_arguments facts (map known_parameter_of fs) (map expression_of es)) (λ f e. faults_of_argument facts (known_parameter_of f) (expression_of e))
   argument_pairs = record { ended = refl; stepped = λ f e fs es. refl }
 
   -- The faults of a call depend on whether there are as many arguments as parameters.
   pub count_is_right : (p : ℕ) (fs : List formal.FormalParameter) (es : List Expression) → length fs ≡ length es
-      → call_faults_from_meaning facts p (Some (a_procedure (map formal_of fs))) (map expression_of es) ≡ faults_of_arguments facts (map formal_of fs) (map expression_of es)
+      → call_faults_from_meaning facts p (Some (a_procedure (map known_parameter_of fs))) (map expression_of es) ≡ faults_of_arguments facts (map known_parameter_of fs) (map expression_of es)
   count_is_right p fs es e =
-      ap (λ b. if b then faults_of_arguments facts (map formal_of fs) (map expression_of es) else fault_at_token code.ArgumentCount p)
-      (eq-eqb (length (map formal_of fs)) (length (map expression_of es)) (length-map fs formal_of ∙ e ∙ sym (length-map es expression_of)))
+      ap (λ b. if b then faults_of_arguments facts (map known_parameter_of fs) (map expression_of es) else fault_at_token code.ArgumentCount p)
+      (eq-eqb (length (map known_parameter_of fs)) (length (map expression_of es)) (length-map fs known_parameter_of ∙ e ∙ sym (length-map es expression_of)))
 
   pub count_differs : (p : ℕ) (fs : List formal.FormalParameter) (es : List Expression) → length fs ≢ length es
-      → call_faults_from_meaning facts p (Some (a_procedure (map formal_of fs))) (map expression_of es) ≡ fault_at_token code.ArgumentCount p
+      → call_faults_from_meaning facts p (Some (a_procedure (map known_parameter_of fs))) (map expression_of es) ≡ fault_at_token code.ArgumentCount p
   count_differs p fs es d =
-      ap (λ b. if b then faults_of_arguments facts (map formal_of fs) (map expression_of es) else fault_at_token code.ArgumentCount p)
-      (ne_eqb (length (map formal_of fs)) (length (map expression_of es)) (λ e. d (sym (length-map fs formal_of) ∙ e ∙ length-map es expression_of)))
+      ap (λ b. if b then faults_of_arguments facts (map known_parameter_of fs) (map expression_of es) else fault_at_token code.ArgumentCount p)
+      (ne_eqb (length (map known_parameter_of fs)) (length (map expression_of es)) (λ e. d (sym (length-map fs known_parameter_of) ∙ e ∙ length-map es expression_of)))

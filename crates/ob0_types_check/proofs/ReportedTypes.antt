@@ -7,11 +7,11 @@ use Rattle.ob0_language_names.specs.BlockParts.{names_in_list}
 use Rattle.ob0_types_check.specs.ExpressionFaults.{report_on_expression}
 use Rattle.ob0_types_check.specs.OperandFaults.{without_fault, ◌>>=◌}
 use Rattle.ob0_types_check.specs.KnownDeclarations.{KnownDeclarations, facts_from_declarations}
-use Rattle.ob0_types_check.specs.TypeFaults.{length_from_operand, type_named_at}
-use Rattle.ob0_types_check.specs.WrittenTypeFaults.{KnownFields, made_array_type, with_field_group, no_known_fields, next_type_ordinal, made_record_type, record_keyword_token, report_on_field_group, report_on_further_field_group, report_on_further_field_groups, report_on_written_type, token_before_group}
+use Rattle.ob0_types_check.specs.TypeFaults.{length_from_operand, type_named_by_token}
+use Rattle.ob0_types_check.specs.WrittenTypeFaults.{KnownFields, made_array_type, append_field_group, no_known_fields, next_type_ordinal, made_record_type, record_keyword_token, report_on_field_group, report_on_further_field_group, report_on_further_field_groups, report_on_written_type, token_before_group}
 use Rattle.ob0_types_check.proofs.Chains.{IsChain, then_assoc}
 
-pub named_reported : (around : ℕ) (p : KnownDeclarations) (x : ℕ) → report_on_written_type around p (named_type x) ≡ (type_named_at (facts_from_declarations p false) x >>= (λ t. without_fault (record { of = t; following = p })))
+pub named_reported : (around : ℕ) (p : KnownDeclarations) (x : ℕ) → report_on_written_type around p (named_type x) ≡ (type_named_by_token (facts_from_declarations p false) x >>= (λ t. without_fault (record { of = t; following = p })))
 unfolding report_on_written_type
 named_reported around p x = refl
 
@@ -24,7 +24,7 @@ pub no_fields_reported : (around : ℕ) (g : KnownFields) → report_on_field_gr
 unfolding report_on_written_type
 no_fields_reported around g = refl
 
-pub fields_reported : (around : ℕ) (g : KnownFields) (ns : Tree ℕ names) (t : Tree ℕ written_type) → report_on_field_group around g (some_fields ns t) ≡ (report_on_written_type around g.following t >>= (λ u. without_fault (with_field_group g (names_in_list ns) u)))
+pub fields_reported : (around : ℕ) (g : KnownFields) (ns : Tree ℕ names) (t : Tree ℕ written_type) → report_on_field_group around g (some_fields ns t) ≡ (report_on_written_type around g.following t >>= (λ u. without_fault (append_field_group g (names_in_list ns) u)))
 unfolding report_on_written_type
 fields_reported around g ns t = refl
 

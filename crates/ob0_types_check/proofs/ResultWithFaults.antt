@@ -4,12 +4,12 @@ use Rattle.std.specs.List.{filter}
 use Rattle.ob0_tree.specs.ParsedModule.{named_tree_of}
 use Rattle.ob0_scope_table.specs.Resolution.{IsResolution, Resolution, is_undeclared_fault}
 use Rattle.ob0_scope_table.specs.declared.faults.FaultAtTokens.{FaultAtTokens}
-use Rattle.ob0_types_table.specs.DeclarationTableView.{AreEntriesInOrder}
-use Rattle.ob0_types_check.specs.DeclarationFaults.{WalkProgress, every_body, undeclared_name_and_type_faults, report_on_module}
-use Rattle.ob0_types_check.specs.ModuleLaws.{WalkWithoutFaultFindsCorrectMeanings, HasDeclarations, KnowsDeclarations}
+use Rattle.ob0_types_table.specs.DeclarationTableView.{AreValidEntries}
+use Rattle.ob0_types_check.specs.DeclarationFaults.{WalkProgress, includes_every_body, undeclared_name_and_type_faults, report_on_module}
+use Rattle.ob0_types_check.specs.ModuleLaws.{WalkWithoutFaultFindsCorrectMeanings, TableHasDeclaredObjects, KnownDeclarationsAgreeWithModule}
 use Rattle.ob0_types_check.specs.TypesAndMeanings.{ResultWithFaults}
 use Rattle.ob0_types_check.specs.OperandFaults.{ReturnsAndReports}
-use Rattle.ob0_types_check.specs.SomeBodies.{IsFinishedWalk, walk_progress_of}
+use Rattle.ob0_types_check.specs.WalksOverSomeBodies.{IsFinishedWalk, walk_progress_of}
 use Rattle.ob0_types_check.specs.CheckerViews.{declarations_in_state, table_in_state}
 use Rattle.ob0_types_check.specs.declared.reporting.checker_state.CheckerState.{CheckerState}
 use Rattle.ob0_types_check.proofs.Listed.{nothing_left}
@@ -24,7 +24,7 @@ pub is_something : (xs : List FaultAtTokens) (n : ℕ) (b : Bool) → n ≡ leng
 is_something xs n b long e h none = true≢false (sym (eq-eqb n 0 (long ∙ ap length none)) ∙ (sym e ∙ h))
 
 -- A walk over some bodies ends with the faults of the module if it reports the same as the walk over all bodies.
-pub walked : (r : Resolution) (before after : List FaultAtTokens) (s : CheckerState) (bodies_with_faults : List ℕ) (t : ResultWithFaults WalkProgress) → before ≡ filter is_undeclared_fault r.faults → reported_module every_body r ≡ t → ReturnsAndReports before after (walk_progress_of s bodies_with_faults) t → IsFinishedWalk r after s bodies_with_faults
+pub walked : (r : Resolution) (before after : List FaultAtTokens) (s : CheckerState) (bodies_with_faults : List ℕ) (t : ResultWithFaults WalkProgress) → before ≡ filter is_undeclared_fault r.faults → reported_module includes_every_body r ≡ t → ReturnsAndReports before after (walk_progress_of s bodies_with_faults) t → IsFinishedWalk r after s bodies_with_faults
 walked r before after s bodies_with_faults t first is reported =
     record {
       faults = reported.reported ∙ ((λ i. first i ++ (sym is i).faults) ∙ sym (module_reported r));
@@ -35,11 +35,11 @@ module _ (r : Resolution) (after : List FaultAtTokens) (s : CheckerState) (bodie
   pub nothing : undeclared_name_and_type_faults r ≡ []
   nothing = sym w.faults ∙ none
 
-  pub knows : KnowsDeclarations (declarations_in_state s) (named_tree_of r.module_read)
-  knows = subst (λ p. KnowsDeclarations p (named_tree_of r.module_read)) (sym (ap (λ (v : WalkProgress). v.so_far) w.known)) (law r is nothing)
+  pub knows : KnownDeclarationsAgreeWithModule (declarations_in_state s) (named_tree_of r.module_read)
+  knows = subst (λ p. KnownDeclarationsAgreeWithModule p (named_tree_of r.module_read)) (sym (ap (λ (v : WalkProgress). v.so_far) w.known)) (law r is nothing)
 
-  pub in_order : AreEntriesInOrder [] s.composites.items
+  pub in_order : AreValidEntries [] s.composites.items
   in_order = table_in_order s (named_tree_of r.module_read) knows
 
-  pub declares : HasDeclarations (named_tree_of r.module_read) (table_in_state s)
+  pub declares : TableHasDeclaredObjects (named_tree_of r.module_read) (table_in_state s)
   declares = table_declares s (named_tree_of r.module_read) knows

@@ -6,17 +6,17 @@ use Rattle.std.specs.Prelude.{nat_lt}
 use Rattle.ob0_scan.specs.declared.fault.FaultCode.TheVariants as code
 use Rattle.ob0_scan.specs.TextWithTokens.{TextWithTokens}
 use Rattle.ob0_tree.specs.declared.tree.Sign.{Sign}
-use Rattle.ob0_tree.specs.Places.{token_text_at, token_value_at}
+use Rattle.ob0_tree.specs.TokenIndexLeaves.{token_text_at, token_value_at}
 use Rattle.ob0_tree.specs.Tree.{Sort, Tree, addend, arguments, no_arguments, some_arguments, comma_then_argument, argument_after_comma, adds, assigns, branches, calls, compares, designator, else_branch, else_part, elsif_branch, elsif_part, empty, end, expression, factor, field, statement_after_semicolon, index, integer, items, maybe, more, multiplier, multiplies, negation, none, one, parenthesised, product, relates, repeat_loop, runs, selector, sequence, simple, statement, sum, term, semicolon_then_statement, while_loop}
 use Rattle.ob0_language_types.specs.Arguments.{call_arguments, further_arguments}
 use Rattle.ob0_language_values.specs.Values.{number}
-use Rattle.ob0_scope_table.specs.TokenProperty.{EachTokenHas}
+use Rattle.ob0_scope_table.specs.TokenProperty.{EachTokenSatisfies}
 use Rattle.ob0_scope_table.specs.Resolution.{ordinal_in}
 use Rattle.ob0_types_check.specs.ExpressionFaults.{report_on_addends, report_on_expression, report_on_factor, report_on_multipliers, report_on_selectors, report_on_simple_expression, report_on_term}
 use Rattle.ob0_types_check.specs.TypesAndMeanings.{Facts, TypeForm, KnownParameter, Meaning, Operand, ResultWithFaults, Types, a_constant, a_procedure, a_record, a_scalar, a_type, a_variable, an_array, unknown_form}
-use Rattle.ob0_types_check.specs.OperandFaults.{typed_name_operand, number_operand, add_operands, negated_operand, element_type_from_form, element_operand, fault_at_token, operand_in_parentheses, field_type_from_form, field_operand, field_type_or_fault, multiply_operands, name_operand, operand_from_meaning, extended_operand, relate_operands, required_type, without_fault, signed_operand, token_after, token_before, ◌>>=◌}
-use Rattle.ob0_types_check.specs.StatementFaults.{call_faults_from_meaning, required_type_of_argument, faults_of_argument, faults_of_arguments, assignment_faults, call_faults, else_faults, elsif_faults, untyped_argument_faults, typed_expression_faults, sequence_faults, statement_faults, further_statement_faults, report_on_target, target_type_from_meaning, target_name_type}
-use Rattle.ob0_types_check.specs.TypeFaults.{operand_value, report_on_constant_expression, type_from_meaning, type_named_at}
+use Rattle.ob0_types_check.specs.OperandFaults.{typed_name_operand, number_operand, add_operands, negated_operand, element_type_from_form, element_operand, fault_at_token, operand_in_parentheses, field_type_from_form, field_operand, field_type_or_fault, multiply_operands, name_operand, operand_from_meaning, operand_with_selector, relate_operands, require_type, without_fault, signed_operand, next_token_index, previous_token_index, ◌>>=◌}
+use Rattle.ob0_types_check.specs.StatementFaults.{call_faults_from_meaning, require_type_of_argument, faults_of_argument, faults_of_arguments, assignment_faults, call_faults, else_faults, elsif_faults, untyped_argument_faults, faults_of_expression_of_type, sequence_faults, statement_faults, further_statement_faults, report_on_assignment_target, target_type_from_meaning, target_name_type}
+use Rattle.ob0_types_check.specs.TypeFaults.{operand_value, report_on_constant_expression, type_from_meaning, type_named_by_token}
 
 -- returns the facts at a place, given the meaning of each declaration
 abbrev pub facts_over : {T : Type 0} → TextWithTokens → List (Option ℕ) → Types T → (ℕ → Option (Meaning T)) → Bool → Facts T
@@ -53,7 +53,7 @@ goes_on_equally {A} {Y} {B} {h} {k} {t} {u} next other p q =
     subst (λ v. Alike h k (t >>= next) (v >>= other)) p (record { value = n.value; before = n.before; after = n.after; faults = ap (λ fs. t.faults ++ fs) n.faults })
 
 module _ (old new : TextWithTokens) (os ns : List (Option ℕ)) (P : ℕ → Type 0) (w : Alikeness old new os ns P) where
-  after_same : (token : ℕ) → token_after old token ≡ token_after new token
+  after_same : (token : ℕ) → next_token_index old token ≡ next_token_index new token
   after_same token = ap (λ n. if nat_lt token n then token + 1 else token) (sym w.count)
 
   module _ {T : Type 0} (types : Types T) (declared : ℕ → Option (Meaning T)) (only_constants : Bool) where
@@ -64,7 +64,7 @@ module _ (old new : TextWithTokens) (os ns : List (Option ℕ)) (P : ℕ → Typ
     fn = facts_over new ns types declared only_constants
 
     abbrev Each : {s : Sort} → Tree ℕ s → Type 0
-    Each t = EachTokenHas P t
+    Each t = EachTokenSatisfies P t
 
     meant : (token : ℕ) → P token → fo.object_for token ≡ fn.object_for token
     meant token h = sym (ap (option_and_then declared) (w.bound token h))
@@ -79,7 +79,7 @@ module _ (old new : TextWithTokens) (os ns : List (Option ℕ)) (P : ℕ → Typ
     number_same n h = λ i. record { of = types.integer; value = Some (number (pos (sym (w.value n h) i))); may_be_variable = false; first = n; last = n }
 
     enclosed_same : (o : Operand T) → operand_in_parentheses fo o ≡ operand_in_parentheses fn o
-    enclosed_same o = λ i. record { of = o.of; value = o.value; may_be_variable = false; first = token_before o.first; last = after_same o.last i }
+    enclosed_same o = λ i. record { of = o.of; value = o.value; may_be_variable = false; first = previous_token_index o.first; last = after_same o.last i }
 
     operand_of_name : (token : ℕ) (m : Option (Meaning T)) → operand_from_meaning fo token m ≡ operand_from_meaning fn token m
     operand_of_name token None = refl
@@ -102,7 +102,7 @@ module _ (old new : TextWithTokens) (os ns : List (Option ℕ)) (P : ℕ → Typ
     field_same token h (an_array t) = refl
 
     field_after : (o : Operand T) (token : ℕ) → P token → field_operand fo o token ≡ field_operand fn o token
-    field_after o token h = λ i. field_same token h (types.form o.of) i >>= (λ t. without_fault (extended_operand o t token))
+    field_after o token h = λ i. field_same token h (types.form o.of) i >>= (λ t. without_fault (operand_with_selector o t token))
 
     element_same : (i : Operand T) (of : T) (form : TypeForm T) → element_type_from_form fo i of form ≡ element_type_from_form fn i of form
     element_same i of (an_array t) = refl
@@ -111,7 +111,7 @@ module _ (old new : TextWithTokens) (os ns : List (Option ℕ)) (P : ℕ → Typ
     element_same i of (a_record fields) = refl
 
     element_after : (o i : Operand T) → element_operand fo o i ≡ element_operand fn o i
-    element_after o i = λ j. required_type fo types.integer i >>= (λ n. element_same i n (types.form o.of) j >>= (λ t. without_fault (extended_operand o t (after_same i.last j))))
+    element_after o i = λ j. require_type fo types.integer i >>= (λ n. element_same i n (types.form o.of) j >>= (λ t. without_fault (operand_with_selector o t (after_same i.last j))))
 
     -- ---- expressions
 
@@ -160,14 +160,14 @@ module _ (old new : TextWithTokens) (os ns : List (Option ℕ)) (P : ℕ → Typ
     type_same token (Some (a_procedure fs)) = refl
     type_same token None = refl
 
-    pub type_named_same : (token : ℕ) → P token → type_named_at fo token ≡ type_named_at fn token
+    pub type_named_same : (token : ℕ) → P token → type_named_by_token fo token ≡ type_named_by_token fn token
     type_named_same token h = type_same token (fo.object_for token) ∙ ap (type_from_meaning fn token) (meant token h)
 
     -- ---- statements
 
-    required_there : (wanted : T) (e : Tree ℕ expression) → Each e → typed_expression_faults fo wanted e ≡ typed_expression_faults fn wanted e
-    unfolding typed_expression_faults
-    required_there wanted e h = λ i. (expression_same e h i >>= (λ o. required_type fo wanted o)).faults
+    required_there : (wanted : T) (e : Tree ℕ expression) → Each e → faults_of_expression_of_type fo wanted e ≡ faults_of_expression_of_type fn wanted e
+    unfolding faults_of_expression_of_type
+    required_there wanted e h = λ i. (expression_same e h i >>= (λ o. require_type fo wanted o)).faults
 
     target_meant : (token : ℕ) (m : Option (Meaning T)) → target_type_from_meaning fo token m ≡ target_type_from_meaning fn token m
     target_meant token (Some (a_variable t)) = refl
@@ -179,16 +179,16 @@ module _ (old new : TextWithTokens) (os ns : List (Option ℕ)) (P : ℕ → Typ
     target_named : (x : ℕ) → P x → target_name_type fo x ≡ target_name_type fn x
     target_named x h = target_meant x (fo.object_for x) ∙ ap (target_type_from_meaning fn x) (meant x h)
 
-    target_same : (x : ℕ) (path : Tree ℕ (items selector)) → P x → Each path → report_on_target fo x path ≡ report_on_target fn x path
-    unfolding report_on_target
+    target_same : (x : ℕ) (path : Tree ℕ (items selector)) → P x → Each path → report_on_assignment_target fo x path ≡ report_on_assignment_target fn x path
+    unfolding report_on_assignment_target
     target_same x path h each = λ i. target_named x h i >>= (λ t. selectors_same (typed_name_operand t x) path each i)
 
-    assigned_same : (x : ℕ) (path : Tree ℕ (items selector)) (e : Tree ℕ expression) → P x → Each path → Each e → assignment_faults fo (report_on_target fo x path) e ≡ assignment_faults fn (report_on_target fn x path) e
+    assigned_same : (x : ℕ) (path : Tree ℕ (items selector)) (e : Tree ℕ expression) → P x → Each path → Each e → assignment_faults fo (report_on_assignment_target fo x path) e ≡ assignment_faults fn (report_on_assignment_target fn x path) e
     assigned_same x path e named each h = λ i. (target_same x path named each i).faults ++ required_there (target_same x path named each i).known.of e h i
 
     argument_same : (f : KnownParameter T) (e : Tree ℕ expression) → Each e → faults_of_argument fo f e ≡ faults_of_argument fn f e
     unfolding faults_of_argument
-    argument_same f e h = λ i. (expression_same e h i >>= (λ o. required_type_of_argument fo f o)).faults
+    argument_same f e h = λ i. (expression_same e h i >>= (λ o. require_type_of_argument fo f o)).faults
 
     -- holds if each token of some expressions has the property
     abbrev EachOf : List (Tree ℕ expression) → Type 0

@@ -4,24 +4,24 @@ use Rattle.std.proofs.Common.{◌≡◌, ℕ, suc, Bool, true, false, List, [], 
 use Rattle.std.specs.List.{filter}
 use Rattle.ob0_scan.specs.ReusedLexemes.{words_of_tokens}
 use Rattle.ob0_scan.specs.TextWithTokens.{TextWithTokens}
-use Rattle.ob0_language_names.specs.BlockParts.{formal_sections, names_after_first, module_block, names_in_list, section_constants, section_types, section_variables}
+use Rattle.ob0_language_names.specs.BlockParts.{formal_parameter_sections, names_after_first, module_block, names_in_list, section_constants, section_types, section_variables}
 use Rattle.ob0_tree.specs.ParsedModule.{parsed_module, tree_of}
 use Rattle.ob0_tree.specs.Tree.{Sort, Tree, no_formals, some_formals, listed, comma_then_name, name_after_comma, constants, type_definitions, variables, formals, declares_const_section, declares_type_section, declares_var_section, array_type, begins, block, body, constant, declares, declares_constant, declares_procedure, declares_type, declares_variable, end, fields, fields_after_semicolon, section_after_semicolon, forms_block, item, items, maybe, more, named_type, names, no_fields, none, one, procedure, record_type, some_fields, semicolon_then_fields, semicolon_then_section, type_definition, value_section, variable, variable_section, written_type}
 use Rattle.ob0_tree.specs.declared.tree.ModuleTree.{ModuleTree}
 use Rattle.ob0_scope_table.specs.Bindings.{resolution_with_bindings}
-use Rattle.ob0_scope_table.specs.TokenProperty.{EachTokenHas}
+use Rattle.ob0_scope_table.specs.TokenProperty.{EachTokenSatisfies}
 use Rattle.ob0_scope_table.specs.Resolution.{is_undeclared_fault, ordinal_in}
 use Rattle.ob0_scope_table.specs.declared.resolved.Bindings.{Bindings}
 use Rattle.ob0_scope_table.proofs.Placed.{each_token}
 use Rattle.ob0_scope_table.proofs.SameWords.{same_count, same_texts, same_values}
 use Rattle.ob0_types_table.specs.declared.types.TypeId.{TypeId}
 use Rattle.ob0_types_table.specs.declared.types.TypeId.TheVariants as type
-use Rattle.ob0_types_check.specs.DeclarationFaults.{KnownHeading, WalkProgress, body_faults, every_body, undeclared_name_and_type_faults, report_body_if_wanted, report_on_block, report_on_constant_declaration, report_on_constant_declarations, report_on_parameters, report_on_procedure, report_on_procedures, report_on_parameter_section, report_on_parameter_sections, report_on_type_declaration, report_on_type_declarations, report_on_variable_group, report_on_variable_declarations, declarations_after_heading, with_body_if_faulty, with_declarations, with_parameters}
+use Rattle.ob0_types_check.specs.DeclarationFaults.{KnownHeading, WalkProgress, body_faults, includes_every_body, undeclared_name_and_type_faults, report_body_if_wanted, report_on_block, report_on_constant_declaration, report_on_constant_declarations, report_on_parameters_of_one_type, report_on_procedure, report_on_procedures, report_on_parameter_section, report_on_parameter_sections, report_on_type_declaration, report_on_type_declarations, report_on_variable_group, report_on_variable_declarations, declarations_after_heading, append_body_if_faulty, walk_with_declarations, heading_with_parameters}
 use Rattle.ob0_types_check.specs.TypesAndMeanings.{Meaning, Operand, ResultWithFaults, a_constant, a_procedure, a_type, a_variable}
-use Rattle.ob0_types_check.specs.OperandFaults.{without_fault, token_before, ◌>>=◌}
-use Rattle.ob0_types_check.specs.KnownDeclarations.{CompositeParts, TypeSize, KnownDeclarations, TypeWithFollowingDeclarations, known_declarations_at_start, define_name_at_token, define_names_at_tokens, facts_from_declarations, is_within_limits, append_composite, make_composite_type, of_elements, of_fields, size_of_type_so_far, report_on_too_large_type, types_so_far, with_meaning}
+use Rattle.ob0_types_check.specs.OperandFaults.{without_fault, previous_token_index, ◌>>=◌}
+use Rattle.ob0_types_check.specs.KnownDeclarations.{CompositeParts, TypeSize, KnownDeclarations, TypeWithFollowingDeclarations, known_declarations_at_module_start, define_name_at_token, define_listed_names, facts_from_declarations, is_within_limits, append_composite, make_composite_type, of_elements, of_fields, size_of_known_type, report_on_too_large_type, known_types_representation, declarations_with_meaning}
 use Rattle.ob0_types_check.specs.TypeFaults.{length_from_operand}
-use Rattle.ob0_types_check.specs.WrittenTypeFaults.{KnownFields, made_array_type, array_size, with_field_group, no_known_fields, next_type_ordinal, made_record_type, record_size, record_keyword_token, report_on_field_group, report_on_further_field_groups, report_on_written_type, with_known_fields, with_known_field, token_before_group}
+use Rattle.ob0_types_check.specs.WrittenTypeFaults.{KnownFields, made_array_type, array_size, append_field_group, no_known_fields, next_type_ordinal, made_record_type, record_size, record_keyword_token, report_on_field_group, report_on_further_field_groups, report_on_written_type, append_known_fields, append_known_field, token_before_group}
 use Rattle.ob0_types_check.proofs.SameFaults.{Alike, Alikeness, constant_same, expression_same, goes_on, goes_on_equally, rightly, sequence_same, type_named_same}
 
 -- returns the state, or the type and the state after it, with another text
@@ -50,7 +50,7 @@ further z p = record { so = p; in_old = z.in_old; in_new = z.in_new }
 abbrev pub declared_at : KnownDeclarations → ℕ → Option (Meaning TypeId)
 declared_at p k = slice_index_or p.declared k None
 
-declared_over : (source : TextWithTokens) (ordinals : List (Option ℕ)) (p : KnownDeclarations) (m : Meaning TypeId) (o : Option ℕ) → with_meaning (so_over source ordinals p) m o ≡ so_over source ordinals (with_meaning p m o)
+declared_over : (source : TextWithTokens) (ordinals : List (Option ℕ)) (p : KnownDeclarations) (m : Meaning TypeId) (o : Option ℕ) → declarations_with_meaning (so_over source ordinals p) m o ≡ so_over source ordinals (declarations_with_meaning p m o)
 declared_over source ordinals p m None = refl
 declared_over source ordinals p m (Some k) = refl
 
@@ -85,14 +85,14 @@ module _ (old new : TextWithTokens) (os ns : List (Option ℕ)) (P : ℕ → Typ
   abbrev Typed : ResultWithFaults TypeWithFollowingDeclarations → ResultWithFaults TypeWithFollowingDeclarations → Type 0
   Typed r s = Alike typed_old typed_new r s
 
-  abbrev AddsKnownFields : ResultWithFaults KnownFields → ResultWithFaults KnownFields → Type 0
-  AddsKnownFields r s = Alike gathered_old gathered_new r s
+  abbrev CodeFindsFieldsAndReports : ResultWithFaults KnownFields → ResultWithFaults KnownFields → Type 0
+  CodeFindsFieldsAndReports r s = Alike gathered_old gathered_new r s
 
   abbrev pub Heads : ResultWithFaults KnownHeading → ResultWithFaults KnownHeading → Type 0
   Heads r s = Alike heading_old heading_new r s
 
   abbrev Each : {s : Sort} → Tree ℕ s → Type 0
-  Each t = EachTokenHas P t
+  Each t = EachTokenSatisfies P t
 
   -- holds if each token in the list has the property
   abbrev AllOf : List ℕ → Type 0
@@ -107,19 +107,19 @@ module _ (old new : TextWithTokens) (os ns : List (Option ℕ)) (P : ℕ → Typ
   define_before p m x = declared_over old os (so_old p) m (ordinal_in os x)
 
   define_after : (p : KnownDeclarations) (m : Meaning TypeId) (x : ℕ) → P x → define_name_at_token (so_new p) m x ≡ so_new (define_name_at_token (so_old p) m x)
-  define_after p m x h = ap (with_meaning (so_new p) m) (w.bound x h) ∙ declared_over new ns (so_old p) m (ordinal_in os x)
+  define_after p m x h = ap (declarations_with_meaning (so_new p) m) (w.bound x h) ∙ declared_over new ns (so_old p) m (ordinal_in os x)
 
-  all_before : (p : KnownDeclarations) (m : Meaning TypeId) (xs : List ℕ) → define_names_at_tokens (so_old p) m xs ≡ so_old (define_names_at_tokens (so_old p) m xs)
+  all_before : (p : KnownDeclarations) (m : Meaning TypeId) (xs : List ℕ) → define_listed_names (so_old p) m xs ≡ so_old (define_listed_names (so_old p) m xs)
   all_before p m [] = refl
   all_before p m (x ∷ xs) =
       let q : KnownDeclarations = define_name_at_token (so_old p) m x in
-      ap (λ r. define_names_at_tokens r m xs) (define_before p m x) ∙ (all_before q m xs ∙ ap (λ r. so_old (define_names_at_tokens r m xs)) (sym (define_before p m x)))
+      ap (λ r. define_listed_names r m xs) (define_before p m x) ∙ (all_before q m xs ∙ ap (λ r. so_old (define_listed_names r m xs)) (sym (define_before p m x)))
 
-  all_after : (p : KnownDeclarations) (m : Meaning TypeId) (xs : List ℕ) → AllOf xs → define_names_at_tokens (so_new p) m xs ≡ so_new (define_names_at_tokens (so_old p) m xs)
+  all_after : (p : KnownDeclarations) (m : Meaning TypeId) (xs : List ℕ) → AllOf xs → define_listed_names (so_new p) m xs ≡ so_new (define_listed_names (so_old p) m xs)
   all_after p m [] h = refl
   all_after p m (x ∷ xs) h =
       let q : KnownDeclarations = define_name_at_token (so_old p) m x in
-      ap (λ r. define_names_at_tokens r m xs) (define_after p m x h.0) ∙ (all_after q m xs h.1 ∙ ap (λ r. so_new (define_names_at_tokens r m xs)) (sym (define_before p m x)))
+      ap (λ r. define_listed_names r m xs) (define_after p m x h.0) ∙ (all_after q m xs h.1 ∙ ap (λ r. so_new (define_listed_names r m xs)) (sym (define_before p m x)))
 
   further_each : (ns : Tree ℕ (items name_after_comma)) → Each ns → AllOf (names_after_first ns)
   further_each end h = tt
@@ -145,37 +145,37 @@ module _ (old new : TextWithTokens) (os ns : List (Option ℕ)) (P : ℕ → Typ
 
   array_same : (ordinal : ℕ) (o : Operand TypeId) (n : Option ℕ) (t : TypeWithFollowingDeclarations) → Typed (made_array_type ordinal o n (typed_old t)) (made_array_type ordinal o n (typed_new t))
   array_same ordinal o None t = rightly typed_old typed_new (record { of = type.Unknown; following = t.following })
-  array_same ordinal o (Some n) t = made_same t.following (token_before o.first) ordinal (of_elements n t.of) (array_size n (size_of_type_so_far t.following.made t.of))
+  array_same ordinal o (Some n) t = made_same t.following (previous_token_index o.first) ordinal (of_elements n t.of) (array_size n (size_of_known_type t.following.made t.of))
 
-  name_over : (t : TypeId) (g : KnownFields) (x : ℕ) → P x → with_known_field t (gathered_new g) x ≡ gathered_new (with_known_field t (gathered_old g) x)
+  name_over : (t : TypeId) (g : KnownFields) (x : ℕ) → P x → append_known_field t (gathered_new g) x ≡ gathered_new (append_known_field t (gathered_old g) x)
   name_over t g x h = ap (λ text. gathered_new (with_written text)) (w.written x h) where
     with_written : List ℕ → KnownFields
-    with_written text = record { fields = g.fields ++ record { name = text; of = t } ∷ []; size = (with_known_field t (gathered_old g) x).size; following = g.following }
+    with_written text = record { fields = g.fields ++ record { name = text; of = t } ∷ []; size = (append_known_field t (gathered_old g) x).size; following = g.following }
 
-  names_old : (t : TypeId) (g : KnownFields) (xs : List ℕ) → with_known_fields t (gathered_old g) xs ≡ gathered_old (with_known_fields t (gathered_old g) xs)
+  names_old : (t : TypeId) (g : KnownFields) (xs : List ℕ) → append_known_fields t (gathered_old g) xs ≡ gathered_old (append_known_fields t (gathered_old g) xs)
   names_old t g [] = refl
-  names_old t g (x ∷ xs) = names_old t (with_known_field t (gathered_old g) x) xs
+  names_old t g (x ∷ xs) = names_old t (append_known_field t (gathered_old g) x) xs
 
-  names_new : (t : TypeId) (g : KnownFields) (xs : List ℕ) → AllOf xs → with_known_fields t (gathered_new g) xs ≡ gathered_new (with_known_fields t (gathered_old g) xs)
+  names_new : (t : TypeId) (g : KnownFields) (xs : List ℕ) → AllOf xs → append_known_fields t (gathered_new g) xs ≡ gathered_new (append_known_fields t (gathered_old g) xs)
   names_new t g [] each = refl
-  names_new t g (x ∷ xs) each = ap (λ h. with_known_fields t h xs) (name_over t g x each.0) ∙ names_new t (with_known_field t (gathered_old g) x) xs each.1
+  names_new t g (x ∷ xs) each = ap (λ h. append_known_fields t h xs) (name_over t g x each.0) ∙ names_new t (append_known_field t (gathered_old g) x) xs each.1
 
-  gathered_same : (g : KnownFields) (xs : List ℕ) (t : TypeWithFollowingDeclarations) → AllOf xs → AddsKnownFields (without_fault (with_field_group (gathered_old g) xs (typed_old t))) (without_fault (with_field_group (gathered_new g) xs (typed_new t)))
+  gathered_same : (g : KnownFields) (xs : List ℕ) (t : TypeWithFollowingDeclarations) → AllOf xs → CodeFindsFieldsAndReports (without_fault (append_field_group (gathered_old g) xs (typed_old t))) (without_fault (append_field_group (gathered_new g) xs (typed_new t)))
   gathered_same g xs t each =
       let h : KnownFields = record { fields = g.fields; size = g.size; following = t.following } in
-      record { value = with_known_fields t.of (gathered_old h) xs; before = names_old t.of h xs; after = names_new t.of h xs each; faults = refl }
+      record { value = append_known_fields t.of (gathered_old h) xs; before = names_old t.of h xs; after = names_new t.of h xs each; faults = refl }
 
   mutual
     unfolding report_on_written_type
 
     written_same : (around : ℕ) (p : KnownDeclarations) (t : Tree ℕ written_type) → Each t → Typed (report_on_written_type around (so_old p) t) (report_on_written_type around (so_new p) t)
     written_same around p (named_type x) h =
-        goes_on_equally (λ t. without_fault (record { of = t; following = so_old p })) (λ t. without_fault (record { of = t; following = so_new p })) (type_named_same old new os ns P w (types_so_far p.made) (declared_at p) false x h)
+        goes_on_equally (λ t. without_fault (record { of = t; following = so_old p })) (λ t. without_fault (record { of = t; following = so_new p })) (type_named_same old new os ns P w (known_types_representation p.made) (declared_at p) false x h)
         (λ t. rightly typed_old typed_new (record { of = t; following = p }))
     written_same around p (array_type e u) h =
         goes_on_equally (λ o. length_from_operand (facts_from_declarations (so_old p) false) o >>= (λ n. report_on_written_type (suc around) (so_old p) u >>= made_array_type (next_type_ordinal around p) o n))
         (λ o. length_from_operand (facts_from_declarations (so_new p) false) o >>= (λ n. report_on_written_type (suc around) (so_new p) u >>= made_array_type (next_type_ordinal around p) o n))
-        (expression_same old new os ns P w (types_so_far p.made) (declared_at p) true e h.0)
+        (expression_same old new os ns P w (known_types_representation p.made) (declared_at p) true e h.0)
         (λ o.
         let lengths : length_from_operand (facts_from_declarations (so_old p) false) o ≡ length_from_operand (facts_from_declarations (so_new p) false) o = refl in
         goes_on_equally (λ n. report_on_written_type (suc around) (so_old p) u >>= made_array_type (next_type_ordinal around p) o n) (λ n. report_on_written_type (suc around) (so_new p) u >>= made_array_type (next_type_ordinal around p) o n) lengths
@@ -188,13 +188,13 @@ module _ (old new : TextWithTokens) (os ns : List (Option ℕ)) (P : ℕ → Typ
         goes_on (made_record_type (token_before_group g (record_keyword_token rest)) (next_type_ordinal around p)) (made_record_type (token_before_group g (record_keyword_token rest)) (next_type_ordinal around p)) (groups_same (suc around) first rest h.1)
         (λ all. made_same all.following (token_before_group g (record_keyword_token rest)) (next_type_ordinal around p) (of_fields all.fields) (record_size all.size)))
 
-    group_same : (around : ℕ) (so_far : KnownFields) (g : Tree ℕ fields) → Each g → AddsKnownFields (report_on_field_group around (gathered_old so_far) g) (report_on_field_group around (gathered_new so_far) g)
+    group_same : (around : ℕ) (so_far : KnownFields) (g : Tree ℕ fields) → Each g → CodeFindsFieldsAndReports (report_on_field_group around (gathered_old so_far) g) (report_on_field_group around (gathered_new so_far) g)
     group_same around so_far no_fields h = rightly gathered_old gathered_new so_far
     group_same around so_far (some_fields ns t) h =
-        goes_on (λ u. without_fault (with_field_group (gathered_old so_far) (names_in_list ns) u)) (λ u. without_fault (with_field_group (gathered_new so_far) (names_in_list ns) u)) (written_same around so_far.following t h.1)
+        goes_on (λ u. without_fault (append_field_group (gathered_old so_far) (names_in_list ns) u)) (λ u. without_fault (append_field_group (gathered_new so_far) (names_in_list ns) u)) (written_same around so_far.following t h.1)
         (λ u. gathered_same so_far (names_in_list ns) u (names_each ns h.0))
 
-    groups_same : (around : ℕ) (so_far : KnownFields) (gs : Tree ℕ (items fields_after_semicolon)) → Each gs → AddsKnownFields (report_on_further_field_groups around (gathered_old so_far) gs) (report_on_further_field_groups around (gathered_new so_far) gs)
+    groups_same : (around : ℕ) (so_far : KnownFields) (gs : Tree ℕ (items fields_after_semicolon)) → Each gs → CodeFindsFieldsAndReports (report_on_further_field_groups around (gathered_old so_far) gs) (report_on_further_field_groups around (gathered_new so_far) gs)
     groups_same around so_far end h = rightly gathered_old gathered_new so_far
     groups_same around so_far (more (semicolon_then_fields g) rest) h =
         goes_on (λ next. report_on_further_field_groups around next rest) (λ next. report_on_further_field_groups around next rest) (group_same around so_far g h.0) (λ next. groups_same around next rest h.1)
@@ -205,13 +205,13 @@ module _ (old new : TextWithTokens) (os ns : List (Option ℕ)) (P : ℕ → Typ
   defined : (p : KnownDeclarations) (m : Meaning TypeId) (x : ℕ) → P x → So (without_fault (define_name_at_token (so_old p) m x)) (without_fault (define_name_at_token (so_new p) m x))
   defined p m x h = so (define_name_at_token (so_old p) m x) (define_name_at_token (so_old p) m x) (define_name_at_token (so_new p) m x) (define_before p m x) (define_after p m x h)
 
-  all_defined : (p : KnownDeclarations) (m : Meaning TypeId) (xs : List ℕ) → AllOf xs → So (without_fault (define_names_at_tokens (so_old p) m xs)) (without_fault (define_names_at_tokens (so_new p) m xs))
-  all_defined p m xs h = so (define_names_at_tokens (so_old p) m xs) (define_names_at_tokens (so_old p) m xs) (define_names_at_tokens (so_new p) m xs) (all_before p m xs) (all_after p m xs h)
+  all_defined : (p : KnownDeclarations) (m : Meaning TypeId) (xs : List ℕ) → AllOf xs → So (without_fault (define_listed_names (so_old p) m xs)) (without_fault (define_listed_names (so_new p) m xs))
+  all_defined p m xs h = so (define_listed_names (so_old p) m xs) (define_listed_names (so_old p) m xs) (define_listed_names (so_new p) m xs) (all_before p m xs) (all_after p m xs h)
 
   constant_after : (p : KnownDeclarations) (c : Tree ℕ (item constant)) → Each c → So (report_on_constant_declaration (so_old p) c) (report_on_constant_declaration (so_new p) c)
   unfolding report_on_constant_declaration
   constant_after p (declares_constant x e) h =
-      goes_on_equally (λ v. without_fault (define_name_at_token (so_old p) (a_constant v) x)) (λ v. without_fault (define_name_at_token (so_new p) (a_constant v) x)) (constant_same old new os ns P w (types_so_far p.made) (declared_at p) true e h.1)
+      goes_on_equally (λ v. without_fault (define_name_at_token (so_old p) (a_constant v) x)) (λ v. without_fault (define_name_at_token (so_new p) (a_constant v) x)) (constant_same old new os ns P w (known_types_representation p.made) (declared_at p) true e h.1)
       (λ v. defined p (a_constant v) x h.0)
 
   pub constants_same : (p : KnownDeclarations) (cs : Tree ℕ (items constant)) → Each cs → So (report_on_constant_declarations (so_old p) cs) (report_on_constant_declarations (so_new p) cs)
@@ -233,7 +233,7 @@ module _ (old new : TextWithTokens) (os ns : List (Option ℕ)) (P : ℕ → Typ
   variables_after : (p : KnownDeclarations) (g : Tree ℕ (item variable)) → Each g → So (report_on_variable_group (so_old p) g) (report_on_variable_group (so_new p) g)
   unfolding report_on_variable_group
   variables_after p (declares_variable ns t) h =
-      goes_on (λ u. without_fault (define_names_at_tokens u.following (a_variable u.of) (names_in_list ns))) (λ u. without_fault (define_names_at_tokens u.following (a_variable u.of) (names_in_list ns))) (written_same 0 p t h.1)
+      goes_on (λ u. without_fault (define_listed_names u.following (a_variable u.of) (names_in_list ns))) (λ u. without_fault (define_listed_names u.following (a_variable u.of) (names_in_list ns))) (written_same 0 p t h.1)
       (λ u. all_defined u.following (a_variable u.of) (names_in_list ns) (names_each ns h.0))
 
   pub variables_same : (p : KnownDeclarations) (gs : Tree ℕ (items variable)) → Each gs → So (report_on_variable_declarations (so_old p) gs) (report_on_variable_declarations (so_new p) gs)
@@ -243,20 +243,20 @@ module _ (old new : TextWithTokens) (os ns : List (Option ℕ)) (P : ℕ → Typ
 
   -- ---- headings
 
-  parameters_after : (h : KnownHeading) (by_place : Bool) (xs : List ℕ) (t : TypeWithFollowingDeclarations) → AllOf xs → Heads (without_fault (with_parameters (heading_old h) by_place xs (typed_old t))) (without_fault (with_parameters (heading_new h) by_place xs (typed_new t)))
+  parameters_after : (h : KnownHeading) (by_place : Bool) (xs : List ℕ) (t : TypeWithFollowingDeclarations) → AllOf xs → Heads (without_fault (heading_with_parameters (heading_old h) by_place xs (typed_old t))) (without_fault (heading_with_parameters (heading_new h) by_place xs (typed_new t)))
   parameters_after h by_place xs t each =
       let more_formals : KnownDeclarations → KnownHeading = λ p. record { formals = h.formals ++ map (λ x. record { by_place = by_place; of = t.of }) xs; following = p } in
       record {
-        value = with_parameters (heading_old h) by_place xs (typed_old t);
+        value = heading_with_parameters (heading_old h) by_place xs (typed_old t);
         before = ap more_formals (all_before t.following (a_variable t.of) xs);
         after = ap more_formals (all_after t.following (a_variable t.of) xs each);
         faults = refl;
       }
 
-  parameters_same : (h : KnownHeading) (by_place : Bool) (ns : Tree ℕ names) (t : Tree ℕ written_type) → Each ns → Each t → Heads (report_on_parameters (heading_old h) by_place ns t) (report_on_parameters (heading_new h) by_place ns t)
-  unfolding report_on_parameters
+  parameters_same : (h : KnownHeading) (by_place : Bool) (ns : Tree ℕ names) (t : Tree ℕ written_type) → Each ns → Each t → Heads (report_on_parameters_of_one_type (heading_old h) by_place ns t) (report_on_parameters_of_one_type (heading_new h) by_place ns t)
+  unfolding report_on_parameters_of_one_type
   parameters_same h by_place ns t of_names of_type =
-      goes_on (λ u. without_fault (with_parameters (heading_old h) by_place (names_in_list ns) u)) (λ u. without_fault (with_parameters (heading_new h) by_place (names_in_list ns) u)) (written_same 0 h.following t of_type)
+      goes_on (λ u. without_fault (heading_with_parameters (heading_old h) by_place (names_in_list ns) u)) (λ u. without_fault (heading_with_parameters (heading_new h) by_place (names_in_list ns) u)) (written_same 0 h.following t of_type)
       (λ u. parameters_after h by_place (names_in_list ns) u (names_each ns of_names))
 
   section_same : (h : KnownHeading) (s : Tree ℕ (item section_after_semicolon)) → Each s → Heads (report_on_parameter_section (heading_old h) s) (report_on_parameter_section (heading_new h) s)
@@ -275,7 +275,7 @@ module _ (old new : TextWithTokens) (os ns : List (Option ℕ)) (P : ℕ → Typ
 
   -- ---- optional sections
 
-  pub formals_each : (fs : Tree ℕ (maybe formals)) → Each fs → Each (formal_sections fs)
+  pub formals_each : (fs : Tree ℕ (maybe formals)) → Each fs → Each (formal_parameter_sections fs)
   formals_each none h = tt
   formals_each (one no_formals) h = tt
   formals_each (one (some_formals s rest)) h = h
@@ -297,7 +297,7 @@ module _ (old new : TextWithTokens) (os ns : List (Option ℕ)) (P : ℕ → Typ
   pub body_same : (p : KnownDeclarations) (b : Tree ℕ (maybe body)) → Each b → body_faults (so_old p) b ≡ body_faults (so_new p) b
   unfolding body_faults
   body_same p none h = refl
-  body_same p (one (begins statements)) h = sequence_same old new os ns P w (types_so_far p.made) (declared_at p) false statements h
+  body_same p (one (begins statements)) h = sequence_same old new os ns P w (known_types_representation p.made) (declared_at p) false statements h
 
   -- ---- blocks and procedures
 
@@ -311,8 +311,8 @@ module _ (old new : TextWithTokens) (os ns : List (Option ℕ)) (P : ℕ → Typ
   abbrev pub after_body : ℕ → Both → Tree ℕ (maybe body) → Both
   after_body own z b = record {
     so = z.so;
-    in_old = with_body_if_faulty (body_faults (so_old z.so) b) own z.in_old;
-    in_new = with_body_if_faulty (body_faults (so_new z.so) b) own z.in_new;
+    in_old = append_body_if_faulty (body_faults (so_old z.so) b) own z.in_old;
+    in_new = append_body_if_faulty (body_faults (so_new z.so) b) own z.in_new;
   }
 
   abbrev Walks : ResultWithFaults WalkProgress → ResultWithFaults WalkProgress → Type 0
@@ -322,38 +322,38 @@ module _ (old new : TextWithTokens) (os ns : List (Option ℕ)) (P : ℕ → Typ
   body_walked own z b h = record { value = after_body own z b; before = refl; after = refl; faults = body_same z.so b h }
 
   -- If a block has the same report in both texts from alike states, it also has after a heading.
-  block_after : (own : ℕ) (z : Both) (b : Tree ℕ block) → ((y : Both) → Walks (report_on_block every_body own (walked_old y) b) (report_on_block every_body own (walked_new y) b)) → (h : KnownHeading) (x : ℕ) → P x
-      → Walks (report_on_block every_body own (with_declarations (walked_old z) (declarations_after_heading x (heading_old h))) b) (report_on_block every_body own (with_declarations (walked_new z) (declarations_after_heading x (heading_new h))) b)
+  block_after : (own : ℕ) (z : Both) (b : Tree ℕ block) → ((y : Both) → Walks (report_on_block includes_every_body own (walked_old y) b) (report_on_block includes_every_body own (walked_new y) b)) → (h : KnownHeading) (x : ℕ) → P x
+      → Walks (report_on_block includes_every_body own (walk_with_declarations (walked_old z) (declarations_after_heading x (heading_old h))) b) (report_on_block includes_every_body own (walk_with_declarations (walked_new z) (declarations_after_heading x (heading_new h))) b)
   block_after own z b each h x at =
       let a = heading_after x h at in
-      subst (λ q. Walks (report_on_block every_body own (with_declarations (walked_old z) q) b) (report_on_block every_body own (with_declarations (walked_new z) (declarations_after_heading x (heading_new h))) b)) (sym a.before)
-      (subst (λ q. Walks (report_on_block every_body own (with_declarations (walked_old z) (so_old a.value)) b) (report_on_block every_body own (with_declarations (walked_new z) q) b)) (sym a.after) (each (further z a.value)))
+      subst (λ q. Walks (report_on_block includes_every_body own (walk_with_declarations (walked_old z) q) b) (report_on_block includes_every_body own (walk_with_declarations (walked_new z) (declarations_after_heading x (heading_new h))) b)) (sym a.before)
+      (subst (λ q. Walks (report_on_block includes_every_body own (walk_with_declarations (walked_old z) (so_old a.value)) b) (report_on_block includes_every_body own (walk_with_declarations (walked_new z) q) b)) (sym a.after) (each (further z a.value)))
 
   mutual
     unfolding report_on_block
 
-    pub block_same : (own : ℕ) (z : Both) (b : Tree ℕ block) → Each b → Walks (report_on_block every_body own (walked_old z) b) (report_on_block every_body own (walked_new z) b)
+    pub block_same : (own : ℕ) (z : Both) (b : Tree ℕ block) → Each b → Walks (report_on_block includes_every_body own (walked_old z) b) (report_on_block includes_every_body own (walked_new z) b)
     block_same own z (forms_block (declares cs ts vs ps) a) h =
-        goes_on (λ q. report_on_type_declarations q (section_types ts) >>= (λ r. report_on_variable_declarations r (section_variables vs) >>= (λ s. report_on_procedures every_body (with_declarations (walked_old z) s) ps >>= (λ t. report_body_if_wanted true own t a))))
-        (λ q. report_on_type_declarations q (section_types ts) >>= (λ r. report_on_variable_declarations r (section_variables vs) >>= (λ s. report_on_procedures every_body (with_declarations (walked_new z) s) ps >>= (λ t. report_body_if_wanted true own t a))))
+        goes_on (λ q. report_on_type_declarations q (section_types ts) >>= (λ r. report_on_variable_declarations r (section_variables vs) >>= (λ s. report_on_procedures includes_every_body (walk_with_declarations (walked_old z) s) ps >>= (λ t. report_body_if_wanted true own t a))))
+        (λ q. report_on_type_declarations q (section_types ts) >>= (λ r. report_on_variable_declarations r (section_variables vs) >>= (λ s. report_on_procedures includes_every_body (walk_with_declarations (walked_new z) s) ps >>= (λ t. report_body_if_wanted true own t a))))
         (constants_same z.so (section_constants cs) (constants_each cs h.0.0))
         (λ q.
-        goes_on (λ r. report_on_variable_declarations r (section_variables vs) >>= (λ s. report_on_procedures every_body (with_declarations (walked_old z) s) ps >>= (λ t. report_body_if_wanted true own t a)))
-        (λ r. report_on_variable_declarations r (section_variables vs) >>= (λ s. report_on_procedures every_body (with_declarations (walked_new z) s) ps >>= (λ t. report_body_if_wanted true own t a)))
+        goes_on (λ r. report_on_variable_declarations r (section_variables vs) >>= (λ s. report_on_procedures includes_every_body (walk_with_declarations (walked_old z) s) ps >>= (λ t. report_body_if_wanted true own t a)))
+        (λ r. report_on_variable_declarations r (section_variables vs) >>= (λ s. report_on_procedures includes_every_body (walk_with_declarations (walked_new z) s) ps >>= (λ t. report_body_if_wanted true own t a)))
         (types_same q (section_types ts) (types_each ts h.0.1))
         (λ r.
-        goes_on (λ s. report_on_procedures every_body (with_declarations (walked_old z) s) ps >>= (λ t. report_body_if_wanted true own t a)) (λ s. report_on_procedures every_body (with_declarations (walked_new z) s) ps >>= (λ t. report_body_if_wanted true own t a))
+        goes_on (λ s. report_on_procedures includes_every_body (walk_with_declarations (walked_old z) s) ps >>= (λ t. report_body_if_wanted true own t a)) (λ s. report_on_procedures includes_every_body (walk_with_declarations (walked_new z) s) ps >>= (λ t. report_body_if_wanted true own t a))
         (variables_same r (section_variables vs) (variables_each vs h.0.2))
         (λ s. goes_on (λ t. report_body_if_wanted true own t a) (λ t. report_body_if_wanted true own t a) (procedures_same (further z s) ps h.0.3) (λ y. body_walked own y a h.1))))
 
-    procedures_same : (z : Both) (ps : Tree ℕ (items procedure)) → Each ps → Walks (report_on_procedures every_body (walked_old z) ps) (report_on_procedures every_body (walked_new z) ps)
+    procedures_same : (z : Both) (ps : Tree ℕ (items procedure)) → Each ps → Walks (report_on_procedures includes_every_body (walked_old z) ps) (report_on_procedures includes_every_body (walked_new z) ps)
     procedures_same z end h = rightly walked_old walked_new z
-    procedures_same z (more d rest) h = goes_on (λ v. report_on_procedures every_body v rest) (λ v. report_on_procedures every_body v rest) (procedure_same z d h.0) (λ y. procedures_same y rest h.1)
+    procedures_same z (more d rest) h = goes_on (λ v. report_on_procedures includes_every_body v rest) (λ v. report_on_procedures includes_every_body v rest) (procedure_same z d h.0) (λ y. procedures_same y rest h.1)
 
-    procedure_same : (z : Both) (d : Tree ℕ (item procedure)) → Each d → Walks (report_on_procedure every_body (walked_old z) d) (report_on_procedure every_body (walked_new z) d)
+    procedure_same : (z : Both) (d : Tree ℕ (item procedure)) → Each d → Walks (report_on_procedure includes_every_body (walked_old z) d) (report_on_procedure includes_every_body (walked_new z) d)
     procedure_same z (declares_procedure x fs b closing) h =
-        goes_on (λ g. report_on_block every_body closing (with_declarations (walked_old z) (declarations_after_heading x g)) b) (λ g. report_on_block every_body closing (with_declarations (walked_new z) (declarations_after_heading x g)) b)
-        (sections_same (record { formals = []; following = z.so }) (formal_sections fs) (formals_each fs h.1))
+        goes_on (λ g. report_on_block includes_every_body closing (walk_with_declarations (walked_old z) (declarations_after_heading x g)) b) (λ g. report_on_block includes_every_body closing (walk_with_declarations (walked_new z) (declarations_after_heading x g)) b)
+        (sections_same (record { formals = []; following = z.so }) (formal_parameter_sections fs) (formals_each fs h.1))
         (λ g. block_after closing z b (λ y. block_same closing y b h.2) g x h.0)
 
 -- ---- a module
@@ -366,4 +366,4 @@ module_same old new same tree b =
     let P : ℕ → Type 0 = λ k. Unit {0} in
     let likeness : Alikeness old new b.ordinals.items b.ordinals.items P = record { count = same_count old new same; written = λ k u. λ j. same_texts old new same j k; value = λ k u. λ j. same_values old new same j k; bound = λ k u. refl } in
     let whole : Tree ℕ block = module_block (tree_of (parsed_module old tree)) in
-    ap (λ fs. filter is_undeclared_fault b.faults.items ++ fs) (block_same old new b.ordinals.items b.ordinals.items P likeness tree.closing (record { so = known_declarations_at_start (resolution_with_bindings (parsed_module old tree) b); in_old = []; in_new = [] }) whole (each_token P (λ k. tt) whole)).faults
+    ap (λ fs. filter is_undeclared_fault b.faults.items ++ fs) (block_same old new b.ordinals.items b.ordinals.items P likeness tree.closing (record { so = known_declarations_at_module_start (resolution_with_bindings (parsed_module old tree) b); in_old = []; in_new = [] }) whole (each_token P (λ k. tt) whole)).faults

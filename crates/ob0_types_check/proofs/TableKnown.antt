@@ -12,33 +12,33 @@ use Rattle.ob0_language_types.specs.Expressions as meant
 use Rattle.ob0_language_types.specs.Typing.{depth, scalars}
 use Rattle.ob0_language_types.specs.WellTyped.{Signature, signature_of}
 use Rattle.ob0_types_table.specs.DeclarationTables.{declared_object_in, shapes_of}
-use Rattle.ob0_types_table.specs.DeclarationTableView.{AreEntriesInOrder, IsValidEntry, RefersOnlyToFirstEntries, field_shapes, formal_view, entry_shape, faulty_shape, object_view, array_or_faulty, record_or_faulty, shapes_after_entries, type_shape}
-use Rattle.ob0_types_table.specs.declared.known.Field.{Field}
-use Rattle.ob0_types_table.specs.declared.known.FormalParameter as formal
-use Rattle.ob0_types_table.specs.declared.known.Object as object
-use Rattle.ob0_types_table.specs.declared.known.Object.TheVariants as kind
-use Rattle.ob0_types_table.specs.declared.known.StandardProcedure.TheVariants as standards
-use Rattle.ob0_types_table.specs.declared.known.TypeEntry.{TypeEntry}
-use Rattle.ob0_types_table.specs.declared.known.TypeEntry.TheVariants as made
+use Rattle.ob0_types_table.specs.DeclarationTableView.{AreValidEntries, IsValidEntry, RefersOnlyToFirstEntries, field_shapes, formal_parameter_view, entry_shape, faulty_shape, object_view, array_shape_or_faulty, record_shape_or_faulty, append_shapes_of_entries, type_shape}
+use Rattle.ob0_types_table.specs.declared.declaration_table.Field.{Field}
+use Rattle.ob0_types_table.specs.declared.declaration_table.FormalParameter as formal
+use Rattle.ob0_types_table.specs.declared.declaration_table.Object as object
+use Rattle.ob0_types_table.specs.declared.declaration_table.Object.TheVariants as kind
+use Rattle.ob0_types_table.specs.declared.declaration_table.StandardProcedure.TheVariants as standards
+use Rattle.ob0_types_table.specs.declared.declaration_table.TypeEntry.{TypeEntry}
+use Rattle.ob0_types_table.specs.declared.declaration_table.TypeEntry.TheVariants as made
 use Rattle.ob0_types_table.specs.declared.types.TypeId.{TypeId}
 use Rattle.ob0_types_table.specs.declared.types.TypeId.TheVariants as type
 use Rattle.ob0_language_values.specs.Values.{FieldShapes, Shape, array_shape, boolean_shape, integer_shape, next_field_shape, no_field_shape, record_shape}
 use Rattle.ob0_types_check.specs.Agreement.{DeclarationAgreesWithObject, EntriesAgreeWithShapes, FieldsAgreeWithShapes, FormalsAgreeWithSignature, CompositeAgreesWithShape, MeaningAgreesWithObject, shape_if_array, shape_if_record, is_standard_procedure, shape_of_type_in}
-use Rattle.ob0_types_check.specs.ModuleLaws.{KnowsDeclarations}
-use Rattle.ob0_types_check.specs.CheckerViews.{known_fields_of, formal_of, composite_type_of, meaning_view, table_object, declarations_in_state, table_in_state, with_standard_procedures}
+use Rattle.ob0_types_check.specs.ModuleLaws.{KnownDeclarationsAgreeWithModule}
+use Rattle.ob0_types_check.specs.CheckerViews.{known_fields_of, known_parameter_of, composite_type_of, meaning_view, table_object_of_meaning, declarations_in_state, table_in_state, with_standard_procedures}
 use Rattle.ob0_types_check.specs.declared.reporting.checker_state.Meaning.{Meaning}
 use Rattle.ob0_types_check.specs.declared.reporting.checker_state.Meaning.TheVariants as declared
 use Rattle.ob0_types_check.specs.declared.reporting.checker_state.CheckerState.{CheckerState}
 use Rattle.ob0_types_check.proofs.Unreported.{some-same}
 
 -- A type that has a shape in the law has the same shape in the table.
-array_only : (x u : Shape) → shape_if_array x ≡ Some u → array_or_faulty x ≡ u
+array_only : (x u : Shape) → shape_if_array x ≡ Some u → array_shape_or_faulty x ≡ u
 array_only integer_shape u e = absurd (cc)
 array_only boolean_shape u e = absurd (cc)
 array_only (array_shape k n s) u e = some-same (array_shape k n s) u e
 array_only (record_shape k fs) u e = absurd (cc)
 
-record_only : (x u : Shape) → shape_if_record x ≡ Some u → record_or_faulty x ≡ u
+record_only : (x u : Shape) → shape_if_record x ≡ Some u → record_shape_or_faulty x ≡ u
 record_only integer_shape u e = absurd (cc)
 record_only boolean_shape u e = absurd (cc)
 record_only (array_shape k n s) u e = absurd (cc)
@@ -57,8 +57,8 @@ place_there f (x ∷ known) (suc i) u e = omega (arith, place_there f known i u 
 type_there : (known : List Shape) (t : TypeId) (u : Shape) → shape_of_type_in known t ≡ Some u → type_shape known t ≡ u
 type_there known type.Integer u e = some-same integer_shape u e
 type_there known type.Boolean u e = some-same boolean_shape u e
-type_there known (type.Array i) u e = shape_there shape_if_array array_or_faulty array_only known i u e
-type_there known (type.Record i) u e = shape_there shape_if_record record_or_faulty record_only known i u e
+type_there known (type.Array i) u e = shape_there shape_if_array array_shape_or_faulty array_only known i u e
+type_there known (type.Record i) u e = shape_there shape_if_record record_shape_or_faulty record_only known i u e
 type_there known type.Unknown u e = absurd (cc)
 
 made_there : (known : List Shape) (t : TypeId) (u : Shape) → shape_of_type_in known t ≡ Some u → RefersOnlyToFirstEntries (length known) t
@@ -88,19 +88,19 @@ entry_there known (made.Record r) s h =
     let same : entry_shape known (made.Record r) ≡ s = ap (record_shape r.ordinal) all.0 ∙ sym e in
     (same, record { parts = all.1; counted = (h.scalars ∙ ap scalars (sym same), h.depth ∙ ap depth (sym same)) })
 
-entries_there : (known : List Shape) (ms : List TypeEntry) (ss : List Shape) → EntriesAgreeWithShapes known (map composite_type_of ms) ss → AreEntriesInOrder known ms × (shapes_after_entries known ms ≡ known ++ ss)
+entries_there : (known : List Shape) (ms : List TypeEntry) (ss : List Shape) → EntriesAgreeWithShapes known (map composite_type_of ms) ss → AreValidEntries known ms × (append_shapes_of_entries known ms ≡ known ++ ss)
 entries_there known [] [] h = (tt, sym (append-nil known))
 entries_there known [] (s ∷ ss) h = absurd h
 entries_there known (m ∷ ms) [] h = absurd h
 entries_there known (m ∷ ms) (s ∷ ss) h =
     let one = entry_there known m s h.0 in
     let rest = entries_there (known ++ s ∷ []) ms ss h.1 in (
-      (one.1, subst (λ z. AreEntriesInOrder (known ++ z ∷ []) ms) (sym one.0) rest.0),
-      ap (λ z. shapes_after_entries (known ++ z ∷ []) ms) one.0 ∙ (rest.1 ∙ append_assoc known (s ∷ []) ss),
+      (one.1, subst (λ z. AreValidEntries (known ++ z ∷ []) ms) (sym one.0) rest.0),
+      ap (λ z. append_shapes_of_entries (known ++ z ∷ []) ms) one.0 ∙ (rest.1 ∙ append_assoc known (s ∷ []) ss),
     )
 
 -- The object of a declaration in the table is the module's object if its meaning agrees with that object.
-formals_there : (shapes : List Shape) (fs : List formal.FormalParameter) (signature : Signature) → FormalsAgreeWithSignature (shape_of_type_in shapes) (map formal_of fs) signature → map (formal_view shapes) fs ≡ signature
+formals_there : (shapes : List Shape) (fs : List formal.FormalParameter) (signature : Signature) → FormalsAgreeWithSignature (shape_of_type_in shapes) (map known_parameter_of fs) signature → map (formal_parameter_view shapes) fs ≡ signature
 formals_there shapes [] [] h = refl
 formals_there shapes [] (g ∷ gs) h = absurd h
 formals_there shapes (f ∷ fs) [] h = absurd h
@@ -114,23 +114,23 @@ procedure_there (Some (meant.a_variable s)) signature own e = absurd (cc)
 procedure_there (Some (meant.a_procedure g)) signature own e = ap (λ z. Some (meant.a_procedure z)) (sym (some-same g signature e))
 procedure_there (Some (meant.a_standard_procedure p)) signature own e = absurd (cc)
 
-object_there : (shapes : List Shape) (m : Meaning) (o : Option (meant.Object Shape Signature)) → MeaningAgreesWithObject (shape_of_type_in shapes) (meaning_view m) o → is_standard_procedure o ≡ false → object_view shapes (table_object m) ≡ o
+object_there : (shapes : List Shape) (m : Meaning) (o : Option (meant.Object Shape Signature)) → MeaningAgreesWithObject (shape_of_type_in shapes) (meaning_view m) o → is_standard_procedure o ≡ false → object_view shapes (table_object_of_meaning m) ≡ o
 object_there shapes (declared.Named t) o (s, there, is) own = ap (λ z. Some (meant.a_type z)) (type_there shapes t s there) ∙ sym is
 object_there shapes (declared.Constant (Some v)) o (w, there, is, scalar) own = ap (λ z. Some (meant.a_constant z)) (some-same _ w there) ∙ sym is
 object_there shapes (declared.Constant None) o (w, there, is, scalar) own = absurd (cc)
 object_there shapes (declared.Variable t) o (s, there, is) own = ap (λ z. Some (meant.a_variable z)) (type_there shapes t s there) ∙ sym is
 object_there shapes (declared.Procedure fs) o (signature, there, formals) own = ap (λ z. Some (meant.a_procedure z)) (formals_there shapes fs.items signature formals) ∙ procedure_there o signature own there
 
-declared_there : (shapes : List Shape) (m : Option Meaning) (o : Option (meant.Object Shape Signature)) → DeclarationAgreesWithObject (shape_of_type_in shapes) (option_map meaning_view m) o → is_standard_procedure o ≡ false → option_and_then (object_view shapes) (option_map table_object m) ≡ o
+declared_there : (shapes : List Shape) (m : Option Meaning) (o : Option (meant.Object Shape Signature)) → DeclarationAgreesWithObject (shape_of_type_in shapes) (option_map meaning_view m) o → is_standard_procedure o ≡ false → option_and_then (object_view shapes) (option_map table_object_of_meaning m) ≡ o
 declared_there shapes None o h own = sym h
 declared_there shapes (Some m) o h own = object_there shapes m o h own
 
 apart : (j k : ℕ) → (k ≡ j → ⊥) → (xs : List (Option object.Object)) (x : Option object.Object) → slice_index_or (set xs j x) k None ≡ slice_index_or xs k None
 apart j k other xs x = get_or-set_other xs j k x None other
 
-module _ (s : CheckerState) (m : Tree Name module_text) (h : KnowsDeclarations (declarations_in_state s) m) where
+module _ (s : CheckerState) (m : Tree Name module_text) (h : KnownDeclarationsAgreeWithModule (declarations_in_state s) m) where
   abbrev objects : List (Option object.Object)
-  objects = map (option_map table_object) s.meanings.items
+  objects = map (option_map table_object_of_meaning) s.meanings.items
 
   -- Setting the three standard procedures one after another gives their objects at their ordinals.
   abbrev first_set : List (Option object.Object)
@@ -139,7 +139,7 @@ module _ (s : CheckerState) (m : Tree Name module_text) (h : KnowsDeclarations (
   abbrev second_set : List (Option object.Object)
   second_set = set first_set 5 (Some (kind.StandardProcedure standards.Write))
 
-  in_order : AreEntriesInOrder [] s.composites.items
+  in_order : AreValidEntries [] s.composites.items
   in_order = (entries_there [] s.composites.items h.shapes h.table).0
 
   shapes_are : shapes_of (table_in_state s) ≡ h.shapes
@@ -148,7 +148,7 @@ module _ (s : CheckerState) (m : Tree Name module_text) (h : KnowsDeclarations (
   -- An ordinal that isn't a standard procedure's keeps its object.
   plain_there : (k : ℕ) → is_standard_procedure (declared_object m k) ≡ false → option_and_then (object_view h.shapes) (slice_index_or objects k None) ≡ declared_object m k
   plain_there k own =
-      ap (option_and_then (object_view h.shapes)) (get_or-map (option_map table_object) s.meanings.items k None)
+      ap (option_and_then (object_view h.shapes)) (get_or-map (option_map table_object_of_meaning) s.meanings.items k None)
       ∙ declared_there h.shapes (slice_index_or s.meanings.items k None) (declared_object m k)
       (subst (λ z. DeclarationAgreesWithObject (shape_of_type_in h.shapes) z (declared_object m k)) (get_or-map (option_map meaning_view) s.meanings.items k None) (h.declared k)) own
 
@@ -159,7 +159,7 @@ module _ (s : CheckerState) (m : Tree Name module_text) (h : KnowsDeclarations (
   other_there k a b c own = ap (option_and_then (object_view h.shapes)) (kept k a b c) ∙ plain_there k own
 
   long : 7 ≤ length objects
-  long = omega (arith, h.room, length-map {B = Option object.Object} s.meanings.items (option_map table_object), length-map s.meanings.items (option_map meaning_view))
+  long = omega (arith, h.room, length-map {B = Option object.Object} s.meanings.items (option_map table_object_of_meaning), length-map s.meanings.items (option_map meaning_view))
 
   each_there : (k : ℕ) → option_and_then (object_view h.shapes) (slice_index_or (with_standard_procedures objects) k None) ≡ declared_object m k
   each_there zero = other_there 0 (λ e. absurd (cc)) (λ e. absurd (cc)) (λ e. absurd (cc)) (ap is_standard_procedure (h.predeclared 0 (omega arith)))
@@ -182,7 +182,7 @@ module _ (s : CheckerState) (m : Tree Name module_text) (h : KnowsDeclarations (
       let n : ℕ = suc (suc (suc (suc (suc (suc (suc k)))))) in
       other_there n (λ e. absurd (omega (arith, e))) (λ e. absurd (omega (arith, e))) (λ e. absurd (omega (arith, e))) (h.standards n (omega arith))
 
-  pub table_in_order : AreEntriesInOrder [] s.composites.items
+  pub table_in_order : AreValidEntries [] s.composites.items
   table_in_order = in_order
 
   pub table_declares : (k : ℕ) → declared_object_in (table_in_state s) k ≡ declared_object m k

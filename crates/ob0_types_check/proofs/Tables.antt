@@ -7,11 +7,11 @@ use Rattle.std.proofs.lemmas.Option.{option_and_then_some}
 use Rattle.ob0_types_table.specs.declared.types.TypeId.{TypeId}
 use Rattle.ob0_types_table.specs.declared.types.TypeId.TheVariants as type
 use Rattle.ob0_language_names.specs.Names.{Name, same_name}
-use Rattle.ob0_language_types.specs.Typing.{shape_of_field}
+use Rattle.ob0_language_types.specs.Typing.{named_field_shape}
 use Rattle.ob0_language_values.specs.Values.{FieldShapes, Shape, array_shape, next_field_shape, no_field_shape, record_shape}
 use Rattle.ob0_types_check.proofs.DeclaredShapes.{longer_more, made_kept}
 use Rattle.ob0_types_check.specs.TypesAndMeanings.{a_record, an_array}
-use Rattle.ob0_types_check.specs.KnownDeclarations.{CompositeType, CompositeParts, KnownField, element_type_of_composite, element_type_of_parts, field_type_of_composite, field_type_of_parts, type_of_field_named, form_of_type_so_far, of_elements, of_fields, same_type}
+use Rattle.ob0_types_check.specs.KnownDeclarations.{CompositeType, CompositeParts, KnownField, element_type_of_composite, element_type_of_parts, field_type_of_composite, field_type_of_parts, type_of_field_named, form_of_known_type, of_elements, of_fields, is_same_type}
 use Rattle.ob0_types_check.specs.Agreement.{EntriesAgreeWithShapes, FieldsAgreeWithShapes, FormAgreesWithShape, CompositeAgreesWithShape, PartsAgreeWithShape, TableAgreesWithShapes, shape_if_array, shape_if_record, shape_of_type_in}
 use Rattle.ob0_types_check.specs.ReportLaws.{TypesAgreeWithShapesIfTableDoes}
 use Rattle.ob0_types_check.proofs.Unreported.{some-none, some-same}
@@ -39,19 +39,19 @@ array-formed shape k (of_elements n t) r s (u, e, known) h = (k, n, u, some-same
 array-formed shape k (of_fields fields) r s (fs, e, each) h = absurd (some-none s (sym h ∙ ap shape_if_array e))
 
 -- If fields agree with a record's shape, looking up a field by name gives the type of the shape's field.
-field-there : (shape : TypeId → Option Shape) (fields : List KnownField) (fs : FieldShapes) → FieldsAgreeWithShapes shape fields fs → (x : Name) → option_map shape (type_of_field_named fields x) ≡ option_map Some (shape_of_field fs x)
+field-there : (shape : TypeId → Option Shape) (fields : List KnownField) (fs : FieldShapes) → FieldsAgreeWithShapes shape fields fs → (x : Name) → option_map shape (type_of_field_named fields x) ≡ option_map Some (named_field_shape fs x)
 field-there shape [] no_field_shape h x = refl
 field-there shape [] (next_field_shape y s fs) h x = absurd h
 field-there shape (f ∷ fields) no_field_shape h x = absurd h
 field-there shape (f ∷ fields) (next_field_shape y s fs) h x =
     ap (λ z. option_map shape (if same_name x z then Some f.of else type_of_field_named fields x)) h.0
-    ∙ (elim (same_name x y) as (λ b. option_map shape (if b then Some f.of else type_of_field_named fields x) ≡ option_map Some (if b then Some s else shape_of_field fs x)) [ true ↦ ap Some h.1 | false ↦ field-there shape fields fs h.2 x ])
+    ∙ (elim (same_name x y) as (λ b. option_map shape (if b then Some f.of else type_of_field_named fields x) ≡ option_map Some (if b then Some s else named_field_shape fs x)) [ true ↦ ap Some h.1 | false ↦ field-there shape fields fs h.2 x ])
 
 record-formed : (shape : TypeId → Option Shape) (k : ℕ) (p : CompositeParts) (r s : Shape) → PartsAgreeWithShape shape k p r → shape_if_record r ≡ Some s → FormAgreesWithShape shape (a_record (field_type_of_parts p)) s
 record-formed shape k (of_elements n t) r s (u, e, known) h = absurd (some-none s (sym h ∙ ap shape_if_record e))
 record-formed shape k (of_fields fields) r s (fs, e, each) h = (k, fs, some-same s (record_shape k fs) (sym h ∙ ap shape_if_record e), field-there shape fields fs each)
 
-formed-there : (made : List CompositeType) (shapes : List Shape) → TableAgreesWithShapes made shapes → (t : TypeId) (s : Shape) → shape_of_type_in shapes t ≡ Some s → FormAgreesWithShape (shape_of_type_in shapes) (form_of_type_so_far made t) s
+formed-there : (made : List CompositeType) (shapes : List Shape) → TableAgreesWithShapes made shapes → (t : TypeId) (s : Shape) → shape_of_type_in shapes t ≡ Some s → FormAgreesWithShape (shape_of_type_in shapes) (form_of_known_type made t) s
 formed-there made shapes each type.Integer s h = tt
 formed-there made shapes each type.Boolean s h = tt
 formed-there made shapes each type.Unknown s h = absurd (cc)
@@ -64,7 +64,7 @@ formed-there made shapes each (type.Record i) s h =
     (λ r at is. let f = found made shapes i r each at in
     subst (λ o. FormAgreesWithShape (shape_of_type_in shapes) (a_record (field_type_of_composite o)) s) (sym f.there) (record-formed (shape_of_type_in shapes) f.entry.ordinal f.entry.parts r s f.agrees.parts is))
 
-same-there : (shapes : List Shape) (s t : TypeId) → same_type s t ≡ true → shape_of_type_in shapes s ≡ shape_of_type_in shapes t
+same-there : (shapes : List Shape) (s t : TypeId) → is_same_type s t ≡ true → shape_of_type_in shapes s ≡ shape_of_type_in shapes t
 same-there shapes type.Integer type.Integer h = refl
 same-there shapes type.Boolean type.Boolean h = refl
 same-there shapes type.Unknown type.Unknown h = refl

@@ -1,6 +1,6 @@
 -- No fault is reported for declarations that give an environment.
 use Rattle.std.proofs.Common.{length, arith, ◌≡◌, ℕ, suc, ◌+◌, true, false, List, [], ◌∷◌, ◌++◌, map, Option, Some, option_and_then, is_some, refl, sym, ap, ◌∙◌, le_refl}
-use Rattle.ob0_tree.specs.Places.{tree_with_names, token_text_at, token_value_at}
+use Rattle.ob0_tree.specs.TokenIndexLeaves.{tree_with_names, token_text_at, token_value_at}
 use Rattle.ob0_tree.specs.Tree.{Tree, begins, body, constant, declares_constant, declares_type, declares_variable, end, section_after_semicolon, items, mapped_tree, maybe, more, none, one, semicolon_then_section, type_definition, value_section, variable, variable_section}
 use Rattle.ob0_language_names.specs.Names.{Name, naming_by_spelling}
 use Rattle.ob0_language_names.specs.BlockParts.{names_in_list}
@@ -8,12 +8,12 @@ use Rattle.ob0_language_names.specs.Scopes.{Scope, ordinal_after_names}
 use Rattle.ob0_language_types.specs.Declarations.{declare_constants, declare_types}
 use Rattle.ob0_language_types.specs.Environments.{meanings}
 use Rattle.ob0_language_types.specs.Expressions as meant
-use Rattle.ob0_language_types.specs.Typing.{constant_value, constructor_count, denoted_type}
+use Rattle.ob0_language_types.specs.Typing.{constant_expression_value, constructor_count, denoted_type}
 use Rattle.ob0_language_types.specs.WellTyped.{ParameterMode, TypeEnvironment, TypedParameter, bind_names, body_is_well_typed, by_place, by_value, declare_typed_variables, sequence_is_well_typed, typed_parameters}
 use Rattle.ob0_language_values.specs.Values.{Shape, Value}
-use Rattle.ob0_types_check.specs.DeclarationFaults.{KnownHeading, body_faults, report_on_constant_declarations, report_on_parameter_sections, report_on_type_declarations, report_on_variable_declarations, report_on_constant_declaration, report_on_parameters, report_on_parameter_section, report_on_type_declaration, report_on_variable_group, with_parameters}
+use Rattle.ob0_types_check.specs.DeclarationFaults.{KnownHeading, body_faults, report_on_constant_declarations, report_on_parameter_sections, report_on_type_declarations, report_on_variable_declarations, report_on_constant_declaration, report_on_parameters_of_one_type, report_on_parameter_section, report_on_type_declaration, report_on_variable_group, heading_with_parameters}
 use Rattle.ob0_types_check.specs.TypesAndMeanings.{ResultWithFaults, a_constant, a_type, a_variable}
-use Rattle.ob0_types_check.specs.KnownDeclarations.{KnownDeclarations, TypeWithFollowingDeclarations, define_name_at_token, define_names_at_tokens, facts_from_declarations}
+use Rattle.ob0_types_check.specs.KnownDeclarations.{KnownDeclarations, TypeWithFollowingDeclarations, define_name_at_token, define_listed_names, facts_from_declarations}
 use Rattle.ob0_types_check.specs.TypeFaults.{report_on_constant_expression}
 use Rattle.ob0_types_check.specs.WrittenTypeFaults.{report_on_written_type}
 use Rattle.ob0_types_check.specs.WellTypedLaws.{HaveDistinctOrdinals}
@@ -32,16 +32,16 @@ module _ (w : Numbering) (fit : PartsFit) (fine : PartsRight) where
   constants_right end n p before scope env st placed after h = refl
   constants_right (more (declares_constant x e) cs) n p before scope env st placed after h =
       let next : Value → Option (TypeEnvironment Name) = λ v. declare_constants naming_by_spelling ((token_text_at w.source x, meant.a_constant v) ∷ env) (tree_with_names w.source cs) in
-      let value : Option Value = constant_value (meanings naming_by_spelling env) (tree_with_names w.source e) in
+      let value : Option Value = constant_expression_value (meanings naming_by_spelling env) (tree_with_names w.source e) in
       let (v, hv, later) = and-then next value after h in
       let agrees = agrees_where_seen w p true before n scope env st fit e placed.1 in
-      let there : is_some (constant_value (meanings naming_by_spelling env) (mapped_tree (token_text_at w.source) (token_value_at p.source) e)) ≡ true =
-      some-there (constant_value (meanings naming_by_spelling env) (mapped_tree (token_text_at w.source) (token_value_at p.source) e)) v (ap (λ s. constant_value (meanings naming_by_spelling env) (mapped_tree (token_text_at w.source) (token_value_at s) e)) st.source ∙ hv) in
+      let there : is_some (constant_expression_value (meanings naming_by_spelling env) (mapped_tree (token_text_at w.source) (token_value_at p.source) e)) ≡ true =
+      some-there (constant_expression_value (meanings naming_by_spelling env) (mapped_tree (token_text_at w.source) (token_value_at p.source) e)) v (ap (λ s. constant_expression_value (meanings naming_by_spelling env) (mapped_tree (token_text_at w.source) (token_value_at s) e)) st.source ∙ hv) in
       let unreported = fine.constants p before (token_text_at w.source) (meanings naming_by_spelling env) e agrees there in
       let t : ResultWithFaults (Option Value) = report_on_constant_expression (facts_from_declarations p true) e in
       let q : KnownDeclarations = define_name_at_token p (a_constant t.known) x in
       let c = fit.constants p before (token_text_at w.source) (meanings naming_by_spelling env) e agrees unreported in
-      let given : value ≡ Some c.value = ap (λ s. constant_value (meanings naming_by_spelling env) (mapped_tree (token_text_at w.source) (token_value_at s) e)) (sym st.source) ∙ c.given in
+      let given : value ≡ Some c.value = ap (λ s. constant_expression_value (meanings naming_by_spelling env) (mapped_tree (token_text_at w.source) (token_value_at s) e)) (sym st.source) ∙ c.given in
       let d = defined w p before n (a_constant t.known) x st.ordinals st.room st.table placed.0 in
       let following = holds_defined w p q before n scope env (a_constant t.known) (token_text_at w.source x) (meant.a_constant c.value) st d refl (c.value, c.known, refl, c.scalar) in
       none-of-both (t.faults ++ []) (report_on_constant_declarations q cs).faults (none-of-both t.faults [] unreported refl)
@@ -75,7 +75,7 @@ module _ (w : Numbering) (fit : PartsFit) (fine : PartsRight) where
       let given : Option Shape = denoted_type (meanings naming_by_spelling env) k (tree_with_names w.source t) in
       let (r, hr, later) = and-then (rest (names_in_list (tree_with_names w.source ns))) given after h in
       let u : ResultWithFaults TypeWithFollowingDeclarations = report_on_written_type 0 p t in
-      let q : KnownDeclarations = define_names_at_tokens u.known.following (a_variable u.known.of) xs in
+      let q : KnownDeclarations = define_listed_names u.known.following (a_variable u.known.of) xs in
       let unreported = type_right w fit fine n scope env 0 k t p before (omega (arith, at)) st placed.1 r hr in
       let s = type_denotes w fit n scope env 0 k t p before (omega (arith, at)) st placed.1 unreported in
       let following = holds_later w n n n p u.known.following before s.after scope env (le_refl n) (le_refl n) st s.later in
@@ -91,7 +91,7 @@ module _ (w : Numbering) (fit : PartsFit) (fine : PartsRight) where
 
   pub sections_right : (fs : Tree ℕ (items section_after_semicolon)) (k n : ℕ) (h : KnownHeading) (before : List Shape) (scope : Scope Name) (env : TypeEnvironment Name) → length before ≡ k → IsKnownAt w h.following before n scope env → SectionsPlaced w scope n fs
       → (ps : List (TypedParameter Name)) → typed_parameters naming_by_spelling env k (tree_with_names w.source fs) ≡ Some ps → (report_on_parameter_sections h fs).faults ≡ []
-  unfolding report_on_parameter_sections report_on_parameter_section report_on_parameters typed_parameters
+  unfolding report_on_parameter_sections report_on_parameter_section report_on_parameters_of_one_type typed_parameters
   sections_right end k n h before scope env at st placed ps e = refl
   sections_right (more (semicolon_then_section (value_section ns t)) fs) k n h before scope env at st placed ps e =
       let xs : List ℕ = names_in_list ns in
@@ -99,7 +99,7 @@ module _ (w : Numbering) (fit : PartsFit) (fine : PartsRight) where
       let given : Option Shape = denoted_type (meanings naming_by_spelling env) k (tree_with_names w.source t) in
       let (r, hr, later) = and-then (after_section by_value (names_in_list (tree_with_names w.source ns)) env j (tree_with_names w.source fs)) given ps e in
       let u : ResultWithFaults TypeWithFollowingDeclarations = report_on_written_type 0 h.following t in
-      let g : KnownHeading = with_parameters h false xs u.known in
+      let g : KnownHeading = heading_with_parameters h false xs u.known in
       let unreported = type_right w fit fine n scope env 0 k t h.following before (omega (arith, at)) st placed.1 r hr in
       let one = one_type w fit false xs t k n h before scope env at st placed.0 placed.1 unreported in
       let own : names_in_list (tree_with_names w.source ns) ≡ map (token_text_at w.source) xs = names_in_list-mapped_tree (token_text_at w.source) (token_value_at w.source) ns in
@@ -114,7 +114,7 @@ module _ (w : Numbering) (fit : PartsFit) (fine : PartsRight) where
       let given : Option Shape = denoted_type (meanings naming_by_spelling env) k (tree_with_names w.source t) in
       let (r, hr, later) = and-then (after_section by_place (names_in_list (tree_with_names w.source ns)) env j (tree_with_names w.source fs)) given ps e in
       let u : ResultWithFaults TypeWithFollowingDeclarations = report_on_written_type 0 h.following t in
-      let g : KnownHeading = with_parameters h true xs u.known in
+      let g : KnownHeading = heading_with_parameters h true xs u.known in
       let unreported = type_right w fit fine n scope env 0 k t h.following before (omega (arith, at)) st placed.1 r hr in
       let one = one_type w fit true xs t k n h before scope env at st placed.0 placed.1 unreported in
       let own : names_in_list (tree_with_names w.source ns) ≡ map (token_text_at w.source) xs = names_in_list-mapped_tree (token_text_at w.source) (token_value_at w.source) ns in

@@ -4,10 +4,10 @@
 use Rattle.std.proofs.Common.{◌≡◌, ℕ, List, [], ◌∷◌, ◌++◌, Option, Some, option_and_then, refl, sym, ap, ◌∙◌}
 use Rattle.ob0_tree.specs.declared.tree.Role.{Role}
 use Rattle.ob0_tree.specs.declared.tree.Role.TheVariants as role
-use Rattle.ob0_tree.specs.Places.{token_text_at, token_value_at}
+use Rattle.ob0_tree.specs.TokenIndexLeaves.{token_text_at, token_value_at}
 use Rattle.ob0_tree.specs.Tree.{Sort, Tree, addend, adds, compares, designator, end, expression, factor, field, identifiers, index, integer, items, mapped_tree, more, multiplier, multiplies, negation, none, one, parenthesised, product, relates, selector, simple, sum, term}
 use Rattle.ob0_language_types.specs.Expressions.{Meanings}
-use Rattle.ob0_language_types.specs.Typing.{addition_type, negation_type, element_type, field_type, multiplication_type, type_of_variable_or_constant, relation_type, sign_type, type_after_selectors, type_of, type_of_addends, type_of_factor, type_of_multipliers, type_of_simple, type_of_term}
+use Rattle.ob0_language_types.specs.Typing.{addition_type, negation_type, element_type, field_type, multiplication_type, type_of_variable_or_constant, relation_type, signed_operand_type, type_after_selectors, type_of_expression, type_after_addends, type_of_factor, type_after_multipliers, type_of_simple_expression, type_of_term}
 use Rattle.ob0_language_values.specs.Values.{Shape, Value}
 use Rattle.ob0_types_check.specs.ExpressionFaults.{report_on_addends, report_on_expression, report_on_factor, report_on_multipliers, report_on_selectors, report_on_simple_expression, report_on_term}
 use Rattle.ob0_types_check.specs.TypesAndMeanings.{Facts, Operand}
@@ -23,9 +23,9 @@ known-as s f e = f.known ∙ (sym f.typed ∙ e)
 
 -- holds if no fault is reported for a name that has a type
 abbrev pub NameTyped : {T N P : Type 0} → Facts T → (ℕ → N) → Meanings N Shape P → Role → ℕ → Type 0
-NameTyped facts label meaning role.LookedUp x = (s : Shape) → type_of_variable_or_constant (meaning.object_for (label x)) ≡ Some s → (name_operand facts x).faults ≡ []
+NameTyped facts label meaning role.LookedUpName x = (s : Shape) → type_of_variable_or_constant (meaning.object_for (label x)) ≡ Some s → (name_operand facts x).faults ≡ []
 NameTyped facts label meaning role.FieldName x = Unit {0}
-NameTyped facts label meaning role.Declaring x = Unit {0}
+NameTyped facts label meaning role.DeclaringName x = Unit {0}
 NameTyped facts label meaning role.ClosingName x = Unit {0}
 NameTyped facts label meaning role.ModuleName x = Unit {0}
 
@@ -43,11 +43,11 @@ module _ {T N P : Type 0} (facts : Facts T) (shape : T → Option Shape) (types 
   tree t = mapped_tree label (token_value_at facts.source) t
 
   abbrev ids : {s : Sort} → Tree ℕ s → List (Role × ℕ)
-  ids t = identifiers role.Declaring t
+  ids t = identifiers role.DeclaringName t
 
   -- holds if all names of a part agree with their meanings, and no fault is reported for a name that has a type
   abbrev pub AllTyped : {s : Sort} → Tree ℕ s → Type 0
-  AllTyped t = TokensFit facts shape label meaning (identifiers role.Declaring t) × NamesTyped facts label meaning (identifiers role.Declaring t)
+  AllTyped t = TokensFit facts shape label meaning (identifiers role.DeclaringName t) × NamesTyped facts label meaning (identifiers role.DeclaringName t)
 
   split : (xs ys : List (Role × ℕ)) → TokensFit facts shape label meaning (xs ++ ys) × NamesTyped facts label meaning (xs ++ ys)
       → (TokensFit facts shape label meaning xs × NamesTyped facts label meaning xs) × (TokensFit facts shape label meaning ys × NamesTyped facts label meaning ys)
@@ -57,14 +57,14 @@ module _ {T N P : Type 0} (facts : Facts T) (shape : T → Option Shape) (types 
       ((left.0, right.0), (left.1, right.1))
 
   mutual
-    unfolding report_on_expression type_of
+    unfolding report_on_expression type_of_expression
 
-    pub expression-right : (e : Tree ℕ expression) → AllTyped e → (s : Shape) → type_of meaning (tree e) ≡ Some s → (report_on_expression facts e).faults ≡ []
+    pub expression-right : (e : Tree ℕ expression) → AllTyped e → (s : Shape) → type_of_expression meaning (tree e) ≡ Some s → (report_on_expression facts e).faults ≡ []
     expression-right (compares a none) k s h = simple-right a (split (ids a) [] k).0 s h
     expression-right (compares a (one (relates r b))) k s h =
         let parts = split (ids a) (ids b) k in
-        let (u, hu, later) = and-then (λ x. option_and_then (relation_type r x) (type_of_simple meaning (tree b))) (type_of_simple meaning (tree a)) s h in
-        let (v, hv, typed) = and-then (relation_type r u) (type_of_simple meaning (tree b)) s later in
+        let (u, hu, later) = and-then (λ x. option_and_then (relation_type r x) (type_of_simple_expression meaning (tree b))) (type_of_simple_expression meaning (tree a)) s h in
+        let (v, hv, typed) = and-then (relation_type r u) (type_of_simple_expression meaning (tree b)) s later in
         let left = simple-right a parts.0 u hu in
         let right = simple-right b parts.1 v hv in
         let fa : FitsSimple facts shape types label meaning a = simple-fits facts shape types label meaning a parts.0.0 left in
@@ -72,11 +72,11 @@ module _ {T N P : Type 0} (facts : Facts T) (shape : T → Option Shape) (types 
         none-of-both (report_on_simple_expression facts a).faults _ left
         (none-of-both (report_on_simple_expression facts b).faults _ right (related-right facts shape types apart r (report_on_simple_expression facts a).known (report_on_simple_expression facts b).known u v s typed (known-as u fa hu) (known-as v fb hv)))
 
-    simple-right : (a : Tree ℕ simple) → AllTyped a → (s : Shape) → type_of_simple meaning (tree a) ≡ Some s → (report_on_simple_expression facts a).faults ≡ []
+    simple-right : (a : Tree ℕ simple) → AllTyped a → (s : Shape) → type_of_simple_expression meaning (tree a) ≡ Some s → (report_on_simple_expression facts a).faults ≡ []
     simple-right (sum g t rest) k s h =
         let parts = split (ids t) (ids rest) k in
-        let (u, hu, later) = and-then (λ x. option_and_then (λ y. type_of_addends meaning y (tree rest)) (sign_type g x)) (type_of_term meaning (tree t)) s h in
-        let (v, hv, last) = and-then (λ y. type_of_addends meaning y (tree rest)) (sign_type g u) s later in
+        let (u, hu, later) = and-then (λ x. option_and_then (λ y. type_after_addends meaning y (tree rest)) (signed_operand_type g x)) (type_of_term meaning (tree t)) s h in
+        let (v, hv, last) = and-then (λ y. type_after_addends meaning y (tree rest)) (signed_operand_type g u) s later in
         let left = term-right t parts.0 u hu in
         let ft : FitsTerm facts shape types label meaning t = term-fits facts shape types label meaning t parts.0.0 left in
         let ht = known-as u ft hu in
@@ -85,12 +85,12 @@ module _ {T N P : Type 0} (facts : Facts T) (shape : T → Option Shape) (types 
         none-of-both (report_on_term facts t).faults _ left
         (none-of-both (signed_operand facts g (report_on_term facts t).known).faults _ mid (addends-right (signed_operand facts g (report_on_term facts t).known).known v rest (known ∙ (sym typed ∙ hv)) parts.1 s last))
 
-    addends-right : (x : Operand T) (s : Shape) (rest : Tree ℕ (items addend)) → shape x.of ≡ Some s → AllTyped rest → (r : Shape) → type_of_addends meaning s (tree rest) ≡ Some r → (report_on_addends facts x rest).faults ≡ []
+    addends-right : (x : Operand T) (s : Shape) (rest : Tree ℕ (items addend)) → shape x.of ≡ Some s → AllTyped rest → (r : Shape) → type_after_addends meaning s (tree rest) ≡ Some r → (report_on_addends facts x rest).faults ≡ []
     addends-right x s end hx k r h = refl
     addends-right x s (more (adds o t) rest) hx k r h =
         let parts = split (ids t) (ids rest) k in
-        let (v, hv, later) = and-then (λ y. option_and_then (λ z. type_of_addends meaning z (tree rest)) (addition_type o s y)) (type_of_term meaning (tree t)) r h in
-        let (z, hz, last) = and-then (λ z. type_of_addends meaning z (tree rest)) (addition_type o s v) r later in
+        let (v, hv, later) = and-then (λ y. option_and_then (λ z. type_after_addends meaning z (tree rest)) (addition_type o s y)) (type_of_term meaning (tree t)) r h in
+        let (z, hz, last) = and-then (λ z. type_after_addends meaning z (tree rest)) (addition_type o s v) r later in
         let left = term-right t parts.0 v hv in
         let ft : FitsTerm facts shape types label meaning t = term-fits facts shape types label meaning t parts.0.0 left in
         let ht = known-as v ft hv in
@@ -102,17 +102,17 @@ module _ {T N P : Type 0} (facts : Facts T) (shape : T → Option Shape) (types 
     term-right : (t : Tree ℕ term) → AllTyped t → (s : Shape) → type_of_term meaning (tree t) ≡ Some s → (report_on_term facts t).faults ≡ []
     term-right (product f rest) k s h =
         let parts = split (ids f) (ids rest) k in
-        let (u, hu, last) = and-then (λ x. type_of_multipliers meaning x (tree rest)) (type_of_factor meaning (tree f)) s h in
+        let (u, hu, last) = and-then (λ x. type_after_multipliers meaning x (tree rest)) (type_of_factor meaning (tree f)) s h in
         let left = factor-right f parts.0 u hu in
         let ff : FitsFactor facts shape types label meaning f = factor-fits facts shape types label meaning f parts.0.0 left in
         none-of-both (report_on_factor facts f).faults _ left (multipliers-right (report_on_factor facts f).known u rest (known-as u ff hu) parts.1 s last)
 
-    multipliers-right : (x : Operand T) (s : Shape) (rest : Tree ℕ (items multiplier)) → shape x.of ≡ Some s → AllTyped rest → (r : Shape) → type_of_multipliers meaning s (tree rest) ≡ Some r → (report_on_multipliers facts x rest).faults ≡ []
+    multipliers-right : (x : Operand T) (s : Shape) (rest : Tree ℕ (items multiplier)) → shape x.of ≡ Some s → AllTyped rest → (r : Shape) → type_after_multipliers meaning s (tree rest) ≡ Some r → (report_on_multipliers facts x rest).faults ≡ []
     multipliers-right x s end hx k r h = refl
     multipliers-right x s (more (multiplies o f) rest) hx k r h =
         let parts = split (ids f) (ids rest) k in
-        let (v, hv, later) = and-then (λ y. option_and_then (λ z. type_of_multipliers meaning z (tree rest)) (multiplication_type o s y)) (type_of_factor meaning (tree f)) r h in
-        let (z, hz, last) = and-then (λ z. type_of_multipliers meaning z (tree rest)) (multiplication_type o s v) r later in
+        let (v, hv, later) = and-then (λ y. option_and_then (λ z. type_after_multipliers meaning z (tree rest)) (multiplication_type o s y)) (type_of_factor meaning (tree f)) r h in
+        let (z, hz, last) = and-then (λ z. type_after_multipliers meaning z (tree rest)) (multiplication_type o s v) r later in
         let left = factor-right f parts.0 v hv in
         let ff : FitsFactor facts shape types label meaning f = factor-fits facts shape types label meaning f parts.0.0 left in
         let hf = known-as v ff hv in
@@ -145,7 +145,7 @@ module _ {T N P : Type 0} (facts : Facts T) (shape : T → Option Shape) (types 
         none-of-both (field_operand facts x n).faults _ left (selectors-right (field_operand facts x n).known u rest (known ∙ (sym typed ∙ here)) (k.1, m.1) r last)
     selectors-right x s (more (index e) rest) hx k r h =
         let parts = split (ids e) (ids rest) k in
-        let (v, hv, later) = and-then (λ i. option_and_then (λ t. type_after_selectors meaning t (tree rest)) (element_type s i)) (type_of meaning (tree e)) r h in
+        let (v, hv, later) = and-then (λ i. option_and_then (λ t. type_after_selectors meaning t (tree rest)) (element_type s i)) (type_of_expression meaning (tree e)) r h in
         let (u, hu, last) = and-then (λ t. type_after_selectors meaning t (tree rest)) (element_type s v) r later in
         let left = expression-right e parts.0 v hv in
         let fe : FitsExpression facts shape types label meaning e = expression-fits facts shape types label meaning e parts.0.0 left in

@@ -5,7 +5,7 @@ use Rattle.ob0_tree.specs.declared.tree.Role.{Role}
 use Rattle.ob0_tree.specs.declared.tree.Role.TheVariants as role
 use Rattle.ob0_language_types.specs.Expressions as meant
 use Rattle.ob0_language_types.specs.Expressions.{Object}
-use Rattle.ob0_language_types.specs.Typing.{constant_of, constant_meanings, type_of_variable_or_constant}
+use Rattle.ob0_language_types.specs.Typing.{value_of_constant_object, meanings_in_constant_expressions, type_of_variable_or_constant}
 use Rattle.ob0_language_types.specs.WellTyped.{Signature, TypeMeanings, signature_of}
 use Rattle.ob0_types_table.specs.declared.types.TypeId.{TypeId}
 use Rattle.ob0_types_table.specs.declared.types.TypeId.TheVariants as type
@@ -13,7 +13,7 @@ use Rattle.ob0_language_values.specs.Values.{Shape, array_shape, boolean_shape, 
 use Rattle.ob0_types_check.specs.TypesAndMeanings.{Facts, Meaning, a_constant, a_procedure, a_scalar, a_type, a_variable}
 use Rattle.ob0_types_check.specs.OperandFaults.{typed_name_operand, fault_at_token, operand_from_meaning, without_fault}
 use Rattle.ob0_types_check.specs.Agreement.{IsKnownAndAgreesWithObject, TokenAgreesWithLabel, TokensAgreeWithLabels, shape_if_array, shape_if_record, shape_of_type_in}
-use Rattle.ob0_types_check.specs.KnownDeclarations.{CompositeType, form_of_type_so_far, types_so_far}
+use Rattle.ob0_types_check.specs.KnownDeclarations.{CompositeType, form_of_known_type, known_types_representation}
 use Rattle.ob0_types_check.proofs.TypedExpressions.{NameTyped, NamesTyped}
 use Rattle.ob0_types_check.proofs.TypedOperands.{TypesApart, and-then}
 use Rattle.ob0_types_check.proofs.Unreported.{some-none, some-same}
@@ -38,28 +38,28 @@ no-record-of shapes i s h = let (r, at, is) = and-then shape_if_record (slice_ge
     of-record boolean_shape s e = absurd (cc)
     of-record (array_shape k n u) s e = absurd (cc)
 
-integer-alone : (made : List CompositeType) (shapes : List Shape) (t : TypeId) → shape_of_type_in shapes t ≡ Some integer_shape → (types_so_far made).same t type.Integer ≡ true
+integer-alone : (made : List CompositeType) (shapes : List Shape) (t : TypeId) → shape_of_type_in shapes t ≡ Some integer_shape → (known_types_representation made).same t type.Integer ≡ true
 integer-alone made shapes type.Integer h = refl
 integer-alone made shapes type.Boolean h = absurd (cc)
 integer-alone made shapes type.Unknown h = absurd (cc)
 integer-alone made shapes (type.Array i) h = absurd (some-none integer_shape (sym (no-array-of shapes i integer_shape h)))
 integer-alone made shapes (type.Record i) h = absurd (some-none integer_shape (sym (no-record-of shapes i integer_shape h)))
 
-boolean-alone : (made : List CompositeType) (shapes : List Shape) (t : TypeId) → shape_of_type_in shapes t ≡ Some boolean_shape → (types_so_far made).same t type.Boolean ≡ true
+boolean-alone : (made : List CompositeType) (shapes : List Shape) (t : TypeId) → shape_of_type_in shapes t ≡ Some boolean_shape → (known_types_representation made).same t type.Boolean ≡ true
 boolean-alone made shapes type.Boolean h = refl
 boolean-alone made shapes type.Integer h = absurd (cc)
 boolean-alone made shapes type.Unknown h = absurd (cc)
 boolean-alone made shapes (type.Array i) h = absurd (some-none boolean_shape (sym (no-array-of shapes i boolean_shape h)))
 boolean-alone made shapes (type.Record i) h = absurd (some-none boolean_shape (sym (no-record-of shapes i boolean_shape h)))
 
-scalar-alone : (made : List CompositeType) (shapes : List Shape) (t : TypeId) (s : Shape) → shape_of_type_in shapes t ≡ Some s → form_of_type_so_far made t ≡ a_scalar → (shape_if_array s ≡ None) × (shape_if_record s ≡ None)
+scalar-alone : (made : List CompositeType) (shapes : List Shape) (t : TypeId) (s : Shape) → shape_of_type_in shapes t ≡ Some s → form_of_known_type made t ≡ a_scalar → (shape_if_array s ≡ None) × (shape_if_record s ≡ None)
 scalar-alone made shapes type.Integer s h e = let is = some-same integer_shape s h in (sym (ap shape_if_array is), sym (ap shape_if_record is))
 scalar-alone made shapes type.Boolean s h e = let is = some-same boolean_shape s h in (sym (ap shape_if_array is), sym (ap shape_if_record is))
 scalar-alone made shapes type.Unknown s h e = absurd (cc)
 scalar-alone made shapes (type.Array i) s h e = absurd (cc)
 scalar-alone made shapes (type.Record i) s h e = absurd (cc)
 
-pub types-apart : (made : List CompositeType) (shapes : List Shape) → TypesApart (types_so_far made) (shape_of_type_in shapes)
+pub types-apart : (made : List CompositeType) (shapes : List Shape) → TypesApart (known_types_representation made) (shape_of_type_in shapes)
 types-apart made shapes = record { integer = integer-alone made shapes; boolean = boolean-alone made shapes; scalar = scalar-alone made shapes }
 
 -- No fault is reported for a name that has a type.
@@ -87,14 +87,14 @@ module _ {T : Type 0} (facts : Facts T) (shape : T → Option Shape) where
   -- In a constant expression, no fault is reported for a name that means a constant and has a type.
 
   abbrev only : Option (Object Shape Signature) → Option (Object Shape (Unit {0}))
-  only o = option_map meant.a_constant (constant_of o)
+  only o = option_map meant.a_constant (value_of_constant_object o)
 
-  only-right : (Q : Type 0) (x : ℕ) (m : Option (Meaning T)) (o : Option (Object Shape Signature)) → IsKnownAndAgreesWithObject shape m o → (s : Shape) → type_of_variable_or_constant (option_map {U = Object Shape Q} meant.a_constant (constant_of o)) ≡ Some s → (operand_from_meaning facts x m).faults ≡ []
+  only-right : (Q : Type 0) (x : ℕ) (m : Option (Meaning T)) (o : Option (Object Shape Signature)) → IsKnownAndAgreesWithObject shape m o → (s : Shape) → type_of_variable_or_constant (option_map {U = Object Shape Q} meant.a_constant (value_of_constant_object o)) ≡ Some s → (operand_from_meaning facts x m).faults ≡ []
   only-right Q x None o a s h = absurd a
-  only-right Q x (Some (a_type t)) o (u, known, holds) s h = absurd (some-none s (sym h ∙ ap (λ z. type_of_variable_or_constant (option_map {U = Object Shape Q} meant.a_constant (constant_of z))) holds))
+  only-right Q x (Some (a_type t)) o (u, known, holds) s h = absurd (some-none s (sym h ∙ ap (λ z. type_of_variable_or_constant (option_map {U = Object Shape Q} meant.a_constant (value_of_constant_object z))) holds))
   only-right Q x (Some (a_procedure fs)) o (signature, holds, formals) s h = absurd (no-constant o signature s holds h)
     where
-      no-constant : (o : Option (Object Shape Signature)) (signature : Signature) (s : Shape) → signature_of o ≡ Some signature → type_of_variable_or_constant (option_map {U = Object Shape Q} meant.a_constant (constant_of o)) ≡ Some s → ⊥
+      no-constant : (o : Option (Object Shape Signature)) (signature : Signature) (s : Shape) → signature_of o ≡ Some signature → type_of_variable_or_constant (option_map {U = Object Shape Q} meant.a_constant (value_of_constant_object o)) ≡ Some s → ⊥
       no-constant None signature s e h = some-none s (sym h)
       no-constant (Some (meant.a_type t)) signature s e h = some-none s (sym h)
       no-constant (Some (meant.a_constant v)) signature s e h = some-none signature (sym e)
@@ -102,13 +102,13 @@ module _ {T : Type 0} (facts : Facts T) (shape : T → Option Shape) where
       no-constant (Some (meant.a_procedure p)) signature s e h = some-none s (sym h)
       no-constant (Some (meant.a_standard_procedure p)) signature s e h = some-none s (sym h)
   only-right Q x (Some (a_constant c)) o a s h = refl
-  only-right Q x (Some (a_variable t)) o (u, known, holds) s h = absurd (some-none s (sym h ∙ ap (λ z. type_of_variable_or_constant (option_map {U = Object Shape Q} meant.a_constant (constant_of z))) holds))
+  only-right Q x (Some (a_variable t)) o (u, known, holds) s h = absurd (some-none s (sym h ∙ ap (λ z. type_of_variable_or_constant (option_map {U = Object Shape Q} meant.a_constant (value_of_constant_object z))) holds))
 
 module _ {T N : Type 0} (facts : Facts T) (shape : T → Option Shape) (label : ℕ → N) (meaning : TypeMeanings N) where
   name-typed : facts.only_constants ≡ false → (r : Role) (x : ℕ) → TokenAgreesWithLabel facts shape label meaning r x → NameTyped facts label meaning r x
-  name-typed only role.LookedUp x a = λ s h. holds-right facts shape x (facts.object_for x) (meaning.object_for (label x)) only a s h
+  name-typed only role.LookedUpName x a = λ s h. holds-right facts shape x (facts.object_for x) (meaning.object_for (label x)) only a s h
   name-typed only role.FieldName x a = tt
-  name-typed only role.Declaring x a = tt
+  name-typed only role.DeclaringName x a = tt
   name-typed only role.ClosingName x a = tt
   name-typed only role.ModuleName x a = tt
 
@@ -116,13 +116,13 @@ module _ {T N : Type 0} (facts : Facts T) (shape : T → Option Shape) (label : 
   names-typed only [] a = tt
   names-typed only (x ∷ xs) a = (name-typed only x.0 x.1 a.0, names-typed only xs a.1)
 
-  constant-typed : (Q : Type 0) (r : Role) (x : ℕ) → TokenAgreesWithLabel facts shape label meaning r x → NameTyped {P = Q} facts label (constant_meanings meaning) r x
-  constant-typed Q role.LookedUp x a = λ s h. only-right facts shape Q x (facts.object_for x) (meaning.object_for (label x)) a s h
+  constant-typed : (Q : Type 0) (r : Role) (x : ℕ) → TokenAgreesWithLabel facts shape label meaning r x → NameTyped {P = Q} facts label (meanings_in_constant_expressions meaning) r x
+  constant-typed Q role.LookedUpName x a = λ s h. only-right facts shape Q x (facts.object_for x) (meaning.object_for (label x)) a s h
   constant-typed Q role.FieldName x a = tt
-  constant-typed Q role.Declaring x a = tt
+  constant-typed Q role.DeclaringName x a = tt
   constant-typed Q role.ClosingName x a = tt
   constant-typed Q role.ModuleName x a = tt
 
-  pub constants-typed : (Q : Type 0) (xs : List (Role × ℕ)) → TokensAgreeWithLabels facts shape label meaning xs → NamesTyped {P = Q} facts label (constant_meanings meaning) xs
+  pub constants-typed : (Q : Type 0) (xs : List (Role × ℕ)) → TokensAgreeWithLabels facts shape label meaning xs → NamesTyped {P = Q} facts label (meanings_in_constant_expressions meaning) xs
   constants-typed Q [] a = tt
   constants-typed Q (x ∷ xs) a = (constant-typed Q x.0 x.1 a.0, constants-typed Q xs a.1)

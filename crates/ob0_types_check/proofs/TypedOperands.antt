@@ -11,12 +11,12 @@ use Rattle.ob0_tree.specs.declared.tree.Relation.{Relation}
 use Rattle.ob0_tree.specs.declared.tree.Relation.TheVariants as relation
 use Rattle.ob0_tree.specs.declared.tree.Sign.{Sign}
 use Rattle.ob0_tree.specs.declared.tree.Sign.TheVariants as sign
-use Rattle.ob0_tree.specs.Places.{token_text_at}
+use Rattle.ob0_tree.specs.TokenIndexLeaves.{token_text_at}
 use Rattle.ob0_scope_table.specs.declared.faults.FaultAtTokens.{FaultAtTokens}
-use Rattle.ob0_language_types.specs.Typing.{addition_type, negation_type, element_type, field_type, multiplication_type, relation_type, shape_of_field, sign_type}
+use Rattle.ob0_language_types.specs.Typing.{addition_type, negation_type, element_type, field_type, multiplication_type, relation_type, named_field_shape, signed_operand_type}
 use Rattle.ob0_language_values.specs.Values.{Shape, array_shape, boolean_shape, integer_shape, record_shape}
 use Rattle.ob0_types_check.specs.TypesAndMeanings.{Facts, TypeForm, Operand, ResultWithFaults, Types, a_record, a_scalar, an_array, unknown_form}
-use Rattle.ob0_types_check.specs.OperandFaults.{add_operands, required_type, required_type_of_both, fault_at_operand, negated_operand, element_type_from_form, element_operand, field_type_from_form, field_operand, may_be_same_type, field_type_or_fault, multiply_operands, relate_operands, signed_operand, operand_type_of_addition, operand_type_of_equality, operand_type_of_multiplication, operand_type_of_relation}
+use Rattle.ob0_types_check.specs.OperandFaults.{add_operands, require_type, require_type_of_both_operands, fault_at_operand, negated_operand, element_type_from_form, element_operand, field_type_from_form, field_operand, may_be_same_type, field_type_or_fault, multiply_operands, relate_operands, signed_operand, operand_type_of_addition, operand_type_of_equality, operand_type_of_multiplication, operand_type_of_relation}
 use Rattle.ob0_types_check.specs.Agreement.{FormAgreesWithShape, TypesAgreeWithShapes, shape_if_array, shape_if_record}
 use Rattle.ob0_types_check.proofs.Unreported.{not-true, some-none}
 
@@ -39,31 +39,31 @@ module _ {T : Type 0} (facts : Facts T) (shape : T → Option Shape) (types : Ty
   same-fits : (t u : T) → facts.types.same t u ≡ true → may_be_same_type facts.types t u ≡ true
   same-fits t u e = ap (λ b. b || (facts.types.same t facts.types.unknown || facts.types.same u facts.types.unknown)) e
 
-  pub required_type-right : (wanted : T) (o : Operand T) → facts.types.same o.of wanted ≡ true → (required_type facts wanted o).faults ≡ []
-  required_type-right wanted o e = ap (λ b. if b then [] else fault_at_operand code.TypeMismatch o) (same-fits o.of wanted e)
+  pub require_type-right : (wanted : T) (o : Operand T) → facts.types.same o.of wanted ≡ true → (require_type facts wanted o).faults ≡ []
+  require_type-right wanted o e = ap (λ b. if b then [] else fault_at_operand code.TypeMismatch o) (same-fits o.of wanted e)
 
-  both-right : (wanted : T) (a b : Operand T) → facts.types.same a.of wanted ≡ true → facts.types.same b.of wanted ≡ true → (required_type_of_both facts wanted a b).faults ≡ []
+  both-right : (wanted : T) (a b : Operand T) → facts.types.same a.of wanted ≡ true → facts.types.same b.of wanted ≡ true → (require_type_of_both_operands facts wanted a b).faults ≡ []
   both-right wanted a b p q =
-      let left : ResultWithFaults T = record { known = if facts.types.same a.of wanted then (required_type facts wanted b).known else facts.types.unknown; faults = (required_type facts wanted b).faults } in
+      let left : ResultWithFaults T = record { known = if facts.types.same a.of wanted then (require_type facts wanted b).known else facts.types.unknown; faults = (require_type facts wanted b).faults } in
       let wrong : ResultWithFaults T = record { known = facts.types.unknown; faults = fault_at_operand code.TypeMismatch a } in
-      ap (λ c. (if c then left else wrong).faults) (same-fits a.of wanted p) ∙ required_type-right wanted b q
+      ap (λ c. (if c then left else wrong).faults) (same-fits a.of wanted p) ∙ require_type-right wanted b q
 
   -- holds if both operands have the required type
   abbrev AreRequired : T → T → T → Type 0
   AreRequired wanted a b = (facts.types.same a wanted ≡ true) × (facts.types.same b wanted ≡ true)
 
-  add-required_type : (o : AddOperator) (s t w : Shape) → addition_type o s t ≡ Some w → (a b : T) → shape a ≡ Some s → shape b ≡ Some t → AreRequired (operand_type_of_addition facts.types o) a b
-  add-required_type add_operator.Add integer_shape integer_shape w e a b p q = (apart.integer a p, apart.integer b q)
-  add-required_type add_operator.Subtract integer_shape integer_shape w e a b p q = (apart.integer a p, apart.integer b q)
-  add-required_type add_operator.Or boolean_shape boolean_shape w e a b p q = (apart.boolean a p, apart.boolean b q)
-  add-required_type _ _ _ w e a b p q = absurd (cc)
+  add-require_type : (o : AddOperator) (s t w : Shape) → addition_type o s t ≡ Some w → (a b : T) → shape a ≡ Some s → shape b ≡ Some t → AreRequired (operand_type_of_addition facts.types o) a b
+  add-require_type add_operator.Add integer_shape integer_shape w e a b p q = (apart.integer a p, apart.integer b q)
+  add-require_type add_operator.Subtract integer_shape integer_shape w e a b p q = (apart.integer a p, apart.integer b q)
+  add-require_type add_operator.Or boolean_shape boolean_shape w e a b p q = (apart.boolean a p, apart.boolean b q)
+  add-require_type _ _ _ w e a b p q = absurd (cc)
 
-  multiply-required_type : (o : MultiplyOperator) (s t w : Shape) → multiplication_type o s t ≡ Some w → (a b : T) → shape a ≡ Some s → shape b ≡ Some t → AreRequired (operand_type_of_multiplication facts.types o) a b
-  multiply-required_type multiply_operator.Multiply integer_shape integer_shape w e a b p q = (apart.integer a p, apart.integer b q)
-  multiply-required_type multiply_operator.Divide integer_shape integer_shape w e a b p q = (apart.integer a p, apart.integer b q)
-  multiply-required_type multiply_operator.Modulo integer_shape integer_shape w e a b p q = (apart.integer a p, apart.integer b q)
-  multiply-required_type multiply_operator.And boolean_shape boolean_shape w e a b p q = (apart.boolean a p, apart.boolean b q)
-  multiply-required_type _ _ _ w e a b p q = absurd (cc)
+  multiply-require_type : (o : MultiplyOperator) (s t w : Shape) → multiplication_type o s t ≡ Some w → (a b : T) → shape a ≡ Some s → shape b ≡ Some t → AreRequired (operand_type_of_multiplication facts.types o) a b
+  multiply-require_type multiply_operator.Multiply integer_shape integer_shape w e a b p q = (apart.integer a p, apart.integer b q)
+  multiply-require_type multiply_operator.Divide integer_shape integer_shape w e a b p q = (apart.integer a p, apart.integer b q)
+  multiply-require_type multiply_operator.Modulo integer_shape integer_shape w e a b p q = (apart.integer a p, apart.integer b q)
+  multiply-require_type multiply_operator.And boolean_shape boolean_shape w e a b p q = (apart.boolean a p, apart.boolean b q)
+  multiply-require_type _ _ _ w e a b p q = absurd (cc)
 
   -- The type that a comparison requires follows from the type of its left side.
   integers-equal : (a : T) → facts.types.same a facts.types.integer ≡ true → operand_type_of_equality facts.types a ≡ facts.types.integer
@@ -98,44 +98,44 @@ module _ {T : Type 0} (facts : Facts T) (shape : T → Option Shape) (types : Ty
       let wanted = truths-equal a p in
       (ap (facts.types.same a) wanted ∙ apart.boolean a p, ap (facts.types.same b) wanted ∙ apart.boolean b q)
 
-  relation-required_type : (r : Relation) (s t w : Shape) → relation_type r s t ≡ Some w → (a b : T) → shape a ≡ Some s → shape b ≡ Some t → AreRequired (operand_type_of_relation facts.types r a) a b
-  relation-required_type r integer_shape integer_shape w e a b p q = of-integers r a b p q
-  relation-required_type relation.Equal boolean_shape boolean_shape w e a b p q = of-truths a b p q
-  relation-required_type relation.NotEqual boolean_shape boolean_shape w e a b p q = of-truths a b p q
-  relation-required_type _ _ _ w e a b p q = absurd (cc)
+  relation-require_type : (r : Relation) (s t w : Shape) → relation_type r s t ≡ Some w → (a b : T) → shape a ≡ Some s → shape b ≡ Some t → AreRequired (operand_type_of_relation facts.types r a) a b
+  relation-require_type r integer_shape integer_shape w e a b p q = of-integers r a b p q
+  relation-require_type relation.Equal boolean_shape boolean_shape w e a b p q = of-truths a b p q
+  relation-require_type relation.NotEqual boolean_shape boolean_shape w e a b p q = of-truths a b p q
+  relation-require_type _ _ _ w e a b p q = absurd (cc)
 
   pub added-right : (o : AddOperator) (a b : Operand T) (s t w : Shape) → addition_type o s t ≡ Some w → shape a.of ≡ Some s → shape b.of ≡ Some t → (add_operands facts o a b).faults ≡ []
   added-right o a b s t w e p q =
-      let both = add-required_type o s t w e a.of b.of p q in
-      none-of-both (required_type_of_both facts (operand_type_of_addition facts.types o) a b).faults [] (both-right (operand_type_of_addition facts.types o) a b both.0 both.1) refl
+      let both = add-require_type o s t w e a.of b.of p q in
+      none-of-both (require_type_of_both_operands facts (operand_type_of_addition facts.types o) a b).faults [] (both-right (operand_type_of_addition facts.types o) a b both.0 both.1) refl
 
   pub multiplied-right : (o : MultiplyOperator) (a b : Operand T) (s t w : Shape) → multiplication_type o s t ≡ Some w → shape a.of ≡ Some s → shape b.of ≡ Some t → (multiply_operands facts o a b).faults ≡ []
   multiplied-right o a b s t w e p q =
-      let both = multiply-required_type o s t w e a.of b.of p q in
-      none-of-both (required_type_of_both facts (operand_type_of_multiplication facts.types o) a b).faults [] (both-right (operand_type_of_multiplication facts.types o) a b both.0 both.1) refl
+      let both = multiply-require_type o s t w e a.of b.of p q in
+      none-of-both (require_type_of_both_operands facts (operand_type_of_multiplication facts.types o) a b).faults [] (both-right (operand_type_of_multiplication facts.types o) a b both.0 both.1) refl
 
   pub related-right : (r : Relation) (a b : Operand T) (s t w : Shape) → relation_type r s t ≡ Some w → shape a.of ≡ Some s → shape b.of ≡ Some t → (relate_operands facts r a b).faults ≡ []
   related-right r a b s t w e p q =
-      let both = relation-required_type r s t w e a.of b.of p q in
-      none-of-both (required_type_of_both facts (operand_type_of_relation facts.types r a.of) a b).faults [] (both-right (operand_type_of_relation facts.types r a.of) a b both.0 both.1) refl
+      let both = relation-require_type r s t w e a.of b.of p q in
+      none-of-both (require_type_of_both_operands facts (operand_type_of_relation facts.types r a.of) a b).faults [] (both-right (operand_type_of_relation facts.types r a.of) a b both.0 both.1) refl
 
-  sign-required_type : (g : Sign) (s w : Shape) → sign_type (Some g) s ≡ Some w → s ≡ integer_shape
-  sign-required_type sign.Plus integer_shape w e = refl
-  sign-required_type sign.Minus integer_shape w e = refl
-  sign-required_type _ _ w e = absurd (cc)
+  sign-require_type : (g : Sign) (s w : Shape) → signed_operand_type (Some g) s ≡ Some w → s ≡ integer_shape
+  sign-require_type sign.Plus integer_shape w e = refl
+  sign-require_type sign.Minus integer_shape w e = refl
+  sign-require_type _ _ w e = absurd (cc)
 
-  pub apply_sign-right : (g : Option Sign) (o : Operand T) (s w : Shape) → sign_type g s ≡ Some w → shape o.of ≡ Some s → (signed_operand facts g o).faults ≡ []
+  pub apply_sign-right : (g : Option Sign) (o : Operand T) (s w : Shape) → signed_operand_type g s ≡ Some w → shape o.of ≡ Some s → (signed_operand facts g o).faults ≡ []
   apply_sign-right None o s w e h = refl
   apply_sign-right (Some g) o s w e h =
-      none-of-both (required_type facts facts.types.integer o).faults [] (required_type-right facts.types.integer o (apart.integer o.of (h ∙ ap Some (sign-required_type g s w e)))) refl
+      none-of-both (require_type facts facts.types.integer o).faults [] (require_type-right facts.types.integer o (apart.integer o.of (h ∙ ap Some (sign-require_type g s w e)))) refl
 
-  value_of_negation-required_type : (s w : Shape) → negation_type s ≡ Some w → s ≡ boolean_shape
-  value_of_negation-required_type boolean_shape w e = refl
-  value_of_negation-required_type _ w e = absurd (cc)
+  value_of_negation-require_type : (s w : Shape) → negation_type s ≡ Some w → s ≡ boolean_shape
+  value_of_negation-require_type boolean_shape w e = refl
+  value_of_negation-require_type _ w e = absurd (cc)
 
   pub complemented-right : (o : Operand T) (s w : Shape) → negation_type s ≡ Some w → shape o.of ≡ Some s → (negated_operand facts o).faults ≡ []
   complemented-right o s w e h =
-      none-of-both (required_type facts facts.types.boolean o).faults [] (required_type-right facts.types.boolean o (apart.boolean o.of (h ∙ ap Some (value_of_negation-required_type s w e)))) refl
+      none-of-both (require_type facts facts.types.boolean o).faults [] (require_type-right facts.types.boolean o (apart.boolean o.of (h ∙ ap Some (value_of_negation-require_type s w e)))) refl
 
   -- No fault is reported for a selection that has a type.
 
@@ -163,7 +163,7 @@ module _ {T : Type 0} (facts : Facts T) (shape : T → Option Shape) (types : Ty
   field-found a_scalar s a far x u h = absurd (no-record s (far refl).1 (token_text_at facts.source x) u h)
   field-found (an_array t) s (k, n, v, e, known) far x u h = absurd (some-none u (sym h ∙ ap (λ z. field_type z (token_text_at facts.source x)) e))
   field-found (a_record fields) s (k, fs, e, each) far x u h =
-      found-right x (fields (token_text_at facts.source x)) (shape_of_field fs (token_text_at facts.source x)) u (each (token_text_at facts.source x))
+      found-right x (fields (token_text_at facts.source x)) (named_field_shape fs (token_text_at facts.source x)) u (each (token_text_at facts.source x))
       (sym (ap (λ z. field_type z (token_text_at facts.source x)) e) ∙ h)
   field-found unknown_form s a far x u h = absurd a
 
@@ -177,13 +177,13 @@ module _ {T : Type 0} (facts : Facts T) (shape : T → Option Shape) (types : Ty
   element-found (a_record fields) s t (k, fs, e, each) far i n u h = absurd (some-none u (sym h ∙ ap (λ z. element_type z t) e))
   element-found unknown_form s t a far i n u h = absurd a
 
-  index-required_type : (s t u : Shape) → element_type s t ≡ Some u → t ≡ integer_shape
-  index-required_type (array_shape k n s) integer_shape u e = refl
-  index-required_type _ _ u e = absurd (cc)
+  index-require_type : (s t u : Shape) → element_type s t ≡ Some u → t ≡ integer_shape
+  index-require_type (array_shape k n s) integer_shape u e = refl
+  index-require_type _ _ u e = absurd (cc)
 
   pub element-right : (o i : Operand T) (s t u : Shape) → shape o.of ≡ Some s → shape i.of ≡ Some t → element_type s t ≡ Some u → (element_operand facts o i).faults ≡ []
   element-right o i s t u hs ht e =
-      let n : T = (required_type facts facts.types.integer i).known in
+      let n : T = (require_type facts facts.types.integer i).known in
       let inner : List FaultAtTokens = (element_type_from_form facts i n (facts.types.form o.of)).faults in
-      none-of-both (required_type facts facts.types.integer i).faults (inner ++ []) (required_type-right facts.types.integer i (apart.integer i.of (ht ∙ ap Some (index-required_type s t u e))))
+      none-of-both (require_type facts facts.types.integer i).faults (inner ++ []) (require_type-right facts.types.integer i (apart.integer i.of (ht ∙ ap Some (index-require_type s t u e))))
       (none-of-both inner [] (element-found (facts.types.form o.of) s t (types.form_agrees o.of s hs) (apart.scalar o.of s hs) i n u e) refl)

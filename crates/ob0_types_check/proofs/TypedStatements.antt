@@ -7,27 +7,27 @@ use Rattle.ob0_types_table.specs.declared.types.TypeId.{TypeId}
 use Rattle.ob0_types_table.specs.declared.types.TypeId.TheVariants as type
 use Rattle.ob0_tree.specs.declared.tree.Role.{Role}
 use Rattle.ob0_tree.specs.declared.tree.Role.TheVariants as role
-use Rattle.ob0_tree.specs.Places.{token_value_at}
+use Rattle.ob0_tree.specs.TokenIndexLeaves.{token_value_at}
 use Rattle.ob0_tree.specs.Tree.{Sort, Tree, adds, arguments, assigns, branches, calls, compares, designator, else_branch, else_part, elsif_branch, elsif_part, empty, end, expression, statement_after_semicolon, identifiers, integer, items, mapped_tree, maybe, more, multiplies, negation, none, one, parenthesised, product, relates, repeat_loop, runs, selector, sequence, statement, sum, semicolon_then_statement, while_loop}
 use Rattle.ob0_language_types.specs.Arguments.{call_arguments}
 use Rattle.ob0_language_types.specs.Expressions as meant
 use Rattle.ob0_language_types.specs.Expressions.{Object}
-use Rattle.ob0_language_types.specs.Typing.{lone_designator, type_of_variable_or_constant, type_after_selectors, type_of, type_of_factor}
-use Rattle.ob0_language_types.specs.WellTyped.{FormalParameter, Signature, TypeMeanings, same_known_shape, argument_matches, arguments_match, by_place, by_value, call_is_well_typed, condition_is_boolean, else_is_well_typed, elsifs_are_well_typed, sequence_is_well_typed, signature_of, statement_is_well_typed, further_statements_are_well_typed, variable_type}
+use Rattle.ob0_language_types.specs.Typing.{lone_designator, type_of_variable_or_constant, type_after_selectors, type_of_expression, type_of_factor}
+use Rattle.ob0_language_types.specs.WellTyped.{FormalParameter, Signature, TypeMeanings, same_known_shape, argument_matches_parameter, arguments_match_signature, by_place, by_value, call_is_well_typed, condition_is_boolean, else_is_well_typed, elsifs_are_well_typed, sequence_is_well_typed, signature_of, statement_is_well_typed, further_statements_are_well_typed, assignable_type}
 use Rattle.ob0_language_types.proofs.Conditions.{same_known_shape-true}
 use Rattle.ob0_language_values.specs.Values.{Shape, array_shape, boolean_shape, integer_shape, record_shape}
 use Rattle.ob0_types_check.specs.ExpressionFaults.{report_on_expression}
 use Rattle.ob0_types_check.specs.TypesAndMeanings.{Facts, Meaning, Operand, a_constant, a_procedure, a_type, a_variable}
 use Rattle.ob0_types_check.specs.TypesAndMeanings as known
-use Rattle.ob0_types_check.specs.OperandFaults.{typed_name_operand, fault_at_operand, fault_at_token, name_operand, operand_from_meaning, required_type, without_fault}
-use Rattle.ob0_types_check.specs.KnownDeclarations.{CompositeType, facts_from_declarations, types_so_far}
-use Rattle.ob0_types_check.specs.StatementFaults.{call_faults_from_meaning, required_type_of_argument, faults_of_argument, faults_of_arguments, typed_expression_faults, assignment_faults, call_faults, condition_faults, else_faults, elsif_faults, sequence_faults, statement_faults, further_statement_faults, report_on_target}
+use Rattle.ob0_types_check.specs.OperandFaults.{typed_name_operand, fault_at_operand, fault_at_token, name_operand, operand_from_meaning, require_type, without_fault}
+use Rattle.ob0_types_check.specs.KnownDeclarations.{CompositeType, facts_from_declarations, known_types_representation}
+use Rattle.ob0_types_check.specs.StatementFaults.{call_faults_from_meaning, require_type_of_argument, faults_of_argument, faults_of_arguments, faults_of_expression_of_type, assignment_faults, call_faults, condition_faults, else_faults, elsif_faults, sequence_faults, statement_faults, further_statement_faults, report_on_assignment_target}
 use Rattle.ob0_types_check.specs.Agreement.{FormalsAgreeWithSignature, IsKnownAndAgreesWithObject, TokensAgreeWithLabels, TypesAgreeWithShapes, shape_if_array, shape_if_record, shape_of_type_in}
 use Rattle.ob0_types_check.specs.WellTypedLaws.{HaveDistinctOrdinals, ordinal_of_shape, WellTypedStatementsHaveNoFault}
 use Rattle.ob0_types_check.proofs.FittingExpressions.{parts-placed}
 use Rattle.ob0_types_check.proofs.FittingStatements.{EachAgreed, arguments-agreed, arguments-mapped_tree, split}
 use Rattle.ob0_types_check.proofs.TypedNames.{types-apart}
-use Rattle.ob0_types_check.proofs.TypedOperands.{TypesApart, and-then, required_type-right, none-of-both}
+use Rattle.ob0_types_check.proofs.TypedOperands.{TypesApart, and-then, require_type-right, none-of-both}
 use Rattle.ob0_types_check.proofs.Unreported.{goes-on, some-none, some-same}
 use Rattle.ob0_types_check.proofs.TypedTargets.{expression-typed, no-signature, operand-typed, target-typed, variable-of}
 
@@ -36,34 +36,34 @@ module _ {T N : Type 0} (facts : Facts T) (shape : T → Option Shape) (types : 
   here t = mapped_tree label (token_value_at facts.source) t
 
   abbrev ids : {s : Sort} → Tree ℕ s → List (Role × ℕ)
-  ids t = identifiers role.Declaring t
+  ids t = identifiers role.DeclaringName t
 
   abbrev Named : {s : Sort} → Tree ℕ s → Type 0
-  Named t = TokensAgreeWithLabels facts shape label meaning (identifiers role.Declaring t)
+  Named t = TokensAgreeWithLabels facts shape label meaning (identifiers role.DeclaringName t)
 
   apart-in : (xs ys : List (Role × ℕ)) → TokensAgreeWithLabels facts shape label meaning (xs ++ ys) → TokensAgreeWithLabels facts shape label meaning xs × TokensAgreeWithLabels facts shape label meaning ys
   apart-in = split facts shape types label meaning
 
   -- No fault is reported for an expression that has the required type.
-  required_type-typed : (wanted : T) (w : Shape) (e : Tree ℕ expression) → shape wanted ≡ Some w → Named e → type_of meaning (here e) ≡ Some w → typed_expression_faults facts wanted e ≡ []
-  unfolding typed_expression_faults
-  required_type-typed wanted w e hw k h =
+  require_type-typed : (wanted : T) (w : Shape) (e : Tree ℕ expression) → shape wanted ≡ Some w → Named e → type_of_expression meaning (here e) ≡ Some w → faults_of_expression_of_type facts wanted e ≡ []
+  unfolding faults_of_expression_of_type
+  require_type-typed wanted w e hw k h =
       let o : Operand T = (report_on_expression facts e).known in
-      none-of-both (report_on_expression facts e).faults (required_type facts wanted o).faults (expression-typed facts shape types apart only label meaning e k w h) (required_type-right facts shape types apart wanted o (alike o.of wanted w (operand-typed facts shape types apart only label meaning e k w h) hw))
+      none-of-both (report_on_expression facts e).faults (require_type facts wanted o).faults (expression-typed facts shape types apart only label meaning e k w h) (require_type-right facts shape types apart wanted o (alike o.of wanted w (operand-typed facts shape types apart only label meaning e k w h) hw))
 
   condition-right : (e : Tree ℕ expression) → Named e → condition_is_boolean meaning (here e) ≡ true → condition_faults facts e ≡ []
   unfolding condition_is_boolean
   condition-right e k h =
-      let (s, truth, typed) = same_known_shape-true (Some boolean_shape) (type_of meaning (here e)) h in
-      required_type-typed facts.types.boolean boolean_shape e types.boolean k (typed ∙ sym truth)
+      let (s, truth, typed) = same_known_shape-true (Some boolean_shape) (type_of_expression meaning (here e)) h in
+      require_type-typed facts.types.boolean boolean_shape e types.boolean k (typed ∙ sym truth)
 
-  assignment-right : (x : ℕ) (path : Tree ℕ (items selector)) (e : Tree ℕ expression) → Named (assigns x path e) → statement_is_well_typed meaning (here (assigns x path e)) ≡ true → assignment_faults facts (report_on_target facts x path) e ≡ []
+  assignment-right : (x : ℕ) (path : Tree ℕ (items selector)) (e : Tree ℕ expression) → Named (assigns x path e) → statement_is_well_typed meaning (here (assigns x path e)) ≡ true → assignment_faults facts (report_on_assignment_target facts x path) e ≡ []
   unfolding statement_is_well_typed
   assignment-right x path e k h =
-      let (s, left, without_fault) = same_known_shape-true (variable_type meaning (Some (label x, here path))) (type_of meaning (here e)) h in
+      let (s, left, without_fault) = same_known_shape-true (assignable_type meaning (Some (label x, here path))) (type_of_expression meaning (here e)) h in
       let rest = apart-in (ids path) (ids e) k.1 in
       let t = target-typed facts shape types apart only label meaning x path s (k.0, rest.0) left in
-      none-of-both (report_on_target facts x path).faults (typed_expression_faults facts (report_on_target facts x path).known.of e) t.none (required_type-typed (report_on_target facts x path).known.of s e t.known rest.1 without_fault)
+      none-of-both (report_on_assignment_target facts x path).faults (faults_of_expression_of_type facts (report_on_assignment_target facts x path).known.of e) t.none (require_type-typed (report_on_assignment_target facts x path).known.of s e t.known rest.1 without_fault)
 
   -- No fault is reported for a well-typed call.
 
@@ -80,15 +80,15 @@ module _ {T N : Type 0} (facts : Facts T) (shape : T → Option Shape) (types : 
 
   -- holds if an expression has this type and its operand is a place
   pub record CanCountFrom (e : Tree ℕ expression) (s : Shape) : Type 0 where
-    pub typed : type_of meaning (here e) ≡ Some s
+    pub typed : type_of_expression meaning (here e) ≡ Some s
     pub placed : (report_on_expression facts e).known.may_be_variable ≡ true
 
-  no-designator : {A : Type 0} (s : Shape) → variable_type meaning None ≡ Some s → A
-  unfolding variable_type
+  no-designator : {A : Type 0} (s : Shape) → assignable_type meaning None ≡ Some s → A
+  unfolding assignable_type
   no-designator s h = absurd (some-none s (sym h))
 
-  place-known : (e : Tree ℕ expression) → Named e → (s : Shape) → variable_type meaning (lone_designator (here e)) ≡ Some s → CanCountFrom e s
-  unfolding report_on_expression type_of variable_type
+  place-known : (e : Tree ℕ expression) → Named e → (s : Shape) → assignable_type meaning (lone_designator (here e)) ≡ Some s → CanCountFrom e s
+  unfolding report_on_expression type_of_expression assignable_type
   place-known (compares (sum (Some g) t rest) c) k s h = no-designator s h
   place-known (compares (sum None (product (integer n) factors) rest) c) k s h = no-designator s h
   place-known (compares (sum None (product (parenthesised a) factors) rest) c) k s h = no-designator s h
@@ -104,37 +104,37 @@ module _ {T N : Type 0} (facts : Facts T) (shape : T → Option Shape) (types : 
         placed = parts-placed facts (name_operand facts x).known path ∙ named-place x (facts.object_for x) (meaning.object_for (label x)) v k.0 holds;
       }
 
-  required_type_of_argument-right : (b : Bool) (of : T) (g : FormalParameter) (e : Tree ℕ expression) → g.mode ≡ mode_from_flag b → shape of ≡ Some g.shape → Named e → argument_matches meaning g (here e) ≡ true
-      → (report_on_expression facts e).faults ++ (required_type_of_argument facts (record { by_place = b; of = of }) (report_on_expression facts e).known).faults ≡ []
-  unfolding argument_matches
-  required_type_of_argument-right true of g e mode wanted k h =
+  require_type_of_argument-right : (b : Bool) (of : T) (g : FormalParameter) (e : Tree ℕ expression) → g.mode ≡ mode_from_flag b → shape of ≡ Some g.shape → Named e → argument_matches_parameter meaning g (here e) ≡ true
+      → (report_on_expression facts e).faults ++ (require_type_of_argument facts (record { by_place = b; of = of }) (report_on_expression facts e).known).faults ≡ []
+  unfolding argument_matches_parameter
+  require_type_of_argument-right true of g e mode wanted k h =
       let o : Operand T = (report_on_expression facts e).known in
-      let (s, own, given) = same_known_shape-true (Some g.shape) (variable_type meaning (lone_designator (here e))) (sym (λ i. same_known_shape (Some g.shape) (elim (mode i) [ by_value ↦ type_of meaning (here e) | by_place ↦ variable_type meaning (lone_designator (here e)) ])) ∙ h) in
+      let (s, own, given) = same_known_shape-true (Some g.shape) (assignable_type meaning (lone_designator (here e))) (sym (λ i. same_known_shape (Some g.shape) (elim (mode i) [ by_value ↦ type_of_expression meaning (here e) | by_place ↦ assignable_type meaning (lone_designator (here e)) ])) ∙ h) in
       let p : CanCountFrom e g.shape = place-known e k g.shape (given ∙ sym own) in
       none-of-both (report_on_expression facts e).faults _ (expression-typed facts shape types apart only label meaning e k g.shape p.typed)
-      (ap (λ b. (if not b then record { known = facts.types.unknown; faults = fault_at_operand code.NotVariable o } else required_type facts of o).faults) p.placed
-      ∙ required_type-right facts shape types apart of o (alike o.of of g.shape (operand-typed facts shape types apart only label meaning e k g.shape p.typed) wanted))
-  required_type_of_argument-right false of g e mode wanted k h =
+      (ap (λ b. (if not b then record { known = facts.types.unknown; faults = fault_at_operand code.NotVariable o } else require_type facts of o).faults) p.placed
+      ∙ require_type-right facts shape types apart of o (alike o.of of g.shape (operand-typed facts shape types apart only label meaning e k g.shape p.typed) wanted))
+  require_type_of_argument-right false of g e mode wanted k h =
       let o : Operand T = (report_on_expression facts e).known in
-      let (s, own, given) = same_known_shape-true (Some g.shape) (type_of meaning (here e)) (sym (λ i. same_known_shape (Some g.shape) (elim (mode i) [ by_value ↦ type_of meaning (here e) | by_place ↦ variable_type meaning (lone_designator (here e)) ])) ∙ h) in
-      let typed : type_of meaning (here e) ≡ Some g.shape = given ∙ sym own in
+      let (s, own, given) = same_known_shape-true (Some g.shape) (type_of_expression meaning (here e)) (sym (λ i. same_known_shape (Some g.shape) (elim (mode i) [ by_value ↦ type_of_expression meaning (here e) | by_place ↦ assignable_type meaning (lone_designator (here e)) ])) ∙ h) in
+      let typed : type_of_expression meaning (here e) ≡ Some g.shape = given ∙ sym own in
       none-of-both (report_on_expression facts e).faults _ (expression-typed facts shape types apart only label meaning e k g.shape typed)
-      (required_type-right facts shape types apart of o (alike o.of of g.shape (operand-typed facts shape types apart only label meaning e k g.shape typed) wanted))
+      (require_type-right facts shape types apart of o (alike o.of of g.shape (operand-typed facts shape types apart only label meaning e k g.shape typed) wanted))
 
-  argument-right : (f : known.KnownParameter T) (g : FormalParameter) (e : Tree ℕ expression) → g.mode ≡ mode_from_flag f.by_place → shape f.of ≡ Some g.shape → Named e → argument_matches meaning g (here e) ≡ true → faults_of_argument facts f e ≡ []
+  argument-right : (f : known.KnownParameter T) (g : FormalParameter) (e : Tree ℕ expression) → g.mode ≡ mode_from_flag f.by_place → shape f.of ≡ Some g.shape → Named e → argument_matches_parameter meaning g (here e) ≡ true → faults_of_argument facts f e ≡ []
   unfolding faults_of_argument
-  argument-right f g e mode wanted k h = required_type_of_argument-right f.by_place f.of g e mode wanted k h
+  argument-right f g e mode wanted k h = require_type_of_argument-right f.by_place f.of g e mode wanted k h
 
-  arguments-right : (fs : List (known.KnownParameter T)) (gs : Signature) (es : List (Tree ℕ expression)) → FormalsAgreeWithSignature shape fs gs → EachAgreed facts shape types label meaning es → arguments_match meaning gs (map here es) ≡ true
+  arguments-right : (fs : List (known.KnownParameter T)) (gs : Signature) (es : List (Tree ℕ expression)) → FormalsAgreeWithSignature shape fs gs → EachAgreed facts shape types label meaning es → arguments_match_signature meaning gs (map here es) ≡ true
       → (length fs ≡ length es) × (faults_of_arguments facts fs es ≡ [])
-  unfolding arguments_match
+  unfolding arguments_match_signature
   arguments-right [] [] [] a k h = (refl, refl)
   arguments-right [] [] (e ∷ es) a k h = absurd (true≢false (sym h))
   arguments-right [] (g ∷ gs) es a k h = absurd a
   arguments-right (f ∷ fs) [] es a k h = absurd a
   arguments-right (f ∷ fs) (g ∷ gs) [] a k h = absurd (true≢false (sym h))
   arguments-right (f ∷ fs) (g ∷ gs) (e ∷ es) a k h =
-      let parts = and_parts (argument_matches meaning g (here e)) (arguments_match meaning gs (map here es)) h in
+      let parts = and_parts (argument_matches_parameter meaning g (here e)) (arguments_match_signature meaning gs (map here es)) h in
       let rest = arguments-right fs gs es a.2 k.1 parts.1 in
       (λ i. suc (rest.0 i), none-of-both (faults_of_argument facts f e) (faults_of_arguments facts fs es) (argument-right f g e a.0 a.1 k.0 parts.0) rest.1)
 
@@ -265,7 +265,7 @@ records-once shapes once i j s p q =
     let (k, number) = record-number s left.1 in
     once i j k s s left.0 (record-at shapes j s q).0 number number
 
-pub once-alike : (made : List CompositeType) (shapes : List Shape) → HaveDistinctOrdinals shapes → (t u : TypeId) (s : Shape) → shape_of_type_in shapes t ≡ Some s → shape_of_type_in shapes u ≡ Some s → (types_so_far made).same t u ≡ true
+pub once-alike : (made : List CompositeType) (shapes : List Shape) → HaveDistinctOrdinals shapes → (t u : TypeId) (s : Shape) → shape_of_type_in shapes t ≡ Some s → shape_of_type_in shapes u ≡ Some s → (known_types_representation made).same t u ≡ true
 once-alike made shapes once type.Unknown u s p q = absurd (some-none s (sym p))
 once-alike made shapes once type.Integer type.Unknown s p q = absurd (some-none s (sym q))
 once-alike made shapes once type.Integer type.Integer s p q = refl

@@ -3,18 +3,18 @@
 use Rattle.std.proofs.Common.{◌≡◌, ℕ, false, List, [], Option, Some, None, refl, sym, ap, ◌∙◌}
 use Rattle.ob0_tree.specs.declared.tree.Role.{Role}
 use Rattle.ob0_tree.specs.declared.tree.Role.TheVariants as role
-use Rattle.ob0_tree.specs.Places.{token_value_at}
+use Rattle.ob0_tree.specs.TokenIndexLeaves.{token_value_at}
 use Rattle.ob0_tree.specs.Tree.{Sort, Tree, designator, expression, identifiers, items, mapped_tree, selector}
 use Rattle.ob0_language_types.specs.Expressions as meant
 use Rattle.ob0_language_types.specs.Expressions.{Object}
-use Rattle.ob0_language_types.specs.Typing.{type_of_variable_or_constant, type_after_selectors, type_of}
-use Rattle.ob0_language_types.specs.WellTyped.{Signature, TypeMeanings, signature_of, variable_type}
+use Rattle.ob0_language_types.specs.Typing.{type_of_variable_or_constant, type_after_selectors, type_of_expression}
+use Rattle.ob0_language_types.specs.WellTyped.{Signature, TypeMeanings, signature_of, assignable_type}
 use Rattle.ob0_language_values.specs.Values.{Shape}
 use Rattle.ob0_types_check.specs.ExpressionFaults.{report_on_expression, report_on_selectors}
 use Rattle.ob0_types_check.specs.TypesAndMeanings.{Facts, Meaning, Operand, a_constant, a_procedure, a_type, a_variable}
 use Rattle.ob0_types_check.specs.OperandFaults.{typed_name_operand}
 use Rattle.ob0_types_check.specs.KnownDeclarations.{facts_from_declarations}
-use Rattle.ob0_types_check.specs.StatementFaults.{target_name_type, target_type_from_meaning, report_on_target}
+use Rattle.ob0_types_check.specs.StatementFaults.{target_name_type, target_type_from_meaning, report_on_assignment_target}
 use Rattle.ob0_types_check.specs.Agreement.{IsKnownAndAgreesWithObject, TokensAgreeWithLabels, TypesAgreeWithShapes, shape_of_type_in}
 use Rattle.ob0_types_check.specs.ReportLaws.{OperandAgreesWithExpression}
 use Rattle.ob0_types_check.specs.WellTypedLaws.{TypedTargetsHaveNoFault}
@@ -41,18 +41,18 @@ module _ {T N : Type 0} (facts : Facts T) (shape : T → Option Shape) (types : 
   here t = mapped_tree label (token_value_at facts.source) t
 
   abbrev ids : {s : Sort} → Tree ℕ s → List (Role × ℕ)
-  ids t = identifiers role.Declaring t
+  ids t = identifiers role.DeclaringName t
 
   abbrev Named : {s : Sort} → Tree ℕ s → Type 0
-  Named t = TokensAgreeWithLabels facts shape label meaning (identifiers role.Declaring t)
+  Named t = TokensAgreeWithLabels facts shape label meaning (identifiers role.DeclaringName t)
 
   all-typed : {s : Sort} (t : Tree ℕ s) → Named t → AllTyped facts shape types apart label meaning t
   all-typed t k = (tokens-fit facts shape types label meaning (ids t) k, names-typed facts shape label meaning only (ids t) k)
 
-  pub expression-typed : (e : Tree ℕ expression) → Named e → (s : Shape) → type_of meaning (here e) ≡ Some s → (report_on_expression facts e).faults ≡ []
+  pub expression-typed : (e : Tree ℕ expression) → Named e → (s : Shape) → type_of_expression meaning (here e) ≡ Some s → (report_on_expression facts e).faults ≡ []
   expression-typed e k s h = expression-right facts shape types apart label meaning e (all-typed e k) s h
 
-  pub operand-typed : (e : Tree ℕ expression) → Named e → (s : Shape) → type_of meaning (here e) ≡ Some s → shape (report_on_expression facts e).known.of ≡ Some s
+  pub operand-typed : (e : Tree ℕ expression) → Named e → (s : Shape) → type_of_expression meaning (here e) ≡ Some s → shape (report_on_expression facts e).known.of ≡ Some s
   operand-typed e k s h =
       let o : OperandAgreesWithExpression shape meaning (report_on_expression facts e).known (here e) = known-operand facts shape types label meaning e k (expression-typed e k s h) in
       o.known ∙ (sym o.typed ∙ h)
@@ -70,11 +70,11 @@ module _ {T N : Type 0} (facts : Facts T) (shape : T → Option Shape) (types : 
   assigned-right x (Some (a_variable t)) o v (s, reported, holds) e = (refl, reported ∙ ap type_of_variable_or_constant (sym holds ∙ e))
 
   pub record TargetTyped (x : ℕ) (path : Tree ℕ (items selector)) (s : Shape) : Type 0 where
-    pub none : (report_on_target facts x path).faults ≡ []
-    pub known : shape (report_on_target facts x path).known.of ≡ Some s
+    pub none : (report_on_assignment_target facts x path).faults ≡ []
+    pub known : shape (report_on_assignment_target facts x path).known.of ≡ Some s
 
-  pub target-typed : (x : ℕ) (path : Tree ℕ (items selector)) (s : Shape) → Named (designator x path) → variable_type meaning (Some (label x, here path)) ≡ Some s → TargetTyped x path s
-  unfolding report_on_target variable_type
+  pub target-typed : (x : ℕ) (path : Tree ℕ (items selector)) (s : Shape) → Named (designator x path) → assignable_type meaning (Some (label x, here path)) ≡ Some s → TargetTyped x path s
+  unfolding report_on_assignment_target assignable_type
   target-typed x path s k h =
       let (v, holds, typed) = variable-of (meaning.object_for (label x)) (λ v. type_after_selectors meaning v (here path)) s h in
       let a = assigned-right x (facts.object_for x) (meaning.object_for (label x)) v k.0 holds in
@@ -88,5 +88,5 @@ module _ {T N : Type 0} (facts : Facts T) (shape : T → Option Shape) (types : 
 
 pub typed_targets_have_no_fault-holds : {N : Type 0} → TypedTargetsHaveNoFault N
 typed_targets_have_no_fault-holds p shapes label meaning x path agrees h =
-    let (s, hs) = is-there (variable_type meaning (Some (label x, mapped_tree label (token_value_at p.source) path))) h in
+    let (s, hs) = is-there (assignable_type meaning (Some (label x, mapped_tree label (token_value_at p.source) path))) h in
     (target-typed (facts_from_declarations p false) (shape_of_type_in shapes) agrees.types (types-apart p.made shapes) refl label meaning x path s agrees.tokens hs).none

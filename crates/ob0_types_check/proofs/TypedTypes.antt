@@ -1,7 +1,7 @@
 -- No fault is reported for written types that denote a type. `given-again` moves a hypothesis about the result of two
 -- steps to the value that another law gives, without an equality of values.
 use Rattle.std.proofs.Common.{◌≡◌, ℕ, suc, ◌+◌, Bool, true, false, ◌&&◌, List, [], map, Option, Some, None, option_and_then, if◌then◌else◌, is_some, nat_le, refl, sym, ap, ◌∙◌, le_refl, length, arith}
-use Rattle.ob0_tree.specs.Places.{tree_with_names, token_text_at, token_value_at}
+use Rattle.ob0_tree.specs.TokenIndexLeaves.{tree_with_names, token_text_at, token_value_at}
 use Rattle.ob0_tree.specs.Tree.{Tree, array_type, end, fields, fields_after_semicolon, items, mapped_tree, more, named_type, no_fields, occurrences, record_type, some_fields, semicolon_then_fields, written_type}
 use Rattle.ob0_language_names.specs.Names.{Name, naming_by_spelling}
 use Rattle.ob0_language_names.specs.BlockParts.{names_in_list}
@@ -9,13 +9,13 @@ use Rattle.ob0_language_names.specs.Scopes.{Scope}
 use Rattle.ob0_types_table.specs.declared.types.TypeId.{TypeId}
 use Rattle.ob0_language_types.specs.Environments.{meanings}
 use Rattle.ob0_language_types.specs.Expressions as meant
-use Rattle.ob0_language_types.specs.Typing.{array_length, constant_value, denoted_type, denoted_group_fields, denoted_further_fields, depth, group_constructor_count, groups_constructor_count, scalars, type_of_type_object, prepend_fields, type_within_limits}
+use Rattle.ob0_language_types.specs.Typing.{array_length_from_value, constant_expression_value, denoted_type, denoted_group_fields, denoted_further_fields, depth, group_constructor_count, later_groups_constructor_count, scalars, type_of_type_object, prepend_fields, type_within_limits}
 use Rattle.ob0_language_types.specs.WellTyped.{Signature, TypeEnvironment, TypeMeanings, signature_of}
 use Rattle.ob0_language_values.specs.Values.{FieldShapes, Shape, Value, array_shape, no_field_shape, record_shape}
 use Rattle.ob0_types_check.specs.ExpressionFaults.{report_on_expression}
 use Rattle.ob0_types_check.specs.TypesAndMeanings.{Meaning, Operand, ResultWithFaults, a_constant, a_procedure, a_type, a_variable}
 use Rattle.ob0_types_check.specs.OperandFaults.{without_fault}
-use Rattle.ob0_types_check.specs.KnownDeclarations.{CompositeParts, TypeSize, KnownDeclarations, facts_from_declarations, is_within_limits, append_composite, make_composite_type, of_elements, size_of_type_so_far, report_on_too_large_type}
+use Rattle.ob0_types_check.specs.KnownDeclarations.{CompositeParts, TypeSize, KnownDeclarations, facts_from_declarations, is_within_limits, append_composite, make_composite_type, of_elements, size_of_known_type, report_on_too_large_type}
 use Rattle.ob0_types_check.specs.KnownDeclarations as so_far
 use Rattle.ob0_types_check.specs.TypeFaults.{length_from_operand, type_from_meaning}
 use Rattle.ob0_types_check.specs.WrittenTypeFaults.{KnownFields, made_array_type, array_size, no_known_fields, made_record_type, record_size, record_keyword_token, report_on_field_group, report_on_further_field_groups, next_type_ordinal, report_on_written_type, token_before_group}
@@ -77,8 +77,8 @@ meant-right p before x (Some (a_variable t)) o (u, reported, holds) s h = absurd
 meant-right p before x (Some (a_procedure fs)) o (signature, holds, formals) s h = no-type o signature s holds h
 
 -- No fault is reported for an array with a known length that isn't too large.
-array-right : (ordinal : ℕ) (o : Operand TypeId) (reported : Option ℕ) (count : ℕ) (u : so_far.TypeWithFollowingDeclarations) → reported ≡ Some count → is_within_limits (array_size count (size_of_type_so_far u.following.made u.of)) ≡ true → (made_array_type ordinal o reported u).faults ≡ []
-array-right ordinal o reported count u e h = ap (λ c. (made_array_type ordinal o c u).faults) e ∙ make_composite_type-right u.following _ ordinal (of_elements count u.of) (array_size count (size_of_type_so_far u.following.made u.of)) h
+array-right : (ordinal : ℕ) (o : Operand TypeId) (reported : Option ℕ) (count : ℕ) (u : so_far.TypeWithFollowingDeclarations) → reported ≡ Some count → is_within_limits (array_size count (size_of_known_type u.following.made u.of)) ≡ true → (made_array_type ordinal o reported u).faults ≡ []
+array-right ordinal o reported count u e h = ap (λ c. (made_array_type ordinal o c u).faults) e ∙ make_composite_type-right u.following _ ordinal (of_elements count u.of) (array_size count (size_of_known_type u.following.made u.of)) h
 
 module _ (w : Numbering) (fit : PartsFit) (fine : PartsRight) (n : ℕ) (scope : Scope Name) (env : TypeEnvironment Name) where
   abbrev here : TypeMeanings Name
@@ -94,32 +94,32 @@ module _ (w : Numbering) (fit : PartsFit) (fine : PartsRight) (n : ℕ) (scope :
     type_right around k (array_type e u) p before at st seen s h =
         let parts = each_part (IsSeen w scope) (occurrences e) (occurrences u) seen in
         let given : Option Shape = denoted_type here (suc k) (tree_with_names w.source u) in
-        let value : Option Value = constant_value here (tree_with_names w.source e) in
-        let (v, hv, later) = and-then (λ v. option_and_then (λ c. of_limits k c given) (array_length v)) value s h in
-        let (c, hc, last) = and-then (λ c. of_limits k c given) (array_length v) s later in
+        let value : Option Value = constant_expression_value here (tree_with_names w.source e) in
+        let (v, hv, later) = and-then (λ v. option_and_then (λ c. of_limits k c given) (array_length_from_value v)) value s h in
+        let (c, hc, last) = and-then (λ c. of_limits k c given) (array_length_from_value v) s later in
         let o : Operand TypeId = (report_on_expression (facts_from_declarations p true) e).known in
         let l : ResultWithFaults (Option ℕ) = length_from_operand (facts_from_declarations p false) o in
         let el : ResultWithFaults so_far.TypeWithFollowingDeclarations = report_on_written_type (suc around) p u in
         let agrees = agrees_where_seen w p true before n scope env st fit e parts.0 in
-        let there : is_some (option_and_then array_length (constant_value here (mapped_tree (token_text_at w.source) (token_value_at p.source) e))) ≡ true =
-        some-there (option_and_then array_length (constant_value here (mapped_tree (token_text_at w.source) (token_value_at p.source) e))) c
-        (ap (λ z. option_and_then array_length (constant_value here (mapped_tree (token_text_at w.source) (token_value_at z) e))) st.source ∙ (ap (option_and_then array_length) hv ∙ hc)) in
+        let there : is_some (option_and_then array_length_from_value (constant_expression_value here (mapped_tree (token_text_at w.source) (token_value_at p.source) e))) ≡ true =
+        some-there (option_and_then array_length_from_value (constant_expression_value here (mapped_tree (token_text_at w.source) (token_value_at p.source) e))) c
+        (ap (λ z. option_and_then array_length_from_value (constant_expression_value here (mapped_tree (token_text_at w.source) (token_value_at z) e))) st.source ∙ (ap (option_and_then array_length_from_value) hv ∙ hc)) in
         let none = fine.lengths p before (token_text_at w.source) here e agrees there in
         let a = none-reported (report_on_expression (facts_from_declarations p true) e).faults l.faults none in
         let long = fit.lengths p before (token_text_at w.source) here e agrees none in
-        let known : value ≡ Some long.value = ap (λ z. constant_value here (mapped_tree (token_text_at w.source) (token_value_at z) e)) (sym st.source) ∙ long.given in
+        let known : value ≡ Some long.value = ap (λ z. constant_expression_value here (mapped_tree (token_text_at w.source) (token_value_at z) e)) (sym st.source) ∙ long.given in
         let limited : of_limits k long.length given ≡ Some s = sym (array_given k value long.value long.length given known long.counted) ∙ h in
         let (r, hr, limits) = and-then (λ s. type_within_limits (array_shape k long.length s)) given s limited in
         let inner = type_right (suc around) (suc k) u p before (omega (arith, at)) st parts.1 r hr in
         let d = type_denotes w fit n scope env (suc around) (suc k) u p before (omega (arith, at)) st parts.1 inner in
-        let size = array_sized (size_of_type_so_far el.known.following.made el.known.of) k long.length d.shape (size_agrees el.known.following.made d.after el.known.of d.shape d.later.table d.known) in
-        let small = is-within (array_size long.length (size_of_type_so_far el.known.following.made el.known.of)) (array_shape k long.length d.shape) s size (given-again (λ s. type_within_limits (array_shape k long.length s)) given d.shape (Some s) d.given_is limited) in
+        let size = array_sized (size_of_known_type el.known.following.made el.known.of) k long.length d.shape (size_agrees el.known.following.made d.after el.known.of d.shape d.later.table d.known) in
+        let small = is-within (array_size long.length (size_of_known_type el.known.following.made el.known.of)) (array_shape k long.length d.shape) s size (given-again (λ s. type_within_limits (array_shape k long.length s)) given d.shape (Some s) d.given_is limited) in
         none-of-both (report_on_expression (facts_from_declarations p true) e).faults _ a.0
         (none-of-both l.faults _ a.1 (none-of-both el.faults (made_array_type (next_type_ordinal around p) o l.known el.known).faults inner (array-right (next_type_ordinal around p) o l.known long.length el.known long.known small)))
     type_right around k (record_type g rest) p before at st seen s h =
         let parts = each_part (IsSeen w scope) (occurrences g) (occurrences rest) seen in
         let c : ℕ = group_constructor_count (tree_with_names w.source g) in
-        let d : ℕ = groups_constructor_count (tree_with_names w.source rest) in
+        let d : ℕ = later_groups_constructor_count (tree_with_names w.source rest) in
         let own : FieldShapes → Option FieldShapes = λ ys. denoted_group_fields here (suc k) ys (tree_with_names w.source g) in
         let others : Option FieldShapes = denoted_further_fields here (suc k + c) (tree_with_names w.source rest) in
         let (ys, hy, later) = and-then (λ ys. option_and_then (λ fs. type_within_limits (record_shape k fs)) (own ys)) others s h in

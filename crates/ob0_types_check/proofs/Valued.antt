@@ -9,10 +9,10 @@ use Rattle.ob0_tree.specs.declared.tree.Relation.{Relation}
 use Rattle.ob0_tree.specs.declared.tree.Sign.{Sign}
 use Rattle.ob0_tree.specs.Tree.{Tree, addend, adds, compares, designator, end, factor, field, index, item, items, more, multiplier, multiplies, negation, one, product, relates, selector, simple, sum, term}
 use Rattle.ob0_types_table.specs.Operators.{product_value, sum_value}
-use Rattle.ob0_language_types.specs.Expressions.{Meanings, a_constant, element_step, evaluate, evaluate_addends, evaluate_factor, evaluate_multipliers, evaluate_simple, evaluate_term, evaluate_selectors, object_value}
+use Rattle.ob0_language_types.specs.Expressions.{Meanings, a_constant, element_step, evaluate, evaluate_addends, evaluate_factor, evaluate_multipliers, evaluate_simple_expression, evaluate_term, evaluate_selectors, object_value}
 use Rattle.ob0_language_types.specs.DesignatorSelectors.{apply_to_both_options}
 use Rattle.ob0_language_types.specs.Typing.{outcome_value, value_type}
-use Rattle.ob0_language_values.specs.Values.{Outcome, Place, Value, add, add_operator_short_circuits, value_at_path, elements, ends_run_with, succeeds_with, members, multiply, multiply_operator_short_circuits, negate, number, or_stuck, value_at_step, apply_relation, apply_sign, truth, ◌>>=◌}
+use Rattle.ob0_language_values.specs.Values.{Outcome, Place, Value, add, add_operator_short_circuits, value_at_path, elements, ends_run_with, succeeds_with, members, multiply, multiply_operator_short_circuits, negate, number, result_or_stuck, value_at_step, apply_relation, apply_sign, truth, ◌>>=◌}
 
 given_step : (o : Outcome Value) (next : Value → Outcome Value) → outcome_value (o >>= next) ≡ option_and_then (λ x. outcome_value (next x)) (outcome_value o)
 given_step (succeeds_with v) next = refl
@@ -24,14 +24,14 @@ given_settled false x o operation = given_step o operation
 
 module _ {N : Type 0} (among : Meanings N Place (Unit {0})) where
   pub related-value_agrees : (r : Relation) (a b : Tree N simple)
-      → outcome_value (evaluate among [] (compares a (one (relates r b)))) ≡ apply_to_both_options (λ x y. outcome_value (apply_relation r x y)) (outcome_value (evaluate_simple among [] a)) (outcome_value (evaluate_simple among [] b))
+      → outcome_value (evaluate among [] (compares a (one (relates r b)))) ≡ apply_to_both_options (λ x y. outcome_value (apply_relation r x y)) (outcome_value (evaluate_simple_expression among [] a)) (outcome_value (evaluate_simple_expression among [] b))
   unfolding evaluate
   related-value_agrees r a b =
-      given_step (evaluate_simple among [] a) (λ x. evaluate_simple among [] b >>= apply_relation r x)
-      ∙ ap (λ next. option_and_then next (outcome_value (evaluate_simple among [] a))) (λ i x. given_step (evaluate_simple among [] b) (apply_relation r x) i)
+      given_step (evaluate_simple_expression among [] a) (λ x. evaluate_simple_expression among [] b >>= apply_relation r x)
+      ∙ ap (λ next. option_and_then next (outcome_value (evaluate_simple_expression among [] a))) (λ i x. given_step (evaluate_simple_expression among [] b) (apply_relation r x) i)
 
   pub simple-value_agrees : (s : Option Sign) (t : Tree N term) (rest : Tree N (items addend))
-      → outcome_value (evaluate_simple among [] (sum s t rest)) ≡ option_and_then (λ x. option_and_then (λ y. outcome_value (evaluate_addends among [] y rest)) (outcome_value (apply_sign s x))) (outcome_value (evaluate_term among [] t))
+      → outcome_value (evaluate_simple_expression among [] (sum s t rest)) ≡ option_and_then (λ x. option_and_then (λ y. outcome_value (evaluate_addends among [] y rest)) (outcome_value (apply_sign s x))) (outcome_value (evaluate_term among [] t))
   unfolding evaluate
   simple-value_agrees s t rest =
       given_step (evaluate_term among [] t) (λ x. apply_sign s x >>= (λ y. evaluate_addends among [] y rest))
@@ -62,17 +62,17 @@ module _ {N : Type 0} (among : Meanings N Place (Unit {0})) where
       ∙ ap (option_and_then (λ y. outcome_value (evaluate_multipliers among [] y fs))) (given_settled (multiply_operator_short_circuits o x) x (evaluate_factor among [] f) (multiply o x))
 
   -- A name without selectors has the value of its constant.
-  whole-value : (v : Option Value) → outcome_value (object_value {P = Unit {0}} [] (option_map a_constant v) >>= (λ w. succeeds_with [] >>= (λ steps. or_stuck (value_at_path steps w)))) ≡ v
+  whole-value : (v : Option Value) → outcome_value (object_value {P = Unit {0}} [] (option_map a_constant v) >>= (λ w. succeeds_with [] >>= (λ steps. result_or_stuck (value_at_path steps w)))) ≡ v
   whole-value None = refl
   whole-value (Some v) = refl
 
   pub name-value_agrees : (x : N) (c : Option Value) → among.object_for x ≡ option_map a_constant c → outcome_value (evaluate_factor among [] (designator x end)) ≡ c
   unfolding evaluate
-  name-value_agrees x c e = ap (λ o. outcome_value (object_value [] o >>= (λ w. succeeds_with [] >>= (λ steps. or_stuck (value_at_path steps w))))) e ∙ whole-value c
+  name-value_agrees x c e = ap (λ o. outcome_value (object_value [] o >>= (λ w. succeeds_with [] >>= (λ steps. result_or_stuck (value_at_path steps w))))) e ∙ whole-value c
 
   -- Selecting from a constant gives no value, because a constant has no parts.
   index-none : (v : Value) (o : Outcome Value) (ts : Tree N (items selector)) → is_some (value_type v) ≡ true
-      → outcome_value ((o >>= (λ i. element_step v i >>= (λ s. or_stuck (value_at_step v s) >>= (λ w. evaluate_selectors among [] w ts >>= (λ steps. succeeds_with (s ∷ steps)))))) >>= (λ steps. or_stuck (value_at_path steps v))) ≡ None
+      → outcome_value ((o >>= (λ i. element_step v i >>= (λ s. result_or_stuck (value_at_step v s) >>= (λ w. evaluate_selectors among [] w ts >>= (λ steps. succeeds_with (s ∷ steps)))))) >>= (λ steps. result_or_stuck (value_at_path steps v))) ≡ None
   index-none v (ends_run_with e) ts h = refl
   index-none (number n) (succeeds_with i) ts h = refl
   index-none (truth b) (succeeds_with i) ts h = refl
@@ -80,7 +80,7 @@ module _ {N : Type 0} (among : Meanings N Place (Unit {0})) where
   index-none (members k ms) (succeeds_with i) ts h = absurd (cc)
 
   value_at_step-value : (v : Value) (s : Tree N (item selector)) (ts : Tree N (items selector)) → is_some (value_type v) ≡ true
-      → outcome_value (evaluate_selectors among [] v (more s ts) >>= (λ steps. or_stuck (value_at_path steps v))) ≡ None
+      → outcome_value (evaluate_selectors among [] v (more s ts) >>= (λ steps. result_or_stuck (value_at_path steps v))) ≡ None
   unfolding evaluate
   value_at_step-value (number n) (field x) ts h = refl
   value_at_step-value (truth b) (field x) ts h = refl
@@ -89,7 +89,7 @@ module _ {N : Type 0} (among : Meanings N Place (Unit {0})) where
   value_at_step-value v (index e) ts h = index-none v (evaluate among [] e) ts h
 
   parts-value : (c : Option Value) → ((v : Value) → c ≡ Some v → is_some (value_type v) ≡ true) → (s : Tree N (item selector)) (ts : Tree N (items selector))
-      → outcome_value (object_value {P = Unit {0}} [] (option_map a_constant c) >>= (λ v. evaluate_selectors among [] v (more s ts) >>= (λ steps. or_stuck (value_at_path steps v)))) ≡ None
+      → outcome_value (object_value {P = Unit {0}} [] (option_map a_constant c) >>= (λ v. evaluate_selectors among [] v (more s ts) >>= (λ steps. result_or_stuck (value_at_path steps v)))) ≡ None
   parts-value None scalar s ts = refl
   parts-value (Some v) scalar s ts = value_at_step-value v s ts (scalar v refl)
 
@@ -97,4 +97,4 @@ module _ {N : Type 0} (among : Meanings N Place (Unit {0})) where
       → ((v : Value) → c ≡ Some v → is_some (value_type v) ≡ true) → outcome_value (evaluate_factor among [] (designator x (more s ts))) ≡ None
   unfolding evaluate
   parts-value_agrees x c s ts e scalar =
-      ap (λ o. outcome_value (object_value [] o >>= (λ v. evaluate_selectors among [] v (more s ts) >>= (λ steps. or_stuck (value_at_path steps v))))) e ∙ parts-value c scalar s ts
+      ap (λ o. outcome_value (object_value [] o >>= (λ v. evaluate_selectors among [] v (more s ts) >>= (λ steps. result_or_stuck (value_at_path steps v))))) e ∙ parts-value c scalar s ts

@@ -3,17 +3,17 @@
 -- names is bound.
 use Rattle.std.proofs.Common.{◌≡◌, ℕ, zero, suc, false, true≢false, Option, Some, None, List, [], ◌∷◌, map, refl, sym, ap, ◌∙◌, subst, arith}
 use Rattle.ob0_tree.specs.ParsedModule.{tree_of}
-use Rattle.ob0_tree.specs.Places.{tree_with_names, token_text_at, token_value_at}
+use Rattle.ob0_tree.specs.TokenIndexLeaves.{tree_with_names, token_text_at, token_value_at}
 use Rattle.ob0_tree.specs.Tree.{Tree, block, declares, declares_procedure, end, forms_block, forms_module, item, items, mapped_tree, module_text, more, occurrences, procedure}
 use Rattle.ob0_language_names.specs.Names.{Label, Name, Naming, naming_by_spelling}
-use Rattle.ob0_language_names.specs.BlockParts.{constant_names, formal_names, formal_sections, module_block, declared_type_names, procedure_name, section_constants, section_types, section_variables, variable_names}
+use Rattle.ob0_language_names.specs.BlockParts.{constant_names, formal_parameter_names, formal_parameter_sections, module_block, declared_type_names, procedure_name, section_constants, section_types, section_variables, variable_names}
 use Rattle.ob0_language_names.specs.Scopes.{Labelling, Scope, ordinal_after_block, ordinal_after_names, ordinal_after_procedure, ordinal_after_procedure_list, label_from_ordinal, declare_names, declare_procedure_names, first_procedure_ordinal, first_type_ordinal, first_variable_ordinal, numbered, predeclared_scope, scope_before_procedures, relabel_block, relabel_constant_section, relabel_formals, relabel_procedure, relabel_procedure_list, relabel_type_section, relabel_uses, relabel_variable_section, relabel_module, scope_before_types, scope_before_variables}
 use Rattle.ob0_language_names.proofs.OccurrencesMapped.{occurrences-mapped}
 use Rattle.ob0_language_types.proofs.Proved.{numbering_keeps_type_check-holds}
-use Rattle.ob0_scope_table.specs.BodyReplacement.{PathToBody, block_without_body, procedure_without_body, procedures_without_body, module_without_body}
-use Rattle.ob0_scope_table.specs.Resolution.{IsResolution, Resolution, ordinal_and_spelling_at, is_unbound, label_from_table, ordinal_in, ordinal_and_spelling}
+use Rattle.ob0_scope_table.specs.BodyReplacement.{PathToBody, block_without_body, procedure_without_body, procedure_list_without_body, module_without_body}
+use Rattle.ob0_scope_table.specs.Resolution.{IsResolution, Resolution, ordinal_and_spelling_at_token, is_unbound, label_from_table, ordinal_in, ordinal_and_spelling}
 use Rattle.ob0_scope_table.proofs.BodyReplacement.{without_mapped}
-use Rattle.ob0_types_check.specs.NewBody.{PassesTypeCheckWithoutBody}
+use Rattle.ob0_types_check.specs.TypeCheckWithoutBody.{PassesTypeCheckWithoutBody}
 use Rattle.ob0_types_check.proofs.BoundModules.{labels-bound}
 use Rattle.ob0_types_check.proofs.DeclaredModules.{module_counted, numbering_of}
 use Rattle.ob0_types_check.proofs.DeclaredNames.{BlockPlaced, Each, IsBound, Numbering, block_placed}
@@ -26,18 +26,18 @@ mutual
   ordinal_after_block-module_without_body (j ∷ path) k (forms_block (declares cs ts vs ps) a) =
       ordinal_after_procedure_list-module_without_body j path (ordinal_after_names (ordinal_after_names (ordinal_after_names k (constant_names (section_constants cs))) (declared_type_names (section_types ts))) (variable_names (section_variables vs))) ps
 
-  ordinal_after_procedure_list-module_without_body : {N : Type 0} (j : ℕ) (path : PathToBody) (k : ℕ) (ps : Tree N (items procedure)) → ordinal_after_procedure_list k (procedures_without_body j path ps) ≡ ordinal_after_procedure_list k ps
+  ordinal_after_procedure_list-module_without_body : {N : Type 0} (j : ℕ) (path : PathToBody) (k : ℕ) (ps : Tree N (items procedure)) → ordinal_after_procedure_list k (procedure_list_without_body j path ps) ≡ ordinal_after_procedure_list k ps
   ordinal_after_procedure_list-module_without_body j path k end = refl
   ordinal_after_procedure_list-module_without_body zero path k (more p rest) = ap (λ i. ordinal_after_procedure_list i rest) (ordinal_after_procedure-module_without_body path (suc k) p)
   ordinal_after_procedure_list-module_without_body (suc j) path k (more p rest) = ordinal_after_procedure_list-module_without_body j path (ordinal_after_procedure (suc k) p) rest
 
   ordinal_after_procedure-module_without_body : {N : Type 0} (path : PathToBody) (k : ℕ) (p : Tree N (item procedure)) → ordinal_after_procedure k (procedure_without_body path p) ≡ ordinal_after_procedure k p
-  ordinal_after_procedure-module_without_body path k (declares_procedure x fs b closing) = ordinal_after_block-module_without_body path (ordinal_after_names k (formal_names (formal_sections fs))) b
+  ordinal_after_procedure-module_without_body path k (declares_procedure x fs b closing) = ordinal_after_block-module_without_body path (ordinal_after_names k (formal_parameter_names (formal_parameter_sections fs))) b
 
 pub procedure_name-module_without_body : {N : Type 0} (path : PathToBody) (p : Tree N (item procedure)) → procedure_name (procedure_without_body path p) ≡ procedure_name p
 procedure_name-module_without_body path (declares_procedure x fs b closing) = refl
 
-declared-module_without_body : {N : Type 0} (j : ℕ) (path : PathToBody) (k : ℕ) (ps : Tree N (items procedure)) (scope : Scope N) → declare_procedure_names k (procedures_without_body j path ps) scope ≡ declare_procedure_names k ps scope
+declared-module_without_body : {N : Type 0} (j : ℕ) (path : PathToBody) (k : ℕ) (ps : Tree N (items procedure)) (scope : Scope N) → declare_procedure_names k (procedure_list_without_body j path ps) scope ≡ declare_procedure_names k ps scope
 declared-module_without_body j path k end scope = refl
 declared-module_without_body zero path k (more p rest) scope = λ i. declare_procedure_names (ordinal_after_procedure-module_without_body path (suc k) p i) rest ((procedure_name-module_without_body path p i, k) ∷ scope)
 declared-module_without_body (suc j) path k (more p rest) scope = declared-module_without_body j path (ordinal_after_procedure (suc k) p) rest ((procedure_name p, k) ∷ scope)
@@ -56,7 +56,7 @@ module _ {N M : Type 0} (naming : Naming N) (label : Labelling N M) where
         (relabel_procedure_list-module_without_body j path (scope_before_procedures k b scope) (first_procedure_ordinal k b) ps i))
         (relabel_uses naming label (declared-module_without_body j path (first_procedure_ordinal k b) ps (scope_before_procedures k b scope) i) a)
 
-    relabel_procedure_list-module_without_body : (j : ℕ) (path : PathToBody) (scope : Scope N) (k : ℕ) (ps : Tree N (items procedure)) → relabel_procedure_list naming label scope k (procedures_without_body j path ps) ≡ procedures_without_body j path (relabel_procedure_list naming label scope k ps)
+    relabel_procedure_list-module_without_body : (j : ℕ) (path : PathToBody) (scope : Scope N) (k : ℕ) (ps : Tree N (items procedure)) → relabel_procedure_list naming label scope k (procedure_list_without_body j path ps) ≡ procedure_list_without_body j path (relabel_procedure_list naming label scope k ps)
     relabel_procedure_list-module_without_body j path scope k end = refl
     relabel_procedure_list-module_without_body zero path scope k (more p rest) =
         λ i. more (relabel_procedure-module_without_body path scope k p i) (relabel_procedure_list naming label ((procedure_name-module_without_body path p i, k) ∷ scope) (ordinal_after_procedure-module_without_body path (suc k) p i) rest)
@@ -65,7 +65,7 @@ module _ {N M : Type 0} (naming : Naming N) (label : Labelling N M) where
     relabel_procedure-module_without_body : (path : PathToBody) (scope : Scope N) (k : ℕ) (p : Tree N (item procedure)) → relabel_procedure naming label scope k (procedure_without_body path p) ≡ procedure_without_body path (relabel_procedure naming label scope k p)
     relabel_procedure-module_without_body path scope k (declares_procedure x fs b closing) =
         ap (λ c. declares_procedure (label (Some k) x) (relabel_formals naming label scope (suc k) fs) c (label (Some k) closing))
-        (relabel_block-module_without_body path (declare_names (suc k) (formal_names (formal_sections fs)) ((x, k) ∷ scope)) (ordinal_after_names (suc k) (formal_names (formal_sections fs))) b)
+        (relabel_block-module_without_body path (declare_names (suc k) (formal_parameter_names (formal_parameter_sections fs)) ((x, k) ∷ scope)) (ordinal_after_names (suc k) (formal_parameter_names (formal_parameter_sections fs))) b)
 
   relabel_module-module_without_body : (path : PathToBody) (t : Tree N module_text) → relabel_module naming label (module_without_body path t) ≡ module_without_body path (relabel_module naming label t)
   relabel_module-module_without_body path (forms_module x b closing) = ap (λ c. forms_module (label None x) c (label None closing)) (relabel_block-module_without_body path (predeclared_scope naming) 7 b)
@@ -116,5 +116,5 @@ module _ (r : Resolution) (closing : ℕ) (is : IsResolution r) (f : PassesTypeC
   left_placed =
       let n : Numbering = numbering_of r in
       let b : Tree ℕ block = module_block (tree_of r.module_read) in
-      block_placed n (predeclared_scope naming_by_spelling) 7 (block_without_body f.path b) (ap module_block (left_by ordinal_and_spelling (ordinal_and_spelling_at r.module_read.source r.ordinals) is.binding)) left_bound
+      block_placed n (predeclared_scope naming_by_spelling) 7 (block_without_body f.path b) (ap module_block (left_by ordinal_and_spelling (ordinal_and_spelling_at_token r.module_read.source r.ordinals) is.binding)) left_bound
       (omega (arith, module_counted r is, ordinal_after_block-module_without_body f.path 7 b))

@@ -8,11 +8,11 @@ use Rattle.ob0_types_table.specs.declared.types.TypeId.TheVariants as type
 use Rattle.ob0_types_table.specs.DeclarationTableView.{mode_from_flag}
 use Rattle.ob0_tree.specs.declared.tree.Role.{Role}
 use Rattle.ob0_tree.specs.declared.tree.Role.TheVariants as role
-use Rattle.ob0_tree.specs.Places.{token_text_at}
+use Rattle.ob0_tree.specs.TokenIndexLeaves.{token_text_at}
 use Rattle.ob0_tree.specs.Tree.{Sort, Tree, identifiers}
 use Rattle.ob0_language_types.specs.Expressions as meant
 use Rattle.ob0_language_types.specs.Typing as typing
-use Rattle.ob0_language_types.specs.Typing.{shape_of_field, value_type}
+use Rattle.ob0_language_types.specs.Typing.{named_field_shape, value_type}
 use Rattle.ob0_language_types.specs.WellTyped.{Signature, TypeMeanings, signature_of}
 use Rattle.ob0_language_values.specs.Values.{FieldShapes, Shape, Value, array_shape, boolean_shape, integer_shape, next_field_shape, no_field_shape, record_shape}
 use Rattle.ob0_types_check.specs.TypesAndMeanings.{Facts, TypeForm, KnownParameter, Meaning, Types, a_constant, a_procedure, a_record, a_scalar, a_type, a_variable, an_array, unknown_form}
@@ -28,7 +28,7 @@ FormAgreesWithShape shape (a_record fields) s =
     (k : ℕ)
     × (fs : FieldShapes)
     × (s ≡ record_shape k fs)
-    × ((x : Name) → option_map shape (fields x) ≡ option_map Some (shape_of_field fs x))
+    × ((x : Name) → option_map shape (fields x) ≡ option_map Some (named_field_shape fs x))
 FormAgreesWithShape shape unknown_form s = ⊥
 
 -- States that types agree with their shapes. Equal types have the same shape, and the form of a type has the parts of
@@ -106,11 +106,11 @@ abbrev pub TokenAgreesWithLabel : {T N : Type 0}
     → Role
     → ℕ
     → Type 0
-TokenAgreesWithLabel facts shape label meaning role.LookedUp x =
+TokenAgreesWithLabel facts shape label meaning role.LookedUpName x =
     IsKnownAndAgreesWithObject shape (facts.object_for x) (meaning.object_for (label x))
 TokenAgreesWithLabel facts shape label meaning role.FieldName x =
     meaning.written (label x) ≡ token_text_at facts.source x
-TokenAgreesWithLabel facts shape label meaning role.Declaring x = Unit {0}
+TokenAgreesWithLabel facts shape label meaning role.DeclaringName x = Unit {0}
 TokenAgreesWithLabel facts shape label meaning role.ClosingName x = Unit {0}
 TokenAgreesWithLabel facts shape label meaning role.ModuleName x = Unit {0}
 
@@ -133,7 +133,7 @@ pub record FactsAgreeWithShapesAndLabels
     {T N : Type 0} (facts : Facts T) (shape : T → Option Shape) (label : ℕ → N) (meaning : TypeMeanings N)
     {s : Sort} (t : Tree ℕ s) : Type 0 where
   pub types : TypesAgreeWithShapes facts.types shape
-  pub tokens : TokensAgreeWithLabels facts shape label meaning (identifiers role.Declaring t)
+  pub tokens : TokensAgreeWithLabels facts shape label meaning (identifiers role.DeclaringName t)
 
 -- returns the shape if it is an array's, otherwise None
 abbrev pub shape_if_array : Shape → Option Shape

@@ -6,14 +6,14 @@ use Rattle.ob0_language_names.specs.Names.{Name}
 use Rattle.ob0_scope_table.specs.Resolution.{ordinal_in}
 use Rattle.ob0_scope_table.specs.declared.faults.FaultAtTokens.{FaultAtTokens}
 use Rattle.ob0_types_table.specs.FirstFieldMaps.{type_of_first_field_named}
-use Rattle.ob0_types_table.specs.declared.known.Field.{Field}
-use Rattle.ob0_types_table.specs.declared.known.FormalParameter as formal
-use Rattle.ob0_types_table.specs.declared.known.TypeEntry.{TypeEntry}
-use Rattle.ob0_types_table.specs.declared.known.TypeEntry.TheVariants as made
+use Rattle.ob0_types_table.specs.declared.declaration_table.Field.{Field}
+use Rattle.ob0_types_table.specs.declared.declaration_table.FormalParameter as formal
+use Rattle.ob0_types_table.specs.declared.declaration_table.TypeEntry.{TypeEntry}
+use Rattle.ob0_types_table.specs.declared.declaration_table.TypeEntry.TheVariants as made
 use Rattle.ob0_types_table.specs.DeclarationTables.{DeclarationTableView}
-use Rattle.ob0_types_table.specs.declared.known.Object as object
-use Rattle.ob0_types_table.specs.declared.known.Object.TheVariants as kind
-use Rattle.ob0_types_table.specs.declared.known.StandardProcedure.TheVariants as standards
+use Rattle.ob0_types_table.specs.declared.declaration_table.Object as object
+use Rattle.ob0_types_table.specs.declared.declaration_table.Object.TheVariants as kind
+use Rattle.ob0_types_table.specs.declared.declaration_table.StandardProcedure.TheVariants as standards
 use Rattle.ob0_types_table.specs.declared.types.TypeId.{TypeId}
 use Rattle.ob0_types_table.specs.declared.types.TypeId.TheVariants as type
 use Rattle.ob0_language_values.specs.Scalars.{scalar_value}
@@ -25,7 +25,7 @@ use Rattle.ob0_types_check.specs.declared.reporting.checker_state.CheckerState.{
 use Rattle.ob0_types_check.specs.declared.reporting.written_types.KnownFields as gathering
 use Rattle.ob0_types_check.specs.TypesAndMeanings.{Facts, TypeForm, KnownParameter, Meaning, Operand, ResultWithFaults, Types, a_constant, a_procedure, a_record, a_scalar, a_type, a_variable, an_array, unknown_form}
 use Rattle.ob0_types_check.specs.DeclarationFaults.{KnownHeading}
-use Rattle.ob0_types_check.specs.KnownDeclarations.{CompositeType, TypeSize, KnownDeclarations, KnownField, of_elements, of_fields, same_type}
+use Rattle.ob0_types_check.specs.KnownDeclarations.{CompositeType, TypeSize, KnownDeclarations, KnownField, of_elements, of_fields, is_same_type}
 use Rattle.ob0_types_check.specs.WrittenTypeFaults.{KnownFields}
 
 -- returns the element type of an entry that is an array; the unknown type for any other entry and for None
@@ -56,20 +56,20 @@ type_id_representation composites =
       integer = type.Integer;
       boolean = type.Boolean;
       unknown = type.Unknown;
-      same = same_type;
+      same = is_same_type;
       form = form_of_type_in composites;
     }
 
 -- converts a formal parameter of the code to a formal parameter of the definitions
-abbrev pub formal_of : formal.FormalParameter → KnownParameter TypeId
-formal_of f = record { by_place = f.by_place; of = f.of }
+abbrev pub known_parameter_of : formal.FormalParameter → KnownParameter TypeId
+known_parameter_of f = record { by_place = f.by_place; of = f.of }
 
 -- converts the meaning of a declaration from the code to the definitions
 abbrev pub meaning_view : meaning.Meaning → Meaning TypeId
 meaning_view (declared.Named t) = a_type t
 meaning_view (declared.Constant v) = a_constant (option_map scalar_value v)
 meaning_view (declared.Variable t) = a_variable t
-meaning_view (declared.Procedure fs) = a_procedure (map formal_of fs.items)
+meaning_view (declared.Procedure fs) = a_procedure (map known_parameter_of fs.items)
 
 -- returns the meaning of the name at a token; None if the name is unbound or its declaration isn't known yet
 abbrev pub meaning_in_state : CheckerState → ℕ → Option meaning.Meaning
@@ -133,7 +133,7 @@ declarations_in_state s = record {
 -- converts the parameters of a heading, and the code's state after them, to a heading of the definitions
 -- (`KnownHeading`)
 abbrev pub heading_in_state : CheckerState → List formal.FormalParameter → KnownHeading
-heading_in_state s formals = record { formals = map formal_of formals; following = declarations_in_state s }
+heading_in_state s formals = record { formals = map known_parameter_of formals; following = declarations_in_state s }
 
 -- caps both numbers of a size at 2^64 - 1, because the code's arithmetic stops there
 abbrev pub capped_size : TypeSize → TypeSize
@@ -142,27 +142,27 @@ capped_size z = record { scalars = min z.scalars (2 ^ 64 - 1); depth = min z.dep
 -- States that the fields `now`, which the code has found, are the fields of `g`. Their total size
 -- must be the size in `g`, capped at 2^64 - 1. Also states that the declarations known in the code's
 -- state `s` are those that `g` has after these fields (`following`).
-pub record HasKnownFields (g : KnownFields) (s : CheckerState) (now : gathering.KnownFields) : Type 0 where
+pub record CodeFieldsMatchKnownFields (g : KnownFields) (s : CheckerState) (now : gathering.KnownFields) : Type 0 where
   pub fields : known_fields_of now.fields.items ≡ g.fields
   pub size : size_of now.size ≡ capped_size g.size
   pub following : declarations_in_state s ≡ g.following
 
 -- States that the code has found the fields of the result `t` and reported its faults. `gathered` has these fields, and
 -- `s` is the state after them. The list of faults was `before`, and `after` is this list followed by the faults of `t`.
-pub record AddsKnownFields
+pub record CodeFindsFieldsAndReports
     (before after : List FaultAtTokens) (s : CheckerState) (gathered : gathering.KnownFields)
     (t : ResultWithFaults KnownFields) : Type 0 where
   pub reported : after ≡ before ++ t.faults
-  pub now : HasKnownFields t.known s gathered
+  pub now : CodeFieldsMatchKnownFields t.known s gathered
 
 -- returns the object of a declaration in the code's table; a constant without a value becomes
 -- `FaultyConstant`
-abbrev pub table_object : meaning.Meaning → object.Object
-table_object (declared.Named t) = kind.Named t
-table_object (declared.Constant (Some v)) = kind.Constant v
-table_object (declared.Constant None) = kind.FaultyConstant
-table_object (declared.Variable t) = kind.Variable t
-table_object (declared.Procedure fs) = kind.Procedure fs
+abbrev pub table_object_of_meaning : meaning.Meaning → object.Object
+table_object_of_meaning (declared.Named t) = kind.Named t
+table_object_of_meaning (declared.Constant (Some v)) = kind.Constant v
+table_object_of_meaning (declared.Constant None) = kind.FaultyConstant
+table_object_of_meaning (declared.Variable t) = kind.Variable t
+table_object_of_meaning (declared.Procedure fs) = kind.Procedure fs
 
 -- replaces the objects at the ordinals of Read, Write and WriteLn by the standard procedures
 abbrev pub with_standard_procedures : List (Option object.Object) → List (Option object.Object)
@@ -177,5 +177,5 @@ abbrev pub table_in_state : CheckerState → DeclarationTableView
 table_in_state s =
     record {
       shapes = s.composites.items;
-      objects = with_standard_procedures (map (option_map table_object) s.meanings.items);
+      objects = with_standard_procedures (map (option_map table_object_of_meaning) s.meanings.items);
     }

@@ -5,7 +5,7 @@
 -- Rule: docs/LANGUAGE.md, Faults of scopes and types 2 to 11.
 use Rattle.std.specs.Prelude.{ℕ, Bool, true, false, List, [], ◌∷◌, ◌++◌, map}
 use Rattle.std.specs.List.{filter}
-use Rattle.ob0_language_names.specs.BlockParts.{formal_sections, module_block, names_in_list, section_constants, section_types, section_variables}
+use Rattle.ob0_language_names.specs.BlockParts.{formal_parameter_sections, module_block, names_in_list, section_constants, section_types, section_variables}
 use Rattle.ob0_scope_table.specs.Resolution.{Resolution, is_undeclared_fault}
 use Rattle.ob0_scope_table.specs.declared.faults.FaultAtTokens.{FaultAtTokens}
 use Rattle.ob0_types_table.specs.declared.types.TypeId.{TypeId}
@@ -13,7 +13,7 @@ use Rattle.ob0_tree.specs.ParsedModule.{tree_of}
 use Rattle.ob0_tree.specs.Tree.{Tree, begins, block, body, constant, declares, declares_constant, declares_procedure, declares_type, declares_variable, end, section_after_semicolon, forms_block, item, items, maybe, more, names, none, one, procedure, semicolon_then_section, type_definition, value_section, variable, variable_section, written_type}
 use Rattle.ob0_types_check.specs.TypesAndMeanings.{KnownParameter, ResultWithFaults, a_constant, a_procedure, a_type, a_variable}
 use Rattle.ob0_types_check.specs.OperandFaults.{without_fault, ◌>>=◌}
-use Rattle.ob0_types_check.specs.KnownDeclarations.{KnownDeclarations, TypeWithFollowingDeclarations, known_declarations_at_start, define_name_at_token, define_names_at_tokens, facts_from_declarations}
+use Rattle.ob0_types_check.specs.KnownDeclarations.{KnownDeclarations, TypeWithFollowingDeclarations, known_declarations_at_module_start, define_name_at_token, define_listed_names, facts_from_declarations}
 use Rattle.ob0_types_check.specs.StatementFaults.{sequence_faults}
 use Rattle.ob0_types_check.specs.TypeFaults.{report_on_constant_expression}
 use Rattle.ob0_types_check.specs.WrittenTypeFaults.{report_on_written_type}
@@ -55,7 +55,7 @@ unfoldable pub report_on_variable_group : KnownDeclarations → Tree ℕ (item v
 unfolding report_on_written_type
 report_on_variable_group p (declares_variable ns t) = do
   u ← report_on_written_type 0 p t
-  without_fault (define_names_at_tokens u.following (a_variable u.of) (names_in_list ns))
+  without_fault (define_listed_names u.following (a_variable u.of) (names_in_list ns))
 
 -- returns the faults of variable declarations, and the known declarations with these variables added; each group of
 -- variables is known to the declarations after it
@@ -74,32 +74,32 @@ pub record KnownHeading : Type 0 where
 
 -- Returns the heading `h` with one more parameter for each of these name tokens. All have the type `t.of`. If the Bool
 -- is true, they are VAR parameters. The parameters are also declared as variables of the procedure.
-abbrev pub with_parameters : KnownHeading → Bool → List ℕ → TypeWithFollowingDeclarations → KnownHeading
-with_parameters h by_place xs t =
+abbrev pub heading_with_parameters : KnownHeading → Bool → List ℕ → TypeWithFollowingDeclarations → KnownHeading
+heading_with_parameters h by_place xs t =
     record {
       formals = h.formals ++ map (λ x. record { by_place = by_place; of = t.of }) xs;
-      following = define_names_at_tokens t.following (a_variable t.of) xs;
+      following = define_listed_names t.following (a_variable t.of) xs;
     }
 
 -- Returns the faults of a section of parameters of one type, and the heading `h` with these parameters added. If the
 -- Bool is true, the parameters are VAR parameters.
-unfoldable pub report_on_parameters : KnownHeading
+unfoldable pub report_on_parameters_of_one_type : KnownHeading
     → Bool
     → Tree ℕ names
     → Tree ℕ written_type
     → ResultWithFaults KnownHeading
 unfolding report_on_written_type
-report_on_parameters h by_place ns t = do
+report_on_parameters_of_one_type h by_place ns t = do
   u ← report_on_written_type 0 h.following t
-  without_fault (with_parameters h by_place (names_in_list ns) u)
+  without_fault (heading_with_parameters h by_place (names_in_list ns) u)
 
 -- returns the faults of one section of parameters, and the heading `h` with these parameters added
 unfoldable pub report_on_parameter_section : KnownHeading
     → Tree ℕ (item section_after_semicolon)
     → ResultWithFaults KnownHeading
-unfolding report_on_parameters
-report_on_parameter_section h (semicolon_then_section (value_section ns t)) = report_on_parameters h false ns t
-report_on_parameter_section h (semicolon_then_section (variable_section ns t)) = report_on_parameters h true ns t
+unfolding report_on_parameters_of_one_type
+report_on_parameter_section h (semicolon_then_section (value_section ns t)) = report_on_parameters_of_one_type h false ns t
+report_on_parameter_section h (semicolon_then_section (variable_section ns t)) = report_on_parameters_of_one_type h true ns t
 
 -- returns the faults of a heading's sections, and the heading with all parameters
 unfoldable pub report_on_parameter_sections : KnownHeading
@@ -122,8 +122,8 @@ pub record WalkProgress : Type 0 where
   pub bodies_with_faults : List ℕ
 
 -- returns the walk with other declarations and the same list of bodies
-abbrev pub with_declarations : WalkProgress → KnownDeclarations → WalkProgress
-with_declarations w p = record { so_far = p; bodies_with_faults = w.bodies_with_faults }
+abbrev pub walk_with_declarations : WalkProgress → KnownDeclarations → WalkProgress
+walk_with_declarations w p = record { so_far = p; bodies_with_faults = w.bodies_with_faults }
 
 -- returns the faults of a body's statements; a missing body has no faults
 unfoldable pub body_faults : KnownDeclarations → Tree ℕ (maybe body) → List FaultAtTokens
@@ -133,9 +133,9 @@ body_faults p (one (begins statements)) = sequence_faults (facts_from_declaratio
 
 -- appends `own`, the closing name of a body's block, to the list `bodies_with_faults` if the body's list of faults
 -- isn't empty
-abbrev pub with_body_if_faulty : List FaultAtTokens → ℕ → List ℕ → List ℕ
-with_body_if_faulty [] own bodies_with_faults = bodies_with_faults
-with_body_if_faulty (fault ∷ faults) own bodies_with_faults = bodies_with_faults ++ own ∷ []
+abbrev pub append_body_if_faulty : List FaultAtTokens → ℕ → List ℕ → List ℕ
+append_body_if_faulty [] own bodies_with_faults = bodies_with_faults
+append_body_if_faulty (fault ∷ faults) own bodies_with_faults = bodies_with_faults ++ own ∷ []
 
 -- If the Bool is true, returns the faults of a body. If there are any, appends `own`, the closing name of the body's
 -- block, to `bodies_with_faults`. If the Bool is false, returns no fault and changes nothing.
@@ -146,7 +146,7 @@ report_body_if_wanted true own w statements =
       known =
           record {
             so_far = w.so_far;
-            bodies_with_faults = with_body_if_faulty (body_faults w.so_far statements) own w.bodies_with_faults;
+            bodies_with_faults = append_body_if_faulty (body_faults w.so_far statements) own w.bodies_with_faults;
           };
       faults = body_faults w.so_far statements;
     }
@@ -162,7 +162,7 @@ unfoldable mutual
     with_constants ← report_on_constant_declarations w.so_far (section_constants cs)
     with_types ← report_on_type_declarations with_constants (section_types ts)
     with_variables ← report_on_variable_declarations with_types (section_variables vs)
-    with_procedures ← report_on_procedures wanted (with_declarations w with_variables) ps
+    with_procedures ← report_on_procedures wanted (walk_with_declarations w with_variables) ps
     report_body_if_wanted (wanted own) own with_procedures statements
 
   -- returns the state after procedures, and their faults, one procedure after another; each procedure can call itself
@@ -176,24 +176,24 @@ unfoldable mutual
   -- returns the state after a procedure, and the faults of its parameters and then of its block
   pub report_on_procedure : (ℕ → Bool) → WalkProgress → Tree ℕ (item procedure) → ResultWithFaults WalkProgress
   report_on_procedure wanted w (declares_procedure x fs b closing) = do
-    h ← report_on_parameter_sections (record { formals = []; following = w.so_far }) (formal_sections fs)
-    report_on_block wanted closing (with_declarations w (declarations_after_heading x h)) b
+    h ← report_on_parameter_sections (record { formals = []; following = w.so_far }) (formal_parameter_sections fs)
+    report_on_block wanted closing (walk_with_declarations w (declarations_after_heading x h)) b
 
 -- returns the walk at the beginning of a module: only the predeclared names are known, and no body has been walked
-abbrev pub walk_at_start : Resolution → WalkProgress
-walk_at_start r = record { so_far = known_declarations_at_start r; bodies_with_faults = [] }
+abbrev pub walk_progress_at_module_start : Resolution → WalkProgress
+walk_progress_at_module_start r = record { so_far = known_declarations_at_module_start r; bodies_with_faults = [] }
 
 -- returns the state after a module, and the faults of its declarations and of the bodies whose closing names pass the
 -- test `wanted`
 abbrev pub report_on_module : (ℕ → Bool) → Resolution → ResultWithFaults WalkProgress
 report_on_module wanted r =
-    report_on_block wanted r.module_read.closing (walk_at_start r) (module_block (tree_of r.module_read))
+    report_on_block wanted r.module_read.closing (walk_progress_at_module_start r) (module_block (tree_of r.module_read))
 
 -- returns true for every closing name, so that all bodies are walked
-abbrev pub every_body : ℕ → Bool
-every_body closing = true
+abbrev pub includes_every_body : ℕ → Bool
+includes_every_body closing = true
 
 -- returns the faults at the undeclared names of a module, in text order, and then the module's faults of types
 unfoldable pub undeclared_name_and_type_faults : Resolution → List FaultAtTokens
 unfolding report_on_block
-undeclared_name_and_type_faults r = filter is_undeclared_fault r.faults ++ (report_on_module every_body r).faults
+undeclared_name_and_type_faults r = filter is_undeclared_fault r.faults ++ (report_on_module includes_every_body r).faults

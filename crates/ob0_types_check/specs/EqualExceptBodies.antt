@@ -2,9 +2,9 @@
 -- Rule: none; used in contracts about a module in which the names and numbers of some bodies changed.
 use Rattle.std.specs.Prelude.{◌≡◌, ℕ, Bool, true, false, length}
 use Rattle.ob0_tree.specs.ParsedModule.{tree_of}
-use Rattle.ob0_tree.specs.Places.{token_text_at, token_value_at}
+use Rattle.ob0_tree.specs.TokenIndexLeaves.{token_text_at, token_value_at}
 use Rattle.ob0_tree.specs.Tree.{Tree, block, declares, declares_procedure, end, forms_block, forms_module, item, items, module_text, more, procedure}
-use Rattle.ob0_scope_table.specs.TokenProperty.{EachTokenHas}
+use Rattle.ob0_scope_table.specs.TokenProperty.{EachTokenSatisfies}
 use Rattle.ob0_scope_table.specs.Resolution.{Resolution, ordinal_in}
 
 -- states the proposition `A` if the Bool is false, and nothing if the Bool is true
@@ -17,31 +17,31 @@ HoldsUnless false A = A
 abbrev mutual
   -- states that each token of a block has the property `P`, except in statements of blocks whose closing names pass
   -- `left_out`
-  pub EachTokenOfBlockHasExceptInBodies : (ℕ → Type 0) → (ℕ → Bool) → ℕ → Tree ℕ block → Type 0
-  EachTokenOfBlockHasExceptInBodies P left_out own (forms_block (declares cs ts vs ps) statements) =
-      EachTokenHas P cs
-      × EachTokenHas P ts
-      × EachTokenHas P vs
-      × EachTokenOfProceduresHasExceptInBodies P left_out ps
-      × HoldsUnless (left_out own) (EachTokenHas P statements)
+  pub BlockTokensHavePropertyExceptInBodies : (ℕ → Type 0) → (ℕ → Bool) → ℕ → Tree ℕ block → Type 0
+  BlockTokensHavePropertyExceptInBodies P left_out own (forms_block (declares cs ts vs ps) statements) =
+      EachTokenSatisfies P cs
+      × EachTokenSatisfies P ts
+      × EachTokenSatisfies P vs
+      × ProcedureTokensHavePropertyExceptInBodies P left_out ps
+      × HoldsUnless (left_out own) (EachTokenSatisfies P statements)
 
   -- states that each token of these procedures has the property `P`, except in statements of blocks whose closing names
   -- pass `left_out`
-  pub EachTokenOfProceduresHasExceptInBodies : (ℕ → Type 0) → (ℕ → Bool) → Tree ℕ (items procedure) → Type 0
-  EachTokenOfProceduresHasExceptInBodies P left_out end = Unit {0}
-  EachTokenOfProceduresHasExceptInBodies P left_out (more p rest) =
-      EachTokenOfProcedureHasExceptInBodies P left_out p × EachTokenOfProceduresHasExceptInBodies P left_out rest
+  pub ProcedureTokensHavePropertyExceptInBodies : (ℕ → Type 0) → (ℕ → Bool) → Tree ℕ (items procedure) → Type 0
+  ProcedureTokensHavePropertyExceptInBodies P left_out end = Unit {0}
+  ProcedureTokensHavePropertyExceptInBodies P left_out (more p rest) =
+      EachTokenOfProcedureHasExceptInBodies P left_out p × ProcedureTokensHavePropertyExceptInBodies P left_out rest
 
   -- states that each token of a procedure has the property `P`, except in statements of blocks whose closing names pass
   -- `left_out`
   pub EachTokenOfProcedureHasExceptInBodies : (ℕ → Type 0) → (ℕ → Bool) → Tree ℕ (item procedure) → Type 0
   EachTokenOfProcedureHasExceptInBodies P left_out (declares_procedure x fs b closing) =
-      P x × EachTokenHas P fs × EachTokenOfBlockHasExceptInBodies P left_out closing b × P closing
+      P x × EachTokenSatisfies P fs × BlockTokensHavePropertyExceptInBodies P left_out closing b × P closing
 
 -- states that each token of a module has the property `P`, except in statements of blocks whose closing names pass
 -- `left_out`
 abbrev pub EachTokenOfModuleHasExceptInBodies : (ℕ → Type 0) → (ℕ → Bool) → Tree ℕ module_text → Type 0
-EachTokenOfModuleHasExceptInBodies P left_out (forms_module x b closing) = P x × EachTokenOfBlockHasExceptInBodies P left_out closing b × P closing
+EachTokenOfModuleHasExceptInBodies P left_out (forms_module x b closing) = P x × BlockTokensHavePropertyExceptInBodies P left_out closing b × P closing
 
 -- states that a token has the same spelling and value in both modules, and is bound to the same declaration in both
 pub record IsSameTokenAt (old new : Resolution) (token : ℕ) : Type 0 where

@@ -6,7 +6,7 @@ use Rattle.ob0_scan.specs.declared.fault.FaultCode.TheVariants as code
 use Rattle.ob0_scan.specs.TextWithTokens.{TextWithTokens}
 use Rattle.ob0_language_names.specs.Names.{Name, same_name}
 use Rattle.ob0_scope_table.specs.Resolution.{Resolution, ordinal_in}
-use Rattle.ob0_language_types.specs.Typing.{max_type_depth, max_scalars}
+use Rattle.ob0_language_types.specs.Typing.{max_type_depth, max_scalars_in_type}
 use Rattle.ob0_types_table.specs.declared.types.TypeId.{TypeId}
 use Rattle.ob0_types_table.specs.declared.types.TypeId.TheVariants as type
 use Rattle.ob0_language_values.specs.Values.{truth}
@@ -46,13 +46,13 @@ pub record KnownDeclarations : Type 0 where
   pub made : List CompositeType
 
 -- returns whether two types are the same; two array types, or two record types, are the same if their indexes are equal
-abbrev pub same_type : TypeId → TypeId → Bool
-same_type type.Integer type.Integer = true
-same_type type.Boolean type.Boolean = true
-same_type type.Unknown type.Unknown = true
-same_type (type.Array i) (type.Array j) = i == j
-same_type (type.Record i) (type.Record j) = i == j
-same_type _ _ = false
+abbrev pub is_same_type : TypeId → TypeId → Bool
+is_same_type type.Integer type.Integer = true
+is_same_type type.Boolean type.Boolean = true
+is_same_type type.Unknown type.Unknown = true
+is_same_type (type.Array i) (type.Array j) = i == j
+is_same_type (type.Record i) (type.Record j) = i == j
+is_same_type _ _ = false
 
 -- returns the type of an array's elements, given its parts; for a record's parts, the unknown type
 abbrev pub element_type_of_parts : CompositeParts → TypeId
@@ -83,27 +83,27 @@ field_type_of_composite None x = None
 field_type_of_composite (Some m) x = field_type_of_parts m.parts x
 
 -- returns the form of a type, given the array and record types found so far
-abbrev pub form_of_type_so_far : List CompositeType → TypeId → TypeForm TypeId
-form_of_type_so_far made type.Integer = a_scalar
-form_of_type_so_far made type.Boolean = a_scalar
-form_of_type_so_far made (type.Array i) = an_array (element_type_of_composite (slice_get made i))
-form_of_type_so_far made (type.Record i) = a_record (field_type_of_composite (slice_get made i))
-form_of_type_so_far made type.Unknown = unknown_form
+abbrev pub form_of_known_type : List CompositeType → TypeId → TypeForm TypeId
+form_of_known_type made type.Integer = a_scalar
+form_of_known_type made type.Boolean = a_scalar
+form_of_known_type made (type.Array i) = an_array (element_type_of_composite (slice_get made i))
+form_of_known_type made (type.Record i) = a_record (field_type_of_composite (slice_get made i))
+form_of_known_type made type.Unknown = unknown_form
 
 -- returns the representation of types (`Types`) by `TypeId`, given the array and record types found so far
-abbrev pub types_so_far : List CompositeType → Types TypeId
-types_so_far made =
+abbrev pub known_types_representation : List CompositeType → Types TypeId
+known_types_representation made =
     record {
       integer = type.Integer;
       boolean = type.Boolean;
       unknown = type.Unknown;
-      same = same_type;
-      form = form_of_type_so_far made;
+      same = is_same_type;
+      form = form_of_known_type made;
     }
 
 -- returns the meaning of the name at a token; None if the name is unbound or its declaration isn't known yet
-abbrev pub meaning_at : KnownDeclarations → ℕ → Option (Meaning TypeId)
-meaning_at p token =
+abbrev pub meaning_at_token : KnownDeclarations → ℕ → Option (Meaning TypeId)
+meaning_at_token p token =
     option_and_then (λ k. slice_index_or p.declared k None) (ordinal_in p.ordinals token)
 
 -- returns the data with which an expression, statement or type name is checked (`Facts`), given the
@@ -112,16 +112,16 @@ abbrev pub facts_from_declarations : KnownDeclarations → Bool → Facts TypeId
 facts_from_declarations p only_constants =
     record {
       source = p.source;
-      types = types_so_far p.made;
-      object_for = meaning_at p;
+      types = known_types_representation p.made;
+      object_for = meaning_at_token p;
       only_constants = only_constants;
     }
 
 -- returns the known declarations `p` with the meaning of the declaration with this ordinal set to `m`; for None,
 -- returns `p` unchanged
-abbrev pub with_meaning : KnownDeclarations → Meaning TypeId → Option ℕ → KnownDeclarations
-with_meaning p m None = p
-with_meaning p m (Some k) =
+abbrev pub declarations_with_meaning : KnownDeclarations → Meaning TypeId → Option ℕ → KnownDeclarations
+declarations_with_meaning p m None = p
+declarations_with_meaning p m (Some k) =
     record {
       source = p.source;
       ordinals = p.ordinals;
@@ -132,12 +132,12 @@ with_meaning p m (Some k) =
 -- returns the known declarations `p` with the meaning of the name declared at a token set to `m`; if the token has no
 -- ordinal, returns `p` unchanged
 abbrev pub define_name_at_token : KnownDeclarations → Meaning TypeId → ℕ → KnownDeclarations
-define_name_at_token p m token = with_meaning p m (ordinal_in p.ordinals token)
+define_name_at_token p m token = declarations_with_meaning p m (ordinal_in p.ordinals token)
 
 -- returns the known declarations `p` with the meaning of each name declared at one of these tokens set to `m`
-abbrev pub define_names_at_tokens : KnownDeclarations → Meaning TypeId → List ℕ → KnownDeclarations
-define_names_at_tokens p m [] = p
-define_names_at_tokens p m (x ∷ xs) = define_names_at_tokens (define_name_at_token p m x) m xs
+abbrev pub define_listed_names : KnownDeclarations → Meaning TypeId → List ℕ → KnownDeclarations
+define_listed_names p m [] = p
+define_listed_names p m (x ∷ xs) = define_listed_names (define_name_at_token p m x) m xs
 
 -- returns the size of INTEGER and BOOLEAN: one scalar and depth 0
 abbrev pub scalar_size : TypeSize
@@ -153,16 +153,16 @@ composite_size None = scalar_size
 composite_size (Some m) = m.size
 
 -- returns the size of a type, given the array and record types found so far; the unknown type has no scalars
-abbrev pub size_of_type_so_far : List CompositeType → TypeId → TypeSize
-size_of_type_so_far made type.Integer = scalar_size
-size_of_type_so_far made type.Boolean = scalar_size
-size_of_type_so_far made (type.Array i) = composite_size (slice_get made i)
-size_of_type_so_far made (type.Record i) = composite_size (slice_get made i)
-size_of_type_so_far made type.Unknown = zero_size
+abbrev pub size_of_known_type : List CompositeType → TypeId → TypeSize
+size_of_known_type made type.Integer = scalar_size
+size_of_known_type made type.Boolean = scalar_size
+size_of_known_type made (type.Array i) = composite_size (slice_get made i)
+size_of_known_type made (type.Record i) = composite_size (slice_get made i)
+size_of_known_type made type.Unknown = zero_size
 
 -- returns whether a type of this size has at most 65,536 scalars, and arrays and records nested at most 100 deep
 abbrev pub is_within_limits : TypeSize → Bool
-is_within_limits z = nat_le z.scalars max_scalars && nat_le z.depth max_type_depth
+is_within_limits z = nat_le z.scalars max_scalars_in_type && nat_le z.depth max_type_depth
 
 -- the checker's type for a type that is written in the text (`of`), and the declarations known after the written type
 -- (`following`)
@@ -171,15 +171,15 @@ pub record TypeWithFollowingDeclarations : Type 0 where
   pub following : KnownDeclarations
 
 -- returns the `TypeId` of an array or record type that has these parts and is at index `k` of the list of such types
-abbrev pub type_at_index : CompositeParts → ℕ → TypeId
-type_at_index (of_elements n t) k = type.Array k
-type_at_index (of_fields fields) k = type.Record k
+abbrev pub type_id_of_parts : CompositeParts → ℕ → TypeId
+type_id_of_parts (of_elements n t) k = type.Array k
+type_id_of_parts (of_fields fields) k = type.Record k
 
 -- Appends an array or record type with this ordinal, these parts and this size to the known types `p.made`. Returns the
 -- type's `TypeId` (`of`), and `p` with this type appended (`following`).
 abbrev pub append_composite : KnownDeclarations → ℕ → CompositeParts → TypeSize → TypeWithFollowingDeclarations
 append_composite p ordinal parts size = record {
-  of = type_at_index parts (length p.made);
+  of = type_id_of_parts parts (length p.made);
   following =
       record {
         source = p.source;
@@ -215,8 +215,8 @@ predeclared_meanings =
     ∷ Some (a_procedure []) ∷ []
 
 -- returns the known declarations at the beginning of a module, which are only the predeclared names
-abbrev pub known_declarations_at_start : Resolution → KnownDeclarations
-known_declarations_at_start r =
+abbrev pub known_declarations_at_module_start : Resolution → KnownDeclarations
+known_declarations_at_module_start r =
     record {
       source = r.module_read.source;
       ordinals = r.ordinals;

@@ -12,5 +12,5 @@ pub mod ReportLaws
 pub mod WellTypedLaws
 pub mod ModuleLaws
 pub mod EqualExceptBodies
-pub mod SomeBodies
-pub mod NewBody
+pub mod WalksOverSomeBodies
+pub mod TypeCheckWithoutBody

@@ -13,7 +13,7 @@ use Rattle.ob0_language_types.specs.WellTyped.{passes_type_check}
 use Rattle.ob0_types_table.specs.DeclarationTables.{DeclarationTableView, declared_object_in}
 use Rattle.ob0_language_values.specs.Values.{Shape}
 use Rattle.ob0_types_check.specs.Agreement.{DeclarationAgreesWithObject, TableAgreesWithShapes, is_standard_procedure, shape_of_type_in}
-use Rattle.ob0_types_check.specs.DeclarationFaults.{every_body, undeclared_name_and_type_faults, report_on_module}
+use Rattle.ob0_types_check.specs.DeclarationFaults.{includes_every_body, undeclared_name_and_type_faults, report_on_module}
 use Rattle.ob0_types_check.specs.KnownDeclarations.{KnownDeclarations}
 
 -- States that a module passes the type check if no fault of types and no undeclared name is reported for it. The type
@@ -29,7 +29,7 @@ ModulesWithoutFaultPassTypeCheck =
 -- or record type in `p` agrees with the shape at the same index of `shapes`. The meaning that `p` has for an ordinal
 -- agrees with the object of the declaration with this ordinal in `m`. The ordinals below 7 belong to the predeclared
 -- names. No other declaration is a standard procedure.
-pub record KnowsDeclarations (p : KnownDeclarations) (m : Tree Name module_text) : Type 0 where
+pub record KnownDeclarationsAgreeWithModule (p : KnownDeclarations) (m : Tree Name module_text) : Type 0 where
   pub shapes : List Shape
   pub table : TableAgreesWithShapes p.made shapes
   pub declared : (k : ℕ)
@@ -39,15 +39,15 @@ pub record KnowsDeclarations (p : KnownDeclarations) (m : Tree Name module_text)
   pub room : predeclared_count ≤ length p.declared
 
 -- states that a table has the object of each declaration of a module
-abbrev pub HasDeclarations : Tree Name module_text → DeclarationTableView → Type 0
-HasDeclarations m t = (k : ℕ) → declared_object_in t k ≡ declared_object m k
+abbrev pub TableHasDeclaredObjects : Tree Name module_text → DeclarationTableView → Type 0
+TableHasDeclaredObjects m t = (k : ℕ) → declared_object_in t k ≡ declared_object m k
 
 -- States that a walk that reports nothing finds correct meanings. If no fault of types and no
 -- undeclared name is reported for a module, the walk has found the right meaning of each
--- declaration (`KnowsDeclarations`).
+-- declaration (`KnownDeclarationsAgreeWithModule`).
 abbrev pub WalkWithoutFaultFindsCorrectMeanings : Type 0
 WalkWithoutFaultFindsCorrectMeanings =
     (r : Resolution)
     → IsResolution r
     → undeclared_name_and_type_faults r ≡ []
-    → KnowsDeclarations (report_on_module every_body r).known.so_far (named_tree_of r.module_read)
+    → KnownDeclarationsAgreeWithModule (report_on_module includes_every_body r).known.so_far (named_tree_of r.module_read)

@@ -11,7 +11,7 @@ use Rattle.ob0_tree.specs.declared.tree.MultiplyOperator.TheVariants as multiply
 use Rattle.ob0_tree.specs.declared.tree.Relation.{Relation}
 use Rattle.ob0_tree.specs.declared.tree.Relation.TheVariants as relation
 use Rattle.ob0_tree.specs.declared.tree.Sign.{Sign}
-use Rattle.ob0_tree.specs.Places.{token_text_at, token_value_at}
+use Rattle.ob0_tree.specs.TokenIndexLeaves.{token_text_at, token_value_at}
 use Rattle.ob0_scope_table.specs.declared.faults.FaultAtTokens.{FaultAtTokens}
 use Rattle.ob0_types_table.specs.Operators.{product_value, sum_value}
 use Rattle.ob0_language_types.specs.DesignatorSelectors.{apply_to_both_options}
@@ -21,8 +21,8 @@ use Rattle.ob0_language_values.specs.Values.{apply_sign as with_sign}
 use Rattle.ob0_types_check.specs.TypesAndMeanings.{Facts, TypeForm, Meaning, Operand, ResultWithFaults, Types, a_constant, a_procedure, a_record, a_scalar, a_type, a_variable, an_array, unknown_form}
 
 -- returns the result `t` with the faults `before` put before its own faults
-abbrev pub with_earlier_faults : {A : Type 0} → List FaultAtTokens → ResultWithFaults A → ResultWithFaults A
-with_earlier_faults before t = record { known = t.known; faults = before ++ t.faults }
+abbrev pub prepend_faults : {A : Type 0} → List FaultAtTokens → ResultWithFaults A → ResultWithFaults A
+prepend_faults before t = record { known = t.known; faults = before ++ t.faults }
 
 -- returns the result `x` with an empty list of faults
 abbrev pub without_fault : {A : Type 0} → A → ResultWithFaults A
@@ -32,7 +32,7 @@ infixl 20 ◌>>=◌
 -- Applies `next` to the result of the first step. The faults of the first step come first, then the
 -- faults of `next`.
 abbrev pub ◌>>=◌ : {A B : Type 0} → ResultWithFaults A → (A → ResultWithFaults B) → ResultWithFaults B
-t >>= next = with_earlier_faults t.faults (next t.known)
+t >>= next = prepend_faults t.faults (next t.known)
 
 -- states that `x` is the result of `t`, and that the list `after` is the list `before` followed by the faults of `t`
 pub record ReturnsAndReports
@@ -41,24 +41,24 @@ pub record ReturnsAndReports
   pub reported : after ≡ before ++ t.faults
 
 -- returns the index of the token before this one, or 0 for the first token
-abbrev pub token_before : ℕ → ℕ
-token_before token = token - 1
+abbrev pub previous_token_index : ℕ → ℕ
+previous_token_index token = token - 1
 
 -- returns the index of the token after this one; the end of the text is returned unchanged
-abbrev pub token_after : TextWithTokens → ℕ → ℕ
-token_after source token = if nat_lt token (length source.tokens) then token + 1 else token
+abbrev pub next_token_index : TextWithTokens → ℕ → ℕ
+next_token_index source token = if nat_lt token (length source.tokens) then token + 1 else token
 
 -- returns a list of one fault, from the token `first` to the token `last`
-abbrev pub fault_at_tokens : FaultCode → ℕ → ℕ → List FaultAtTokens
-fault_at_tokens c first last = record { code = c; first = first; last = last } ∷ []
+abbrev pub fault_at_token_range : FaultCode → ℕ → ℕ → List FaultAtTokens
+fault_at_token_range c first last = record { code = c; first = first; last = last } ∷ []
 
 -- returns a list of one fault, at one token
 abbrev pub fault_at_token : FaultCode → ℕ → List FaultAtTokens
-fault_at_token c token = fault_at_tokens c token token
+fault_at_token c token = fault_at_token_range c token token
 
 -- returns a list of one fault, at the whole expression of an operand
 abbrev pub fault_at_operand : {T : Type 0} → FaultCode → Operand T → List FaultAtTokens
-fault_at_operand c o = fault_at_tokens c o.first o.last
+fault_at_operand c o = fault_at_token_range c o.first o.last
 
 -- returns whether two types are equal or one of them is unknown; if not, an expression of one type
 -- is a mismatch if the other type is required
@@ -67,22 +67,22 @@ may_be_same_type types s t = types.same s t || (types.same s types.unknown || ty
 
 -- Returns `wanted` if the operand has this type, otherwise the unknown type. A mismatch is reported
 -- if the operand's type and `wanted` are both known and differ.
-abbrev pub required_type : {T : Type 0} → Facts T → T → Operand T → ResultWithFaults T
-required_type facts wanted o = record {
+abbrev pub require_type : {T : Type 0} → Facts T → T → Operand T → ResultWithFaults T
+require_type facts wanted o = record {
   known = if facts.types.same o.of wanted then wanted else facts.types.unknown;
   faults = if may_be_same_type facts.types o.of wanted then [] else fault_at_operand code.TypeMismatch o;
 }
 
 -- Returns `wanted` if both operands have this type, otherwise the unknown type. A mismatch is
 -- reported at the left operand or, if the left operand has no mismatch, at the right operand.
-abbrev pub required_type_of_both : {T : Type 0} → Facts T → T → Operand T → Operand T → ResultWithFaults T
-required_type_of_both facts wanted a b =
+abbrev pub require_type_of_both_operands : {T : Type 0} → Facts T → T → Operand T → Operand T → ResultWithFaults T
+require_type_of_both_operands facts wanted a b =
     if may_be_same_type facts.types a.of wanted
     then record {
       known = if facts.types.same a.of wanted
-          then (required_type facts wanted b).known
+          then (require_type facts wanted b).known
           else facts.types.unknown;
-      faults = (required_type facts wanted b).faults;
+      faults = (require_type facts wanted b).faults;
     }
     else record { known = facts.types.unknown; faults = fault_at_operand code.TypeMismatch a }
 
@@ -131,7 +131,7 @@ operand_of_operation of value a b =
 -- returns the operand for a sign or `~` followed by the operand `o`; it has the type `of` and this value
 abbrev pub prefixed_operand : {T : Type 0} → T → Option Value → Operand T → Operand T
 prefixed_operand of value o =
-    record { of = of; value = value; may_be_variable = false; first = token_before o.first; last = o.last }
+    record { of = of; value = value; may_be_variable = false; first = previous_token_index o.first; last = o.last }
 
 -- returns the operand for the whole expression, with a fault if the operands of `+`, `-` or OR
 -- don't have the required type
@@ -142,7 +142,7 @@ abbrev pub add_operands : {T : Type 0}
     → Operand T
     → ResultWithFaults (Operand T)
 add_operands facts o a b = do
-  t ← required_type_of_both facts (operand_type_of_addition facts.types o) a b
+  t ← require_type_of_both_operands facts (operand_type_of_addition facts.types o) a b
   without_fault (operand_of_operation t (option_and_then (sum_value o b.value) a.value) a b)
 
 -- returns the operand for the whole expression, with a fault if the operands of `*`, DIV, MOD or
@@ -154,7 +154,7 @@ abbrev pub multiply_operands : {T : Type 0}
     → Operand T
     → ResultWithFaults (Operand T)
 multiply_operands facts o a b = do
-  t ← required_type_of_both facts (operand_type_of_multiplication facts.types o) a b
+  t ← require_type_of_both_operands facts (operand_type_of_multiplication facts.types o) a b
   without_fault (operand_of_operation t (option_and_then (product_value o b.value) a.value) a b)
 
 -- returns the operand for the whole comparison, with a fault if the operands of the relation don't
@@ -166,7 +166,7 @@ abbrev pub relate_operands : {T : Type 0}
     → Operand T
     → ResultWithFaults (Operand T)
 relate_operands facts r a b = do
-  t ← required_type_of_both facts (operand_type_of_relation facts.types r a.of) a b
+  t ← require_type_of_both_operands facts (operand_type_of_relation facts.types r a.of) a b
   without_fault (operand_of_operation (comparison_type facts.types t)
       (apply_to_both_options (λ x y. outcome_value (apply_relation r x y)) a.value b.value) a b)
 
@@ -175,14 +175,14 @@ relate_operands facts r a b = do
 abbrev pub signed_operand : {T : Type 0} → Facts T → Option Sign → Operand T → ResultWithFaults (Operand T)
 signed_operand facts None o = without_fault o
 signed_operand facts (Some s) o = do
-  t ← required_type facts facts.types.integer o
+  t ← require_type facts facts.types.integer o
   without_fault (prefixed_operand t (option_and_then (λ x. outcome_value (with_sign (Some s) x)) o.value) o)
 
 -- returns the operand for the negation `~` of the operand `o`, with a fault if `o` has a known type
 -- other than BOOLEAN
 abbrev pub negated_operand : {T : Type 0} → Facts T → Operand T → ResultWithFaults (Operand T)
 negated_operand facts o = do
-  t ← required_type facts facts.types.boolean o
+  t ← require_type facts facts.types.boolean o
   without_fault (prefixed_operand t (option_and_then (λ x. outcome_value (negate x)) o.value) o)
 
 -- returns the operand for a number at this token
@@ -203,8 +203,8 @@ operand_in_parentheses facts o =
       of = o.of;
       value = o.value;
       may_be_variable = false;
-      first = token_before o.first;
-      last = token_after facts.source o.last;
+      first = previous_token_index o.first;
+      last = next_token_index facts.source o.last;
     }
 
 -- Returns the operand of a name with this type at a token. The name is a variable's or has no known meaning, so
@@ -251,8 +251,8 @@ name_operand facts token = operand_from_meaning facts token (facts.object_for to
 
 -- Returns the operand of a designator that extends the designator of `o` by a selector. `last` is the last token of
 -- that selector. The result has the type `of` and no value.
-abbrev pub extended_operand : {T : Type 0} → Operand T → T → ℕ → Operand T
-extended_operand o of last =
+abbrev pub operand_with_selector : {T : Type 0} → Operand T → T → ℕ → Operand T
+operand_with_selector o of last =
     record { of = of; value = None; may_be_variable = o.may_be_variable; first = o.first; last = last }
 
 -- returns the type of a record's field; for None, reports `NoField` at the field's name and returns
@@ -272,16 +272,16 @@ field_type_from_form facts token (a_record fields) =
 field_type_from_form facts token unknown_form = without_fault facts.types.unknown
 field_type_from_form facts token a_scalar =
     record
-    { known = facts.types.unknown; faults = fault_at_token code.NotRecord (token_before token) }
+    { known = facts.types.unknown; faults = fault_at_token code.NotRecord (previous_token_index token) }
 field_type_from_form facts token (an_array t) =
     record
-    { known = facts.types.unknown; faults = fault_at_token code.NotRecord (token_before token) }
+    { known = facts.types.unknown; faults = fault_at_token code.NotRecord (previous_token_index token) }
 
 -- returns the operand for the field of the record `o` whose name is at a token, and the faults of this selection
 abbrev pub field_operand : {T : Type 0} → Facts T → Operand T → ℕ → ResultWithFaults (Operand T)
 field_operand facts o token = do
   t ← field_type_from_form facts token (facts.types.form o.of)
-  without_fault (extended_operand o t token)
+  without_fault (operand_with_selector o t token)
 
 -- Returns the type of an element, given the operand `i` for the index, the index's type `of`, and the form of the
 -- indexed type. The result is the unknown type if the index isn't INTEGER or the indexed type isn't an array. If the
@@ -292,15 +292,15 @@ element_type_from_form facts i of (an_array t) =
 element_type_from_form facts i of unknown_form = without_fault facts.types.unknown
 element_type_from_form facts i of a_scalar =
     record
-    { known = facts.types.unknown; faults = fault_at_token code.NotArray (token_before i.first) }
+    { known = facts.types.unknown; faults = fault_at_token code.NotArray (previous_token_index i.first) }
 element_type_from_form facts i of (a_record fields) =
     record
-    { known = facts.types.unknown; faults = fault_at_token code.NotArray (token_before i.first) }
+    { known = facts.types.unknown; faults = fault_at_token code.NotArray (previous_token_index i.first) }
 
 -- Returns the operand for the element that the index `i` selects in the array `o`, and the faults of this selection.
 -- The index must be INTEGER even if `o` isn't an array.
 abbrev pub element_operand : {T : Type 0} → Facts T → Operand T → Operand T → ResultWithFaults (Operand T)
 element_operand facts o i = do
-  n ← required_type facts facts.types.integer i
+  n ← require_type facts facts.types.integer i
   t ← element_type_from_form facts i n (facts.types.form o.of)
-  without_fault (extended_operand o t (token_after facts.source i.last))
+  without_fault (operand_with_selector o t (next_token_index facts.source i.last))

@@ -2,23 +2,23 @@
 -- for it. `N` is the type of the names in a tree.
 -- Rule: none; states laws about the faults that are reported for expressions and statements.
 use Rattle.std.specs.Prelude.{◌≡◌, ℕ, Bool, true, false, List, [], Option, Some, is_some}
-use Rattle.ob0_tree.specs.Places.{token_value_at}
+use Rattle.ob0_tree.specs.TokenIndexLeaves.{token_value_at}
 use Rattle.ob0_tree.specs.Tree.{Tree, expression, mapped_tree, sequence}
 use Rattle.ob0_language_types.specs.Expressions.{Meanings, evaluate}
-use Rattle.ob0_language_types.specs.Typing.{array_length, constant_value, constant_meanings, lone_designator, outcome_value, type_of, value_type}
-use Rattle.ob0_language_types.specs.WellTyped.{TypeMeanings, sequence_is_well_typed, variable_type}
+use Rattle.ob0_language_types.specs.Typing.{array_length_from_value, constant_expression_value, meanings_in_constant_expressions, lone_designator, outcome_value, type_of_expression, value_type}
+use Rattle.ob0_language_types.specs.WellTyped.{TypeMeanings, sequence_is_well_typed, assignable_type}
 use Rattle.ob0_language_values.specs.Values.{Shape, Value}
 use Rattle.ob0_types_check.specs.ExpressionFaults.{report_on_expression}
 use Rattle.ob0_types_check.specs.TypesAndMeanings.{Operand}
 use Rattle.ob0_types_check.specs.OperandFaults.{◌>>=◌}
-use Rattle.ob0_types_check.specs.KnownDeclarations.{CompositeType, KnownDeclarations, facts_from_declarations, types_so_far}
+use Rattle.ob0_types_check.specs.KnownDeclarations.{CompositeType, KnownDeclarations, facts_from_declarations, known_types_representation}
 use Rattle.ob0_types_check.specs.StatementFaults.{sequence_faults}
 use Rattle.ob0_types_check.specs.TypeFaults.{length_from_operand, report_on_constant_expression}
 use Rattle.ob0_types_check.specs.Agreement.{FactsAgreeWithShapesAndLabels, TableAgreesWithShapes, TypesAgreeWithShapes, shape_of_type_in}
 
 -- returns the meanings of names in `meaning`; if the Bool is true, returns only the meanings of constants
 abbrev pub allowed_meanings : {N : Type 0} → Bool → TypeMeanings N → TypeMeanings N
-allowed_meanings true meaning = constant_meanings meaning
+allowed_meanings true meaning = meanings_in_constant_expressions meaning
 allowed_meanings false meaning = meaning
 
 -- States that the operand `o` has the type and the value of the expression `e`. The value is None if the expression
@@ -29,10 +29,10 @@ pub record OperandAgreesWithExpression
     (e : Tree N expression) : Type 0 where
   pub of : Shape
   pub known : shape o.of ≡ Some of
-  pub typed : type_of meaning e ≡ Some of
-  pub value_agrees : o.value ≡ outcome_value (evaluate {P = Unit {0}} (constant_meanings meaning) [] e)
+  pub typed : type_of_expression meaning e ≡ Some of
+  pub value_agrees : o.value ≡ outcome_value (evaluate {P = Unit {0}} (meanings_in_constant_expressions meaning) [] e)
   pub scalar : (v : Value) → o.value ≡ Some v → value_type v ≡ Some of
-  pub placed : o.may_be_variable ≡ true → variable_type meaning (lone_designator e) ≡ Some of
+  pub placed : o.may_be_variable ≡ true → assignable_type meaning (lone_designator e) ≡ Some of
 
 -- States that if no fault is reported for an expression, the operand found agrees with the expression. The types and
 -- meanings known for the names in the expression must be correct (`FactsAgreeWithShapesAndLabels`).
@@ -52,7 +52,7 @@ pub record ConstantAgreesWithExpression
     : Type 0 where
   pub value : Value
   pub known : reported ≡ Some value
-  pub given : constant_value meaning e ≡ Some value
+  pub given : constant_expression_value meaning e ≡ Some value
   pub scalar : is_some (value_type value) ≡ true
 
 -- States that if no fault is reported for the right side of a constant's declaration, the value found is the value of
@@ -73,8 +73,8 @@ pub record LengthAgreesWithExpression
   pub value : Value
   pub length : ℕ
   pub known : reported ≡ Some length
-  pub given : constant_value meaning e ≡ Some value
-  pub counted : array_length value ≡ Some length
+  pub given : constant_expression_value meaning e ≡ Some value
+  pub counted : array_length_from_value value ≡ Some length
 
 -- States that if no fault is reported for the length in an array type, the length found is the value of its expression.
 -- The types and meanings known for the names in that expression must be correct (`FactsAgreeWithShapesAndLabels`).
@@ -103,4 +103,4 @@ abbrev pub TypesAgreeWithShapesIfTableDoes : Type 0
 TypesAgreeWithShapesIfTableDoes =
     (made : List CompositeType) (shapes : List Shape)
     → TableAgreesWithShapes made shapes
-    → TypesAgreeWithShapes (types_so_far made) (shape_of_type_in shapes)
+    → TypesAgreeWithShapes (known_types_representation made) (shape_of_type_in shapes)

@@ -8,16 +8,16 @@ use Rattle.ob0_scope_table.specs.declared.faults.FaultAtTokens.{FaultAtTokens}
 use Rattle.ob0_language_types.specs.Arguments.{call_arguments}
 use Rattle.ob0_types_check.specs.TypesAndMeanings.{Facts, KnownParameter, Meaning, Operand, ResultWithFaults, a_constant, a_procedure, a_type, a_variable}
 use Rattle.ob0_types_check.specs.ExpressionFaults.{report_on_expression, report_on_selectors}
-use Rattle.ob0_types_check.specs.OperandFaults.{typed_name_operand, required_type, fault_at_operand, fault_at_token, without_fault, ◌>>=◌}
+use Rattle.ob0_types_check.specs.OperandFaults.{typed_name_operand, require_type, fault_at_operand, fault_at_token, without_fault, ◌>>=◌}
 
 -- returns the faults of an expression that must have the type `wanted`
-unfoldable pub typed_expression_faults : {T : Type 0} → Facts T → T → Tree ℕ expression → List FaultAtTokens
+unfoldable pub faults_of_expression_of_type : {T : Type 0} → Facts T → T → Tree ℕ expression → List FaultAtTokens
 unfolding report_on_expression
-typed_expression_faults facts wanted e = (report_on_expression facts e >>= required_type facts wanted).faults
+faults_of_expression_of_type facts wanted e = (report_on_expression facts e >>= require_type facts wanted).faults
 
 -- returns the faults of a condition, which must be BOOLEAN
 abbrev pub condition_faults : {T : Type 0} → Facts T → Tree ℕ expression → List FaultAtTokens
-condition_faults facts e = typed_expression_faults facts facts.types.boolean e
+condition_faults facts e = faults_of_expression_of_type facts facts.types.boolean e
 
 -- Returns the type of the name that is assigned to, given its token and its meaning. A constant's name is reported as
 -- `NotVariable`, and a type's or procedure's name as `WrongKind`. An undeclared name is reported elsewhere. In all
@@ -38,13 +38,13 @@ abbrev pub target_name_type : {T : Type 0} → Facts T → ℕ → ResultWithFau
 target_name_type facts token = target_type_from_meaning facts token (facts.object_for token)
 
 -- returns the operand for an assignment's target, and the faults of the target's name and selectors
-unfoldable pub report_on_target : {T : Type 0}
+unfoldable pub report_on_assignment_target : {T : Type 0}
     → Facts T
     → ℕ
     → Tree ℕ (items selector)
     → ResultWithFaults (Operand T)
 unfolding report_on_expression
-report_on_target facts x path = do
+report_on_assignment_target facts x path = do
   t ← target_name_type facts x
   report_on_selectors facts (typed_name_operand t x) path
 
@@ -55,15 +55,15 @@ abbrev pub assignment_faults : {T : Type 0}
     → ResultWithFaults (Operand T)
     → Tree ℕ expression
     → List FaultAtTokens
-assignment_faults facts target e = target.faults ++ typed_expression_faults facts target.known.of e
+assignment_faults facts target e = target.faults ++ faults_of_expression_of_type facts target.known.of e
 
 -- Requires that an argument has the type of its parameter. An argument for a VAR parameter must also be a variable with
 -- its selectors. If it isn't, only `NotVariable` is reported, and the result is the unknown type.
-abbrev pub required_type_of_argument : {T : Type 0} → Facts T → KnownParameter T → Operand T → ResultWithFaults T
-required_type_of_argument facts f o =
+abbrev pub require_type_of_argument : {T : Type 0} → Facts T → KnownParameter T → Operand T → ResultWithFaults T
+require_type_of_argument facts f o =
     if f.by_place && not o.may_be_variable
     then record { known = facts.types.unknown; faults = fault_at_operand code.NotVariable o }
-    else required_type facts f.of o
+    else require_type facts f.of o
 
 -- returns the faults of an argument, including a mismatch with its parameter
 unfoldable pub faults_of_argument : {T : Type 0}
@@ -72,7 +72,7 @@ unfoldable pub faults_of_argument : {T : Type 0}
     → Tree ℕ expression
     → List FaultAtTokens
 unfolding report_on_expression
-faults_of_argument facts f e = (report_on_expression facts e >>= required_type_of_argument facts f).faults
+faults_of_argument facts f e = (report_on_expression facts e >>= require_type_of_argument facts f).faults
 
 -- returns the faults of arguments, each checked against the parameter at the same index; surplus arguments or
 -- parameters are ignored
@@ -118,13 +118,13 @@ abbrev pub call_faults : {T : Type 0} → Facts T → ℕ → List (Tree ℕ exp
 call_faults facts p es = call_faults_from_meaning facts p (facts.object_for p) es
 
 unfoldable mutual
-  unfolding typed_expression_faults report_on_target faults_of_argument
+  unfolding faults_of_expression_of_type report_on_assignment_target faults_of_argument
 
   -- returns the faults of a statement, including the faults of the statements in it
   pub statement_faults : {T : Type 0} → Facts T → Tree ℕ statement → List FaultAtTokens
   statement_faults facts empty = []
   statement_faults facts (assigns x path e) =
-      assignment_faults facts (report_on_target facts x path) e
+      assignment_faults facts (report_on_assignment_target facts x path) e
   statement_faults facts (calls p es) = call_faults facts p (call_arguments es)
   statement_faults facts (branches e statements rest last) =
       condition_faults facts e

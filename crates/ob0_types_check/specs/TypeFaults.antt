@@ -3,11 +3,11 @@
 use Rattle.std.specs.Prelude.{ℕ, Option, Some, None, if◌then◌else◌}
 use Rattle.ob0_scan.specs.declared.fault.FaultCode.TheVariants as code
 use Rattle.ob0_tree.specs.Tree.{Tree, expression}
-use Rattle.ob0_language_types.specs.Typing.{array_length}
+use Rattle.ob0_language_types.specs.Typing.{array_length_from_value}
 use Rattle.ob0_language_values.specs.Values.{Value}
 use Rattle.ob0_types_check.specs.ExpressionFaults.{report_on_expression}
 use Rattle.ob0_types_check.specs.TypesAndMeanings.{Facts, Meaning, Operand, ResultWithFaults, a_constant, a_procedure, a_type, a_variable}
-use Rattle.ob0_types_check.specs.OperandFaults.{required_type, fault_at_operand, fault_at_token, without_fault, ◌>>=◌}
+use Rattle.ob0_types_check.specs.OperandFaults.{require_type, fault_at_operand, fault_at_token, without_fault, ◌>>=◌}
 
 -- Returns the type to which a name refers, given its token and its meaning. A name that isn't a type's is reported as
 -- `WrongKind`. An undeclared name is reported elsewhere. In both cases the result is the unknown type.
@@ -22,8 +22,8 @@ type_from_meaning facts token (Some (a_procedure fs)) =
 type_from_meaning facts token None = without_fault facts.types.unknown
 
 -- returns the type to which the name at a token refers; a name that isn't a type's is reported as `WrongKind`
-abbrev pub type_named_at : {T : Type 0} → Facts T → ℕ → ResultWithFaults T
-type_named_at facts token = type_from_meaning facts token (facts.object_for token)
+abbrev pub type_named_by_token : {T : Type 0} → Facts T → ℕ → ResultWithFaults T
+type_named_by_token facts token = type_from_meaning facts token (facts.object_for token)
 
 -- returns this value of a constant expression unchanged; for None, reports `ConstFault` at the expression's operand `o`
 abbrev pub value_or_fault : {T : Type 0} → Operand T → Option Value → ResultWithFaults (Option Value)
@@ -54,12 +54,12 @@ length_or_fault o (Some n) = without_fault (Some n)
 -- there is no value, and `ArrayLength` if the value isn't a valid length.
 abbrev pub length_from_value : {T : Type 0} → Operand T → Option Value → ResultWithFaults (Option ℕ)
 length_from_value o None = record { known = None; faults = fault_at_operand code.ConstFault o }
-length_from_value o (Some v) = length_or_fault o (array_length v)
+length_from_value o (Some v) = length_or_fault o (array_length_from_value v)
 
 -- Returns the length of an array, given the operand of its length expression. Returns None if the
 -- operand isn't INTEGER, has no value or isn't a valid length. Each of these is reported, unless
 -- the operand's type is unknown.
 abbrev pub length_from_operand : {T : Type 0} → Facts T → Operand T → ResultWithFaults (Option ℕ)
 length_from_operand facts o = do
-  t ← required_type facts facts.types.integer o
+  t ← require_type facts facts.types.integer o
   if facts.types.same t facts.types.integer then length_from_value o o.value else without_fault None

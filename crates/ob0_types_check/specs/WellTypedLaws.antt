@@ -6,17 +6,17 @@ use Rattle.std.specs.List.{filter}
 use Rattle.ob0_language_names.specs.Names.{naming_by_spelling}
 use Rattle.ob0_scope_table.specs.Resolution.{IsResolution, Resolution, is_undeclared_fault}
 use Rattle.ob0_tree.specs.ParsedModule.{named_tree_of}
-use Rattle.ob0_tree.specs.Places.{token_value_at}
+use Rattle.ob0_tree.specs.TokenIndexLeaves.{token_value_at}
 use Rattle.ob0_tree.specs.Tree.{Tree, designator, expression, items, mapped_tree, selector, sequence}
-use Rattle.ob0_language_types.specs.Typing.{array_length, constant_value, type_of}
-use Rattle.ob0_language_types.specs.WellTyped.{TypeMeanings, passes_type_check, sequence_is_well_typed, variable_type}
+use Rattle.ob0_language_types.specs.Typing.{array_length_from_value, constant_expression_value, type_of_expression}
+use Rattle.ob0_language_types.specs.WellTyped.{TypeMeanings, passes_type_check, sequence_is_well_typed, assignable_type}
 use Rattle.ob0_language_values.specs.Values.{Shape, array_shape, boolean_shape, integer_shape, record_shape}
 use Rattle.ob0_types_check.specs.DeclarationFaults.{undeclared_name_and_type_faults}
 use Rattle.ob0_types_check.specs.ExpressionFaults.{report_on_expression}
 use Rattle.ob0_types_check.specs.OperandFaults.{◌>>=◌}
 use Rattle.ob0_types_check.specs.ReportLaws.{allowed_meanings}
 use Rattle.ob0_types_check.specs.KnownDeclarations.{KnownDeclarations, facts_from_declarations}
-use Rattle.ob0_types_check.specs.StatementFaults.{sequence_faults, report_on_target}
+use Rattle.ob0_types_check.specs.StatementFaults.{sequence_faults, report_on_assignment_target}
 use Rattle.ob0_types_check.specs.TypeFaults.{length_from_operand, report_on_constant_expression}
 use Rattle.ob0_types_check.specs.Agreement.{FactsAgreeWithShapesAndLabels, shape_of_type_in}
 
@@ -27,7 +27,7 @@ TypedExpressionsHaveNoFault N =
     (p : KnownDeclarations) (only_constants : Bool) (shapes : List Shape) (label : ℕ → N) (meaning : TypeMeanings N)
     (e : Tree ℕ expression)
     → FactsAgreeWithShapesAndLabels (facts_from_declarations p only_constants) (shape_of_type_in shapes) label meaning e
-    → is_some (type_of (allowed_meanings only_constants meaning) (mapped_tree label (token_value_at p.source) e))
+    → is_some (type_of_expression (allowed_meanings only_constants meaning) (mapped_tree label (token_value_at p.source) e))
     ≡ true
     → (report_on_expression (facts_from_declarations p only_constants) e).faults ≡ []
 
@@ -37,7 +37,7 @@ abbrev pub ConstantsWithValuesHaveNoFault : Type 0 → Type 0
 ConstantsWithValuesHaveNoFault N =
     (p : KnownDeclarations) (shapes : List Shape) (label : ℕ → N) (meaning : TypeMeanings N) (e : Tree ℕ expression)
     → FactsAgreeWithShapesAndLabels (facts_from_declarations p true) (shape_of_type_in shapes) label meaning e
-    → is_some (constant_value meaning (mapped_tree label (token_value_at p.source) e)) ≡ true
+    → is_some (constant_expression_value meaning (mapped_tree label (token_value_at p.source) e)) ≡ true
     → (report_on_constant_expression (facts_from_declarations p true) e).faults ≡ []
 
 -- States that no fault is reported for a valid array length. The types and meanings known for the names in the length's
@@ -47,7 +47,7 @@ ValidLengthsHaveNoFault N =
     (p : KnownDeclarations) (shapes : List Shape) (label : ℕ → N) (meaning : TypeMeanings N) (e : Tree ℕ expression)
     → FactsAgreeWithShapesAndLabels (facts_from_declarations p true) (shape_of_type_in shapes) label meaning e
     → is_some
-    (option_and_then array_length (constant_value meaning (mapped_tree label (token_value_at p.source) e)))
+    (option_and_then array_length_from_value (constant_expression_value meaning (mapped_tree label (token_value_at p.source) e)))
     ≡ true
     → (report_on_expression (facts_from_declarations p true) e >>= length_from_operand (facts_from_declarations p false)).faults ≡ []
 
@@ -58,8 +58,8 @@ TypedTargetsHaveNoFault N =
     (p : KnownDeclarations) (shapes : List Shape) (label : ℕ → N) (meaning : TypeMeanings N) (x : ℕ)
     (path : Tree ℕ (items selector))
     → FactsAgreeWithShapesAndLabels (facts_from_declarations p false) (shape_of_type_in shapes) label meaning (designator x path)
-    → is_some (variable_type meaning (Some (label x, mapped_tree label (token_value_at p.source) path))) ≡ true
-    → (report_on_target (facts_from_declarations p false) x path).faults ≡ []
+    → is_some (assignable_type meaning (Some (label x, mapped_tree label (token_value_at p.source) path))) ≡ true
+    → (report_on_assignment_target (facts_from_declarations p false) x path).faults ≡ []
 
 -- returns the ordinal of the word ARRAY or RECORD that makes a type; None for INTEGER and BOOLEAN
 abbrev pub ordinal_of_shape : Shape → Option ℕ

@@ -5,13 +5,13 @@ use Rattle.std.specs.Prelude.{ℕ, suc, ◌+◌, ◌*◌, max, true, false, List
 use Rattle.ob0_language_names.specs.BlockParts.{names_in_list}
 use Rattle.ob0_types_table.specs.declared.types.TypeId.{TypeId}
 use Rattle.ob0_types_table.specs.declared.types.TypeId.TheVariants as type
-use Rattle.ob0_tree.specs.Places.{token_text_at}
+use Rattle.ob0_tree.specs.TokenIndexLeaves.{token_text_at}
 use Rattle.ob0_tree.specs.Tree.{Tree, array_type, end, fields, fields_after_semicolon, item, items, listed, more, named_type, names, no_fields, record_type, some_fields, semicolon_then_fields, written_type}
 use Rattle.ob0_types_check.specs.ExpressionFaults.{report_on_expression}
 use Rattle.ob0_types_check.specs.TypesAndMeanings.{Operand, ResultWithFaults}
-use Rattle.ob0_types_check.specs.OperandFaults.{without_fault, token_before, ◌>>=◌}
-use Rattle.ob0_types_check.specs.KnownDeclarations.{TypeSize, KnownDeclarations, TypeWithFollowingDeclarations, KnownField, facts_from_declarations, make_composite_type, zero_size, of_elements, of_fields, size_of_type_so_far}
-use Rattle.ob0_types_check.specs.TypeFaults.{length_from_operand, type_named_at}
+use Rattle.ob0_types_check.specs.OperandFaults.{without_fault, previous_token_index, ◌>>=◌}
+use Rattle.ob0_types_check.specs.KnownDeclarations.{TypeSize, KnownDeclarations, TypeWithFollowingDeclarations, KnownField, facts_from_declarations, make_composite_type, zero_size, of_elements, of_fields, size_of_known_type}
+use Rattle.ob0_types_check.specs.TypeFaults.{length_from_operand, type_named_by_token}
 
 -- returns the size of an array of `n` elements that each have this size
 abbrev pub array_size : ℕ → TypeSize → TypeSize
@@ -31,8 +31,8 @@ abbrev pub made_array_type : ℕ → Operand TypeId → Option ℕ → TypeWithF
 made_array_type ordinal o None element =
     without_fault (record { of = type.Unknown; following = element.following })
 made_array_type ordinal o (Some n) element =
-    make_composite_type element.following (token_before o.first) ordinal (of_elements n element.of)
-    (array_size n (size_of_type_so_far element.following.made element.of))
+    make_composite_type element.following (previous_token_index o.first) ordinal (of_elements n element.of)
+    (array_size n (size_of_known_type element.following.made element.of))
 
 -- the fields of a record found so far, their total size, and the declarations known after these fields (`following`)
 pub record KnownFields : Type 0 where
@@ -45,29 +45,29 @@ abbrev pub no_known_fields : KnownDeclarations → KnownFields
 no_known_fields p = record { fields = []; size = zero_size; following = p }
 
 -- returns the size of two parts together: the sum of their scalars and the greater of their depths
-abbrev pub sum_of_sizes : TypeSize → TypeSize → TypeSize
-sum_of_sizes z w = record { scalars = z.scalars + w.scalars; depth = max z.depth w.depth }
+abbrev pub combined_size : TypeSize → TypeSize → TypeSize
+combined_size z w = record { scalars = z.scalars + w.scalars; depth = max z.depth w.depth }
 
 -- Returns the fields `g` with one more field of the type `t`, whose name is at the given token. The size of the field's
 -- type is added to the total size.
-abbrev pub with_known_field : TypeId → KnownFields → ℕ → KnownFields
-with_known_field t g token =
+abbrev pub append_known_field : TypeId → KnownFields → ℕ → KnownFields
+append_known_field t g token =
     record {
       fields = g.fields ++ record { name = token_text_at g.following.source token; of = t } ∷ [];
-      size = sum_of_sizes g.size (size_of_type_so_far g.following.made t);
+      size = combined_size g.size (size_of_known_type g.following.made t);
       following = g.following;
     }
 
 -- Returns the fields `g` with one more field of the type `t` for each of these name tokens.
-abbrev pub with_known_fields : TypeId → KnownFields → List ℕ → KnownFields
-with_known_fields t g [] = g
-with_known_fields t g (x ∷ xs) = with_known_fields t (with_known_field t g x) xs
+abbrev pub append_known_fields : TypeId → KnownFields → List ℕ → KnownFields
+append_known_fields t g [] = g
+append_known_fields t g (x ∷ xs) = append_known_fields t (append_known_field t g x) xs
 
 -- Returns the fields `g` with one more field of the type `t.of` for each of these name tokens. `t` has the type of a
 -- group of fields, and the declarations known after this type.
-abbrev pub with_field_group : KnownFields → List ℕ → TypeWithFollowingDeclarations → KnownFields
-with_field_group g xs t =
-    with_known_fields t.of (record { fields = g.fields; size = g.size; following = t.following }) xs
+abbrev pub append_field_group : KnownFields → List ℕ → TypeWithFollowingDeclarations → KnownFields
+append_field_group g xs t =
+    append_known_fields t.of (record { fields = g.fields; size = g.size; following = t.following }) xs
 
 -- returns the size of a record, which has at least one scalar
 abbrev pub record_size : TypeSize → TypeSize
@@ -80,8 +80,8 @@ token_of_first_name (listed x rest) = x
 -- Returns the token before a group of fields: RECORD or a semicolon. An empty group has no token, so
 -- its place is before `following`, the semicolon after it. If no later group has a field, `following` is 0.
 abbrev pub token_before_group : Tree ℕ fields → ℕ → ℕ
-token_before_group (some_fields ns t) following = token_before (token_of_first_name ns)
-token_before_group no_fields following = token_before following
+token_before_group (some_fields ns t) following = previous_token_index (token_of_first_name ns)
+token_before_group no_fields following = previous_token_index following
 
 -- Returns the token before these groups of fields. If these are all the groups of a record, it is
 -- the word RECORD. Between this token and the first field's name there are only semicolons, one for
@@ -104,7 +104,7 @@ unfoldable mutual
   -- array or record come first
   pub report_on_written_type : ℕ → KnownDeclarations → Tree ℕ written_type → ResultWithFaults TypeWithFollowingDeclarations
   report_on_written_type around p (named_type x) = do
-    t ← type_named_at (facts_from_declarations p false) x
+    t ← type_named_by_token (facts_from_declarations p false) x
     without_fault (record { of = t; following = p })
   report_on_written_type around p (array_type e u) = do
     o ← report_on_expression (facts_from_declarations p true) e
@@ -121,7 +121,7 @@ unfoldable mutual
   report_on_field_group around so_far no_fields = without_fault so_far
   report_on_field_group around so_far (some_fields ns t) = do
     u ← report_on_written_type around so_far.following t
-    without_fault (with_field_group so_far (names_in_list ns) u)
+    without_fault (append_field_group so_far (names_in_list ns) u)
 
   -- returns the faults of further groups of fields, and the earlier fields with the fields of these
   -- groups added

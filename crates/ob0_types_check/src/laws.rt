@@ -3,7 +3,7 @@
 
 ghost use Rattle.ob0_types_check.specs.ModuleLaws.{WalkWithoutFaultFindsCorrectMeanings, ModulesWithoutFaultPassTypeCheck};
 ghost use Rattle.ob0_types_check.specs.ReportLaws.{FaultlessConstantsHaveCorrectValues, FaultlessExpressionsHaveCorrectTypesAndValues, FaultlessLengthsHaveCorrectValues, FaultlessStatementsAreWellTyped, TypesAgreeWithShapesIfTableDoes};
-ghost use Rattle.ob0_types_check.specs.SomeBodies.{WalkingChangedAndFaultyBodiesSuffices};
+ghost use Rattle.ob0_types_check.specs.WalksOverSomeBodies.{WalkingChangedAndFaultyBodiesSuffices};
 ghost use Rattle.ob0_types_check.specs.WellTypedLaws.{TypedModulesHaveBoundNames, ConstantsWithValuesHaveNoFault, TypedExpressionsHaveNoFault, ValidLengthsHaveNoFault, TypedModulesHaveNoFault, WellTypedStatementsHaveNoFault, TypedTargetsHaveNoFault};
 ghost use Rattle.ob0_language_names.specs.Names.{Name};
 
@@ -50,7 +50,7 @@ pub fn modules_without_fault_pass_type_check()
 
 /// Proves that a walk that reports nothing finds correct meanings. If no fault of types and no
 /// undeclared name is reported for a module, the walk has found the right meaning of each
-/// declaration (`KnowsDeclarations`).
+/// declaration (`KnownDeclarationsAgreeWithModule`).
 pub fn walk_without_fault_finds_correct_meanings()
     ensures { WalkWithoutFaultFindsCorrectMeanings }
 {}

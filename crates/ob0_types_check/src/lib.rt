@@ -11,5 +11,5 @@ pub mod laws;
 mod reporting;
 
 pub use reporting::{
-    Report, module_report, module_report_walking_one_body, module_report_walking_some_bodies,
+    ModuleReport, module_report, module_report_walking_one_body, module_report_walking_some_bodies,
 };

@@ -38,7 +38,7 @@
 //! both find these tokens from their neighbors. ARRAY is the token before the array's length.
 //! Between RECORD and the name of the first field there are only semicolons, one for each empty
 //! group of fields before that name (`record_keyword_token`). Every token has a next token, because
-//! `token_after` returns the end of the text unchanged. Every fault has a span, because a token
+//! `next_token_index` returns the end of the text unchanged. Every fault has a span, because a token
 //! that doesn't exist counts as the last token (`fault_with_span`).
 //!
 //! A body declares nothing. So if only the tokens of one body changed, the types and meanings known
@@ -71,11 +71,11 @@ mod written_types;
 ghost use Rattle.std.specs.Prelude.{◌≡◌, ◌++◌, [], IfOk, OnOk, map, option_map, None};
 ghost use Rattle.std.specs.List.{filter};
 ghost use Rattle.ob0_scope_table.specs.Resolution.{is_undeclared_fault};
-ghost use Rattle.ob0_types_table.specs.DeclarationTableView.{AreEntriesInOrder};
-ghost use Rattle.ob0_types_check.specs.NewBody.{PassesTypeCheckWithoutBody};
-ghost use Rattle.ob0_types_check.specs.KnownDeclarations.{known_declarations_at_start};
-ghost use Rattle.ob0_types_check.specs.DeclarationFaults.{every_body, report_on_module};
-ghost use Rattle.ob0_types_check.specs.SomeBodies.{IsFinishedWalk, IsReportOf, IncludesChangedAndFaultyBodies, is_among, includes_body};
+ghost use Rattle.ob0_types_table.specs.DeclarationTableView.{AreValidEntries};
+ghost use Rattle.ob0_types_check.specs.TypeCheckWithoutBody.{PassesTypeCheckWithoutBody};
+ghost use Rattle.ob0_types_check.specs.KnownDeclarations.{known_declarations_at_module_start};
+ghost use Rattle.ob0_types_check.specs.DeclarationFaults.{includes_every_body, report_on_module};
+ghost use Rattle.ob0_types_check.specs.WalksOverSomeBodies.{IsFinishedWalk, IsReportOfModule, IncludesChangedAndFaultyBodies, is_body_in_list, includes_body};
 ghost use Rattle.ob0_types_check.specs.CheckerViews.{meaning_view, declarations_in_state, table_in_state};
 
 use crate::laws::{
@@ -91,7 +91,7 @@ use std::alloc::{AllocError, Global};
 /// The report of a module: its faults, its declarations if there are no faults, and the bodies in
 /// which a fault of types is reported.
 #[derive(Drop)]
-pub struct Report {
+pub struct ModuleReport {
     /// The faults at undeclared names, in text order, and then the faults of types.
     pub faults: Vec<FaultAtTokens>,
     /// The table of declarations, or None if there is a fault.
@@ -101,11 +101,11 @@ pub struct Report {
     pub bodies_with_faults: Vec<usize>,
 }
 
-/// The bodies to walk: all bodies if `every_body` is true, otherwise only the bodies in the list
+/// The bodies to walk: all bodies if `includes_every_body` is true, otherwise only the bodies in the list
 /// `these`. Each body in the list is given by the token index of its block's closing name.
 #[derive(Clone, Copy)]
 struct BodiesToWalk<'b> {
-    every_body: bool,
+    includes_every_body: bool,
     these: &'b [usize],
 }
 
@@ -114,22 +114,25 @@ impl<'b> BodiesToWalk<'b> {
     fn includes_body(&self, closing: usize) -> bool
         ensures { result ≡ includes_body self.now closing }
     {
-        self.every_body || self.these.contains(&closing)
+        self.includes_every_body || self.these.contains(&closing)
     }
 }
 
 /// Returns the report of a module: its undeclared names in text order and then its faults of types.
 /// If there are no faults, the report has the module's declarations. Duplicate declarations and
 /// wrong closing names aren't reported here.
-pub fn module_report<'t>(alloc: Global, resolved: &'t Resolved<'t>) -> Result<Report, AllocError>
-    ensures { IfOk result (IsReportOf resolved.now) }
+pub fn module_report<'t>(
+    alloc: Global,
+    resolved: &'t Resolved<'t>,
+) -> Result<ModuleReport, AllocError>
+    ensures { IfOk result (IsReportOfModule resolved.now) }
 {
     let none = Vec::new(alloc);
-    let every_body = BodiesToWalk {
-        every_body: true,
+    let includes_every_body = BodiesToWalk {
+        includes_every_body: true,
         these: none.as_slice(),
     };
-    module_report_walking_wanted_bodies(alloc, resolved, &every_body)
+    module_report_walking_wanted_bodies(alloc, resolved, &includes_every_body)
 }
 
 /// Returns the report of a module after a change. The report is the same as `module_report`
@@ -140,15 +143,15 @@ pub fn module_report_walking_some_bodies<'t>(
     alloc: Global,
     resolved: &'t Resolved<'t>,
     bodies: &[usize],
-) -> Result<Report, AllocError>
-    requires { IncludesChangedAndFaultyBodies (is_among bodies.now) resolved.now }
-    ensures { IfOk result (IsReportOf resolved.now) }
+) -> Result<ModuleReport, AllocError>
+    requires { IncludesChangedAndFaultyBodies (is_body_in_list bodies.now) resolved.now }
+    ensures { IfOk result (IsReportOfModule resolved.now) }
 {
     walking_changed_and_faulty_bodies_suffices();
     // The proof needs this call: its contract states the module's invariant.
     let _module = resolved.module();
     let these = BodiesToWalk {
-        every_body: false,
+        includes_every_body: false,
         these: bodies,
     };
     module_report_walking_wanted_bodies(alloc, resolved, &these)
@@ -161,15 +164,15 @@ pub fn module_report_walking_one_body<'t>(
     alloc: Global,
     resolved: &'t Resolved<'t>,
     closing: usize,
-) -> Result<Report, AllocError>
+) -> Result<ModuleReport, AllocError>
     requires { PassesTypeCheckWithoutBody resolved.now closing }
-    ensures { IfOk result (IsReportOf resolved.now) }
+    ensures { IfOk result (IsReportOfModule resolved.now) }
 {
     // The proof needs this call: its contract states the module's invariant.
     let _module = resolved.module();
     let bodies = [closing];
     let only = BodiesToWalk {
-        every_body: false,
+        includes_every_body: false,
         these: &bodies,
     };
     module_report_walking_wanted_bodies(alloc, resolved, &only)
@@ -181,9 +184,9 @@ fn module_report_walking_wanted_bodies<'t>(
     alloc: Global,
     resolved: &'t Resolved<'t>,
     wanted: &BodiesToWalk<'_>,
-) -> Result<Report, AllocError>
-    requires { report_on_module (includes_body wanted.now) resolved.now ≡ report_on_module every_body resolved.now }
-    ensures { IfOk result (IsReportOf resolved.now) }
+) -> Result<ModuleReport, AllocError>
+    requires { report_on_module (includes_body wanted.now) resolved.now ≡ report_on_module includes_every_body resolved.now }
+    ensures { IfOk result (IsReportOfModule resolved.now) }
 {
     let read = resolved.module();
     let mut reporter = ReportingWalk::new(alloc, resolved)?;
@@ -202,7 +205,7 @@ fn make_declaration_table<'t>(
     alloc: Global,
     checker_state: CheckerState<'t>,
 ) -> Result<DeclarationTable, AllocError>
-    requires { AreEntriesInOrder [] checker_state.composites.items }
+    requires { AreValidEntries [] checker_state.composites.items }
     ensures { IfOk result (λ t. t ≡ table_in_state checker_state.entry) }
 {
     let CheckerState {
@@ -228,7 +231,7 @@ impl<'t> ReportingWalk<'t> {
     /// Returns the state of the walk at the start of a module. Only the predeclared names have a
     /// meaning, and the only faults are the undeclared names.
     fn new(alloc: Global, resolved: &'t Resolved<'t>) -> Result<ReportingWalk<'t>, AllocError>
-        ensures checker_state { IfOk result (λ t. declarations_in_state t.checker_state ≡ known_declarations_at_start resolved.now) }
+        ensures checker_state { IfOk result (λ t. declarations_in_state t.checker_state ≡ known_declarations_at_module_start resolved.now) }
         ensures faults { IfOk result
             (λ t. t.faults.items ≡ filter is_undeclared_fault resolved.now.faults) }
     {
@@ -252,9 +255,9 @@ impl<'t> ReportingWalk<'t> {
         self,
         resolved: &'t Resolved<'t>,
         bodies_with_faults: Vec<usize>,
-    ) -> Result<Report, AllocError>
+    ) -> Result<ModuleReport, AllocError>
         requires { IsFinishedWalk resolved.now self.faults.items self.checker_state bodies_with_faults.items }
-        ensures { IfOk result (IsReportOf resolved.now) }
+        ensures { IfOk result (IsReportOfModule resolved.now) }
     {
         walk_without_fault_finds_correct_meanings();
         // The proof needs this call: its contract states the module's invariant.
@@ -266,13 +269,13 @@ impl<'t> ReportingWalk<'t> {
         } = self;
         if faults.is_empty() {
             let known = make_declaration_table(alloc, checker_state)?;
-            Ok(Report {
+            Ok(ModuleReport {
                 faults,
                 known: Some(known),
                 bodies_with_faults,
             })
         } else {
-            Ok(Report {
+            Ok(ModuleReport {
                 faults,
                 known: None,
                 bodies_with_faults,

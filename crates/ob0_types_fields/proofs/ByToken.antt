@@ -2,12 +2,12 @@
 use Rattle.std.proofs.Common.{◌≡◌, ℕ, ◌&&◌, if◌then◌else◌, ◌==◌, Some, None, Option, refl, ◌∙◌, sym}
 use Rattle.ob0_tree.specs.Tree.{mapped_tree}
 use Rattle.ob0_tree.specs.ParsedModule.{named_tree_of, tree_of}
-use Rattle.ob0_tree.specs.Places.{token_text_at, token_value_at}
+use Rattle.ob0_tree.specs.TokenIndexLeaves.{token_text_at, token_value_at}
 use Rattle.ob0_language_names.specs.Names.{Name, same_name}
 use Rattle.ob0_scope_table.specs.Resolution.{ordinal_in}
-use Rattle.ob0_language_fields.specs.Fields.{rename_fields_in_module}
+use Rattle.ob0_language_fields.specs.RenamedFields.{rename_fields_in_module}
 use Rattle.ob0_types_fields.specs.OwnerTables.{RenamingFollowsOwners, renaming_by_record}
-use Rattle.ob0_language_fields.specs.Renaming.{single_field_renaming}
+use Rattle.ob0_language_fields.specs.SingleFieldRenaming.{single_field_renaming}
 
 -- returns the spelling of a field of the record `k` after one field was renamed
 abbrev in_record : ℕ → Name → Name → ℕ → Name → Name

@@ -8,9 +8,9 @@ use Rattle.ob0_language_types.specs.Expressions.{Meanings}
 use Rattle.ob0_language_types.specs.WellTyped.{Signature}
 use Rattle.ob0_language_values.specs.Values.{Shape}
 use Rattle.ob0_types_fields.specs.FieldTypes.{constructed_types}
-use Rattle.ob0_types_fields.specs.ConstructorSearch.{ConstructorSearchState, is_found, is_skipping, state_after_constructors, state_after_constructor, found_type}
+use Rattle.ob0_types_fields.specs.TypeConstructorSearch.{TypeConstructorSearchState, is_found, is_skipping, state_after_constructors, state_after_constructor, found_type}
 
-pub after_both : (s : ConstructorSearchState) (xs ys : List (Option Shape)) → state_after_constructors s (xs ++ ys) ≡ state_after_constructors (state_after_constructors s xs) ys
+pub after_both : (s : TypeConstructorSearchState) (xs ys : List (Option Shape)) → state_after_constructors s (xs ++ ys) ≡ state_after_constructors (state_after_constructors s xs) ys
 after_both s [] ys = refl
 after_both s (x ∷ xs) ys = after_both (state_after_constructor s x) xs ys
 
@@ -32,10 +32,10 @@ found_at (suc n) (x ∷ xs) = go (suc n == 0) refl (found_at n xs)
         ap (λ k. found_type (state_after_constructors (is_skipping k) xs)) less ∙ later
 
 -- holds if the search after the visited items, continued with the remaining items, is the search after all items
-pub record OverItems {A : Type 0} {i : GrammarItem} (f : A → Tree ℕ (item i)) (m : Meanings ℕ Shape Signature) (t : Option Shape) (start : ConstructorSearchState) (xs : List A) (done : ℕ) (now : ConstructorSearchState) : Type 0 where
+pub record OverItems {A : Type 0} {i : GrammarItem} (f : A → Tree ℕ (item i)) (m : Meanings ℕ Shape Signature) (t : Option Shape) (start : TypeConstructorSearchState) (xs : List A) (done : ℕ) (now : TypeConstructorSearchState) : Type 0 where
   pub so_far : state_after_constructors now (constructed_types m t (items_of f (drop done xs))) ≡ state_after_constructors start (constructed_types m t (items_of f xs))
 
-pub items_go_on : {A : Type 0} {i : GrammarItem} {f : A → Tree ℕ (item i)} {m : Meanings ℕ Shape Signature} {t : Option Shape} {start : ConstructorSearchState} {xs : List A} {done : ℕ} {now : ConstructorSearchState} (x : A) (next : ConstructorSearchState)
+pub items_go_on : {A : Type 0} {i : GrammarItem} {f : A → Tree ℕ (item i)} {m : Meanings ℕ Shape Signature} {t : Option Shape} {start : TypeConstructorSearchState} {xs : List A} {done : ℕ} {now : TypeConstructorSearchState} (x : A) (next : TypeConstructorSearchState)
     → OverItems f m t start xs done now → done < length xs → x ≡ get_or xs done x → next ≡ state_after_constructors now (constructed_types m t (f x)) → OverItems f m t start xs (done + 1) next
 items_go_on {f = f} {m = m} {t = t} {xs = xs} {done = done} {now = now} x next w less here is =
     let rest : List (Option Shape) = constructed_types m t (items_of f (drop (done + 1) xs)) in
@@ -45,7 +45,7 @@ items_go_on {f = f} {m = m} {t = t} {xs = xs} {done = done} {now = now} x next w
           ∙ (sym (ap (λ ys. state_after_constructors now (constructed_types m t (items_of f ys))) (drop_more xs done x less ∙ ap (λ y. y ∷ drop (done + 1) xs) (sym here))) ∙ w.so_far));
     }
 
-pub items_end : {A : Type 0} {i : GrammarItem} {f : A → Tree ℕ (item i)} {m : Meanings ℕ Shape Signature} {t : Option Shape} {start : ConstructorSearchState} {xs : List A} {done : ℕ} {now : ConstructorSearchState}
+pub items_end : {A : Type 0} {i : GrammarItem} {f : A → Tree ℕ (item i)} {m : Meanings ℕ Shape Signature} {t : Option Shape} {start : TypeConstructorSearchState} {xs : List A} {done : ℕ} {now : TypeConstructorSearchState}
     → OverItems f m t start xs done now → length xs ≤ done → now ≡ state_after_constructors start (constructed_types m t (items_of f xs))
 items_end {f = f} {m = m} {t = t} {xs = xs} {done = done} {now = now} w all =
     sym (ap (λ ys. state_after_constructors now (constructed_types m t (items_of f ys))) (drop_all done xs all)) ∙ w.so_far

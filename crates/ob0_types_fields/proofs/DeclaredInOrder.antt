@@ -2,17 +2,17 @@
 use Rattle.std.proofs.Common.{◌≡◌, ℕ, suc, ◌+◌, ◌<◌, ◌≤◌, cond, List, [], ◌∷◌, ◌++◌, Some, None, Option, refl, sym, ap, ◌∙◌, subst, append_assoc, arith, le_refl, eq-eqb}
 use Rattle.std.proofs.lemmas.Bool.{ne_eqb}
 use Rattle.ob0_tree.specs.Tree.{Tree, block, constant, declares, declares_constant, declares_type, declares_variable, end, forms_block, items, more, type_definition, variable}
-use Rattle.ob0_language_names.specs.Names.{Label, Name, naming_by_label, naming_by_spelling, as_written, declared, same_label}
+use Rattle.ob0_language_names.specs.Names.{Label, Name, naming_by_label, naming_by_spelling, as_written, declared, same_ordinal_label}
 use Rattle.ob0_language_names.specs.BlockParts.{block_constants, block_types, block_variables, constant_names, declared_type_names, names_in_list, section_constants, section_types, section_variables, variable_names}
 use Rattle.ob0_language_names.specs.Scopes.{Scope, ordinal_after_names, label_from_ordinal, declare_names, first_procedure_ordinal, first_type_ordinal, first_variable_ordinal, labels_of_declared_names, relabel_block, relabel_constants, relabel_names, relabel_types, relabel_uses, relabel_variables, scope_before_types, scope_before_variables}
 use Rattle.ob0_language_names.proofs.Ordinals.{ordinal_after_names-append}
 use Rattle.ob0_language_names.proofs.Relabelled.{constants-section, names-relabel, types-section, variables-section}
 use Rattle.ob0_language_types.specs.Bindings.{object_of_ordinal}
 use Rattle.ob0_language_types.specs.BlockDeclarations.{declare_block}
-use Rattle.ob0_language_types.specs.Declarations.{constructors_before_variables, declare_constants, declare_constants_and_types, declare_types}
-use Rattle.ob0_language_types.specs.Environments.{environment_from_binding, meanings}
+use Rattle.ob0_language_types.specs.Declarations.{constructor_count_before_variables, declare_constants, declare_constants_and_types, declare_types}
+use Rattle.ob0_language_types.specs.Environments.{suffix_from_newest_binding, meanings}
 use Rattle.ob0_language_types.specs.Expressions.{Object, a_constant, a_type, a_variable}
-use Rattle.ob0_language_types.specs.Typing.{constant_value, constructor_count, denoted_type}
+use Rattle.ob0_language_types.specs.Typing.{constant_expression_value, constructor_count, denoted_type}
 use Rattle.ob0_language_types.specs.WellTyped.{Signature, TypeEnvironment, TypedParameter, bind_names, bind_typed_parameters, declare_typed_variables, bind_procedure}
 use Rattle.ob0_language_values.specs.Values.{Shape}
 use Rattle.ob0_language_types.proofs.Bound.{newest_object-if}
@@ -64,7 +64,7 @@ constants_grow : (scope : Scope Name) (k : ℕ) (cs : Tree Name (items constant)
 unfolding declare_constants
 constants_grow scope k end env after h = subst (Grown k k env) (some_inverse h) (grown_nothing k env)
 constants_grow scope k (more (declares_constant x e) cs) env after h =
-    let found = then_some (constant_value (meanings naming_by_label env) (relabel_uses naming_by_spelling (label_from_ordinal naming_by_spelling) scope e))
+    let found = then_some (constant_expression_value (meanings naming_by_label env) (relabel_uses naming_by_spelling (label_from_ordinal naming_by_spelling) scope e))
     (λ v. declare_constants naming_by_label ((declared k, a_constant v) ∷ env) (relabel_constants naming_by_spelling (label_from_ordinal naming_by_spelling) ((x, k) ∷ scope) (suc k) cs)) after h in
     grown_then k (suc k) (ordinal_after_names (suc k) (constant_names cs)) env ((declared k, a_constant found.0) ∷ env) after (grown_one k (a_constant found.0) env)
     (constants_grow ((x, k) ∷ scope) (suc k) cs ((declared k, a_constant found.0) ∷ env) after found.2)
@@ -125,12 +125,12 @@ block_grows scope j k (forms_block (declares cs ts vs ps) statements) env inner 
     let b' : Tree Label block = relabel_block naming_by_spelling (label_from_ordinal naming_by_spelling) scope k b in
     let kt : ℕ = first_type_ordinal k b in
     let kv : ℕ = first_variable_ordinal k b in
-    let two = then_some (declare_constants_and_types naming_by_label env j b') (declare_typed_variables naming_by_label (constructors_before_variables j b') (block_variables b')) inner h in
+    let two = then_some (declare_constants_and_types naming_by_label env j b') (declare_typed_variables naming_by_label (constructor_count_before_variables j b') (block_variables b')) inner h in
     let one = firsts env j b' two.0 two.1 in
     let c = constants_grow scope k (section_constants cs) env one.0 (ap (declare_constants naming_by_label env) (sym (constants-section naming_by_spelling (label_from_ordinal naming_by_spelling) scope k cs)) ∙ one.1) in
     let t = types_grow (scope_before_types k b scope) j kt (section_types ts) one.0 two.0 (ap (declare_types naming_by_label one.0 j) (sym (types-section naming_by_spelling (label_from_ordinal naming_by_spelling) (scope_before_types k b scope) kt ts)) ∙ one.2) in
-    let v = variables_grow (scope_before_variables k b scope) (constructors_before_variables j b') kv (section_variables vs) two.0 inner
-    (ap (λ gs. declare_typed_variables naming_by_label (constructors_before_variables j b') gs two.0) (sym (variables-section naming_by_spelling (label_from_ordinal naming_by_spelling) (scope_before_variables k b scope) kv vs)) ∙ two.2) in
+    let v = variables_grow (scope_before_variables k b scope) (constructor_count_before_variables j b') kv (section_variables vs) two.0 inner
+    (ap (λ gs. declare_typed_variables naming_by_label (constructor_count_before_variables j b') gs two.0) (sym (variables-section naming_by_spelling (label_from_ordinal naming_by_spelling) (scope_before_variables k b scope) kv vs)) ∙ two.2) in
     grown_then k kt (first_procedure_ordinal k b) env one.0 inner c (grown_then kt kv (first_procedure_ordinal k b) one.0 two.0 inner t v)
 
 -- returns the object of a label, given the objects of ordinals
@@ -162,8 +162,8 @@ right_older now before n (b ∷ env) (i, e, less, d) same h = (
 pub bound_right : (n : ℕ) (env : TypeEnvironment Label) → Descends n env 0 → Right (object_of_ordinal env) env
 bound_right n [] d = tt
 bound_right n ((x, o) ∷ env) (i, e, less, d) =
-    let choice : (d' : ℕ) → object_of_ordinal ((x, o) ∷ env) d' ≡ cond (same_label (declared d') x) (Some o) (object_of_ordinal env d') = λ d'. newest_object-if (same_label (declared d') x) x o env (environment_from_binding naming_by_label env (declared d')) in (
-      ap (at_label (object_of_ordinal ((x, o) ∷ env))) e ∙ choice i ∙ ap (λ t. cond t (Some o) (object_of_ordinal env i)) (ap (same_label (declared i)) e ∙ eq-eqb i i refl),
+    let choice : (d' : ℕ) → object_of_ordinal ((x, o) ∷ env) d' ≡ cond (same_ordinal_label (declared d') x) (Some o) (object_of_ordinal env d') = λ d'. newest_object-if (same_ordinal_label (declared d') x) x o env (suffix_from_newest_binding naming_by_label env (declared d')) in (
+      ap (at_label (object_of_ordinal ((x, o) ∷ env))) e ∙ choice i ∙ ap (λ t. cond t (Some o) (object_of_ordinal env i)) (ap (same_ordinal_label (declared i)) e ∙ eq-eqb i i refl),
       right_older (object_of_ordinal ((x, o) ∷ env)) (object_of_ordinal env) i env d
-          (λ d' below. choice d' ∙ ap (λ t. cond t (Some o) (object_of_ordinal env d')) (ap (same_label (declared d')) e ∙ ne_eqb d' i (λ same. omega (arith, same, below)))) (bound_right i env d),
+          (λ d' below. choice d' ∙ ap (λ t. cond t (Some o) (object_of_ordinal env d')) (ap (same_ordinal_label (declared d')) e ∙ ne_eqb d' i (λ same. omega (arith, same, below)))) (bound_right i env d),
     )

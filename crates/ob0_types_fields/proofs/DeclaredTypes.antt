@@ -2,28 +2,28 @@
 -- its written type denotes there. A procedure has the parameters of its heading.
 use Rattle.std.proofs.Common.{◌≡◌, ℕ, ◌+◌, true, List, [], ◌∷◌, ◌++◌, map, Some, None, Option, option_and_then, refl, sym, ap, ◌∙◌, subst, append_assoc}
 use Rattle.ob0_tree.specs.ParsedModule.{named_tree_of, tree_of}
-use Rattle.ob0_tree.specs.Places.{token_text_at}
+use Rattle.ob0_tree.specs.TokenIndexLeaves.{token_text_at}
 use Rattle.ob0_tree.specs.Tree.{Tree, block, body, constant, declares, declares_constant, declares_procedure, declares_type, declares_type_section, declares_variable, declares_var_section, end, formals, section_after_semicolon, forms_block, item, items, listed, maybe, module_text, more, no_formals, none, one, procedure, section, some_formals, semicolon_then_section, type_definition, type_definitions, value_section, variable, variable_section, variables, written_type}
 use Rattle.ob0_language_names.specs.Names.{Label, naming_by_label, naming_by_spelling}
-use Rattle.ob0_language_names.specs.BlockParts.{block_constants, block_statements, block_types, block_variables, formal_sections, names_after_first, module_block, parameter_section_type, section_types, section_variables}
+use Rattle.ob0_language_names.specs.BlockParts.{block_constants, block_statements, block_types, block_variables, formal_parameter_sections, names_after_first, module_block, parameter_section_type, section_types, section_variables}
 use Rattle.ob0_scope_table.specs.Resolution.{IsResolution, Resolution, ordinal_in}
 use Rattle.ob0_language_names.specs.Scopes.{label_from_ordinal}
-use Rattle.ob0_language_types.specs.Bindings.{block_bindings, declared_object, module_bindings, procedures_bindings, bindings_since}
+use Rattle.ob0_language_types.specs.Bindings.{block_bindings, declared_object, module_bindings, procedure_list_bindings, added_bindings}
 use Rattle.ob0_language_types.specs.BlockDeclarations.{declare_block}
 use Rattle.ob0_scope_table.specs.LabelledTrees.{tree_with_labels, label_at_token}
-use Rattle.ob0_language_types.proofs.Bound.{bindings_since-append, bind_typed_parameters-append}
-use Rattle.ob0_language_types.specs.Declarations.{constructors_before_variables, constructors_before_procedures, declare_constants, declare_constants_and_types, declare_types, formals_constructor_count, procedure_constructor_count}
+use Rattle.ob0_language_types.proofs.Bound.{added_bindings-append, bind_typed_parameters-append}
+use Rattle.ob0_language_types.specs.Declarations.{constructor_count_before_variables, constructor_count_before_procedures, declare_constants, declare_constants_and_types, declare_types, formals_constructor_count, procedure_constructor_count}
 use Rattle.ob0_language_types.specs.Environments.{meanings, outermost_environment}
 use Rattle.ob0_language_types.specs.Expressions.{Meanings, Object, a_constant, a_type, a_variable}
-use Rattle.ob0_language_types.specs.Typing.{constant_value, constructor_count, denoted_type}
-use Rattle.ob0_language_types.specs.WellTyped.{FormalParameter, ParameterMode, Signature, TypeEnvironment, TypedParameter, WellTyped, bind_names, bind_typed_parameters, block_is_well_typed, by_place, by_value, declare_typed_variables, passes_type_check, bind_procedure, procedures_are_well_typed, typed_parameters}
+use Rattle.ob0_language_types.specs.Typing.{constant_expression_value, constructor_count, denoted_type}
+use Rattle.ob0_language_types.specs.WellTyped.{FormalParameter, ParameterMode, Signature, TypeEnvironment, TypedParameter, WellTyped, bind_names, bind_typed_parameters, block_is_well_typed, by_place, by_value, declare_typed_variables, passes_type_check, bind_procedure, procedures_and_body_are_well_typed, typed_parameters}
 use Rattle.ob0_language_types.proofs.Literals.{some_inverse}
 use Rattle.ob0_language_types.proofs.Proved.{numbering_keeps_type_check-holds}
 use Rattle.ob0_language_types.proofs.TypedElsewhere.{then_some}
 use Rattle.ob0_language_types.proofs.ConstantsDeclared.{block-listed, block-parts}
 use Rattle.ob0_types_fields.proofs.DeclaredInOrder.{Right, at_label, right_split}
 use Rattle.ob0_types_fields.proofs.OwnedModules.{bindings_right, procedure-parts}
-use Rattle.ob0_types_fields.specs.FieldTypes.{first_name_listed}
+use Rattle.ob0_types_fields.specs.FieldTypes.{first_listed_name}
 use Rattle.ob0_types_fields.specs.IdentifierOwners.{meanings_by_token}
 use Rattle.ob0_language_values.specs.Values.{Shape}
 
@@ -52,11 +52,11 @@ module _ (r : Resolution) where
   -- holds if the first of the names that are declared together in each group has the group's type
   abbrev pub VariablesAreTyped : Tree ℕ (items variable) → Type 0
   VariablesAreTyped end = Unit {0}
-  VariablesAreTyped (more (declares_variable ns u) gs) = ((s : Shape) × (meaning.object_for (first_name_listed ns) ≡ Some (a_variable s)) × Denotes u s) × VariablesAreTyped gs
+  VariablesAreTyped (more (declares_variable ns u) gs) = ((s : Shape) × (meaning.object_for (first_listed_name ns) ≡ Some (a_variable s)) × Denotes u s) × VariablesAreTyped gs
 
   abbrev pub first_parameter : Tree ℕ section → ℕ
-  first_parameter (value_section ns u) = first_name_listed ns
-  first_parameter (variable_section ns u) = first_name_listed ns
+  first_parameter (value_section ns u) = first_listed_name ns
+  first_parameter (variable_section ns u) = first_listed_name ns
 
   abbrev pub FormalsAreTyped : Tree ℕ (items section_after_semicolon) → Type 0
   FormalsAreTyped end = Unit {0}
@@ -71,7 +71,7 @@ module _ (r : Resolution) where
     ProceduresAreTyped (more p rest) = ProcedureIsTyped p × ProceduresAreTyped rest
 
     pub ProcedureIsTyped : Tree ℕ (item procedure) → Type 0
-    ProcedureIsTyped (declares_procedure x fs b closing) = FormalsAreTyped (formal_sections fs) × BlockIsTyped b
+    ProcedureIsTyped (declares_procedure x fs b closing) = FormalsAreTyped (formal_parameter_sections fs) × BlockIsTyped b
 
   -- Holds if bindings are put before an environment, and a property follows if each of them has the object of its
   -- ordinal.
@@ -112,7 +112,7 @@ module _ (r : Resolution) where
   unfolding declare_constants
   constants-put env end after h = subst (λ e. Put env e (Unit {0})) (some_inverse h) (put_nothing env (Unit {0}) tt)
   constants-put env (more (declares_constant x e) cs) after h =
-      let found = then_some (constant_value (meanings naming_by_label env) e) (λ v. declare_constants naming_by_label ((x, a_constant v) ∷ env) cs) after h in
+      let found = then_some (constant_expression_value (meanings naming_by_label env) e) (λ v. declare_constants naming_by_label ((x, a_constant v) ∷ env) cs) after h in
       let mid : TypeEnvironment Label = (x, a_constant found.0) ∷ env in
       put_weaker env after _ (Unit {0}) (λ p. tt) (put_more env mid after _ _ (put_one env x (a_constant found.0)) (constants-put mid cs after found.2))
 
@@ -163,11 +163,11 @@ module _ (r : Resolution) where
   block-put : (env : TypeEnvironment Label) (k : ℕ) (b : Tree ℕ block) (inner : TypeEnvironment Label) → declare_block naming_by_label env k (tree_with_labels r b) ≡ Some inner → Put env inner (TypesAreTyped (block_types b) × VariablesAreTyped (block_variables b))
   block-put env k (forms_block (declares cs ts vs ps) statements) inner h =
       let b : Tree Label block = tree_with_labels r (forms_block (declares cs ts vs ps) statements) in
-      let two = then_some (declare_constants_and_types naming_by_label env k b) (declare_typed_variables naming_by_label (constructors_before_variables k b) (block_variables b)) inner h in
+      let two = then_some (declare_constants_and_types naming_by_label env k b) (declare_typed_variables naming_by_label (constructor_count_before_variables k b) (block_variables b)) inner h in
       let one = firsts env k b two.0 two.1 in
       let c = constants-put env (block_constants b) one.0 one.1 in
       let t = type_section-put one.0 k ts two.0 one.2 in
-      let v = variable_section-put two.0 (constructors_before_variables k b) vs inner two.2 in
+      let v = variable_section-put two.0 (constructor_count_before_variables k b) vs inner two.2 in
       put_weaker env inner _ _ (λ p. (p.0.1, p.1)) (put_more env two.0 inner _ _ (put_more env one.0 two.0 _ _ c t) v)
 
   -- ---- headings
@@ -214,8 +214,8 @@ module _ (r : Resolution) where
   formals-typed env k (more (semicolon_then_section (variable_section (listed x others) u)) fs) qs h right =
       section-typed env k by_place x (names_after_first (tree_with_labels r others)) u fs qs h (λ e ps. formals-typed e (k + constructor_count (tree_with_labels r u)) fs ps) right
 
-  formal_section-typed : (env : TypeEnvironment Label) (k : ℕ) (fs : Tree ℕ (maybe formals)) (qs : List (TypedParameter Label)) → typed_parameters naming_by_label env k (formal_sections (tree_with_labels r fs)) ≡ Some qs
-      → Right objects (bind_typed_parameters qs []) → FormalsAreTyped (formal_sections fs)
+  formal_section-typed : (env : TypeEnvironment Label) (k : ℕ) (fs : Tree ℕ (maybe formals)) (qs : List (TypedParameter Label)) → typed_parameters naming_by_label env k (formal_parameter_sections (tree_with_labels r fs)) ≡ Some qs
+      → Right objects (bind_typed_parameters qs []) → FormalsAreTyped (formal_parameter_sections fs)
   formal_section-typed env k none qs h right = tt
   formal_section-typed env k (one no_formals) qs h right = tt
   formal_section-typed env k (one (some_formals f fs)) qs h right = formals-typed env k (more (semicolon_then_section f) fs) qs h right
@@ -230,14 +230,14 @@ module _ (r : Resolution) where
         let parts = block-parts env k b' h in
         let inner : TypeEnvironment Label = parts.0 in
         let put = block-put env k b inner parts.1 in
-        let listed : block_bindings naming_by_label env k b' ≡ procedures_bindings naming_by_label inner (constructors_before_procedures k b') (tree_with_labels r ps) ++ put.bound =
+        let listed : block_bindings naming_by_label env k b' ≡ procedure_list_bindings naming_by_label inner (constructor_count_before_procedures k b') (tree_with_labels r ps) ++ put.bound =
         block-listed env k b' inner parts.1
-        ∙ ap (λ e. procedures_bindings naming_by_label inner (constructors_before_procedures k b') (tree_with_labels r ps) ++ e) (ap (bindings_since env) put.is ∙ bindings_since-append put.bound env) in
-        let two = right_split objects (procedures_bindings naming_by_label inner (constructors_before_procedures k b') (tree_with_labels r ps)) put.bound (subst (Right objects) listed right) in
-        (put.says two.1, procedures-typed inner (constructors_before_procedures k b') (block_statements b') ps parts.2 two.0)
+        ∙ ap (λ e. procedure_list_bindings naming_by_label inner (constructor_count_before_procedures k b') (tree_with_labels r ps) ++ e) (ap (added_bindings env) put.is ∙ added_bindings-append put.bound env) in
+        let two = right_split objects (procedure_list_bindings naming_by_label inner (constructor_count_before_procedures k b') (tree_with_labels r ps)) put.bound (subst (Right objects) listed right) in
+        (put.says two.1, procedures-typed inner (constructor_count_before_procedures k b') (block_statements b') ps parts.2 two.0)
 
-    procedures-typed : (env : TypeEnvironment Label) (k : ℕ) (statements : Tree Label (maybe body)) (ps : Tree ℕ (items procedure)) → procedures_are_well_typed naming_by_label env k statements (tree_with_labels r ps) ≡ true
-        → Right objects (procedures_bindings naming_by_label env k (tree_with_labels r ps)) → ProceduresAreTyped ps
+    procedures-typed : (env : TypeEnvironment Label) (k : ℕ) (statements : Tree Label (maybe body)) (ps : Tree ℕ (items procedure)) → procedures_and_body_are_well_typed naming_by_label env k statements (tree_with_labels r ps) ≡ true
+        → Right objects (procedure_list_bindings naming_by_label env k (tree_with_labels r ps)) → ProceduresAreTyped ps
     procedures-typed env k statements end h right = tt
     procedures-typed env k statements (more (declares_procedure x fs b closing) rest) h right =
         let x' : Label = label_at_token r x in
@@ -249,11 +249,11 @@ module _ (r : Resolution) where
         let qs : List (TypedParameter Label) = parts.0 in
         let fit = parts.2 in
         let own : TypeEnvironment Label = bind_procedure x' qs [] in
-        let inside : TypeEnvironment Label = block_bindings naming_by_label (bind_typed_parameters qs (bind_procedure x' qs env)) (k + formals_constructor_count (formal_sections fs')) b' in
-        let two = right_split objects (procedures_bindings naming_by_label (bind_procedure x' qs env) n rest') (inside ++ bind_typed_parameters qs own) (subst (Right objects) fit.listed right) in
+        let inside : TypeEnvironment Label = block_bindings naming_by_label (bind_typed_parameters qs (bind_procedure x' qs env)) (k + formals_constructor_count (formal_parameter_sections fs')) b' in
+        let two = right_split objects (procedure_list_bindings naming_by_label (bind_procedure x' qs env) n rest') (inside ++ bind_typed_parameters qs own) (subst (Right objects) fit.listed right) in
         let three = right_split objects inside (bind_typed_parameters qs own) two.1 in
         let four = right_split objects (bind_typed_parameters qs []) own (subst (Right objects) (bind_typed_parameters-append qs [] own) three.1) in (
-          (formal_section-typed env k fs qs parts.1 four.0, block-typed (bind_typed_parameters qs (bind_procedure x' qs env)) (k + formals_constructor_count (formal_sections fs')) b fit.block_right three.0),
+          (formal_section-typed env k fs qs parts.1 four.0, block-typed (bind_typed_parameters qs (bind_procedure x' qs env)) (k + formals_constructor_count (formal_parameter_sections fs')) b fit.block_right three.0),
           procedures-typed (bind_procedure x' qs env) n statements rest fit.rest_right two.0,
         )
 

@@ -6,17 +6,17 @@ use Rattle.std.proofs.lemmas.Slice.Eq.{bytes_eq-Decides}
 use Rattle.std.proofs.Math.Bool.{and-false}
 use Rattle.ob0_scan.specs.TextWithTokens.{TextWithTokens}
 use Rattle.ob0_tree.specs.ParsedModule.{tree_of}
-use Rattle.ob0_tree.specs.Places.{token_text_at, token_value_at}
+use Rattle.ob0_tree.specs.TokenIndexLeaves.{token_text_at, token_value_at}
 use Rattle.ob0_tree.specs.Tree.{Tree, item, items, maybe, array_type, block, declares, declares_procedure, declares_type, declares_variable, end, fields, formals, fields_after_semicolon, name_after_comma, section_after_semicolon, forms_block, listed, mapped_tree, more, named_type, names, no_fields, procedure, record_type, section, some_fields, semicolon_then_fields, comma_then_name, semicolon_then_section, type_definition, value_section, variable, variable_section, written_type}
 use Rattle.ob0_language_names.specs.ConsistentNames.{group_field_names, field_names_after_first_group}
 use Rattle.ob0_language_names.specs.Names.{Name, same_name}
-use Rattle.ob0_language_names.specs.BlockParts.{formal_sections, names_after_first, module_block, names_in_list, parameter_section_type, section_types, section_variables}
-use Rattle.ob0_language_types.specs.Declarations.{constructors_before_procedure_block, constructors_before_variables, constructors_before_procedures, procedure_constructor_count}
+use Rattle.ob0_language_names.specs.BlockParts.{formal_parameter_sections, names_after_first, module_block, names_in_list, parameter_section_type, section_types, section_variables}
+use Rattle.ob0_language_types.specs.Declarations.{constructor_count_before_procedure_block, constructor_count_before_variables, constructor_count_before_procedures, procedure_constructor_count}
 use Rattle.ob0_language_types.specs.Typing.{constructor_count, group_constructor_count}
-use Rattle.ob0_types_fields.specs.declared.field_name.FieldName.{FieldName}
-use Rattle.ob0_types_fields.specs.Identifiers.{DuplicateFieldNameHasDeclaringToken, declared_fields, fields_declared_in_block, fields_declared_in_procedure, fields_declared_in_procedures, first_token, belongs_to_field, tokens_of_field}
+use Rattle.ob0_types_fields.specs.declared.field_identifier.FieldIdentifier.{FieldIdentifier}
+use Rattle.ob0_types_fields.specs.FieldIdentifiers.{DuplicateFieldNameHasDeclaringToken, declared_fields, fields_declared_in_block, fields_declared_in_procedure, fields_declared_in_procedures, first_token, belongs_to_field, tokens_of_field}
 use Rattle.ob0_types_fields.specs.IdentifierOwners.{fields_in_group, fields_in_groups, fields_at_tokens, fields_in_parameter_sections, fields_in_type, fields_in_types, fields_in_variables}
-use Rattle.ob0_language_fields.specs.Renaming.{RecordFields, has_another_field_named, records_in_block, records_in_group, records_in_further_groups, records_in_procedure, records_in_procedure_list, records_in_parameter_sections, records_in_type, records_in_type_definitions, records_in_variables}
+use Rattle.ob0_language_fields.specs.SingleFieldRenaming.{RecordFields, has_another_field_named, records_in_block, records_in_group, records_in_further_groups, records_in_procedure, records_in_procedure_list, records_in_parameter_sections, records_in_type, records_in_type_definitions, records_in_variables}
 use Rattle.ob0_types_fields.proofs.OwnedTypes.{counted_formals_section, counted_group, counted_procedure, counted_section, counted_type, counted_type_section, counted_variable_section, sections_mapped, types_mapped, variables_mapped}
 
 any-append : {A : Type 0} (p : A → Bool) (xs ys : List A) → list_any p (xs ++ ys) ≡ (list_any p xs || list_any p ys)
@@ -56,13 +56,13 @@ module _ (text : ℕ → Name) (value : ℕ → ℕ) where
     abbrev another : Name → Bool
     another x = same_name x new && not (same_name x f)
 
-    abbrev hit : FieldName → Bool
+    abbrev hit : FieldIdentifier → Bool
     hit found = (found.owner == r) && another (text found.token)
 
     abbrev in_record : RecordFields → Bool
     in_record t = (t.ordinal == r) && has_another_field_named t.declared f new
 
-    both : (xs ys : List FieldName) (us vs : List RecordFields) → list_any hit xs ≡ list_any in_record us → list_any hit ys ≡ list_any in_record vs → list_any hit (xs ++ ys) ≡ list_any in_record (us ++ vs)
+    both : (xs ys : List FieldIdentifier) (us vs : List RecordFields) → list_any hit xs ≡ list_any in_record us → list_any hit ys ≡ list_any in_record vs → list_any hit (xs ++ ys) ≡ list_any in_record (us ++ vs)
     both xs ys us vs e g = any-append hit xs ys ∙ ((λ i. e i || g i) ∙ sym (any-append in_record us vs))
 
     names-hit : (o : ℕ) (xs : List ℕ) → list_any hit (fields_at_tokens o xs) ≡ ((o == r) && list_any another (map text xs))
@@ -132,24 +132,24 @@ module _ (text : ℕ → Name) (value : ℕ → ℕ) where
         both (fields_in_type k (parameter_section_type s)) (fields_in_parameter_sections n fs) (records_in_type k s') (records_in_parameter_sections n (mapped_tree text value fs)) (section-hit k s) (sections-hit n fs)
         ∙ ap (λ c. list_any in_record (records_in_type k s' ++ records_in_parameter_sections (k + c) (mapped_tree text value fs))) (sym (counted_section text value s))
 
-    formals-hit : (k : ℕ) (fs : Tree ℕ (maybe formals)) → list_any hit (fields_in_parameter_sections k (formal_sections fs)) ≡ list_any in_record (records_in_parameter_sections k (formal_sections (mapped_tree text value fs)))
-    formals-hit k fs = sections-hit k (formal_sections fs) ∙ ap (λ t. list_any in_record (records_in_parameter_sections k t)) (sym (sections_mapped text value fs))
+    formals-hit : (k : ℕ) (fs : Tree ℕ (maybe formals)) → list_any hit (fields_in_parameter_sections k (formal_parameter_sections fs)) ≡ list_any in_record (records_in_parameter_sections k (formal_parameter_sections (mapped_tree text value fs)))
+    formals-hit k fs = sections-hit k (formal_parameter_sections fs) ∙ ap (λ t. list_any in_record (records_in_parameter_sections k t)) (sym (sections_mapped text value fs))
 
     mutual
       block-hit : (k : ℕ) (b : Tree ℕ block) → list_any hit (fields_declared_in_block k b) ≡ list_any in_record (records_in_block k (mapped_tree text value b))
       block-hit k (forms_block (declares cs ts vs ps) statements) =
           let b : Tree ℕ block = forms_block (declares cs ts vs ps) statements in
           let b' = mapped_tree text value b in
-          let n : ℕ = constructors_before_variables k b in
-          let l : ℕ = constructors_before_procedures k b in
-          let types : constructors_before_variables k b' ≡ n = ap (λ c. k + c) (counted_type_section text value ts) in
-          let variables : constructors_before_procedures k b' ≡ l = λ i. types i + counted_variable_section text value vs i in
+          let n : ℕ = constructor_count_before_variables k b in
+          let l : ℕ = constructor_count_before_procedures k b in
+          let types : constructor_count_before_variables k b' ≡ n = ap (λ c. k + c) (counted_type_section text value ts) in
+          let variables : constructor_count_before_procedures k b' ≡ l = λ i. types i + counted_variable_section text value vs i in
           let ts' = section_types (mapped_tree text value ts) in
           let vs' = section_variables (mapped_tree text value vs) in
           let ps' = mapped_tree text value ps in
-          both (fields_in_types k (section_types ts)) (fields_in_variables n (section_variables vs) ++ fields_declared_in_procedures l ps) (records_in_type_definitions k ts') (records_in_variables (constructors_before_variables k b') vs' ++ records_in_procedure_list (constructors_before_procedures k b') ps')
+          both (fields_in_types k (section_types ts)) (fields_in_variables n (section_variables vs) ++ fields_declared_in_procedures l ps) (records_in_type_definitions k ts') (records_in_variables (constructor_count_before_variables k b') vs' ++ records_in_procedure_list (constructor_count_before_procedures k b') ps')
           (types-hit k (section_types ts) ∙ ap (λ t. list_any in_record (records_in_type_definitions k t)) (sym (types_mapped text value ts)))
-          (both (fields_in_variables n (section_variables vs)) (fields_declared_in_procedures l ps) (records_in_variables (constructors_before_variables k b') vs') (records_in_procedure_list (constructors_before_procedures k b') ps')
+          (both (fields_in_variables n (section_variables vs)) (fields_declared_in_procedures l ps) (records_in_variables (constructor_count_before_variables k b') vs') (records_in_procedure_list (constructor_count_before_procedures k b') ps')
           (variables-hit n (section_variables vs) ∙ (λ i. list_any in_record (records_in_variables (sym types i) (sym (variables_mapped text value vs) i))))
           (procedures-hit l ps ∙ ap (λ c. list_any in_record (records_in_procedure_list c ps')) (sym variables)))
 
@@ -164,9 +164,9 @@ module _ (text : ℕ → Name) (value : ℕ → ℕ) where
       procedure-hit k (declares_procedure x fs b closing) =
           let p : Tree ℕ (item procedure) = declares_procedure x fs b closing in
           let p' = mapped_tree text value p in
-          let n : ℕ = constructors_before_procedure_block k p in
-          let counted : constructors_before_procedure_block k p' ≡ n = ap (λ c. k + c) (counted_formals_section text value fs) in
-          both (fields_in_parameter_sections k (formal_sections fs)) (fields_declared_in_block n b) (records_in_parameter_sections k (formal_sections (mapped_tree text value fs))) (records_in_block (constructors_before_procedure_block k p') (mapped_tree text value b)) (formals-hit k fs)
+          let n : ℕ = constructor_count_before_procedure_block k p in
+          let counted : constructor_count_before_procedure_block k p' ≡ n = ap (λ c. k + c) (counted_formals_section text value fs) in
+          both (fields_in_parameter_sections k (formal_parameter_sections fs)) (fields_declared_in_block n b) (records_in_parameter_sections k (formal_parameter_sections (mapped_tree text value fs))) (records_in_block (constructor_count_before_procedure_block k p') (mapped_tree text value b)) (formals-hit k fs)
           (block-hit n b ∙ ap (λ c. list_any in_record (records_in_block c (mapped_tree text value b))) (sym counted))
 
 -- A name is the new name but not the old one exactly if the name is the new one and the two differ.
@@ -191,10 +191,10 @@ module _ (source : TextWithTokens) (k : ℕ) (f new : Name) where
   turned false true d = refl
   turned false false d = refl
 
-  hit-is : (x : FieldName) → hit (token_text_at source) (token_value_at source) k f new x ≡ (not (same_name new f) && belongs_to_field source k new x)
+  hit-is : (x : FieldIdentifier) → hit (token_text_at source) (token_value_at source) k f new x ≡ (not (same_name new f) && belongs_to_field source k new x)
   hit-is x = ap (λ b. (x.owner == k) && b) (another-name (token_text_at source x.token) f new) ∙ turned (x.owner == k) (not (same_name new f)) (same_name (token_text_at source x.token) new)
 
-  any-first : (xs : List FieldName) → list_any (hit (token_text_at source) (token_value_at source) k f new) xs ≡ (not (same_name new f) && is_some (first_token (tokens_of_field source k new xs)))
+  any-first : (xs : List FieldIdentifier) → list_any (hit (token_text_at source) (token_value_at source) k f new) xs ≡ (not (same_name new f) && is_some (first_token (tokens_of_field source k new xs)))
   any-first [] = sym (and-false (not (same_name new f)))
   any-first (x ∷ xs) = (λ i. hit-is x i || any-first xs i) ∙ one (not (same_name new f)) (belongs_to_field source k new x)
     where

@@ -3,8 +3,8 @@ use Rattle.std.proofs.Common.{ℕ, suc, None, List, [], ◌∷◌}
 use Rattle.ob0_tree.specs.Tree.{Tree, array_type, block, declares, declares_procedure, declares_type, declares_type_section, declares_variable, declares_var_section, end, fields, formals, fields_after_semicolon, name_after_comma, section_after_semicolon, forms_block, forms_module, item, items, listed, maybe, module_text, more, named_type, names, no_fields, no_formals, none, one, procedure, record_type, section, some_fields, some_formals, semicolon_then_fields, comma_then_name, semicolon_then_section, type_definition, type_definitions, value_section, variable, variable_section, variables, written_type}
 use Rattle.ob0_language_names.specs.MappedNames.{map_names}
 use Rattle.ob0_language_names.specs.Names.{Label, Name, naming_by_spelling, as_written, declared}
-use Rattle.ob0_language_names.specs.BlockParts.{formal_names, formal_sections, names_after_first, module_block, names_in_list, procedure_name, parameter_section_names, parameter_section_type, section_types, section_variables}
-use Rattle.ob0_language_names.specs.Scopes.{Scope, ordinal_after_names, ordinal_after_procedure, label_from_ordinal, declare_names, first_procedure_ordinal, first_type_ordinal, first_variable_ordinal, label_of, numbered, predeclared_scope, scope_before_procedures, relabel_block, relabel_formals, relabel_procedure, relabel_procedure_list, relabel_parameter_section, relabel_parameter_section_list, relabel_type_section, relabel_types, relabel_uses, relabel_variable_section, relabel_variables, scope_before_types, scope_before_variables}
+use Rattle.ob0_language_names.specs.BlockParts.{formal_parameter_names, formal_parameter_sections, names_after_first, module_block, names_in_list, procedure_name, parameter_section_names, parameter_section_type, section_types, section_variables}
+use Rattle.ob0_language_names.specs.Scopes.{Scope, ordinal_after_names, ordinal_after_procedure, label_from_ordinal, declare_names, first_procedure_ordinal, first_type_ordinal, first_variable_ordinal, label_in_scope, numbered, predeclared_scope, scope_before_procedures, relabel_block, relabel_formals, relabel_procedure, relabel_procedure_list, relabel_parameter_section, relabel_parameter_section_list, relabel_type_section, relabel_types, relabel_uses, relabel_variable_section, relabel_variables, scope_before_types, scope_before_variables}
 
 abbrev pub IsWritten : Label → Type 0
 IsWritten (declared k) = ⊥
@@ -49,7 +49,7 @@ abbrev mutual
   ProceduresPlain (more p rest) = ProcedurePlain p × ProceduresPlain rest
 
   pub ProcedurePlain : Tree Label (item procedure) → Type 0
-  ProcedurePlain (declares_procedure x fs b closing) = SectionsPlain (formal_sections fs) × BlockPlain b
+  ProcedurePlain (declares_procedure x fs b closing) = SectionsPlain (formal_parameter_sections fs) × BlockPlain b
 
 -- ---- the numbered tree
 
@@ -79,7 +79,7 @@ module _ (look : Name → Label) where
     groups-plain (more (semicolon_then_fields g) rest) = (group-plain g, groups-plain rest)
 
 uses-plain : (scope : Scope Name) (u : Tree Name written_type) → TypePlain (relabel_uses naming_by_spelling (label_from_ordinal naming_by_spelling) scope u)
-uses-plain scope u = type-plain (label_of naming_by_spelling (label_from_ordinal naming_by_spelling) scope) u
+uses-plain scope u = type-plain (label_in_scope naming_by_spelling (label_from_ordinal naming_by_spelling) scope) u
 
 types-plain : (scope : Scope Name) (k : ℕ) (ds : Tree Name (items type_definition)) → TypesPlain (relabel_types naming_by_spelling (label_from_ordinal naming_by_spelling) scope k ds)
 types-plain scope k end = tt
@@ -105,7 +105,7 @@ sections-plain : (scope : Scope Name) (k : ℕ) (fs : Tree Name (items section_a
 sections-plain scope k end = tt
 sections-plain scope k (more (semicolon_then_section f) fs) = (section-plain scope k f, sections-plain (declare_names k (parameter_section_names f) scope) (ordinal_after_names k (parameter_section_names f)) fs)
 
-formals-plain : (scope : Scope Name) (k : ℕ) (fs : Tree Name (maybe formals)) → SectionsPlain (formal_sections (relabel_formals naming_by_spelling (label_from_ordinal naming_by_spelling) scope k fs))
+formals-plain : (scope : Scope Name) (k : ℕ) (fs : Tree Name (maybe formals)) → SectionsPlain (formal_parameter_sections (relabel_formals naming_by_spelling (label_from_ordinal naming_by_spelling) scope k fs))
 formals-plain scope k none = tt
 formals-plain scope k (one no_formals) = tt
 formals-plain scope k (one (some_formals f fs)) = (section-plain scope k f, sections-plain (declare_names k (parameter_section_names f) scope) (ordinal_after_names k (parameter_section_names f)) fs)
@@ -122,7 +122,7 @@ mutual
 
   procedure-plain : (scope : Scope Name) (k : ℕ) (p : Tree Name (item procedure)) → ProcedurePlain (relabel_procedure naming_by_spelling (label_from_ordinal naming_by_spelling) scope k p)
   procedure-plain scope k (declares_procedure x fs b closing) =
-      (formals-plain scope (suc k) fs, block-plain (declare_names (suc k) (formal_names (formal_sections fs)) ((x, k) ∷ scope)) (ordinal_after_names (suc k) (formal_names (formal_sections fs))) b)
+      (formals-plain scope (suc k) fs, block-plain (declare_names (suc k) (formal_parameter_names (formal_parameter_sections fs)) ((x, k) ∷ scope)) (ordinal_after_names (suc k) (formal_parameter_names (formal_parameter_sections fs))) b)
 
 pub numbered-plain : (m : Tree Name module_text) → BlockPlain (module_block (numbered m))
 numbered-plain (forms_module x b closing) = block-plain (predeclared_scope naming_by_spelling) 7 b

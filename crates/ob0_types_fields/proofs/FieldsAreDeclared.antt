@@ -8,10 +8,10 @@ use Rattle.std.proofs.lemmas.Bool.{or_parts, or_right}
 use Rattle.std.proofs.Math.Bool.{and-false}
 use Rattle.ob0_scan.specs.TextWithTokens.{TextWithTokens}
 use Rattle.ob0_tree.specs.declared.tree.Role.TheVariants as role
-use Rattle.ob0_tree.specs.Lexeme.{Name}
+use Rattle.ob0_tree.specs.Terminals.{Name}
 use Rattle.ob0_tree.specs.IdentifierIndexes.{identifier_names}
 use Rattle.ob0_tree.specs.ParsedModule.{ParsedModule, named_tree_of, tree_of}
-use Rattle.ob0_tree.specs.Places.{token_text_at, token_value_at}
+use Rattle.ob0_tree.specs.TokenIndexLeaves.{token_text_at, token_value_at}
 use Rattle.ob0_tree.specs.Tree.{mapped_tree}
 use Rattle.ob0_tree.proofs.MappedIdentifiers.{leaves_mapped}
 use Rattle.ob0_language_names.specs.Names as written
@@ -20,16 +20,16 @@ use Rattle.ob0_language_names.proofs.Peeling.{heads}
 use Rattle.ob0_scope_table.specs.Resolution.{IsResolution, Resolution}
 use Rattle.ob0_language_types.specs.Bindings.{declared_object}
 use Rattle.ob0_language_types.specs.WellTyped.{WellTyped}
-use Rattle.ob0_language_fields.specs.Renaming.{RecordFields, is_duplicate_field_name, has_another_field_named, single_field_renaming, records}
+use Rattle.ob0_language_fields.specs.SingleFieldRenaming.{RecordFields, is_duplicate_field_name, has_another_field_named, single_field_renaming, records_in_module}
 use Rattle.ob0_language_fields.proofs.AgreeingFields.{NamesAgree, RecordsAgree}
 use Rattle.ob0_language_fields.proofs.AgreeingModules.{module-alike}
 use Rattle.ob0_language_fields.proofs.Bare.{rename_fields_in_module-bare}
 use Rattle.ob0_language_fields.proofs.Bare.{bare}
-use Rattle.ob0_types_fields.specs.declared.field_name.FieldName.{FieldName}
-use Rattle.ob0_types_fields.specs.Identifiers.{FieldsAreDeclared, field_declaring_token, field_identifiers, field_tokens, belongs_to_field, tokens_of_field}
+use Rattle.ob0_types_fields.specs.declared.field_identifier.FieldIdentifier.{FieldIdentifier}
+use Rattle.ob0_types_fields.specs.FieldIdentifiers.{FieldsAreDeclared, field_declaring_token, field_identifiers, field_tokens_in_module, belongs_to_field, tokens_of_field}
 use Rattle.ob0_types_fields.specs.IdentifierOwners.{fields_with_owners, identifier_owners_in_resolution, meanings_by_token}
 use Rattle.ob0_types_fields.proofs.DuplicateFields.{duplicate_field_name_has_declaring_token-holds}
-use Rattle.ob0_types_fields.proofs.FieldNameList.{renaming_changes_field_tokens-holds}
+use Rattle.ob0_types_fields.proofs.FieldIdentifierList.{renaming_changes_field_tokens-holds}
 use Rattle.ob0_types_fields.proofs.OwnedTokens.{module-tokens, tokens}
 
 -- ---- a name that isn't the field's
@@ -87,10 +87,10 @@ same_at g h i (x ∷ xs) e among = one (i == x) refl among (same_at g h i xs (he
 
 -- ---- the identifiers of fields among all
 
-abbrev same : FieldName → FieldName → Bool
+abbrev same : FieldIdentifier → FieldIdentifier → Bool
 same x y = (x.token == y.token) && (x.owner == y.owner)
 
-among_tokens : (x : FieldName) (xs : List (ℕ × Option ℕ)) → list_any (same x) (fields_with_owners xs) ≡ true → list_any (λ token. x.token == token) (tokens xs) ≡ true
+among_tokens : (x : FieldIdentifier) (xs : List (ℕ × Option ℕ)) → list_any (same x) (fields_with_owners xs) ≡ true → list_any (λ token. x.token == token) (tokens xs) ≡ true
 among_tokens x [] h = absurd (true≢false (sym h))
 among_tokens x ((y, None) ∷ xs) h = or_right (x.token == y) (list_any (λ token. x.token == token) (tokens xs)) (among_tokens x xs h)
 among_tokens x ((y, Some k) ∷ xs) h = one (x.token == y) (x.owner == k) h (among_tokens x xs)
@@ -99,8 +99,8 @@ among_tokens x ((y, Some k) ∷ xs) h = one (x.token == y) (x.owner == k) h (amo
     one true b e later = refl
     one false b e later = later e
 
-module _ (source : TextWithTokens) (x : FieldName) where
-  abbrev its_tokens : List FieldName → List ℕ
+module _ (source : TextWithTokens) (x : FieldIdentifier) where
+  abbrev its_tokens : List FieldIdentifier → List ℕ
   its_tokens xs = tokens_of_field source x.owner (token_text_at source x.token) xs
 
   abbrev among : List ℕ → Bool
@@ -110,14 +110,14 @@ module _ (source : TextWithTokens) (x : FieldName) where
   kept true y ys e = or_right (x.token == y) (among ys) e
   kept false y ys e = e
 
-  itself : (y : FieldName) → (x.token == y.token) ≡ true → (x.owner == y.owner) ≡ true → belongs_to_field source x.owner (token_text_at source x.token) y ≡ true
+  itself : (y : FieldIdentifier) → (x.token == y.token) ≡ true → (x.owner == y.owner) ≡ true → belongs_to_field source x.owner (token_text_at source x.token) y ≡ true
   itself y a b =
       let token : x.token ≡ y.token = eqb-true x.token y.token a in
       let owner : y.owner ≡ x.owner = sym (eqb-true x.owner y.owner b) in
       let name : same_name (token_text_at source y.token) (token_text_at source x.token) ≡ true = (bytes_eq-Decides (token_text_at source y.token) (token_text_at source x.token)).1 (ap (token_text_at source) (sym token)) in
       λ i. eq-eqb y.owner x.owner owner i && name i
 
-  among_its_tokens : (xs : List FieldName) → list_any (same x) xs ≡ true → among (its_tokens xs) ≡ true
+  among_its_tokens : (xs : List FieldIdentifier) → list_any (same x) xs ≡ true → among (its_tokens xs) ≡ true
   among_its_tokens [] h = absurd (true≢false (sym h))
   among_its_tokens (y ∷ ys) h = one (x.token == y.token) refl (x.owner == y.owner) refl h (among_its_tokens ys)
     where
@@ -128,13 +128,13 @@ module _ (source : TextWithTokens) (x : FieldName) where
       one false at b of e later = kept (belongs_to_field source x.owner (token_text_at source x.token) y) y.token (its_tokens ys) (later e)
 
 -- A property that holds for each element of a list holds for all.
-each : (P : FieldName → Type 0) (xs : List FieldName) → ((x : FieldName) → list_any (same x) xs ≡ true → P x) → All P xs
+each : (P : FieldIdentifier → Type 0) (xs : List FieldIdentifier) → ((x : FieldIdentifier) → list_any (same x) xs ≡ true → P x) → All P xs
 each P [] h = All-nil P
 each P (x ∷ xs) h = All-cons P x xs
     (h x (ap (λ b. b || list_any (same x) xs) (λ i. eq-eqb x.token x.token refl i && eq-eqb x.owner x.owner refl i)))
     (each P xs (λ y e. h y (or_right (same y x) (list_any (same y) xs) e)))
 
-module _ (r : Resolution) (named : IsResolution r) (fits : WellTyped (named_tree_of r.module_read)) (x : FieldName) (listed : list_any (same x) (field_identifiers r) ≡ true) where
+module _ (r : Resolution) (named : IsResolution r) (fits : WellTyped (named_tree_of r.module_read)) (x : FieldIdentifier) (listed : list_any (same x) (field_identifiers r) ≡ true) where
   abbrev m : ParsedModule
   m = r.module_read
 
@@ -143,7 +143,7 @@ module _ (r : Resolution) (named : IsResolution r) (fits : WellTyped (named_tree
 
   -- returns the spelling of a token if the tokens of the field have another name
   abbrev writes : ℕ → written.Name
-  writes i = if list_any (λ token. i == token) (field_tokens r x.owner f) then another f else token_text_at m.source i
+  writes i = if list_any (λ token. i == token) (field_tokens_in_module r x.owner f) then another f else token_text_at m.source i
 
   among_leaves : list_any (λ token. x.token == token) (identifier_names (tree_of m)) ≡ true
   among_leaves = ap (list_any (λ token. x.token == token)) (sym (module-tokens (meanings_by_token (declared_object (named_tree_of m)) r) (tree_of m))) ∙ among_tokens x (identifier_owners_in_resolution r) listed
@@ -154,7 +154,7 @@ module _ (r : Resolution) (named : IsResolution r) (fits : WellTyped (named_tree
       let free : is_duplicate_field_name (named_tree_of m) x.owner (another f) f ≡ false =
       duplicate_field_name_has_declaring_token-holds m x.owner (another f) f ∙ (ap (λ b. not (same_name f (another f)) && b) none ∙ and-false (not (same_name f (another f)))) in
       sym (rename_fields_in_module-bare (named_tree_of m))
-      ∙ (sym (module-alike (single_field_renaming x.owner f (another f)) bare (named_tree_of m) (records_kept x.owner f (records (named_tree_of m)) free) fits.1)
+      ∙ (sym (module-alike (single_field_renaming x.owner f (another f)) bare (named_tree_of m) (records_kept x.owner f (records_in_module (named_tree_of m)) free) fits.1)
       ∙ renaming_changes_field_tokens-holds r x.owner f (another f) named fits)
 
   is_declared : is_some (field_declaring_token m x.owner f) ≡ true

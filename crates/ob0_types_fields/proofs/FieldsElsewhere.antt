@@ -9,7 +9,7 @@ use Rattle.ob0_scan.specs.declared.tokens.CommonPrefixAndSuffix.{CommonPrefixAnd
 use Rattle.ob0_tree.specs.declared.tree.Role.TheVariants as role
 use Rattle.ob0_tree.specs.IdentifierIndexes.{AreAscendingWithin, identifier_names}
 use Rattle.ob0_tree.specs.ParsedModule.{named_tree_of, tree_of}
-use Rattle.ob0_tree.specs.Places.{tree_with_names, token_text_at, token_value_at}
+use Rattle.ob0_tree.specs.TokenIndexLeaves.{tree_with_names, token_text_at, token_value_at}
 use Rattle.ob0_tree.specs.Tree.{Tree, body, identifiers, mapped_tree, maybe, module_text}
 use Rattle.ob0_tree.proofs.Leaves.{leaves_ascend}
 use Rattle.ob0_language_names.specs.Names.{Name}
@@ -18,7 +18,7 @@ use Rattle.ob0_language_names.proofs.Peeling.{heads}
 use Rattle.ob0_language_types.specs.Bindings.{declared_object}
 use Rattle.ob0_language_types.specs.Expressions.{Meanings}
 use Rattle.ob0_language_types.specs.WellTyped.{Signature, WellTyped}
-use Rattle.ob0_language_fields.specs.Fields.{rename_fields_in_module}
+use Rattle.ob0_language_fields.specs.RenamedFields.{rename_fields_in_module}
 use Rattle.ob0_language_values.specs.Values.{Shape}
 use Rattle.ob0_tree.specs.FirstIdentifier.{token_of_first_identifier}
 use Rattle.ob0_tree.proofs.MappedIdentifiers.{leaves_mapped}
@@ -28,9 +28,9 @@ use Rattle.ob0_scope_table.proofs.BodyReplacement.{names_outside, without_mapped
 use Rattle.ob0_scope_table.proofs.FewTokens.{few_tokens}
 use Rattle.ob0_scope_table.proofs.Moved.{moved_above, moved_below}
 use Rattle.ob0_types_table.specs.DeclarationTables.{DeclarationTableView, declared_object_in}
-use Rattle.ob0_types_fields.specs.declared.field_name.FieldName.{FieldName}
-use Rattle.ob0_types_fields.specs.Identifiers.{declared_fields, fields_declared_in_block, field_identifiers}
-use Rattle.ob0_types_fields.specs.FieldLists.{AreFieldListsOf, FieldLists, field_with_shifted_token, fields_before_token, fields_at_or_after_token, old_token_index}
+use Rattle.ob0_types_fields.specs.declared.field_identifier.FieldIdentifier.{FieldIdentifier}
+use Rattle.ob0_types_fields.specs.FieldIdentifiers.{declared_fields, fields_declared_in_block, field_identifiers}
+use Rattle.ob0_types_fields.specs.FieldLists.{AreFieldListsOfModule, FieldLists, field_with_shifted_token, fields_before_token, fields_at_or_after_token, old_token_index}
 use Rattle.ob0_types_fields.specs.IdentifierOwners.{AgreesWithOwnerList, fields_with_owners, fields_in_tree, identifier_owners_in_tree, identifier_owners_in_module, identifier_owners_in_resolution, meanings_by_token}
 use Rattle.ob0_types_fields.specs.OwnerTables.{renaming_by_record}
 use Rattle.ob0_types_fields.proofs.DeclaredMoved.{among_placed, declared_among, declared_placed, declared_without, field_placed, placed}
@@ -52,7 +52,7 @@ module _ (s : CommonPrefixAndSuffix) where
   stays ((x, o) ∷ xs) h = λ i. (moved_below s x h.0 i, o) ∷ stays xs h.1 i
 
   -- Capping the new indexes doesn't change them if they all fit 64 bits.
-  same_places : (xs : List FieldName) → AllByRecursion (λ x. shifted_token_index s x.token < 2 ^ 64) xs → map (field_placed (shifted_token_index s)) xs ≡ map (field_with_shifted_token s) xs
+  same_places : (xs : List FieldIdentifier) → AllByRecursion (λ x. shifted_token_index s x.token < 2 ^ 64) xs → map (field_placed (shifted_token_index s)) xs ≡ map (field_with_shifted_token s) xs
   same_places [] h = refl
   same_places (x ∷ xs) h = λ i. record { token = at_most (shifted_token_index s x.token) h.0 i; owner = x.owner } ∷ same_places xs h.1 i
 
@@ -176,13 +176,13 @@ module _ (old r : Resolution) (path : PathToBody) (s : CommonPrefixAndSuffix) (i
 
   between_before : AreBetween around_before.before inner_before around_before.after is.first (closing_name_at_path path before) (length old.module_read.source.tokens)
   between_before =
-      between around_before.before inner_before around_before.after is.first (closing_name_at_path path before) (length old.module_read.source.tokens) (identifiers role.Declaring (body_at_path path before))
+      between around_before.before inner_before around_before.after is.first (closing_name_at_path path before) (length old.module_read.source.tokens) (identifiers role.DeclaringName (body_at_path path before))
       (subst (λ xs. AreAscendingWithin 0 xs (length old.module_read.source.tokens)) (sym (module-tokens meant_before before) ∙ ap tokens around_before.whole) (leaves_ascend old.module_read is.old_parsed))
       (identifier_owners_in_tree-tokens meant_before None (body_at_path path before)) is.first_identifier_of_old_body
 
   between_now : AreBetween around_now.before inner_now around_now.after is.first (closing_name_at_path path now) (length r.module_read.source.tokens)
   between_now =
-      between around_now.before inner_now around_now.after is.first (closing_name_at_path path now) (length r.module_read.source.tokens) (identifiers role.Declaring (body_at_path path now))
+      between around_now.before inner_now around_now.after is.first (closing_name_at_path path now) (length r.module_read.source.tokens) (identifiers role.DeclaringName (body_at_path path now))
       (subst (λ xs. AreAscendingWithin 0 xs (length r.module_read.source.tokens)) (sym (module-tokens meant_now now) ∙ ap tokens around_now.whole) (leaves_ascend r.module_read is.new_parsed))
       (identifier_owners_in_tree-tokens meant_now None (body_at_path path now)) is.first_identifier_of_new_body
 
@@ -292,11 +292,11 @@ module _ (old r : Resolution) (path : PathToBody) (s : CommonPrefixAndSuffix) (i
       (declared_among meant_now (λ x. x.token < 2 ^ 64) now (subst (AllByRecursion (λ x. x.token < 2 ^ 64)) (module-fields meant_now now) all_few)))
 
   -- The lists that are made from the old fields are the module's fields.
-  pub fields_elsewhere : (fields f : FieldLists) (t : DeclarationTableView) → AreFieldListsOf old fields → ((k : ℕ) → declared_object_in t k ≡ declared_object (named_tree_of r.module_read) k)
-      → (statements : Tree ℕ (maybe body)) → statements ≡ body_at_path path now → (first closing : ℕ) → token_of_first_identifier (identifiers role.Declaring (body_at_path path now)) ≡ Some first → closing ≡ closing_name_at_path path now
+  pub fields_elsewhere : (fields f : FieldLists) (t : DeclarationTableView) → AreFieldListsOfModule old fields → ((k : ℕ) → declared_object_in t k ≡ declared_object (named_tree_of r.module_read) k)
+      → (statements : Tree ℕ (maybe body)) → statements ≡ body_at_path path now → (first closing : ℕ) → token_of_first_identifier (identifiers role.DeclaringName (body_at_path path now)) ≡ Some first → closing ≡ closing_name_at_path path now
       → f.declared ≡ map (field_with_shifted_token s) fields.declared
       → f.all ≡ fields_before_token first fields.all ++ (fields_in_tree (meanings_by_token (declared_object_in t) r) statements ++ map (field_with_shifted_token s) (fields_at_or_after_token (old_token_index s closing) fields.all))
-      → AreFieldListsOf r f
+      → AreFieldListsOfModule r f
   fields_elsewhere fields f t were holds statements here first closing begins closes of_declared of_all =
       let same : first ≡ is.first = ap (λ o. unwrap_or o first) (sym begins ∙ is.first_identifier_of_new_body) in
       let at : old_token_index s closing ≡ closing_name_at_path path before = ap (old_token_index s) closes ∙ closing_before in (

@@ -7,29 +7,29 @@ use Rattle.ob0_tree.specs.declared.tree.Role.{Role}
 use Rattle.ob0_tree.specs.declared.tree.Role.TheVariants as role
 use Rattle.ob0_tree.specs.IdentifierIndexes.{names_without_roles}
 use Rattle.ob0_tree.specs.ParsedModule.{ParsedModule, named_tree_of, tree_of}
-use Rattle.ob0_tree.specs.Places.{token_text_at, token_value_at}
+use Rattle.ob0_tree.specs.TokenIndexLeaves.{token_text_at, token_value_at}
 use Rattle.ob0_tree.specs.Tree.{Sort, Tree, addend, adds, arguments, array_type, assigns, begins, block, body, branches, calls, compares, constant, constants, declares, declares_constant, declares_const_section, declares_procedure, declares_type, declares_type_section, declares_variable, declares_var_section, designator, else_branch, else_part, elsif_branch, elsif_part, empty, end, expression, factor, field, fields, formals, argument_after_comma, fields_after_semicolon, name_after_comma, section_after_semicolon, statement_after_semicolon, forms_block, identifiers, index, integer, forms_module, item, items, listed, mapped_tree, maybe, module_text, more, multiplier, multiplies, named_type, names, negation, no_arguments, no_fields, no_formals, none, one, parenthesised, procedure, product, record_type, relates, repeat_loop, runs, section, selector, sequence, simple, some_arguments, some_fields, some_formals, statement, sum, term, comma_then_argument, semicolon_then_fields, comma_then_name, semicolon_then_section, semicolon_then_statement, type_definition, type_definitions, value_section, variable, variable_section, variables, while_loop, written_type}
 use Rattle.ob0_language_names.specs.MappedNames.{map_names}
 use Rattle.ob0_language_names.specs.Names.{Name, naming_by_spelling}
-use Rattle.ob0_language_names.specs.BlockParts.{formal_sections, names_in_list, procedure_formals, procedure_name, section_constants, parameter_section_names, parameter_section_type, section_types, section_variables}
+use Rattle.ob0_language_names.specs.BlockParts.{formal_parameter_sections, names_in_list, procedure_formals, procedure_name, section_constants, parameter_section_names, parameter_section_type, section_types, section_variables}
 use Rattle.ob0_language_names.proofs.Peeling.{heads}
 use Rattle.ob0_scope_table.specs.Resolution.{ordinal_in}
-use Rattle.ob0_language_types.specs.Declarations.{constructors_before_procedure_block, constructors_before_variables, constructors_before_procedures, declare_constants, declare_constants_and_types, declare_types, procedure_constructor_count}
+use Rattle.ob0_language_types.specs.Declarations.{constructor_count_before_procedure_block, constructor_count_before_variables, constructor_count_before_procedures, declare_constants, declare_constants_and_types, declare_types, procedure_constructor_count}
 use Rattle.ob0_language_types.specs.Environments.{meanings, outermost_environment}
 use Rattle.ob0_language_types.specs.Expressions.{Meanings, Object, a_constant, a_procedure, a_standard_procedure, a_type, a_variable, evaluate}
-use Rattle.ob0_language_types.specs.Typing.{addition_type, array_length, negation_type, constant_of, constant_value, constant_meanings, constructor_count, denoted_type, denoted_group_fields, denoted_further_fields, element_type, outcome_value, group_constructor_count, multiplication_type, type_of_variable_or_constant, relation_type, sign_type, type_after_selectors, type_of, type_of_addends, type_of_factor, type_of_multipliers, type_of_simple, type_of_term, value_type, prepend_fields, type_within_limits}
-use Rattle.ob0_language_types.specs.WellTyped.{Signature, TypeEnvironment, TypeMeanings, TypedParameter, WellTyped, bind_names, bind_typed_parameters, block_is_well_typed, declare_typed_variables, passes_type_check, bind_procedure, procedure_is_well_typed, procedures_are_well_typed, parameter_section_mode, typed_parameters}
+use Rattle.ob0_language_types.specs.Typing.{addition_type, array_length_from_value, negation_type, value_of_constant_object, constant_expression_value, meanings_in_constant_expressions, constructor_count, denoted_type, denoted_group_fields, denoted_further_fields, element_type, outcome_value, group_constructor_count, multiplication_type, type_of_variable_or_constant, relation_type, signed_operand_type, type_after_selectors, type_of_expression, type_after_addends, type_of_factor, type_after_multipliers, type_of_simple_expression, type_of_term, value_type, prepend_fields, type_within_limits}
+use Rattle.ob0_language_types.specs.WellTyped.{Signature, TypeEnvironment, TypeMeanings, TypedParameter, WellTyped, bind_names, bind_typed_parameters, block_is_well_typed, declare_typed_variables, passes_type_check, bind_procedure, procedure_is_well_typed, procedures_and_body_are_well_typed, parameter_section_mode, typed_parameters}
 use Rattle.ob0_language_values.specs.Values.{FieldShapes, Shape, Value, array_shape, boolean_shape, elements, integer_shape, members, number, record_shape, truth}
-use Rattle.ob0_language_fields.specs.Fields.{FieldRenaming, shape_after_selector, rename_fields, rename_fields_in_block, rename_fields_in_formals, rename_fields_in_group, rename_fields_in_further_groups, rename_fields_in_procedure, rename_fields_in_procedure_list, rename_fields_in_parameter_section, rename_fields_in_further_parameter_sections, rename_fields_in_type, rename_fields_in_type_section, rename_fields_in_type_definitions, rename_fields_in_variable_section, rename_fields_in_variables, rename_fields_in_module}
+use Rattle.ob0_language_fields.specs.RenamedFields.{FieldRenaming, shape_after_selector, rename_selected_fields, rename_fields_in_block, rename_fields_in_formals, rename_fields_in_group, rename_fields_in_further_groups, rename_fields_in_procedure, rename_fields_in_procedure_list, rename_fields_in_parameter_section, rename_fields_in_further_parameter_sections, rename_fields_in_type, rename_fields_in_type_section, rename_fields_in_type_definitions, rename_fields_in_variable_section, rename_fields_in_variables, rename_fields_in_module}
 use Rattle.ob0_types_fields.specs.OwnerTables.{renaming_by_record}
-use Rattle.ob0_language_fields.specs.Renaming.{RecordFields, records}
+use Rattle.ob0_language_fields.specs.SingleFieldRenaming.{RecordFields, records_in_module}
 use Rattle.ob0_language_fields.proofs.AgreeingFields.{NamesAgree, RecordsAgree}
 use Rattle.ob0_language_fields.proofs.AgreeingModules.{module-alike}
 use Rattle.ob0_language_fields.proofs.MeaningsByName.{parameter_of}
 use Rattle.ob0_language_types.specs.Bindings.{declared_object}
 use Rattle.ob0_language_types.proofs.Conditions.{both_true, hold-true, of_some}
 use Rattle.ob0_language_types.proofs.TypedElsewhere.{then_some}
-use Rattle.ob0_types_fields.specs.Identifiers.{FieldsMatchGrammar, token_indexes, field_role_tokens}
+use Rattle.ob0_types_fields.specs.FieldIdentifiers.{FieldsMatchGrammar, token_indexes, field_role_tokens}
 use Rattle.ob0_types_fields.specs.IdentifierOwners.{AgreesWithOwnerList, fields_with_owners, identifier_owners_in_resolution, meanings_by_token}
 use Rattle.ob0_tree.proofs.MappedIdentifiers.{beside_role, both, identifiers-mapped_tree}
 use Rattle.ob0_types_fields.proofs.OwnedModules.{agreeing_table_is_owner_table-holds}
@@ -42,8 +42,8 @@ again x = 0 ∷ x
 
 abbrev mark : Role → Name → Name
 mark role.FieldName x = again x
-mark role.Declaring x = x
-mark role.LookedUp x = x
+mark role.DeclaringName x = x
+mark role.LookedUpName x = x
 mark role.ClosingName x = x
 mark role.ModuleName x = x
 
@@ -57,76 +57,76 @@ abbrev every : FieldRenaming
 every k x = again x
 
 abbrev ids : {s : Sort} → Tree Name s → List (Role × Name)
-ids t = identifiers role.Declaring t
+ids t = identifiers role.DeclaringName t
 
 -- ---- statements: each selected field is rewritten
 
 mutual
-  expression-marked : (m : TypeMeanings Name) (e : Tree Name expression) → ids (rename_fields every m None e) ≡ marked (ids e)
+  expression-marked : (m : TypeMeanings Name) (e : Tree Name expression) → ids (rename_selected_fields every m None e) ≡ marked (ids e)
   expression-marked m (compares a none) = both mark_at (ids a) [] (simple-marked m a) refl
   expression-marked m (compares a (one (relates r b))) = both mark_at (ids a) (ids b) (simple-marked m a) (simple-marked m b)
 
-  simple-marked : (m : TypeMeanings Name) (a : Tree Name simple) → ids (rename_fields every m None a) ≡ marked (ids a)
+  simple-marked : (m : TypeMeanings Name) (a : Tree Name simple) → ids (rename_selected_fields every m None a) ≡ marked (ids a)
   simple-marked m (sum s t rest) = both mark_at (ids t) (ids rest) (term-marked m t) (addends-marked m rest)
 
-  addends-marked : (m : TypeMeanings Name) (a : Tree Name (items addend)) → ids (rename_fields every m None a) ≡ marked (ids a)
+  addends-marked : (m : TypeMeanings Name) (a : Tree Name (items addend)) → ids (rename_selected_fields every m None a) ≡ marked (ids a)
   addends-marked m end = refl
   addends-marked m (more (adds o t) rest) = both mark_at (ids t) (ids rest) (term-marked m t) (addends-marked m rest)
 
-  term-marked : (m : TypeMeanings Name) (a : Tree Name term) → ids (rename_fields every m None a) ≡ marked (ids a)
+  term-marked : (m : TypeMeanings Name) (a : Tree Name term) → ids (rename_selected_fields every m None a) ≡ marked (ids a)
   term-marked m (product a rest) = both mark_at (ids a) (ids rest) (factor-marked m a) (multipliers-marked m rest)
 
-  multipliers-marked : (m : TypeMeanings Name) (a : Tree Name (items multiplier)) → ids (rename_fields every m None a) ≡ marked (ids a)
+  multipliers-marked : (m : TypeMeanings Name) (a : Tree Name (items multiplier)) → ids (rename_selected_fields every m None a) ≡ marked (ids a)
   multipliers-marked m end = refl
   multipliers-marked m (more (multiplies o a) rest) = both mark_at (ids a) (ids rest) (factor-marked m a) (multipliers-marked m rest)
 
-  factor-marked : (m : TypeMeanings Name) (a : Tree Name factor) → ids (rename_fields every m None a) ≡ marked (ids a)
-  factor-marked m (designator x path) = ap (λ z. (role.LookedUp, x) ∷ z) (path-marked m (type_of_variable_or_constant (m.object_for x)) path)
+  factor-marked : (m : TypeMeanings Name) (a : Tree Name factor) → ids (rename_selected_fields every m None a) ≡ marked (ids a)
+  factor-marked m (designator x path) = ap (λ z. (role.LookedUpName, x) ∷ z) (path-marked m (type_of_variable_or_constant (m.object_for x)) path)
   factor-marked m (integer n) = refl
   factor-marked m (parenthesised e) = expression-marked m e
   factor-marked m (negation a) = factor-marked m a
 
-  path-marked : (m : TypeMeanings Name) (s : Option Shape) (path : Tree Name (items selector)) → ids (rename_fields every m s path) ≡ marked (ids path)
+  path-marked : (m : TypeMeanings Name) (s : Option Shape) (path : Tree Name (items selector)) → ids (rename_selected_fields every m s path) ≡ marked (ids path)
   path-marked m s end = refl
   path-marked m s (more (field x) rest) = ap (λ z. (role.FieldName, again x) ∷ z) (path-marked m (shape_after_selector s (field x)) rest)
   path-marked m s (more (index e) rest) = both mark_at (ids e) (ids rest) (expression-marked m e) (path-marked m (shape_after_selector s (index e)) rest)
 
-further_arguments-marked : (m : TypeMeanings Name) (es : Tree Name (items argument_after_comma)) → ids (rename_fields every m None es) ≡ marked (ids es)
+further_arguments-marked : (m : TypeMeanings Name) (es : Tree Name (items argument_after_comma)) → ids (rename_selected_fields every m None es) ≡ marked (ids es)
 further_arguments-marked m end = refl
 further_arguments-marked m (more (comma_then_argument e) es) = both mark_at (ids e) (ids es) (expression-marked m e) (further_arguments-marked m es)
 
-arguments-marked : (m : TypeMeanings Name) (es : Tree Name (maybe arguments)) → ids (rename_fields every m None es) ≡ marked (ids es)
+arguments-marked : (m : TypeMeanings Name) (es : Tree Name (maybe arguments)) → ids (rename_selected_fields every m None es) ≡ marked (ids es)
 arguments-marked m none = refl
 arguments-marked m (one no_arguments) = refl
 arguments-marked m (one (some_arguments e es)) = both mark_at (ids e) (ids es) (expression-marked m e) (further_arguments-marked m es)
 
 mutual
-  statement-marked : (m : TypeMeanings Name) (a : Tree Name statement) → ids (rename_fields every m None a) ≡ marked (ids a)
+  statement-marked : (m : TypeMeanings Name) (a : Tree Name statement) → ids (rename_selected_fields every m None a) ≡ marked (ids a)
   statement-marked m empty = refl
-  statement-marked m (assigns x path e) = ap (λ z. (role.LookedUp, x) ∷ z) (both mark_at (ids path) (ids e) (path-marked m (type_of_variable_or_constant (m.object_for x)) path) (expression-marked m e))
-  statement-marked m (calls x es) = ap (λ z. (role.LookedUp, x) ∷ z) (arguments-marked m es)
+  statement-marked m (assigns x path e) = ap (λ z. (role.LookedUpName, x) ∷ z) (both mark_at (ids path) (ids e) (path-marked m (type_of_variable_or_constant (m.object_for x)) path) (expression-marked m e))
+  statement-marked m (calls x es) = ap (λ z. (role.LookedUpName, x) ∷ z) (arguments-marked m es)
   statement-marked m (branches e a rest last) =
       both mark_at (ids e) (ids a ++ (ids rest ++ ids last)) (expression-marked m e)
       (both mark_at (ids a) (ids rest ++ ids last) (sequence-marked m a) (both mark_at (ids rest) (ids last) (elsifs-marked m rest) (else-marked m last)))
   statement-marked m (while_loop e a) = both mark_at (ids e) (ids a) (expression-marked m e) (sequence-marked m a)
   statement-marked m (repeat_loop a e) = both mark_at (ids a) (ids e) (sequence-marked m a) (expression-marked m e)
 
-  sequence-marked : (m : TypeMeanings Name) (a : Tree Name sequence) → ids (rename_fields every m None a) ≡ marked (ids a)
+  sequence-marked : (m : TypeMeanings Name) (a : Tree Name sequence) → ids (rename_selected_fields every m None a) ≡ marked (ids a)
   sequence-marked m (runs a rest) = both mark_at (ids a) (ids rest) (statement-marked m a) (statements-marked m rest)
 
-  statements-marked : (m : TypeMeanings Name) (a : Tree Name (items statement_after_semicolon)) → ids (rename_fields every m None a) ≡ marked (ids a)
+  statements-marked : (m : TypeMeanings Name) (a : Tree Name (items statement_after_semicolon)) → ids (rename_selected_fields every m None a) ≡ marked (ids a)
   statements-marked m end = refl
   statements-marked m (more (semicolon_then_statement a) rest) = both mark_at (ids a) (ids rest) (statement-marked m a) (statements-marked m rest)
 
-  elsifs-marked : (m : TypeMeanings Name) (a : Tree Name (items elsif_part)) → ids (rename_fields every m None a) ≡ marked (ids a)
+  elsifs-marked : (m : TypeMeanings Name) (a : Tree Name (items elsif_part)) → ids (rename_selected_fields every m None a) ≡ marked (ids a)
   elsifs-marked m end = refl
   elsifs-marked m (more (elsif_branch e a) rest) = both mark_at (ids e ++ ids a) (ids rest) (both mark_at (ids e) (ids a) (expression-marked m e) (sequence-marked m a)) (elsifs-marked m rest)
 
-  else-marked : (m : TypeMeanings Name) (a : Tree Name (maybe else_part)) → ids (rename_fields every m None a) ≡ marked (ids a)
+  else-marked : (m : TypeMeanings Name) (a : Tree Name (maybe else_part)) → ids (rename_selected_fields every m None a) ≡ marked (ids a)
   else-marked m none = refl
   else-marked m (one (else_branch a)) = sequence-marked m a
 
-body-marked : (m : TypeMeanings Name) (a : Tree Name (maybe body)) → ids (rename_fields every m None a) ≡ marked (ids a)
+body-marked : (m : TypeMeanings Name) (a : Tree Name (maybe body)) → ids (rename_selected_fields every m None a) ≡ marked (ids a)
 body-marked m none = refl
 body-marked m (one (begins a)) = sequence-marked m a
 
@@ -144,7 +144,7 @@ value-scalar (truth b) s h = of_some OneScalar h tt
 value-scalar (elements vs) s h = absurd (cc)
 value-scalar (members k ms) s h = absurd (cc)
 
-constant-scalar : (o : Option (Object Shape Signature)) (s : Shape) → type_of_variable_or_constant {P = Unit {0}} (option_map a_constant (constant_of o)) ≡ Some s → OneScalar s
+constant-scalar : (o : Option (Object Shape Signature)) (s : Shape) → type_of_variable_or_constant {P = Unit {0}} (option_map a_constant (value_of_constant_object o)) ≡ Some s → OneScalar s
 constant-scalar (Some (a_constant v)) s h = value-scalar v s h
 constant-scalar None s h = absurd (cc)
 constant-scalar (Some (a_type t)) s h = absurd (cc)
@@ -154,77 +154,77 @@ constant-scalar (Some (a_standard_procedure t)) s h = absurd (cc)
 
 -- returns the meanings with constants only
 abbrev alone : TypeMeanings Name → Meanings Name Shape (Unit {0})
-alone m = constant_meanings m
+alone m = meanings_in_constant_expressions m
 
 path-plain : (m : TypeMeanings Name) (t : Shape) (path : Tree Name (items selector)) (s : Shape) → OneScalar t → type_after_selectors (alone m) t path ≡ Some s → ids path ≡ marked (ids path)
-unfolding type_of
+unfolding type_of_expression
 path-plain m t end s scalar h = refl
 path-plain m integer_shape (more (field x) rest) s scalar h = absurd (cc)
 path-plain m boolean_shape (more (field x) rest) s scalar h = absurd (cc)
 path-plain m integer_shape (more (index e) rest) s scalar h =
-    let (j, ej, h₁) = then_some (type_of (alone m) e) (λ j. option_and_then (λ u. type_after_selectors (alone m) u rest) (element_type integer_shape j)) s h in
+    let (j, ej, h₁) = then_some (type_of_expression (alone m) e) (λ j. option_and_then (λ u. type_after_selectors (alone m) u rest) (element_type integer_shape j)) s h in
     absurd (cc)
 path-plain m boolean_shape (more (index e) rest) s scalar h =
-    let (j, ej, h₁) = then_some (type_of (alone m) e) (λ j. option_and_then (λ u. type_after_selectors (alone m) u rest) (element_type boolean_shape j)) s h in
+    let (j, ej, h₁) = then_some (type_of_expression (alone m) e) (λ j. option_and_then (λ u. type_after_selectors (alone m) u rest) (element_type boolean_shape j)) s h in
     absurd (cc)
 path-plain m (array_shape k n u) (more a rest) s scalar h = absurd scalar
 path-plain m (record_shape k fs) (more a rest) s scalar h = absurd scalar
 
 mutual
-  unfolding type_of
+  unfolding type_of_expression
 
-  expression-plain : (m : TypeMeanings Name) (e : Tree Name expression) (s : Shape) → type_of (alone m) e ≡ Some s → ids e ≡ marked (ids e)
+  expression-plain : (m : TypeMeanings Name) (e : Tree Name expression) (s : Shape) → type_of_expression (alone m) e ≡ Some s → ids e ≡ marked (ids e)
   expression-plain m (compares a none) s h = both mark_at (ids a) [] (simple-plain m a s h) refl
   expression-plain m (compares a (one (relates r b))) s h =
-      let (x, ex, h₁) = then_some (type_of_simple (alone m) a) (λ x. option_and_then (relation_type r x) (type_of_simple (alone m) b)) s h in
-      let (y, ey, h₂) = then_some (type_of_simple (alone m) b) (relation_type r x) s h₁ in
+      let (x, ex, h₁) = then_some (type_of_simple_expression (alone m) a) (λ x. option_and_then (relation_type r x) (type_of_simple_expression (alone m) b)) s h in
+      let (y, ey, h₂) = then_some (type_of_simple_expression (alone m) b) (relation_type r x) s h₁ in
       both mark_at (ids a) (ids b) (simple-plain m a x ex) (simple-plain m b y ey)
 
-  simple-plain : (m : TypeMeanings Name) (a : Tree Name simple) (s : Shape) → type_of_simple (alone m) a ≡ Some s → ids a ≡ marked (ids a)
+  simple-plain : (m : TypeMeanings Name) (a : Tree Name simple) (s : Shape) → type_of_simple_expression (alone m) a ≡ Some s → ids a ≡ marked (ids a)
   simple-plain m (sum sign t rest) s h =
-      let (x, ex, h₁) = then_some (type_of_term (alone m) t) (λ x. option_and_then (λ y. type_of_addends (alone m) y rest) (sign_type sign x)) s h in
-      let (y, ey, h₂) = then_some (sign_type sign x) (λ y. type_of_addends (alone m) y rest) s h₁ in
+      let (x, ex, h₁) = then_some (type_of_term (alone m) t) (λ x. option_and_then (λ y. type_after_addends (alone m) y rest) (signed_operand_type sign x)) s h in
+      let (y, ey, h₂) = then_some (signed_operand_type sign x) (λ y. type_after_addends (alone m) y rest) s h₁ in
       both mark_at (ids t) (ids rest) (term-plain m t x ex) (addends-plain m y rest s h₂)
 
-  addends-plain : (m : TypeMeanings Name) (x : Shape) (a : Tree Name (items addend)) (s : Shape) → type_of_addends (alone m) x a ≡ Some s → ids a ≡ marked (ids a)
+  addends-plain : (m : TypeMeanings Name) (x : Shape) (a : Tree Name (items addend)) (s : Shape) → type_after_addends (alone m) x a ≡ Some s → ids a ≡ marked (ids a)
   addends-plain m x end s h = refl
   addends-plain m x (more (adds o t) rest) s h =
-      let (y, ey, h₁) = then_some (type_of_term (alone m) t) (λ y. option_and_then (λ z. type_of_addends (alone m) z rest) (addition_type o x y)) s h in
-      let (z, ez, h₂) = then_some (addition_type o x y) (λ z. type_of_addends (alone m) z rest) s h₁ in
+      let (y, ey, h₁) = then_some (type_of_term (alone m) t) (λ y. option_and_then (λ z. type_after_addends (alone m) z rest) (addition_type o x y)) s h in
+      let (z, ez, h₂) = then_some (addition_type o x y) (λ z. type_after_addends (alone m) z rest) s h₁ in
       both mark_at (ids t) (ids rest) (term-plain m t y ey) (addends-plain m z rest s h₂)
 
   term-plain : (m : TypeMeanings Name) (a : Tree Name term) (s : Shape) → type_of_term (alone m) a ≡ Some s → ids a ≡ marked (ids a)
   term-plain m (product a rest) s h =
-      let (x, ex, h₁) = then_some (type_of_factor (alone m) a) (λ x. type_of_multipliers (alone m) x rest) s h in
+      let (x, ex, h₁) = then_some (type_of_factor (alone m) a) (λ x. type_after_multipliers (alone m) x rest) s h in
       both mark_at (ids a) (ids rest) (factor-plain m a x ex) (multipliers-plain m x rest s h₁)
 
-  multipliers-plain : (m : TypeMeanings Name) (x : Shape) (a : Tree Name (items multiplier)) (s : Shape) → type_of_multipliers (alone m) x a ≡ Some s → ids a ≡ marked (ids a)
+  multipliers-plain : (m : TypeMeanings Name) (x : Shape) (a : Tree Name (items multiplier)) (s : Shape) → type_after_multipliers (alone m) x a ≡ Some s → ids a ≡ marked (ids a)
   multipliers-plain m x end s h = refl
   multipliers-plain m x (more (multiplies o a) rest) s h =
-      let (y, ey, h₁) = then_some (type_of_factor (alone m) a) (λ y. option_and_then (λ z. type_of_multipliers (alone m) z rest) (multiplication_type o x y)) s h in
-      let (z, ez, h₂) = then_some (multiplication_type o x y) (λ z. type_of_multipliers (alone m) z rest) s h₁ in
+      let (y, ey, h₁) = then_some (type_of_factor (alone m) a) (λ y. option_and_then (λ z. type_after_multipliers (alone m) z rest) (multiplication_type o x y)) s h in
+      let (z, ez, h₂) = then_some (multiplication_type o x y) (λ z. type_after_multipliers (alone m) z rest) s h₁ in
       both mark_at (ids a) (ids rest) (factor-plain m a y ey) (multipliers-plain m z rest s h₂)
 
   factor-plain : (m : TypeMeanings Name) (a : Tree Name factor) (s : Shape) → type_of_factor (alone m) a ≡ Some s → ids a ≡ marked (ids a)
   factor-plain m (designator x path) s h =
-      let (t, et, h₁) = then_some (type_of_variable_or_constant {P = Unit {0}} (option_map a_constant (constant_of (m.object_for x)))) (λ t. type_after_selectors (alone m) t path) s h in
-      ap (λ z. (role.LookedUp, x) ∷ z) (path-plain m t path s (constant-scalar (m.object_for x) t et) h₁)
+      let (t, et, h₁) = then_some (type_of_variable_or_constant {P = Unit {0}} (option_map a_constant (value_of_constant_object (m.object_for x)))) (λ t. type_after_selectors (alone m) t path) s h in
+      ap (λ z. (role.LookedUpName, x) ∷ z) (path-plain m t path s (constant-scalar (m.object_for x) t et) h₁)
   factor-plain m (integer n) s h = refl
   factor-plain m (parenthesised e) s h = expression-plain m e s h
   factor-plain m (negation a) s h = let (x, ex, h₁) = then_some (type_of_factor (alone m) a) negation_type s h in factor-plain m a x ex
 
-constant-plain : (m : TypeMeanings Name) (e : Tree Name expression) (v : Value) → constant_value m e ≡ Some v → ids e ≡ marked (ids e)
-unfolding constant_value
+constant-plain : (m : TypeMeanings Name) (e : Tree Name expression) (v : Value) → constant_expression_value m e ≡ Some v → ids e ≡ marked (ids e)
+unfolding constant_expression_value
 constant-plain m e v h =
-    let (s, es, h₁) = then_some (type_of (alone m) e) (λ s. outcome_value (evaluate {P = Unit {0}} (constant_meanings m) [] e)) v h in
+    let (s, es, h₁) = then_some (type_of_expression (alone m) e) (λ s. outcome_value (evaluate {P = Unit {0}} (meanings_in_constant_expressions m) [] e)) v h in
     expression-plain m e s es
 
 constants-plain : (env : TypeEnvironment Name) (cs : Tree Name (items constant)) (after : TypeEnvironment Name) → declare_constants naming_by_spelling env cs ≡ Some after → ids cs ≡ marked (ids cs)
 unfolding declare_constants
 constants-plain env end after h = refl
 constants-plain env (more (declares_constant x e) cs) after h =
-    let (v, ev, h₁) = then_some (constant_value (meanings naming_by_spelling env) e) (λ v. declare_constants naming_by_spelling ((x, a_constant v) ∷ env) cs) after h in
-    both mark_at ((role.Declaring, x) ∷ ids e) (ids cs) (ap (λ z. (role.Declaring, x) ∷ z) (constant-plain (meanings naming_by_spelling env) e v ev)) (constants-plain ((x, a_constant v) ∷ env) cs after h₁)
+    let (v, ev, h₁) = then_some (constant_expression_value (meanings naming_by_spelling env) e) (λ v. declare_constants naming_by_spelling ((x, a_constant v) ∷ env) cs) after h in
+    both mark_at ((role.DeclaringName, x) ∷ ids e) (ids cs) (ap (λ z. (role.DeclaringName, x) ∷ z) (constant-plain (meanings naming_by_spelling env) e v ev)) (constants-plain ((x, a_constant v) ∷ env) cs after h₁)
 
 constant_section-plain : (env : TypeEnvironment Name) (cs : Tree Name (maybe constants)) (after : TypeEnvironment Name) → declare_constants naming_by_spelling env (section_constants cs) ≡ Some after → ids cs ≡ marked (ids cs)
 constant_section-plain env none after h = refl
@@ -245,8 +245,8 @@ mutual
   type-marked : (m : TypeMeanings Name) (k : ℕ) (t : Tree Name written_type) (s : Shape) → denoted_type m k t ≡ Some s → ids (rename_fields_in_type every k t) ≡ marked (ids t)
   type-marked m k (named_type x) s h = refl
   type-marked m k (array_type e t) s h =
-      let (v, ev, h₁) = then_some (constant_value m e) (λ v. option_and_then (λ n. option_and_then (λ u. type_within_limits (array_shape k n u)) (denoted_type m (suc k) t)) (array_length v)) s h in
-      let (n, en, h₂) = then_some (array_length v) (λ n. option_and_then (λ u. type_within_limits (array_shape k n u)) (denoted_type m (suc k) t)) s h₁ in
+      let (v, ev, h₁) = then_some (constant_expression_value m e) (λ v. option_and_then (λ n. option_and_then (λ u. type_within_limits (array_shape k n u)) (denoted_type m (suc k) t)) (array_length_from_value v)) s h in
+      let (n, en, h₂) = then_some (array_length_from_value v) (λ n. option_and_then (λ u. type_within_limits (array_shape k n u)) (denoted_type m (suc k) t)) s h₁ in
       let (u, eu, h₃) = then_some (denoted_type m (suc k) t) (λ u. type_within_limits (array_shape k n u)) s h₂ in
       both mark_at (ids e) (ids t) (constant-plain m e v ev) (type-marked m (suc k) t u eu)
   type-marked m k (record_type g rest) s h =
@@ -271,7 +271,7 @@ unfolding declare_types
 types-marked env k end after h = refl
 types-marked env k (more (declares_type x u) ds) after h =
     let (s, es, h₁) = then_some (denoted_type (meanings naming_by_spelling env) k u) (λ s. declare_types naming_by_spelling ((x, a_type s) ∷ env) (k + constructor_count u) ds) after h in
-    both mark_at ((role.Declaring, x) ∷ ids u) (ids ds) (ap (λ z. (role.Declaring, x) ∷ z) (type-marked (meanings naming_by_spelling env) k u s es)) (types-marked ((x, a_type s) ∷ env) (k + constructor_count u) ds after h₁)
+    both mark_at ((role.DeclaringName, x) ∷ ids u) (ids ds) (ap (λ z. (role.DeclaringName, x) ∷ z) (type-marked (meanings naming_by_spelling env) k u s es)) (types-marked ((x, a_type s) ∷ env) (k + constructor_count u) ds after h₁)
 
 type_section-marked : (env : TypeEnvironment Name) (k : ℕ) (ts : Tree Name (maybe type_definitions)) (after : TypeEnvironment Name) → declare_types naming_by_spelling env k (section_types ts) ≡ Some after → ids (rename_fields_in_type_section every k ts) ≡ marked (ids ts)
 type_section-marked env k none after h = refl
@@ -279,10 +279,10 @@ type_section-marked env k (one (declares_type_section ts)) after h = types-marke
 
 further_declared : (ns : Tree Name (items name_after_comma)) → ids ns ≡ marked (ids ns)
 further_declared end = refl
-further_declared (more (comma_then_name x) rest) = ap (λ z. (role.Declaring, x) ∷ z) (further_declared rest)
+further_declared (more (comma_then_name x) rest) = ap (λ z. (role.DeclaringName, x) ∷ z) (further_declared rest)
 
 names_declared : (ns : Tree Name names) → ids ns ≡ marked (ids ns)
-names_declared (listed x rest) = ap (λ z. (role.Declaring, x) ∷ z) (further_declared rest)
+names_declared (listed x rest) = ap (λ z. (role.DeclaringName, x) ∷ z) (further_declared rest)
 
 variables-marked : (env : TypeEnvironment Name) (k : ℕ) (gs : Tree Name (items variable)) (after : TypeEnvironment Name) → declare_typed_variables naming_by_spelling k gs env ≡ Some after → ids (rename_fields_in_variables every k gs) ≡ marked (ids gs)
 unfolding declare_typed_variables
@@ -309,7 +309,7 @@ sections-marked env k (more (semicolon_then_section f) fs) ps h =
     both mark_at (ids f) (ids fs) (section-marked (meanings naming_by_spelling env) k f s es)
     (sections-marked (bind_names (parameter_section_names f) (a_variable s) env) (k + constructor_count (parameter_section_type f)) fs rest er)
 
-formals-marked : (env : TypeEnvironment Name) (k : ℕ) (fs : Tree Name (maybe formals)) (ps : List (TypedParameter Name)) → typed_parameters naming_by_spelling env k (formal_sections fs) ≡ Some ps → ids (rename_fields_in_formals every k fs) ≡ marked (ids fs)
+formals-marked : (env : TypeEnvironment Name) (k : ℕ) (fs : Tree Name (maybe formals)) (ps : List (TypedParameter Name)) → typed_parameters naming_by_spelling env k (formal_parameter_sections fs) ≡ Some ps → ids (rename_fields_in_formals every k fs) ≡ marked (ids fs)
 formals-marked env k none ps h = refl
 formals-marked env k (one no_formals) ps h = refl
 formals-marked env k (one (some_formals f fs)) ps h = sections-marked env k (more (semicolon_then_section f) fs) ps h
@@ -322,21 +322,21 @@ mutual
   block-marked : (env : TypeEnvironment Name) (k : ℕ) (b : Tree Name block) → block_is_well_typed naming_by_spelling env k b ≡ true → ids (rename_fields_in_block every env k b) ≡ marked (ids b)
   block-marked env k (forms_block (declares cs ts vs ps) statements) h =
       let b : Tree Name block = forms_block (declares cs ts vs ps) statements in
-      let (inner, e₁, e₂) = hold-true (option_and_then (declare_typed_variables naming_by_spelling (constructors_before_variables k b) (section_variables vs)) (declare_constants_and_types naming_by_spelling env k b)) (λ inner. procedures_are_well_typed naming_by_spelling inner (constructors_before_procedures k b) statements ps) h in
-      let (first, ef, e₃) = then_some (declare_constants_and_types naming_by_spelling env k b) (declare_typed_variables naming_by_spelling (constructors_before_variables k b) (section_variables vs)) inner e₁ in
+      let (inner, e₁, e₂) = hold-true (option_and_then (declare_typed_variables naming_by_spelling (constructor_count_before_variables k b) (section_variables vs)) (declare_constants_and_types naming_by_spelling env k b)) (λ inner. procedures_and_body_are_well_typed naming_by_spelling inner (constructor_count_before_procedures k b) statements ps) h in
+      let (first, ef, e₃) = then_some (declare_constants_and_types naming_by_spelling env k b) (declare_typed_variables naming_by_spelling (constructor_count_before_variables k b) (section_variables vs)) inner e₁ in
       let (consts, ec, e₄) = then_some (declare_constants naming_by_spelling env (section_constants cs)) (λ env. declare_types naming_by_spelling env k (section_types ts)) first ef in
-      let later = subst (λ inner. ids (rename_fields_in_procedure_list every inner (constructors_before_procedures k b) ps) ≡ marked (ids ps)) (sym (ap (λ o. unwrap_or o env) e₁)) (procedures-marked inner (constructors_before_procedures k b) statements ps e₂) in
+      let later = subst (λ inner. ids (rename_fields_in_procedure_list every inner (constructor_count_before_procedures k b) ps) ≡ marked (ids ps)) (sym (ap (λ o. unwrap_or o env) e₁)) (procedures-marked inner (constructor_count_before_procedures k b) statements ps e₂) in
       both mark_at (ids cs ++ (ids ts ++ (ids vs ++ ids ps))) (ids statements)
       (both mark_at (ids cs) (ids ts ++ (ids vs ++ ids ps)) (constant_section-plain env cs consts ec)
       (both mark_at (ids ts) (ids vs ++ ids ps) (type_section-marked consts k ts first e₄)
-      (both mark_at (ids vs) (ids ps) (variable_section-marked first (constructors_before_variables k b) vs inner e₃) later)))
+      (both mark_at (ids vs) (ids ps) (variable_section-marked first (constructor_count_before_variables k b) vs inner e₃) later)))
       (body-marked _ statements)
 
-  procedures-marked : (env : TypeEnvironment Name) (k : ℕ) (statements : Tree Name (maybe body)) (ps : Tree Name (items procedure)) → procedures_are_well_typed naming_by_spelling env k statements ps ≡ true → ids (rename_fields_in_procedure_list every env k ps) ≡ marked (ids ps)
+  procedures-marked : (env : TypeEnvironment Name) (k : ℕ) (statements : Tree Name (maybe body)) (ps : Tree Name (items procedure)) → procedures_and_body_are_well_typed naming_by_spelling env k statements ps ≡ true → ids (rename_fields_in_procedure_list every env k ps) ≡ marked (ids ps)
   procedures-marked env k statements end h = refl
   procedures-marked env k statements (more a rest) h =
-      let (qs, eqs, e₁) = hold-true (typed_parameters naming_by_spelling env k (procedure_formals a)) (λ qs. procedure_is_well_typed naming_by_spelling (bind_typed_parameters qs (bind_procedure (procedure_name a) qs env)) k a && procedures_are_well_typed naming_by_spelling (bind_procedure (procedure_name a) qs env) (k + procedure_constructor_count a) statements rest) h in
-      let split = both_true (procedure_is_well_typed naming_by_spelling (bind_typed_parameters qs (bind_procedure (procedure_name a) qs env)) k a) (procedures_are_well_typed naming_by_spelling (bind_procedure (procedure_name a) qs env) (k + procedure_constructor_count a) statements rest) e₁ in
+      let (qs, eqs, e₁) = hold-true (typed_parameters naming_by_spelling env k (procedure_formals a)) (λ qs. procedure_is_well_typed naming_by_spelling (bind_typed_parameters qs (bind_procedure (procedure_name a) qs env)) k a && procedures_and_body_are_well_typed naming_by_spelling (bind_procedure (procedure_name a) qs env) (k + procedure_constructor_count a) statements rest) h in
+      let split = both_true (procedure_is_well_typed naming_by_spelling (bind_typed_parameters qs (bind_procedure (procedure_name a) qs env)) k a) (procedures_and_body_are_well_typed naming_by_spelling (bind_procedure (procedure_name a) qs env) (k + procedure_constructor_count a) statements rest) e₁ in
       let own = procedure-marked env (bind_typed_parameters qs (bind_procedure (procedure_name a) qs env)) k a qs eqs split.0 in
       let others = procedures-marked (bind_procedure (procedure_name a) qs env) (k + procedure_constructor_count a) statements rest split.1 in
       subst (λ qs. ids (rename_fields_in_procedure every (bind_typed_parameters qs (bind_procedure (procedure_name a) qs env)) k a) ++ ids (rename_fields_in_procedure_list every (bind_procedure (procedure_name a) qs env) (k + procedure_constructor_count a) rest) ≡ marked (ids a ++ ids rest))
@@ -345,8 +345,8 @@ mutual
   procedure-marked : (before env : TypeEnvironment Name) (k : ℕ) (a : Tree Name (item procedure)) (ps : List (TypedParameter Name)) → typed_parameters naming_by_spelling before k (procedure_formals a) ≡ Some ps → procedure_is_well_typed naming_by_spelling env k a ≡ true
       → ids (rename_fields_in_procedure every env k a) ≡ marked (ids a)
   procedure-marked before env k (declares_procedure x fs b closing) ps h e =
-      ap (λ z. (role.Declaring, x) ∷ z) (both mark_at (ids fs) (ids b ++ ((role.ClosingName, closing) ∷ [])) (formals-marked before k fs ps h)
-      (both mark_at (ids b) ((role.ClosingName, closing) ∷ []) (block-marked env (constructors_before_procedure_block k (declares_procedure x fs b closing)) b e) refl))
+      ap (λ z. (role.DeclaringName, x) ∷ z) (both mark_at (ids fs) (ids b ++ ((role.ClosingName, closing) ∷ [])) (formals-marked before k fs ps h)
+      (both mark_at (ids b) ((role.ClosingName, closing) ∷ []) (block-marked env (constructor_count_before_procedure_block k (declares_procedure x fs b closing)) b e) refl))
 
 module-marked : (m : Tree Name module_text) → passes_type_check naming_by_spelling m ≡ true → ids (rename_fields_in_module every m) ≡ marked (ids m)
 unfolding passes_type_check
@@ -383,10 +383,10 @@ Matches _ (Some k) = ⊥
 matched : (x : Name) (r : Role) (o : Option ℕ) → mark r x ≡ renaming_by_record (λ k x. again x) o x → Matches r o
 matched x role.FieldName None h = longer x (sym h)
 matched x role.FieldName (Some k) h = tt
-matched x role.Declaring None h = tt
-matched x role.Declaring (Some k) h = longer x h
-matched x role.LookedUp None h = tt
-matched x role.LookedUp (Some k) h = longer x h
+matched x role.DeclaringName None h = tt
+matched x role.DeclaringName (Some k) h = longer x h
+matched x role.LookedUpName None h = tt
+matched x role.LookedUpName (Some k) h = longer x h
 matched x role.ClosingName None h = tt
 matched x role.ClosingName (Some k) h = longer x h
 matched x role.ModuleName None h = tt
@@ -409,10 +409,10 @@ listed_fields source table ((i, o) ∷ xs) ((r, j) ∷ ys) e has h =
     by_role : (r : Role) (o : Option ℕ) → i ≡ j → Matches r o → token_indexes (fields_with_owners xs) ≡ field_role_tokens ys → token_indexes (fields_with_owners ((i, o) ∷ xs)) ≡ field_role_tokens ((r, j) ∷ ys)
     by_role role.FieldName (Some k) same m later = λ z. same z ∷ later z
     by_role role.FieldName None same m later = absurd m
-    by_role role.Declaring None same m later = later
-    by_role role.Declaring (Some k) same m later = absurd m
-    by_role role.LookedUp None same m later = later
-    by_role role.LookedUp (Some k) same m later = absurd m
+    by_role role.DeclaringName None same m later = later
+    by_role role.DeclaringName (Some k) same m later = absurd m
+    by_role role.LookedUpName None same m later = later
+    by_role role.LookedUpName (Some k) same m later = absurd m
     by_role role.ClosingName None same m later = later
     by_role role.ClosingName (Some k) same m later = absurd m
     by_role role.ModuleName None same m later = later
@@ -426,8 +426,8 @@ fields_match_grammar-holds r named fits =
     let has : AgreesWithOwnerList (ordinal_in owners) (identifier_owners_in_resolution r) = fields_have-owners r named in
     let by_table = agreeing_table_is_owner_table-holds r owners named fits has (λ k x. again x) in
     let written : marked (ids (named_tree_of m)) ≡ ids (mapped_tree (owner_writes m.source (ordinal_in owners)) (token_value_at m.source) (tree_of m)) =
-    sym (module-marked (named_tree_of m) fits.1) ∙ (ap ids (module-alike every by_record (named_tree_of m) (alike-records (records (named_tree_of m))) fits.1) ∙ ap ids by_table) in
-    listed_fields m.source (ordinal_in owners) (identifier_owners_in_resolution r) (identifiers role.Declaring (tree_of m))
+    sym (module-marked (named_tree_of m) fits.1) ∙ (ap ids (module-alike every by_record (named_tree_of m) (alike-records (records_in_module (named_tree_of m))) fits.1) ∙ ap ids by_table) in
+    listed_fields m.source (ordinal_in owners) (identifier_owners_in_resolution r) (identifiers role.DeclaringName (tree_of m))
     (module-tokens (meanings_by_token (declared_object (named_tree_of m)) r) (tree_of m)) has
-    (ap marked (sym (identifiers-mapped_tree (token_text_at m.source) (token_value_at m.source) role.Declaring (tree_of m)))
-    ∙ (written ∙ identifiers-mapped_tree (owner_writes m.source (ordinal_in owners)) (token_value_at m.source) role.Declaring (tree_of m)))
+    (ap marked (sym (identifiers-mapped_tree (token_text_at m.source) (token_value_at m.source) role.DeclaringName (tree_of m)))
+    ∙ (written ∙ identifiers-mapped_tree (owner_writes m.source (ordinal_in owners)) (token_value_at m.source) role.DeclaringName (tree_of m)))

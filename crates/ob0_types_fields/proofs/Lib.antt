@@ -15,7 +15,7 @@ pub mod DeclaredWalks
 pub mod ListedFields
 pub mod DeclaringWalks
 pub mod FieldSpans
-pub mod FieldNameList
+pub mod FieldIdentifierList
 pub mod DuplicateFields
 pub mod FieldsAreDeclared
 pub mod FieldsMatchGrammar

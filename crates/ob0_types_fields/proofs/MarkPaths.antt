@@ -7,7 +7,7 @@ use Rattle.ob0_tree.specs.Tree.{Tree, field, index, item, items, more, selector}
 use Rattle.ob0_tree.specs.View.{items_of, selector_of}
 use Rattle.ob0_language_types.specs.Expressions.{Meanings}
 use Rattle.ob0_language_types.specs.WellTyped.{Signature}
-use Rattle.ob0_types_fields.specs.declared.field_name.FieldName.{FieldName}
+use Rattle.ob0_types_fields.specs.declared.field_identifier.FieldIdentifier.{FieldIdentifier}
 use Rattle.ob0_types_fields.specs.IdentifierOwners.{fields_in_path, type_after_selector}
 use Rattle.ob0_types_fields.specs.FieldWalks.{fields_in_selector}
 use Rattle.ob0_language_values.specs.Values.{Shape}
@@ -19,10 +19,10 @@ path_more m base (index e) rest = refl
 
 -- holds if the fields so far, followed by the fields of the remaining selectors, are the fields at the start followed
 -- by the fields of all selectors
-pub record OnPath (m : Meanings ℕ Shape Signature) (start : List FieldName) (base : Option Shape) (xs : List Selector) (done : ℕ) (out : List FieldName) (at : Option Shape) : Type 0 where
+pub record OnPath (m : Meanings ℕ Shape Signature) (start : List FieldIdentifier) (base : Option Shape) (xs : List Selector) (done : ℕ) (out : List FieldIdentifier) (at : Option Shape) : Type 0 where
   pub so_far : out ++ fields_in_path m at (items_of selector_of (drop done xs)) ≡ start ++ fields_in_path m base (items_of selector_of xs)
 
-pub path_goes_on : {m : Meanings ℕ Shape Signature} {start : List FieldName} {base : Option Shape} {xs : List Selector} {done : ℕ} {out : List FieldName} {at : Option Shape} (x : Selector) (next : List FieldName) (following : Option Shape)
+pub path_goes_on : {m : Meanings ℕ Shape Signature} {start : List FieldIdentifier} {base : Option Shape} {xs : List Selector} {done : ℕ} {out : List FieldIdentifier} {at : Option Shape} (x : Selector) (next : List FieldIdentifier) (following : Option Shape)
     → OnPath m start base xs done out at → done < length xs → x ≡ get_or xs done x → next ≡ out ++ fields_in_selector m at (selector_of x) → following ≡ type_after_selector m at (selector_of x) → OnPath m start base xs (done + 1) next following
 path_goes_on {m = m} {xs = xs} {done = done} {out = out} {at = at} x next following w less here found typed =
     let rest : Tree ℕ (items selector) = items_of selector_of (drop (done + 1) xs) in

@@ -5,16 +5,16 @@ use Rattle.ob0_tree.specs.Tree.{Tree, GrammarItem, item}
 use Rattle.ob0_tree.specs.View.{items_of}
 use Rattle.ob0_language_types.specs.Expressions.{Meanings}
 use Rattle.ob0_language_types.specs.WellTyped.{Signature}
-use Rattle.ob0_types_fields.specs.declared.field_name.FieldName.{FieldName}
+use Rattle.ob0_types_fields.specs.declared.field_identifier.FieldIdentifier.{FieldIdentifier}
 use Rattle.ob0_types_fields.specs.IdentifierOwners.{fields_in_tree}
 use Rattle.ob0_language_values.specs.Values.{Shape}
 
 -- holds if the fields so far, followed by the fields of the remaining items, are the fields at the start followed by
 -- the fields of all items
-pub record Walking {A : Type 0} {i : GrammarItem} (f : A → Tree ℕ (item i)) (m : Meanings ℕ Shape Signature) (start : List FieldName) (xs : List A) (done : ℕ) (out : List FieldName) : Type 0 where
+pub record Walking {A : Type 0} {i : GrammarItem} (f : A → Tree ℕ (item i)) (m : Meanings ℕ Shape Signature) (start : List FieldIdentifier) (xs : List A) (done : ℕ) (out : List FieldIdentifier) : Type 0 where
   pub so_far : out ++ fields_in_tree m (items_of f (drop done xs)) ≡ start ++ fields_in_tree m (items_of f xs)
 
-pub walk_ends : {A : Type 0} {i : GrammarItem} {f : A → Tree ℕ (item i)} {m : Meanings ℕ Shape Signature} {start : List FieldName} {xs : List A} {done : ℕ} {out : List FieldName}
+pub walk_ends : {A : Type 0} {i : GrammarItem} {f : A → Tree ℕ (item i)} {m : Meanings ℕ Shape Signature} {start : List FieldIdentifier} {xs : List A} {done : ℕ} {out : List FieldIdentifier}
     → Walking f m start xs done out → length xs ≤ done → out ≡ start ++ fields_in_tree m (items_of f xs)
 walk_ends {f = f} {m = m} {xs = xs} {done = done} {out = out} w all =
     sym (append-nil out) ∙ sym (ap (λ ys. out ++ fields_in_tree m (items_of f ys)) (drop_all done xs all)) ∙ w.so_far

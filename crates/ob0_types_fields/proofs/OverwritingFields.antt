@@ -6,16 +6,16 @@ use Rattle.std.proofs.lemmas.Bool.{cases_lt, ltb-false, ltb-true}
 use Rattle.std.proofs.lemmas.List.{append_cancel_left, length-map, map-append, nil_from_length, set_past}
 use Rattle.std.specs.List.Sorted.{IsNonDecreasingBy, IsPartitionPoint}
 use Rattle.ob0_tree.specs.IdentifierIndexes.{AreAscendingWithin}
-use Rattle.ob0_types_fields.specs.declared.field_name.FieldName.{FieldName}
-use Rattle.ob0_types_fields.specs.Identifiers.{token_indexes}
-use Rattle.ob0_types_fields.specs.FieldLists.{HasSameTokensIfReplaced, overwritten_fields}
+use Rattle.ob0_types_fields.specs.declared.field_identifier.FieldIdentifier.{FieldIdentifier}
+use Rattle.ob0_types_fields.specs.FieldIdentifiers.{token_indexes}
+use Rattle.ob0_types_fields.specs.FieldLists.{ReplacesFieldsAtSameTokens, overwritten_fields}
 
-pub past_end : (xs : List FieldName) (k : ℕ) (ys : List FieldName) → length xs ≤ k → overwritten_fields xs k ys ≡ xs
+pub past_end : (xs : List FieldIdentifier) (k : ℕ) (ys : List FieldIdentifier) → length xs ≤ k → overwritten_fields xs k ys ≡ xs
 past_end xs k [] le = refl
 past_end xs k (y ∷ ys) le = ap (λ l. overwritten_fields l (k + 1) ys) (set_past xs k y le) ∙ past_end xs (k + 1) ys (omega (arith, le))
 
 -- Overwriting as many fields as there are after a prefix replaces exactly these fields.
-over_as_many : (before old others after : List FieldName) → length old ≡ length others → overwritten_fields (before ++ (old ++ after)) (length before) others ≡ before ++ (others ++ after)
+over_as_many : (before old others after : List FieldIdentifier) → length old ≡ length others → overwritten_fields (before ++ (old ++ after)) (length before) others ≡ before ++ (others ++ after)
 over_as_many before [] [] after e = refl
 over_as_many before [] (y ∷ ys) after e = absurd (omega (arith, e))
 over_as_many before (x ∷ old) [] after e = absurd (omega (arith, e))
@@ -33,7 +33,7 @@ item_bounds [] low top i d h less = absurd (omega (arith, less))
 item_bounds (x ∷ xs) low top zero d h less = h.0
 item_bounds (x ∷ xs) low top (suc i) d h less = let later = item_bounds xs (x + 1) top i d h.1 (omega (arith, less)) in omega (arith, h.0, later)
 
-pub tokens_rise : (xs : List FieldName) (low top : ℕ) → AreAscendingWithin low (token_indexes xs) top → IsNonDecreasingBy (λ x. x.token) xs
+pub tokens_rise : (xs : List FieldIdentifier) (low top : ℕ) → AreAscendingWithin low (token_indexes xs) top → IsNonDecreasingBy (λ x. x.token) xs
 tokens_rise [] low top h i j d le less = absurd (omega (arith, less))
 tokens_rise (x ∷ xs) low top h zero zero d le less = omega arith
 tokens_rise (x ∷ xs) low top h (suc i) zero d le less = absurd (omega (arith, le))
@@ -60,7 +60,7 @@ at_seam (y ∷ before) x rest d = at_seam before x rest d
 
 -- ---- the position at which they are written
 
-module _ (all before others after : List FieldName) (h : HasSameTokensIfReplaced all before others after) where
+module _ (all before others after : List FieldIdentifier) (h : ReplacesFieldsAtSameTokens all before others after) where
   parts_same : token_indexes h.replaced_fields ++ token_indexes after ≡ token_indexes others ++ token_indexes after
   parts_same =
       append_cancel_left (token_indexes before) (token_indexes h.replaced_fields ++ token_indexes after) (token_indexes others ++ token_indexes after)
@@ -70,7 +70,7 @@ module _ (all before others after : List FieldName) (h : HasSameTokensIfReplaced
   as_many : length h.replaced_fields ≡ length others
   as_many =
       let e = ap length parts_same in
-      omega (arith, e, length-append (token_indexes h.replaced_fields) (token_indexes after), length-append (token_indexes others) (token_indexes after), length-map h.replaced_fields (λ (x : FieldName). x.token), length-map others (λ (x : FieldName). x.token))
+      omega (arith, e, length-append (token_indexes h.replaced_fields) (token_indexes after), length-append (token_indexes others) (token_indexes after), length-map h.replaced_fields (λ (x : FieldIdentifier). x.token), length-map others (λ (x : FieldIdentifier). x.token))
 
   pub over_others : (k : ℕ) → k ≡ length before → overwritten_fields all k others ≡ before ++ (others ++ after)
   over_others k e = (λ i. overwritten_fields (h.is_concatenation i) (e i) others) ∙ over_as_many before h.replaced_fields others after as_many
@@ -86,7 +86,7 @@ module _ (all before others after : List FieldName) (h : HasSameTokensIfReplaced
 
   -- The number of fields whose tokens are below the first written token is the length of `before`. The reason is that
   -- exactly the fields in `before` have lower tokens.
-  module _ (y : FieldName) (ys : List FieldName) (e : others ≡ y ∷ ys) where
+  module _ (y : FieldIdentifier) (ys : List FieldIdentifier) (e : others ≡ y ∷ ys) where
     tokens_are : token_indexes all ≡ token_indexes before ++ y.token ∷ (token_indexes ys ++ token_indexes after)
     tokens_are =
         h.same ∙ (map-append (λ x. x.token) before (others ++ after) ∙ ap (λ l. token_indexes before ++ l) (map-append (λ x. x.token) others after ∙ ap (λ l. token_indexes l ++ token_indexes after) e))
@@ -94,37 +94,37 @@ module _ (all before others after : List FieldName) (h : HasSameTokensIfReplaced
     in_order : AreAscendingWithin 0 (token_indexes before ++ y.token ∷ (token_indexes ys ++ token_indexes after)) h.token_limit
     in_order = subst (λ l. AreAscendingWithin 0 l h.token_limit) tokens_are h.in_order
 
-    token_there : (i : ℕ) (d : FieldName) → (get_or all i d).token ≡ get_or (token_indexes before ++ y.token ∷ (token_indexes ys ++ token_indexes after)) i d.token
+    token_there : (i : ℕ) (d : FieldIdentifier) → (get_or all i d).token ≡ get_or (token_indexes before ++ y.token ∷ (token_indexes ys ++ token_indexes after)) i d.token
     token_there i d = sym (get_or-map (λ x. x.token) all i d) ∙ ap (λ l. get_or l i d.token) tokens_are
 
     long : length before < length all
     long =
         let e = ap length tokens_are in
-        omega (arith, e, length-append (token_indexes before) (y.token ∷ (token_indexes ys ++ token_indexes after)), length-map all (λ (x : FieldName). x.token), length-map before (λ (x : FieldName). x.token))
+        omega (arith, e, length-append (token_indexes before) (y.token ∷ (token_indexes ys ++ token_indexes after)), length-map all (λ (x : FieldIdentifier). x.token), length-map before (λ (x : FieldIdentifier). x.token))
 
     before_first : (k : ℕ) → IsPartitionPoint (λ x. nat_lt x.token y.token ≡ true) (λ x. nat_lt x.token y.token ≡ false) all k → k ≡ length before
     before_first k point = ⊎_elim
         (λ less.
         -- otherwise the field at index `k` would come before the first written field
         let here = ltb-false (get_or all k y).token y.token (point.1 k y (omega arith) (omega (arith, less, long))) in
-        let there = below_seam (token_indexes before) y.token (token_indexes ys ++ token_indexes after) 0 h.token_limit k y.token in_order (omega (arith, less, length-map before (λ (x : FieldName). x.token))) in
+        let there = below_seam (token_indexes before) y.token (token_indexes ys ++ token_indexes after) 0 h.token_limit k y.token in_order (omega (arith, less, length-map before (λ (x : FieldIdentifier). x.token))) in
         absurd (omega (arith, here, there, token_there k y)))
         (λ le. ⊎_elim
         (λ more.
         -- otherwise the first written field would come before itself
         let here = ltb-true (get_or all (length before) y).token y.token (point.0 (length before) y (omega arith) more) in
-        let there = ap (λ n. get_or (token_indexes before ++ y.token ∷ (token_indexes ys ++ token_indexes after)) n y.token) (sym (length-map before (λ (x : FieldName). x.token))) ∙ at_seam (token_indexes before) y.token (token_indexes ys ++ token_indexes after) y.token in
+        let there = ap (λ n. get_or (token_indexes before ++ y.token ∷ (token_indexes ys ++ token_indexes after)) n y.token) (sym (length-map before (λ (x : FieldIdentifier). x.token))) ∙ at_seam (token_indexes before) y.token (token_indexes ys ++ token_indexes after) y.token in
         absurd (omega (arith, here, there, token_there (length before) y)))
         (λ same. omega (arith, le, same)) (cases_lt (length before) k))
         (cases_lt k (length before))
 
-pub without_others : (all before others after : List FieldName) → HasSameTokensIfReplaced all before others after → slice_get others 0 ≡ None → all ≡ before ++ (others ++ after)
+pub without_others : (all before others after : List FieldIdentifier) → ReplacesFieldsAtSameTokens all before others after → slice_get others 0 ≡ None → all ≡ before ++ (others ++ after)
 without_others all before [] after h e = none_over all before [] after h refl
 without_others all before (z ∷ zs) after h e = absurd (cc)
 
-pub start_found : (all before others after : List FieldName) → HasSameTokensIfReplaced all before others after → (y : FieldName) → slice_get others 0 ≡ Some y
+pub start_found : (all before others after : List FieldIdentifier) → ReplacesFieldsAtSameTokens all before others after → (y : FieldIdentifier) → slice_get others 0 ≡ Some y
     → (k : ℕ) → IsPartitionPoint (λ x. nat_lt x.token y.token ≡ true) (λ x. nat_lt x.token y.token ≡ false) all k → k ≡ length before
 start_found all before [] after h y e k point = absurd (cc)
 start_found all before (z ∷ zs) after h y e k point =
-    let same : z ≡ y = ap (λ (o : Option FieldName). unwrap_or o y) e in
-    before_first all before (z ∷ zs) after h z zs refl k (subst (λ (x : FieldName). IsPartitionPoint (λ u. nat_lt u.token x.token ≡ true) (λ u. nat_lt u.token x.token ≡ false) all k) (sym same) point)
+    let same : z ≡ y = ap (λ (o : Option FieldIdentifier). unwrap_or o y) e in
+    before_first all before (z ∷ zs) after h z zs refl k (subst (λ (x : FieldIdentifier). IsPartitionPoint (λ u. nat_lt u.token x.token ≡ true) (λ u. nat_lt u.token x.token ≡ false) all k) (sym same) point)

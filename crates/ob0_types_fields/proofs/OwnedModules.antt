@@ -8,34 +8,34 @@
 use Rattle.std.proofs.Common.{◌≡◌, ℕ, suc, ◌+◌, true, false, List, [], ◌∷◌, ◌++◌, map, Some, None, Option, option_map, option_and_then, unwrap_or, refl, sym, ap, ◌∙◌, subst, arith, le_refl, le_of_lt, append-nil}
 use Rattle.ob0_tree.specs.Tree.{Tree, block, body, constants, declares, declares_procedure, end, formals, forms_block, forms_module, item, items, GrammarItem, mapped_tree, maybe, more, occurrences, procedure, type_definitions, variables}
 use Rattle.ob0_tree.specs.ParsedModule.{ParsedModule, named_tree_of, tree_of}
-use Rattle.ob0_tree.specs.Places.{token_text_at, token_value_at}
+use Rattle.ob0_tree.specs.TokenIndexLeaves.{token_text_at, token_value_at}
 use Rattle.ob0_language_names.specs.Names.{Label, Name, naming_by_label, naming_by_spelling, declared, same_name}
 use Rattle.ob0_language_names.specs.Occurrences.{label_ordinal}
-use Rattle.ob0_language_names.specs.BlockParts.{block_procedures, block_statements, block_variables, formal_names, formal_sections, module_block, procedure_block, section_types, section_variables}
+use Rattle.ob0_language_names.specs.BlockParts.{block_procedures, block_statements, block_variables, formal_parameter_names, formal_parameter_sections, module_block, procedure_block, section_types, section_variables}
 use Rattle.ob0_scope_table.specs.Resolution.{Resolution, ordinal_in}
 use Rattle.ob0_scope_table.proofs.Bound.{label_back}
-use Rattle.ob0_language_names.specs.Scopes.{Scope, ordinal_after_block, ordinal_after_names, ordinal_after_procedure, ordinal_after_procedure_list, label_from_ordinal, declare_names, declare_procedure_names, first_procedure_ordinal, first_type_ordinal, first_variable_ordinal, numbered, ordinal_in_scope, scope_before_procedures, relabel_block, relabel_formals, relabel_procedure_list, relabel_parameter_section_list, relabel_uses, scope_before_types, scope_before_variables, label_of}
+use Rattle.ob0_language_names.specs.Scopes.{Scope, ordinal_after_block, ordinal_after_names, ordinal_after_procedure, ordinal_after_procedure_list, label_from_ordinal, declare_names, declare_procedure_names, first_procedure_ordinal, first_type_ordinal, first_variable_ordinal, numbered, ordinal_in_scope, scope_before_procedures, relabel_block, relabel_formals, relabel_procedure_list, relabel_parameter_section_list, relabel_uses, scope_before_types, scope_before_variables, label_in_scope}
 use Rattle.ob0_language_names.proofs.OccurrencesMapped.{occurrences-mapped}
 use Rattle.ob0_language_names.proofs.Ordinals.{le-ordinal_after_procedure}
 use Rattle.ob0_language_names.proofs.Peeling.{heads}
 use Rattle.ob0_language_names.proofs.Relabelled.{formals-section, types-section, variables-section}
-use Rattle.ob0_language_types.specs.Bindings.{block_bindings, declared_object, module_bindings, procedures_bindings, bindings_since}
+use Rattle.ob0_language_types.specs.Bindings.{block_bindings, declared_object, module_bindings, procedure_list_bindings, added_bindings}
 use Rattle.ob0_language_types.specs.BlockDeclarations.{declare_block}
-use Rattle.ob0_language_types.specs.Declarations.{constructors_before_procedure_block, constructors_before_variables, constructors_before_procedures, declare_constants_and_types, formals_constructor_count, procedure_constructor_count, types_constructor_count, variables_constructor_count}
-use Rattle.ob0_language_types.specs.Environments.{environment_from_binding, meanings, newest_object, outermost_environment}
+use Rattle.ob0_language_types.specs.Declarations.{constructor_count_before_procedure_block, constructor_count_before_variables, constructor_count_before_procedures, declare_constants_and_types, formals_constructor_count, procedure_constructor_count, types_constructor_count, variables_constructor_count}
+use Rattle.ob0_language_types.specs.Environments.{suffix_from_newest_binding, meanings, newest_object, outermost_environment}
 use Rattle.ob0_language_types.specs.Expressions.{Meanings, Object, a_procedure}
 use Rattle.ob0_language_types.specs.Typing.{type_of_variable_or_constant}
-use Rattle.ob0_language_types.specs.WellTyped.{Signature, TypeEnvironment, TypeMeanings, TypedParameter, WellTyped, bind_typed_parameters, block_is_well_typed, body_is_well_typed, declare_typed_variables, passes_type_check, bind_procedure, procedures_are_well_typed, typed_parameters}
+use Rattle.ob0_language_types.specs.WellTyped.{Signature, TypeEnvironment, TypeMeanings, TypedParameter, WellTyped, bind_typed_parameters, block_is_well_typed, body_is_well_typed, declare_typed_variables, passes_type_check, bind_procedure, procedures_and_body_are_well_typed, typed_parameters}
 use Rattle.ob0_language_values.specs.Values.{Shape}
 use Rattle.ob0_language_types.proofs.Agreeing.{Agree, HoldsOf}
 use Rattle.ob0_language_types.proofs.Constructors.{formals_constructor_count-relabel, procedure_constructor_count-relabel, types_constructor_count-relabel, variables_constructor_count-relabel}
-use Rattle.ob0_language_types.proofs.Bound.{bindings_since-append, bind_typed_parameters-append}
+use Rattle.ob0_language_types.proofs.Bound.{added_bindings-append, bind_typed_parameters-append}
 use Rattle.ob0_language_types.proofs.Literals.{some_inverse}
 use Rattle.ob0_language_types.proofs.Proved.{numbering_keeps_type_check-holds}
 use Rattle.ob0_language_types.proofs.TypesByOrdinal.{TypeNoted, TypedBelow, TypedBelow-weaken, TypedWithin, bind_typed_parameters-by_name, bind_typed_parameters-by_ordinal, body_is_well_typed-agrees, declarations_typed, label_typed, label_typed-formals, noted_parameters, noted_parameters-within, parameters_typed, typed_by_name, typed_by_ordinal, typed_names, typed_outermost, typed_scope}
 use Rattle.ob0_language_types.proofs.ConstantsDeclared as blocks
 use Rattle.ob0_language_types.proofs.ConstantsDeclared.{block-listed, block-parts, predeclared-below}
-use Rattle.ob0_language_fields.specs.Fields.{environment_after_heading, environment_after_procedures, environment_after_variables, typed_parameters_of_procedure, rename_fields, rename_fields_in_block, rename_fields_in_procedure_list, rename_fields_in_variable_section}
+use Rattle.ob0_language_fields.specs.RenamedFields.{environment_after_heading, environment_after_procedures, environment_after_variables, typed_parameters_of_procedure, rename_selected_fields, rename_fields_in_block, rename_fields_in_procedure_list, rename_fields_in_variable_section}
 use Rattle.ob0_types_fields.specs.OwnerTables.{renaming_by_record}
 use Rattle.ob0_types_fields.specs.IdentifierOwners.{AgreesWithOwnerList, AgreeingTableIsOwnerTable, identifier_owners_in_tree, identifier_owners_in_block, identifier_owners_in_formals, identifier_owners_in_procedure, identifier_owners_in_procedures, identifier_owners_in_type_section, identifier_owners_in_variable_section, meanings_by_token, identifiers_without_owners}
 use Rattle.ob0_types_fields.proofs.OwnedStatements.{Alike, SameTypes, identifier_owners_in_tree-alike, owners_split, recorded, recorded-alike, recorded-mapped_tree, identifiers_without_owners-all}
@@ -56,10 +56,10 @@ record Opened (noted : TypeNoted Name) (j k : ℕ) (b : Tree Name block) : Type 
   pub last : TypeNoted Name
   pub grown : Grown k (first_procedure_ordinal k b) (typed_by_ordinal noted) (typed_by_ordinal last)
   pub listed : block_bindings naming_by_label (typed_by_ordinal noted) j (relabel_block naming_by_spelling (label_from_ordinal naming_by_spelling) (typed_scope noted) k b)
-      ≡ procedures_bindings naming_by_label (typed_by_ordinal last) (constructors_before_procedures j (relabel_block naming_by_spelling (label_from_ordinal naming_by_spelling) (typed_scope noted) k b)) (block_procedures (relabel_block naming_by_spelling (label_from_ordinal naming_by_spelling) (typed_scope noted) k b)) ++ grown.bound
+      ≡ procedure_list_bindings naming_by_label (typed_by_ordinal last) (constructor_count_before_procedures j (relabel_block naming_by_spelling (label_from_ordinal naming_by_spelling) (typed_scope noted) k b)) (block_procedures (relabel_block naming_by_spelling (label_from_ordinal naming_by_spelling) (typed_scope noted) k b)) ++ grown.bound
   pub named : environment_after_variables (typed_by_name noted) j b ≡ typed_by_name last
   pub within : TypedWithin (first_procedure_ordinal k b) (scope_before_procedures k b (typed_scope noted)) last
-  pub fits : procedures_are_well_typed naming_by_label (typed_by_ordinal last) (constructors_before_procedures j (relabel_block naming_by_spelling (label_from_ordinal naming_by_spelling) (typed_scope noted) k b)) (block_statements (relabel_block naming_by_spelling (label_from_ordinal naming_by_spelling) (typed_scope noted) k b)) (block_procedures (relabel_block naming_by_spelling (label_from_ordinal naming_by_spelling) (typed_scope noted) k b)) ≡ true
+  pub fits : procedures_and_body_are_well_typed naming_by_label (typed_by_ordinal last) (constructor_count_before_procedures j (relabel_block naming_by_spelling (label_from_ordinal naming_by_spelling) (typed_scope noted) k b)) (block_statements (relabel_block naming_by_spelling (label_from_ordinal naming_by_spelling) (typed_scope noted) k b)) (block_procedures (relabel_block naming_by_spelling (label_from_ordinal naming_by_spelling) (typed_scope noted) k b)) ≡ true
 
 opened : (noted : TypeNoted Name) (j k : ℕ) → TypedBelow k noted → (b : Tree Name block) → block_is_well_typed naming_by_label (typed_by_ordinal noted) j (relabel_block naming_by_spelling (label_from_ordinal naming_by_spelling) (typed_scope noted) k b) ≡ true → Opened noted j k b
 opened noted j k below b h =
@@ -67,59 +67,59 @@ opened noted j k below b h =
     let b' : Tree Label block = relabel_block naming_by_spelling (label_from_ordinal naming_by_spelling) (typed_scope noted) k b in
     let parts = block-parts env j b' h in
     let f = found typed_by_name typed_by_ordinal (TypedWithin (first_procedure_ordinal k b) (scope_before_procedures k b (typed_scope noted)))
-    (option_and_then (declare_typed_variables naming_by_spelling (constructors_before_variables j b) (block_variables b)) (declare_constants_and_types naming_by_spelling (typed_by_name noted) j b)) (declare_block naming_by_label env j b') (declarations_typed naming_by_spelling j k noted below b) parts.0 parts.1 in
+    (option_and_then (declare_typed_variables naming_by_spelling (constructor_count_before_variables j b) (block_variables b)) (declare_constants_and_types naming_by_spelling (typed_by_name noted) j b)) (declare_block naming_by_label env j b') (declarations_typed naming_by_spelling j k noted below b) parts.0 parts.1 in
     let last : TypeNoted Name = f.0 in
     let same : typed_by_ordinal last ≡ parts.0 = f.2 in
     let g : Grown k (first_procedure_ordinal k b) env (typed_by_ordinal last) = subst (Grown k (first_procedure_ordinal k b) env) (sym same) (block_grows (typed_scope noted) j k b env parts.0 parts.1) in
     record {
       last = last;
       grown = g;
-      listed = block-listed env j b' parts.0 parts.1 ∙ (λ i. procedures_bindings naming_by_label (sym same i) (constructors_before_procedures j b') (block_procedures b') ++ bindings_since env (sym same i))
-          ∙ ap (λ z. procedures_bindings naming_by_label (typed_by_ordinal last) (constructors_before_procedures j b') (block_procedures b') ++ z) (ap (bindings_since env) g.is ∙ bindings_since-append g.bound env);
+      listed = block-listed env j b' parts.0 parts.1 ∙ (λ i. procedure_list_bindings naming_by_label (sym same i) (constructor_count_before_procedures j b') (block_procedures b') ++ added_bindings env (sym same i))
+          ∙ ap (λ z. procedure_list_bindings naming_by_label (typed_by_ordinal last) (constructor_count_before_procedures j b') (block_procedures b') ++ z) (ap (added_bindings env) g.is ∙ added_bindings-append g.bound env);
       named = ap (λ o. unwrap_or o (typed_by_name noted)) f.1;
       within = f.3;
-      fits = ap (λ e. procedures_are_well_typed naming_by_label e (constructors_before_procedures j b') (block_statements b') (block_procedures b')) same ∙ parts.2;
+      fits = ap (λ e. procedures_and_body_are_well_typed naming_by_label e (constructor_count_before_procedures j b') (block_statements b') (block_procedures b')) same ∙ parts.2;
     }
 
 -- the parts of a procedure that fits, with its name and parameters
 pub record FitParts (env : TypeEnvironment Label) (j : ℕ) (statements : Tree Label (maybe body)) (x : Label) (fs : Tree Label (maybe formals)) (b : Tree Label block) (closing : Label) (rest : Tree Label (items procedure)) (qs : List (TypedParameter Label)) : Type 0 where
-  pub listed : procedures_bindings naming_by_label env j (more (declares_procedure x fs b closing) rest)
-      ≡ procedures_bindings naming_by_label (bind_procedure x qs env) (j + procedure_constructor_count (declares_procedure x fs b closing)) rest ++ (block_bindings naming_by_label (bind_typed_parameters qs (bind_procedure x qs env)) (j + formals_constructor_count (formal_sections fs)) b ++ bind_typed_parameters qs (bind_procedure x qs []))
-  pub block_right : block_is_well_typed naming_by_label (bind_typed_parameters qs (bind_procedure x qs env)) (j + formals_constructor_count (formal_sections fs)) b ≡ true
-  pub rest_right : procedures_are_well_typed naming_by_label (bind_procedure x qs env) (j + procedure_constructor_count (declares_procedure x fs b closing)) statements rest ≡ true
+  pub listed : procedure_list_bindings naming_by_label env j (more (declares_procedure x fs b closing) rest)
+      ≡ procedure_list_bindings naming_by_label (bind_procedure x qs env) (j + procedure_constructor_count (declares_procedure x fs b closing)) rest ++ (block_bindings naming_by_label (bind_typed_parameters qs (bind_procedure x qs env)) (j + formals_constructor_count (formal_parameter_sections fs)) b ++ bind_typed_parameters qs (bind_procedure x qs []))
+  pub block_right : block_is_well_typed naming_by_label (bind_typed_parameters qs (bind_procedure x qs env)) (j + formals_constructor_count (formal_parameter_sections fs)) b ≡ true
+  pub rest_right : procedures_and_body_are_well_typed naming_by_label (bind_procedure x qs env) (j + procedure_constructor_count (declares_procedure x fs b closing)) statements rest ≡ true
 
 pub procedure-parts : (env : TypeEnvironment Label) (j : ℕ) (statements : Tree Label (maybe body)) (x : Label) (fs : Tree Label (maybe formals)) (b : Tree Label block) (closing : Label) (rest : Tree Label (items procedure))
-    → procedures_are_well_typed naming_by_label env j statements (more (declares_procedure x fs b closing) rest) ≡ true
-    → (qs : List (TypedParameter Label)) × (typed_parameters naming_by_label env j (formal_sections fs) ≡ Some qs) × FitParts env j statements x fs b closing rest qs
+    → procedures_and_body_are_well_typed naming_by_label env j statements (more (declares_procedure x fs b closing) rest) ≡ true
+    → (qs : List (TypedParameter Label)) × (typed_parameters naming_by_label env j (formal_parameter_sections fs) ≡ Some qs) × FitParts env j statements x fs b closing rest qs
 procedure-parts env j statements x fs b closing rest h =
     let f = blocks.procedure-parts env j statements x fs b closing rest h in
     (f.listed, f.typed, record { listed = blocks.procedures-listed env j statements x fs b closing rest f; block_right = f.block_right; rest_right = f.rest_right })
 
 record Entered (noted : TypeNoted Name) (j k : ℕ) (statements : Tree Label (maybe body)) (fs : Tree Name (maybe formals)) (fs' : Tree Label (maybe formals)) (b : Tree Label block) (closing : Label) (rest : Tree Label (items procedure)) : Type 0 where
   pub listed : List (TypedParameter Name)
-  pub by_name : typed_parameters naming_by_spelling (typed_by_name noted) j (formal_sections fs) ≡ Some listed
-  pub names : typed_names listed ≡ formal_names (formal_sections fs)
+  pub by_name : typed_parameters naming_by_spelling (typed_by_name noted) j (formal_parameter_sections fs) ≡ Some listed
+  pub names : typed_names listed ≡ formal_parameter_names (formal_parameter_sections fs)
   pub parts : FitParts (typed_by_ordinal noted) j statements (declared k) fs' b closing rest (label_typed (suc k) listed)
 
 entered : (noted : TypeNoted Name) (j k : ℕ) → TypedBelow k noted → (statements : Tree Label (maybe body)) (fs : Tree Name (maybe formals)) (b : Tree Label block) (closing : Label) (rest : Tree Label (items procedure))
-    → procedures_are_well_typed naming_by_label (typed_by_ordinal noted) j statements (more (declares_procedure (declared k) (relabel_formals naming_by_spelling (label_from_ordinal naming_by_spelling) (typed_scope noted) (suc k) fs) b closing) rest) ≡ true
+    → procedures_and_body_are_well_typed naming_by_label (typed_by_ordinal noted) j statements (more (declares_procedure (declared k) (relabel_formals naming_by_spelling (label_from_ordinal naming_by_spelling) (typed_scope noted) (suc k) fs) b closing) rest) ≡ true
     → Entered noted j k statements fs (relabel_formals naming_by_spelling (label_from_ordinal naming_by_spelling) (typed_scope noted) (suc k) fs) b closing rest
 entered noted j k below statements fs b closing rest h =
     let env : TypeEnvironment Label = typed_by_ordinal noted in
     let fs' : Tree Label (maybe formals) = relabel_formals naming_by_spelling (label_from_ordinal naming_by_spelling) (typed_scope noted) (suc k) fs in
     let p = procedure-parts env j statements (declared k) fs' b closing rest h in
-    let f = found (λ ps. ps) (label_typed (suc k)) (λ ps. typed_names ps ≡ formal_names (formal_sections fs)) (typed_parameters naming_by_spelling (typed_by_name noted) j (formal_sections fs))
-    (typed_parameters naming_by_label env j (relabel_parameter_section_list naming_by_spelling (label_from_ordinal naming_by_spelling) (typed_scope noted) (suc k) (formal_sections fs)))
-    (parameters_typed naming_by_spelling j (suc k) noted (TypedBelow-weaken k (suc k) noted (le_of_lt (le_refl (suc k))) below) (formal_sections fs)) p.0
+    let f = found (λ ps. ps) (label_typed (suc k)) (λ ps. typed_names ps ≡ formal_parameter_names (formal_parameter_sections fs)) (typed_parameters naming_by_spelling (typed_by_name noted) j (formal_parameter_sections fs))
+    (typed_parameters naming_by_label env j (relabel_parameter_section_list naming_by_spelling (label_from_ordinal naming_by_spelling) (typed_scope noted) (suc k) (formal_parameter_sections fs)))
+    (parameters_typed naming_by_spelling j (suc k) noted (TypedBelow-weaken k (suc k) noted (le_of_lt (le_refl (suc k))) below) (formal_parameter_sections fs)) p.0
     (ap (typed_parameters naming_by_label env j) (sym (formals-section naming_by_spelling (label_from_ordinal naming_by_spelling) (typed_scope noted) (suc k) fs)) ∙ p.1) in
     record { listed = f.0; by_name = f.1; names = f.3; parts = subst (FitParts env j statements (declared k) fs' b closing rest) (sym f.2) p.2 }
 
 -- The object that a name is bound to is the object of the name's ordinal.
 object-right : (objects : ℕ → Option (Object Shape Signature)) (noted : TypeNoted Name) → Right objects (typed_by_ordinal noted) → (x : Name)
-    → newest_object (environment_from_binding naming_by_spelling (typed_by_name noted) x) ≡ option_and_then objects (ordinal_in_scope naming_by_spelling (typed_scope noted) x)
+    → newest_object (suffix_from_newest_binding naming_by_spelling (typed_by_name noted) x) ≡ option_and_then objects (ordinal_in_scope naming_by_spelling (typed_scope noted) x)
 object-right objects [] right x = refl
 object-right objects (b ∷ noted) right x =
-    elim (same_name x b.name) as (λ v. newest_object (elim v [ true ↦ (b.name, b.object) ∷ typed_by_name noted | false ↦ environment_from_binding naming_by_spelling (typed_by_name noted) x ])
+    elim (same_name x b.name) as (λ v. newest_object (elim v [ true ↦ (b.name, b.object) ∷ typed_by_name noted | false ↦ suffix_from_newest_binding naming_by_spelling (typed_by_name noted) x ])
     ≡ option_and_then objects (elim v [ true ↦ Some b.ordinal | false ↦ ordinal_in_scope naming_by_spelling (typed_scope noted) x ]))
     [ true ↦ sym right.0 | false ↦ object-right objects noted right.1 x ]
 
@@ -157,7 +157,7 @@ module _ (l : ℕ → Name → Name) (at : ℕ → Option ℕ) (text : ℕ → N
   by_token = record { object_for = λ i. option_and_then objects (ordinal i); written = text }
 
   -- The names in the statements of a block have the same meanings by name and by token.
-  alike-listed : (noted : TypeNoted Name) → Right objects (typed_by_ordinal noted) → (xs : List ℕ) → map (label_of naming_by_spelling (label_from_ordinal naming_by_spelling) (typed_scope noted)) (map text xs) ≡ map label xs
+  alike-listed : (noted : TypeNoted Name) → Right objects (typed_by_ordinal noted) → (xs : List ℕ) → map (label_in_scope naming_by_spelling (label_from_ordinal naming_by_spelling) (typed_scope noted)) (map text xs) ≡ map label xs
       → Alike (meanings naming_by_spelling (typed_by_name noted)) by_token xs
   alike-listed noted right [] e = tt
   alike-listed noted right (x ∷ xs) e =
@@ -168,7 +168,7 @@ module _ (l : ℕ → Name → Name) (at : ℕ → Option ℕ) (text : ℕ → N
   body-alike : (noted : TypeNoted Name) → Right objects (typed_by_ordinal noted) → (st : Tree ℕ (maybe body)) → relabel_uses naming_by_spelling (label_from_ordinal naming_by_spelling) (typed_scope noted) (mapped_tree text value st) ≡ mapped_tree label value st
       → Alike (meanings naming_by_spelling (typed_by_name noted)) by_token (occurrences st)
   body-alike noted right st e =
-      let look : Name → Label = label_of naming_by_spelling (label_from_ordinal naming_by_spelling) (typed_scope noted) in
+      let look : Name → Label = label_in_scope naming_by_spelling (label_from_ordinal naming_by_spelling) (typed_scope noted) in
       alike-listed noted right (occurrences st)
       (ap (map look) (sym (occurrences-mapped text text value st)) ∙ (sym (occurrences-mapped look (label_from_ordinal naming_by_spelling None) (λ n. n) (mapped_tree text value st)) ∙ (ap occurrences e ∙ occurrences-mapped label label value st)))
 
@@ -183,26 +183,26 @@ module _ (l : ℕ → Name → Name) (at : ℕ → Option ℕ) (text : ℕ → N
         → rename_fields_in_block (renaming_by_record l) (typed_by_name noted) j (mapped_tree text value b) ≡ mapped_tree (λ i. renaming_by_record l (at i) (text i)) value b
 
   record ProceduresHeld (noted : TypeNoted Name) (j k : ℕ) (statements : Tree Label (maybe body)) (ps : Tree ℕ (items procedure)) : Type 0 where
-    pub descends : Descends (ordinal_after_procedure_list k (mapped_tree text value ps)) (procedures_bindings naming_by_label (typed_by_ordinal noted) j (relabel_procedure_list naming_by_spelling (label_from_ordinal naming_by_spelling) (typed_scope noted) k (mapped_tree text value ps))) k
+    pub descends : Descends (ordinal_after_procedure_list k (mapped_tree text value ps)) (procedure_list_bindings naming_by_label (typed_by_ordinal noted) j (relabel_procedure_list naming_by_spelling (label_from_ordinal naming_by_spelling) (typed_scope noted) k (mapped_tree text value ps))) k
     pub last : TypeNoted Name
     pub following : environment_after_procedures (typed_by_name noted) j (mapped_tree text value ps) ≡ typed_by_name last
     pub below : TypedBelow (ordinal_after_procedure_list k (mapped_tree text value ps)) last
     pub fits : body_is_well_typed naming_by_label (typed_by_ordinal last) statements ≡ true
     pub scoped : typed_scope last ≡ declare_procedure_names k (mapped_tree text value ps) (typed_scope noted)
-    pub written : Right objects (typed_by_ordinal noted) → Right objects (procedures_bindings naming_by_label (typed_by_ordinal noted) j (relabel_procedure_list naming_by_spelling (label_from_ordinal naming_by_spelling) (typed_scope noted) k (mapped_tree text value ps)))
+    pub written : Right objects (typed_by_ordinal noted) → Right objects (procedure_list_bindings naming_by_label (typed_by_ordinal noted) j (relabel_procedure_list naming_by_spelling (label_from_ordinal naming_by_spelling) (typed_scope noted) k (mapped_tree text value ps)))
         → relabel_procedure_list naming_by_spelling (label_from_ordinal naming_by_spelling) (typed_scope noted) k (mapped_tree text value ps) ≡ mapped_tree label value ps → AgreesWithOwnerList at (identifier_owners_in_procedures by_token j ps)
         → (rename_fields_in_procedure_list (renaming_by_record l) (typed_by_name noted) j (mapped_tree text value ps) ≡ mapped_tree (λ i. renaming_by_record l (at i) (text i)) value ps) × Right objects (typed_by_ordinal last)
 
-  no-procedures : (noted : TypeNoted Name) (j k : ℕ) → TypedBelow k noted → (statements : Tree Label (maybe body)) → procedures_are_well_typed naming_by_label (typed_by_ordinal noted) j statements end ≡ true → ProceduresHeld noted j k statements end
+  no-procedures : (noted : TypeNoted Name) (j k : ℕ) → TypedBelow k noted → (statements : Tree Label (maybe body)) → procedures_and_body_are_well_typed naming_by_label (typed_by_ordinal noted) j statements end ≡ true → ProceduresHeld noted j k statements end
   unfolding block_bindings block_is_well_typed
   no-procedures noted j k below statements h = record { descends = le_refl k; last = noted; following = refl; below = below; fits = h; scoped = refl; written = λ right all e has. (refl, right) }
 
   -- A block has its fields rewritten according to the table if its procedures and statements have.
   named_count : (j : ℕ) (cs : Tree ℕ (maybe constants)) (ts : Tree ℕ (maybe type_definitions)) (vs : Tree ℕ (maybe variables)) (ps : Tree ℕ (items procedure)) (st : Tree ℕ (maybe body))
-      → constructors_before_procedures j (mapped_tree text value (forms_block (declares cs ts vs ps) st)) ≡ constructors_before_procedures j (forms_block (declares cs ts vs ps) st)
+      → constructor_count_before_procedures j (mapped_tree text value (forms_block (declares cs ts vs ps) st)) ≡ constructor_count_before_procedures j (forms_block (declares cs ts vs ps) st)
   named_count j cs ts vs ps st = λ i. j + counted_type_section text value ts i + counted_variable_section text value vs i
 
-  labelled_count : (scope : Scope Name) (j k : ℕ) (b : Tree Name block) → constructors_before_procedures j (relabel_block naming_by_spelling (label_from_ordinal naming_by_spelling) scope k b) ≡ constructors_before_procedures j b
+  labelled_count : (scope : Scope Name) (j k : ℕ) (b : Tree Name block) → constructor_count_before_procedures j (relabel_block naming_by_spelling (label_from_ordinal naming_by_spelling) scope k b) ≡ constructor_count_before_procedures j b
   labelled_count scope j k (forms_block (declares cs ts vs ps) st) =
       let b : Tree Name block = forms_block (declares cs ts vs ps) st in
       λ i. j + (ap types_constructor_count (types-section naming_by_spelling (label_from_ordinal naming_by_spelling) (scope_before_types k b scope) (first_type_ordinal k b) ts) ∙ types_constructor_count-relabel naming_by_spelling (label_from_ordinal naming_by_spelling) (scope_before_types k b scope) (first_type_ordinal k b) (section_types ts)) i
@@ -210,7 +210,7 @@ module _ (l : ℕ → Name → Name) (at : ℕ → Option ℕ) (text : ℕ → N
 
   statements-written : (noted last : TypeNoted Name) (n : ℕ) → TypedBelow n last → Right objects (typed_by_ordinal last) → (scope : Scope Name) → typed_scope last ≡ scope → (st : Tree ℕ (maybe body))
       → body_is_well_typed naming_by_label (typed_by_ordinal last) (relabel_uses naming_by_spelling (label_from_ordinal naming_by_spelling) scope (mapped_tree text value st)) ≡ true → relabel_uses naming_by_spelling (label_from_ordinal naming_by_spelling) scope (mapped_tree text value st) ≡ mapped_tree label value st
-      → AgreesWithOwnerList at (identifier_owners_in_tree by_token None st) → rename_fields (renaming_by_record l) (meanings naming_by_spelling (typed_by_name last)) None (mapped_tree text value st) ≡ mapped_tree (λ i. renaming_by_record l (at i) (text i)) value st
+      → AgreesWithOwnerList at (identifier_owners_in_tree by_token None st) → rename_selected_fields (renaming_by_record l) (meanings naming_by_spelling (typed_by_name last)) None (mapped_tree text value st) ≡ mapped_tree (λ i. renaming_by_record l (at i) (text i)) value st
   statements-written noted last n below right scope scoped st fits numbered has =
       let alike = body-alike last right st (ap (λ s. relabel_uses naming_by_spelling (label_from_ordinal naming_by_spelling) s (mapped_tree text value st)) scoped ∙ numbered) in
       let fitting : body_is_well_typed naming_by_spelling (typed_by_name last) (mapped_tree text value st) ≡ true =
@@ -223,7 +223,7 @@ module _ (l : ℕ → Name → Name) (at : ℕ → Option ℕ) (text : ℕ → N
 
   block-joined : (noted : TypeNoted Name) (j k : ℕ) (cs : Tree ℕ (maybe constants)) (ts : Tree ℕ (maybe type_definitions)) (vs : Tree ℕ (maybe variables)) (ps : Tree ℕ (items procedure)) (st : Tree ℕ (maybe body))
       → (o : Opened noted j k (mapped_tree text value (forms_block (declares cs ts vs ps) st)))
-      → ProceduresHeld o.last (constructors_before_procedures j (forms_block (declares cs ts vs ps) st)) (first_procedure_ordinal k (mapped_tree text value (forms_block (declares cs ts vs ps) st))) (block_statements (relabel_block naming_by_spelling (label_from_ordinal naming_by_spelling) (typed_scope noted) k (mapped_tree text value (forms_block (declares cs ts vs ps) st)))) ps
+      → ProceduresHeld o.last (constructor_count_before_procedures j (forms_block (declares cs ts vs ps) st)) (first_procedure_ordinal k (mapped_tree text value (forms_block (declares cs ts vs ps) st))) (block_statements (relabel_block naming_by_spelling (label_from_ordinal naming_by_spelling) (typed_scope noted) k (mapped_tree text value (forms_block (declares cs ts vs ps) st)))) ps
       → BlockHeld noted j k (forms_block (declares cs ts vs ps) st)
   block-joined noted j k cs ts vs ps st o q =
       let b : Tree ℕ block = forms_block (declares cs ts vs ps) st in
@@ -232,31 +232,31 @@ module _ (l : ℕ → Name → Name) (at : ℕ → Option ℕ) (text : ℕ → N
       let scope : Scope Name = typed_scope noted in
       let lb : Tree Label block = relabel_block naming_by_spelling (label_from_ordinal naming_by_spelling) scope k nb in
       let kp : ℕ = first_procedure_ordinal k nb in
-      let counted : constructors_before_procedures j nb ≡ constructors_before_procedures j b = named_count j cs ts vs ps st in
-      let count : constructors_before_procedures j lb ≡ constructors_before_procedures j b = labelled_count scope j k nb ∙ counted in
-      let P : TypeEnvironment Label = procedures_bindings naming_by_label (typed_by_ordinal o.last) (constructors_before_procedures j b) (relabel_procedure_list naming_by_spelling (label_from_ordinal naming_by_spelling) (typed_scope o.last) kp nps) in
+      let counted : constructor_count_before_procedures j nb ≡ constructor_count_before_procedures j b = named_count j cs ts vs ps st in
+      let count : constructor_count_before_procedures j lb ≡ constructor_count_before_procedures j b = labelled_count scope j k nb ∙ counted in
+      let P : TypeEnvironment Label = procedure_list_bindings naming_by_label (typed_by_ordinal o.last) (constructor_count_before_procedures j b) (relabel_procedure_list naming_by_spelling (label_from_ordinal naming_by_spelling) (typed_scope o.last) kp nps) in
       let all_listed : block_bindings naming_by_label (typed_by_ordinal noted) j lb ≡ P ++ o.grown.bound =
-      o.listed ∙ (λ i. procedures_bindings naming_by_label (typed_by_ordinal o.last) (count i) (relabel_procedure_list naming_by_spelling (label_from_ordinal naming_by_spelling) (sym o.within.0 i) kp nps) ++ o.grown.bound) in
+      o.listed ∙ (λ i. procedure_list_bindings naming_by_label (typed_by_ordinal o.last) (count i) (relabel_procedure_list naming_by_spelling (label_from_ordinal naming_by_spelling) (sym o.within.0 i) kp nps) ++ o.grown.bound) in
       record {
         descends = subst (λ e. Descends (ordinal_after_block k nb) e k) (sym all_listed) (descends_join (ordinal_after_block k nb) kp k P o.grown.bound q.descends o.grown.descends);
         written = λ right all numbered has.
             let two = right_split objects P o.grown.bound (subst (Right objects) all_listed all) in
             let right_last : Right objects (typed_by_ordinal o.last) = subst (Right objects) (sym o.grown.is) (right_join objects o.grown.bound (typed_by_ordinal noted) two.1 right) in
-            let B : List (ℕ × Option ℕ) = identifier_owners_in_variable_section (constructors_before_variables j b) vs in
-            let C : List (ℕ × Option ℕ) = identifier_owners_in_procedures by_token (constructors_before_procedures j b) ps in
+            let B : List (ℕ × Option ℕ) = identifier_owners_in_variable_section (constructor_count_before_variables j b) vs in
+            let C : List (ℕ × Option ℕ) = identifier_owners_in_procedures by_token (constructor_count_before_procedures j b) ps in
             let s0 = owners_split at (identifiers_without_owners cs ++ (identifier_owners_in_type_section j ts ++ (B ++ C))) (identifier_owners_in_tree by_token None st) has in
             let s1 = owners_split at (identifiers_without_owners cs) (identifier_owners_in_type_section j ts ++ (B ++ C)) s0.0 in
             let s2 = owners_split at (identifier_owners_in_type_section j ts) (B ++ C) s1.1 in
             let s3 = owners_split at B C s2.1 in
             let r = q.written right_last two.0 (ap (λ s. relabel_procedure_list naming_by_spelling (label_from_ordinal naming_by_spelling) s kp nps) o.within.0 ∙ ap block_procedures numbered) s3.1 in
             let following_all : typed_scope q.last ≡ declare_procedure_names kp nps (scope_before_procedures k nb scope) = q.scoped ∙ ap (declare_procedure_names kp nps) o.within.0 in
-            let variables-written : rename_fields_in_variable_section (renaming_by_record l) (constructors_before_variables j nb) (mapped_tree text value vs) ≡ mapped_tree (λ i. renaming_by_record l (at i) (text i)) value vs =
-            (λ i. rename_fields_in_variable_section (renaming_by_record l) (j + counted_type_section text value ts i) (mapped_tree text value vs)) ∙ variable_section-identifier_owners_in_tree l at text value (constructors_before_variables j b) vs s3.0 in
-            let procedures-written : rename_fields_in_procedure_list (renaming_by_record l) (environment_after_variables (typed_by_name noted) j nb) (constructors_before_procedures j nb) nps ≡ mapped_tree (λ i. renaming_by_record l (at i) (text i)) value ps =
+            let variables-written : rename_fields_in_variable_section (renaming_by_record l) (constructor_count_before_variables j nb) (mapped_tree text value vs) ≡ mapped_tree (λ i. renaming_by_record l (at i) (text i)) value vs =
+            (λ i. rename_fields_in_variable_section (renaming_by_record l) (j + counted_type_section text value ts i) (mapped_tree text value vs)) ∙ variable_section-identifier_owners_in_tree l at text value (constructor_count_before_variables j b) vs s3.0 in
+            let procedures-written : rename_fields_in_procedure_list (renaming_by_record l) (environment_after_variables (typed_by_name noted) j nb) (constructor_count_before_procedures j nb) nps ≡ mapped_tree (λ i. renaming_by_record l (at i) (text i)) value ps =
             (λ i. rename_fields_in_procedure_list (renaming_by_record l) (o.named i) (counted i) nps) ∙ r.0 in
-            let environment : environment_after_procedures (environment_after_variables (typed_by_name noted) j nb) (constructors_before_procedures j nb) nps ≡ typed_by_name q.last = (λ i. environment_after_procedures (o.named i) (counted i) nps) ∙ q.following in
-            let body-written : rename_fields (renaming_by_record l) (meanings naming_by_spelling (environment_after_procedures (environment_after_variables (typed_by_name noted) j nb) (constructors_before_procedures j nb) nps)) None (mapped_tree text value st) ≡ mapped_tree (λ i. renaming_by_record l (at i) (text i)) value st =
-            ap (λ e. rename_fields (renaming_by_record l) (meanings naming_by_spelling e) None (mapped_tree text value st)) environment
+            let environment : environment_after_procedures (environment_after_variables (typed_by_name noted) j nb) (constructor_count_before_procedures j nb) nps ≡ typed_by_name q.last = (λ i. environment_after_procedures (o.named i) (counted i) nps) ∙ q.following in
+            let body-written : rename_selected_fields (renaming_by_record l) (meanings naming_by_spelling (environment_after_procedures (environment_after_variables (typed_by_name noted) j nb) (constructor_count_before_procedures j nb) nps)) None (mapped_tree text value st) ≡ mapped_tree (λ i. renaming_by_record l (at i) (text i)) value st =
+            ap (λ e. rename_selected_fields (renaming_by_record l) (meanings naming_by_spelling e) None (mapped_tree text value st)) environment
             ∙ statements-written noted q.last (ordinal_after_procedure_list kp nps) q.below r.1 (declare_procedure_names kp nps (scope_before_procedures k nb scope)) following_all st q.fits (ap block_statements numbered) s0.1 in
             λ i. forms_block (declares (identifiers_without_owners-all l at text value cs s1.0 i) (type_section-identifier_owners_in_tree l at text value j ts s2.0 i) (variables-written i) (procedures-written i)) (body-written i);
       }
@@ -265,18 +265,18 @@ module _ (l : ℕ → Name → Name) (at : ℕ → Option ℕ) (text : ℕ → N
   record Entry (noted : TypeNoted Name) (j k : ℕ) (statements : Tree Label (maybe body)) (x : ℕ) (fs : Tree ℕ (maybe formals)) (b : Tree ℕ block) (closing : ℕ) (rest : Tree ℕ (items procedure)) : Type 0 where
     pub listed : List (TypedParameter Name)
     pub pars : typed_parameters_of_procedure (typed_by_name noted) j (mapped_tree text value (declares_procedure x fs b closing)) ≡ listed
-    pub inner_scope : typed_scope (inside_of noted k (text x) listed) ≡ declare_names (suc k) (formal_names (formal_sections (mapped_tree text value fs))) ((text x, k) ∷ typed_scope noted)
-    pub inner_below : TypedBelow (ordinal_after_names (suc k) (formal_names (formal_sections (mapped_tree text value fs)))) (inside_of noted k (text x) listed)
-    pub front : Descends (ordinal_after_names (suc k) (formal_names (formal_sections (mapped_tree text value fs)))) (bind_typed_parameters (label_typed (suc k) listed) (bind_procedure (declared k) (label_typed (suc k) listed) [])) k
-    pub block_right : block_is_well_typed naming_by_label (typed_by_ordinal (inside_of noted k (text x) listed)) (constructors_before_procedure_block j (declares_procedure x fs b closing)) (relabel_block naming_by_spelling (label_from_ordinal naming_by_spelling) (typed_scope (inside_of noted k (text x) listed)) (ordinal_after_names (suc k) (formal_names (formal_sections (mapped_tree text value fs)))) (mapped_tree text value b)) ≡ true
-    pub rest_right : procedures_are_well_typed naming_by_label (typed_by_ordinal (own_of noted k (text x) listed)) (j + procedure_constructor_count (declares_procedure x fs b closing)) statements (relabel_procedure_list naming_by_spelling (label_from_ordinal naming_by_spelling) ((text x, k) ∷ typed_scope noted) (ordinal_after_procedure (suc k) (mapped_tree text value (declares_procedure x fs b closing))) (mapped_tree text value rest)) ≡ true
-    pub all_listed : procedures_bindings naming_by_label (typed_by_ordinal noted) j (relabel_procedure_list naming_by_spelling (label_from_ordinal naming_by_spelling) (typed_scope noted) k (mapped_tree text value (more (declares_procedure x fs b closing) rest)))
-        ≡ procedures_bindings naming_by_label (typed_by_ordinal (own_of noted k (text x) listed)) (j + procedure_constructor_count (declares_procedure x fs b closing)) (relabel_procedure_list naming_by_spelling (label_from_ordinal naming_by_spelling) ((text x, k) ∷ typed_scope noted) (ordinal_after_procedure (suc k) (mapped_tree text value (declares_procedure x fs b closing))) (mapped_tree text value rest))
-        ++ (block_bindings naming_by_label (typed_by_ordinal (inside_of noted k (text x) listed)) (constructors_before_procedure_block j (declares_procedure x fs b closing)) (relabel_block naming_by_spelling (label_from_ordinal naming_by_spelling) (typed_scope (inside_of noted k (text x) listed)) (ordinal_after_names (suc k) (formal_names (formal_sections (mapped_tree text value fs)))) (mapped_tree text value b))
+    pub inner_scope : typed_scope (inside_of noted k (text x) listed) ≡ declare_names (suc k) (formal_parameter_names (formal_parameter_sections (mapped_tree text value fs))) ((text x, k) ∷ typed_scope noted)
+    pub inner_below : TypedBelow (ordinal_after_names (suc k) (formal_parameter_names (formal_parameter_sections (mapped_tree text value fs)))) (inside_of noted k (text x) listed)
+    pub front : Descends (ordinal_after_names (suc k) (formal_parameter_names (formal_parameter_sections (mapped_tree text value fs)))) (bind_typed_parameters (label_typed (suc k) listed) (bind_procedure (declared k) (label_typed (suc k) listed) [])) k
+    pub block_right : block_is_well_typed naming_by_label (typed_by_ordinal (inside_of noted k (text x) listed)) (constructor_count_before_procedure_block j (declares_procedure x fs b closing)) (relabel_block naming_by_spelling (label_from_ordinal naming_by_spelling) (typed_scope (inside_of noted k (text x) listed)) (ordinal_after_names (suc k) (formal_parameter_names (formal_parameter_sections (mapped_tree text value fs)))) (mapped_tree text value b)) ≡ true
+    pub rest_right : procedures_and_body_are_well_typed naming_by_label (typed_by_ordinal (own_of noted k (text x) listed)) (j + procedure_constructor_count (declares_procedure x fs b closing)) statements (relabel_procedure_list naming_by_spelling (label_from_ordinal naming_by_spelling) ((text x, k) ∷ typed_scope noted) (ordinal_after_procedure (suc k) (mapped_tree text value (declares_procedure x fs b closing))) (mapped_tree text value rest)) ≡ true
+    pub all_listed : procedure_list_bindings naming_by_label (typed_by_ordinal noted) j (relabel_procedure_list naming_by_spelling (label_from_ordinal naming_by_spelling) (typed_scope noted) k (mapped_tree text value (more (declares_procedure x fs b closing) rest)))
+        ≡ procedure_list_bindings naming_by_label (typed_by_ordinal (own_of noted k (text x) listed)) (j + procedure_constructor_count (declares_procedure x fs b closing)) (relabel_procedure_list naming_by_spelling (label_from_ordinal naming_by_spelling) ((text x, k) ∷ typed_scope noted) (ordinal_after_procedure (suc k) (mapped_tree text value (declares_procedure x fs b closing))) (mapped_tree text value rest))
+        ++ (block_bindings naming_by_label (typed_by_ordinal (inside_of noted k (text x) listed)) (constructor_count_before_procedure_block j (declares_procedure x fs b closing)) (relabel_block naming_by_spelling (label_from_ordinal naming_by_spelling) (typed_scope (inside_of noted k (text x) listed)) (ordinal_after_names (suc k) (formal_parameter_names (formal_parameter_sections (mapped_tree text value fs)))) (mapped_tree text value b))
         ++ bind_typed_parameters (label_typed (suc k) listed) (bind_procedure (declared k) (label_typed (suc k) listed) []))
 
   entry : (noted : TypeNoted Name) (j k : ℕ) → TypedBelow k noted → (statements : Tree Label (maybe body)) (x : ℕ) (fs : Tree ℕ (maybe formals)) (b : Tree ℕ block) (closing : ℕ) (rest : Tree ℕ (items procedure))
-      → procedures_are_well_typed naming_by_label (typed_by_ordinal noted) j statements (relabel_procedure_list naming_by_spelling (label_from_ordinal naming_by_spelling) (typed_scope noted) k (mapped_tree text value (more (declares_procedure x fs b closing) rest))) ≡ true
+      → procedures_and_body_are_well_typed naming_by_label (typed_by_ordinal noted) j statements (relabel_procedure_list naming_by_spelling (label_from_ordinal naming_by_spelling) (typed_scope noted) k (mapped_tree text value (more (declares_procedure x fs b closing) rest))) ≡ true
       → Entry noted j k statements x fs b closing rest
   entry noted j k below statements x fs b closing rest h =
       let p : Tree ℕ (item procedure) = declares_procedure x fs b closing in
@@ -286,7 +286,7 @@ module _ (l : ℕ → Name → Name) (at : ℕ → Option ℕ) (text : ℕ → N
       let nrest : Tree Name (items procedure) = mapped_tree text value rest in
       let scope : Scope Name = typed_scope noted in
       let env : TypeEnvironment Label = typed_by_ordinal noted in
-      let xs : List Name = formal_names (formal_sections nfs) in
+      let xs : List Name = formal_parameter_names (formal_parameter_sections nfs) in
       let m : ℕ = ordinal_after_names (suc k) xs in
       let n : ℕ = ordinal_after_procedure (suc k) np in
       let fs' : Tree Label (maybe formals) = relabel_formals naming_by_spelling (label_from_ordinal naming_by_spelling) scope (suc k) nfs in
@@ -299,8 +299,8 @@ module _ (l : ℕ → Name → Name) (at : ℕ → Option ℕ) (text : ℕ → N
       let inner_is = inside_is noted k (text x) e.listed in
       let inner_in = noted_parameters-within (suc k) e.listed (own_of noted k (text x) e.listed) (le_refl (suc k), below) in
       let inner_scope : typed_scope (inside_of noted k (text x) e.listed) ≡ declare_names (suc k) xs ((text x, k) ∷ scope) = inner_in.0 ∙ ap (λ ys. declare_names (suc k) ys ((text x, k) ∷ scope)) e.names in
-      let jb : j + formals_constructor_count (formal_sections fs') ≡ constructors_before_procedure_block j p =
-      λ i. j + ((ap formals_constructor_count (formals-section naming_by_spelling (label_from_ordinal naming_by_spelling) scope (suc k) nfs) ∙ formals_constructor_count-relabel naming_by_spelling (label_from_ordinal naming_by_spelling) scope (suc k) (formal_sections nfs)) ∙ counted_formals_section text value fs) i in
+      let jb : j + formals_constructor_count (formal_parameter_sections fs') ≡ constructor_count_before_procedure_block j p =
+      λ i. j + ((ap formals_constructor_count (formals-section naming_by_spelling (label_from_ordinal naming_by_spelling) scope (suc k) nfs) ∙ formals_constructor_count-relabel naming_by_spelling (label_from_ordinal naming_by_spelling) scope (suc k) (formal_parameter_sections nfs)) ∙ counted_formals_section text value fs) i in
       let jr : j + procedure_constructor_count (declares_procedure (declared k) fs' b' (declared k)) ≡ j + procedure_constructor_count p =
       λ i. j + (procedure_constructor_count-relabel naming_by_spelling (label_from_ordinal naming_by_spelling) scope k np ∙ counted_procedure text value p) i in
       let grown = heading_grows k e.listed qs [] in
@@ -311,12 +311,12 @@ module _ (l : ℕ → Name → Name) (at : ℕ → Option ℕ) (text : ℕ → N
         inner_below = subst (λ ys. TypedBelow (ordinal_after_names (suc k) ys) (inside_of noted k (text x) e.listed)) e.names inner_in.1;
         front = subst (λ ys. Descends (ordinal_after_names (suc k) ys) H k) e.names (subst (λ z. Descends (ordinal_after_names (suc k) (typed_names e.listed)) z k) (sym (grown.is ∙ append-nil grown.bound)) grown.descends);
         block_right = (λ i. block_is_well_typed naming_by_label (inner_is i) (sym jb i) (relabel_block naming_by_spelling (label_from_ordinal naming_by_spelling) (inner_scope i) m nb)) ∙ e.parts.block_right;
-        rest_right = (λ i. procedures_are_well_typed naming_by_label (headed i) (sym jr i) statements rest') ∙ e.parts.rest_right;
-        all_listed = e.parts.listed ∙ (λ i. procedures_bindings naming_by_label (sym headed i) (jr i) rest' ++ (block_bindings naming_by_label (sym inner_is i) (jb i) (relabel_block naming_by_spelling (label_from_ordinal naming_by_spelling) (sym inner_scope i) m nb) ++ H));
+        rest_right = (λ i. procedures_and_body_are_well_typed naming_by_label (headed i) (sym jr i) statements rest') ∙ e.parts.rest_right;
+        all_listed = e.parts.listed ∙ (λ i. procedure_list_bindings naming_by_label (sym headed i) (jr i) rest' ++ (block_bindings naming_by_label (sym inner_is i) (jb i) (relabel_block naming_by_spelling (label_from_ordinal naming_by_spelling) (sym inner_scope i) m nb) ++ H));
       }
 
   procedure-joined : (noted : TypeNoted Name) (j k : ℕ) (statements : Tree Label (maybe body)) (x : ℕ) (fs : Tree ℕ (maybe formals)) (b : Tree ℕ block) (closing : ℕ) (rest : Tree ℕ (items procedure)) (t : Entry noted j k statements x fs b closing rest)
-      → BlockHeld (inside_of noted k (text x) t.listed) (constructors_before_procedure_block j (declares_procedure x fs b closing)) (ordinal_after_names (suc k) (formal_names (formal_sections (mapped_tree text value fs)))) b
+      → BlockHeld (inside_of noted k (text x) t.listed) (constructor_count_before_procedure_block j (declares_procedure x fs b closing)) (ordinal_after_names (suc k) (formal_parameter_names (formal_parameter_sections (mapped_tree text value fs)))) b
       → ProceduresHeld (own_of noted k (text x) t.listed) (j + procedure_constructor_count (declares_procedure x fs b closing)) (ordinal_after_procedure (suc k) (mapped_tree text value (declares_procedure x fs b closing))) statements rest
       → ProceduresHeld noted j k statements (more (declares_procedure x fs b closing) rest)
   procedure-joined noted j k statements x fs b closing rest t inside later =
@@ -325,13 +325,13 @@ module _ (l : ℕ → Name → Name) (at : ℕ → Option ℕ) (text : ℕ → N
       let nb : Tree Name block = mapped_tree text value b in
       let nrest : Tree Name (items procedure) = mapped_tree text value rest in
       let env : TypeEnvironment Label = typed_by_ordinal noted in
-      let m : ℕ = ordinal_after_names (suc k) (formal_names (formal_sections (mapped_tree text value fs))) in
+      let m : ℕ = ordinal_after_names (suc k) (formal_parameter_names (formal_parameter_sections (mapped_tree text value fs))) in
       let n : ℕ = ordinal_after_procedure (suc k) np in
       let qs : List (TypedParameter Label) = label_typed (suc k) t.listed in
       let own : TypeNoted Name = own_of noted k (text x) t.listed in
       let inner : TypeNoted Name = inside_of noted k (text x) t.listed in
-      let R : TypeEnvironment Label = procedures_bindings naming_by_label (typed_by_ordinal own) (j + procedure_constructor_count p) (relabel_procedure_list naming_by_spelling (label_from_ordinal naming_by_spelling) ((text x, k) ∷ typed_scope noted) n nrest) in
-      let B : TypeEnvironment Label = block_bindings naming_by_label (typed_by_ordinal inner) (constructors_before_procedure_block j p) (relabel_block naming_by_spelling (label_from_ordinal naming_by_spelling) (typed_scope inner) m nb) in
+      let R : TypeEnvironment Label = procedure_list_bindings naming_by_label (typed_by_ordinal own) (j + procedure_constructor_count p) (relabel_procedure_list naming_by_spelling (label_from_ordinal naming_by_spelling) ((text x, k) ∷ typed_scope noted) n nrest) in
+      let B : TypeEnvironment Label = block_bindings naming_by_label (typed_by_ordinal inner) (constructor_count_before_procedure_block j p) (relabel_block naming_by_spelling (label_from_ordinal naming_by_spelling) (typed_scope inner) m nb) in
       let H : TypeEnvironment Label = bind_typed_parameters qs (bind_procedure (declared k) qs []) in
       record {
         descends = subst (λ z. Descends (ordinal_after_procedure_list k (more np nrest)) z k) (sym t.all_listed) (descends_join (ordinal_after_procedure_list n nrest) n k R (B ++ H) later.descends (descends_join n m k B H inside.descends t.front));
@@ -347,12 +347,12 @@ module _ (l : ℕ → Name → Name) (at : ℕ → Option ℕ) (text : ℕ → N
             let right_own : Right objects (typed_by_ordinal own) = subst (Right objects) (sym (own_is noted k (text x) t.listed)) (parts.1.0, right) in
             let right_inner : Right objects (typed_by_ordinal inner) = subst (Right objects) (sym (inside_is noted k (text x) t.listed ∙ bind_typed_parameters-append qs (bind_procedure (declared k) qs []) env)) (right_join objects H env three.1 right) in
             let s0 = owners_split at (identifier_owners_in_procedure by_token j p) (identifier_owners_in_procedures by_token (j + procedure_constructor_count p) rest) has in
-            let s1 = owners_split at (identifier_owners_in_formals j fs) (identifier_owners_in_block by_token (constructors_before_procedure_block j p) b ++ ((closing, None) ∷ [])) s0.0.1 in
-            let s2 = owners_split at (identifier_owners_in_block by_token (constructors_before_procedure_block j p) b) ((closing, None) ∷ []) s1.1 in
+            let s1 = owners_split at (identifier_owners_in_formals j fs) (identifier_owners_in_block by_token (constructor_count_before_procedure_block j p) b ++ ((closing, None) ∷ [])) s0.0.1 in
+            let s2 = owners_split at (identifier_owners_in_block by_token (constructor_count_before_procedure_block j p) b) ((closing, None) ∷ []) s1.1 in
             let w = later.written right_own two.0 (ap rest_items numbered) s0.1 in
-            let block-written : rename_fields_in_block (renaming_by_record l) (bind_typed_parameters (typed_parameters_of_procedure (typed_by_name noted) j np) (environment_after_heading (typed_by_name noted) j np)) (constructors_before_procedure_block j np) nb ≡ mapped_tree (λ i. renaming_by_record l (at i) (text i)) value b =
+            let block-written : rename_fields_in_block (renaming_by_record l) (bind_typed_parameters (typed_parameters_of_procedure (typed_by_name noted) j np) (environment_after_heading (typed_by_name noted) j np)) (constructor_count_before_procedure_block j np) nb ≡ mapped_tree (λ i. renaming_by_record l (at i) (text i)) value b =
             (λ i. rename_fields_in_block (renaming_by_record l) (bind_typed_parameters (t.pars i) (bind_procedure (text x) (t.pars i) (typed_by_name noted))) (j + counted_formals_section text value fs i) nb)
-            ∙ (ap (λ z. rename_fields_in_block (renaming_by_record l) z (constructors_before_procedure_block j p) nb) (bind_typed_parameters-by_name (suc k) t.listed own)
+            ∙ (ap (λ z. rename_fields_in_block (renaming_by_record l) z (constructor_count_before_procedure_block j p) nb) (bind_typed_parameters-by_name (suc k) t.listed own)
             ∙ inside.written right_inner three.0 (ap (λ s. relabel_block naming_by_spelling (label_from_ordinal naming_by_spelling) s m nb) t.inner_scope ∙ ap (λ z. procedure_block (first_item (mapped_tree label value p) z)) numbered) s2.0) in
             let rest-written : rename_fields_in_procedure_list (renaming_by_record l) (environment_after_heading (typed_by_name noted) j np) (j + procedure_constructor_count np) nrest ≡ mapped_tree (λ i. renaming_by_record l (at i) (text i)) value rest =
             (λ i. rename_fields_in_procedure_list (renaming_by_record l) (bind_procedure (text x) (t.pars i) (typed_by_name noted)) (j + counted_procedure text value p i) nrest) ∙ w.0 in (
@@ -370,16 +370,16 @@ module _ (l : ℕ → Name → Name) (at : ℕ → Option ℕ) (text : ℕ → N
         let lb : Tree Label block = relabel_block naming_by_spelling (label_from_ordinal naming_by_spelling) (typed_scope noted) k nb in
         let o : Opened noted j k nb = opened noted j k below nb h in
         block-joined noted j k cs ts vs ps st o
-        (procedures-held o.last (constructors_before_procedures j b) (first_procedure_ordinal k nb) o.within.1 (block_statements lb) ps
-        ((λ i. procedures_are_well_typed naming_by_label (typed_by_ordinal o.last) (sym (labelled_count (typed_scope noted) j k nb ∙ named_count j cs ts vs ps st) i) (block_statements lb) (relabel_procedure_list naming_by_spelling (label_from_ordinal naming_by_spelling) (o.within.0 i) (first_procedure_ordinal k nb) (mapped_tree text value ps))) ∙ o.fits))
+        (procedures-held o.last (constructor_count_before_procedures j b) (first_procedure_ordinal k nb) o.within.1 (block_statements lb) ps
+        ((λ i. procedures_and_body_are_well_typed naming_by_label (typed_by_ordinal o.last) (sym (labelled_count (typed_scope noted) j k nb ∙ named_count j cs ts vs ps st) i) (block_statements lb) (relabel_procedure_list naming_by_spelling (label_from_ordinal naming_by_spelling) (o.within.0 i) (first_procedure_ordinal k nb) (mapped_tree text value ps))) ∙ o.fits))
 
     procedures-held : (noted : TypeNoted Name) (j k : ℕ) → TypedBelow k noted → (statements : Tree Label (maybe body)) (ps : Tree ℕ (items procedure))
-        → procedures_are_well_typed naming_by_label (typed_by_ordinal noted) j statements (relabel_procedure_list naming_by_spelling (label_from_ordinal naming_by_spelling) (typed_scope noted) k (mapped_tree text value ps)) ≡ true → ProceduresHeld noted j k statements ps
+        → procedures_and_body_are_well_typed naming_by_label (typed_by_ordinal noted) j statements (relabel_procedure_list naming_by_spelling (label_from_ordinal naming_by_spelling) (typed_scope noted) k (mapped_tree text value ps)) ≡ true → ProceduresHeld noted j k statements ps
     procedures-held noted j k below statements end h = no-procedures noted j k below statements h
     procedures-held noted j k below statements (more (declares_procedure x fs b closing) rest) h =
         let t : Entry noted j k statements x fs b closing rest = entry noted j k below statements x fs b closing rest h in
         procedure-joined noted j k statements x fs b closing rest t
-        (block-held (inside_of noted k (text x) t.listed) (constructors_before_procedure_block j (declares_procedure x fs b closing)) (ordinal_after_names (suc k) (formal_names (formal_sections (mapped_tree text value fs)))) t.inner_below b t.block_right)
+        (block-held (inside_of noted k (text x) t.listed) (constructor_count_before_procedure_block j (declares_procedure x fs b closing)) (ordinal_after_names (suc k) (formal_parameter_names (formal_parameter_sections (mapped_tree text value fs)))) t.inner_below b t.block_right)
         (procedures-held (own_of noted k (text x) t.listed) (j + procedure_constructor_count (declares_procedure x fs b closing)) (ordinal_after_procedure (suc k) (mapped_tree text value (declares_procedure x fs b closing)))
         (TypedBelow-weaken (suc k) (ordinal_after_procedure (suc k) (mapped_tree text value (declares_procedure x fs b closing))) (own_of noted k (text x) t.listed) (le-ordinal_after_procedure (suc k) (mapped_tree text value (declares_procedure x fs b closing))) (own_below noted k (text x) t.listed below)) statements rest t.rest_right)
 

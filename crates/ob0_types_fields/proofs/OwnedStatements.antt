@@ -9,9 +9,9 @@ use Rattle.ob0_language_types.specs.Expressions.{Meanings}
 use Rattle.ob0_language_types.specs.Typing.{field_type, type_of_variable_or_constant}
 use Rattle.ob0_language_types.specs.WellTyped.{TypeMeanings}
 use Rattle.ob0_language_values.specs.Values.{Shape}
-use Rattle.ob0_language_fields.specs.Fields.{shape_after_selector, record_ordinal, rename_fields}
+use Rattle.ob0_language_fields.specs.RenamedFields.{shape_after_selector, record_ordinal, rename_selected_fields}
 use Rattle.ob0_types_fields.specs.OwnerTables.{renaming_by_record}
-use Rattle.ob0_types_fields.specs.IdentifierOwners.{AgreesWithOwnerList, identifier_owners_in_tree, owner, type_after_selector, identifiers_without_owners, unowned_identifiers}
+use Rattle.ob0_types_fields.specs.IdentifierOwners.{AgreesWithOwnerList, identifier_owners_in_tree, owner, type_after_selector, identifiers_without_owners, replace_roles_by_no_owner}
 
 pub owners_split : (at : ℕ → Option ℕ) (xs ys : List (ℕ × Option ℕ)) → AgreesWithOwnerList at (xs ++ ys) → AgreesWithOwnerList at xs × AgreesWithOwnerList at ys
 owners_split at [] ys h = (tt, h)
@@ -26,7 +26,7 @@ none_split : (at : ℕ → Option ℕ) (xs ys : List (Role × ℕ)) → AllNone 
 none_split at [] ys h = (tt, h)
 none_split at (x ∷ xs) ys h = let rest = none_split at xs ys h.1 in ((h.0, rest.0), rest.1)
 
-all_none : (at : ℕ → Option ℕ) (xs : List (Role × ℕ)) → AgreesWithOwnerList at (unowned_identifiers xs) → AllNone at xs
+all_none : (at : ℕ → Option ℕ) (xs : List (Role × ℕ)) → AgreesWithOwnerList at (replace_roles_by_no_owner xs) → AllNone at xs
 all_none at [] h = tt
 all_none at (x ∷ xs) h = (h.0, all_none at xs h.1)
 
@@ -103,19 +103,19 @@ identifiers_without_owners-mapped_tree l at text value r (some_formals a b) h =
     let s0 = none_split at (identifiers r a) (identifiers r b) h in
     λ i. some_formals (identifiers_without_owners-mapped_tree l at text value r a s0.0 i) (identifiers_without_owners-mapped_tree l at text value r b s0.1 i)
 identifiers_without_owners-mapped_tree l at text value r (value_section a b) h =
-    let s0 = none_split at (identifiers role.Declaring a) (identifiers r b) h in
-    λ i. value_section (identifiers_without_owners-mapped_tree l at text value role.Declaring a s0.0 i) (identifiers_without_owners-mapped_tree l at text value r b s0.1 i)
+    let s0 = none_split at (identifiers role.DeclaringName a) (identifiers r b) h in
+    λ i. value_section (identifiers_without_owners-mapped_tree l at text value role.DeclaringName a s0.0 i) (identifiers_without_owners-mapped_tree l at text value r b s0.1 i)
 identifiers_without_owners-mapped_tree l at text value r (variable_section a b) h =
-    let s0 = none_split at (identifiers role.Declaring a) (identifiers r b) h in
-    λ i. variable_section (identifiers_without_owners-mapped_tree l at text value role.Declaring a s0.0 i) (identifiers_without_owners-mapped_tree l at text value r b s0.1 i)
+    let s0 = none_split at (identifiers role.DeclaringName a) (identifiers r b) h in
+    λ i. variable_section (identifiers_without_owners-mapped_tree l at text value role.DeclaringName a s0.0 i) (identifiers_without_owners-mapped_tree l at text value r b s0.1 i)
 identifiers_without_owners-mapped_tree l at text value r (semicolon_then_section a) h = λ i. semicolon_then_section (identifiers_without_owners-mapped_tree l at text value r a h i)
 identifiers_without_owners-mapped_tree l at text value r (declares_constant a b) h = λ i. declares_constant (renaming_by_record l (sym h.0 i) (text a)) (identifiers_without_owners-mapped_tree l at text value r b h.1 i)
 identifiers_without_owners-mapped_tree l at text value r (declares_const_section a) h = λ i. declares_const_section (identifiers_without_owners-mapped_tree l at text value r a h i)
 identifiers_without_owners-mapped_tree l at text value r (declares_type a b) h = λ i. declares_type (renaming_by_record l (sym h.0 i) (text a)) (identifiers_without_owners-mapped_tree l at text value r b h.1 i)
 identifiers_without_owners-mapped_tree l at text value r (declares_type_section a) h = λ i. declares_type_section (identifiers_without_owners-mapped_tree l at text value r a h i)
 identifiers_without_owners-mapped_tree l at text value r (declares_variable a b) h =
-    let s0 = none_split at (identifiers role.Declaring a) (identifiers r b) h in
-    λ i. declares_variable (identifiers_without_owners-mapped_tree l at text value role.Declaring a s0.0 i) (identifiers_without_owners-mapped_tree l at text value r b s0.1 i)
+    let s0 = none_split at (identifiers role.DeclaringName a) (identifiers r b) h in
+    λ i. declares_variable (identifiers_without_owners-mapped_tree l at text value role.DeclaringName a s0.0 i) (identifiers_without_owners-mapped_tree l at text value r b s0.1 i)
 identifiers_without_owners-mapped_tree l at text value r (declares_var_section a) h = λ i. declares_var_section (identifiers_without_owners-mapped_tree l at text value r a h i)
 identifiers_without_owners-mapped_tree l at text value r (declares_procedure a b c d) h =
     let s0 = none_split at (identifiers r b) (identifiers r c ++ ((role.ClosingName, d) ∷ [])) h.1 in
@@ -136,7 +136,7 @@ identifiers_without_owners-mapped_tree l at text value r (forms_module a b c) h 
 
 -- Rewriting a part without fields changes nothing.
 pub identifiers_without_owners-all : (l : ℕ → Name → Name) (at : ℕ → Option ℕ) (text : ℕ → Name) (value : ℕ → ℕ) {s : Sort} (t : Tree ℕ s) → AgreesWithOwnerList at (identifiers_without_owners t) → mapped_tree text value t ≡ mapped_tree (λ j. renaming_by_record l (at j) (text j)) value t
-identifiers_without_owners-all l at text value t h = identifiers_without_owners-mapped_tree l at text value role.Declaring t (all_none at (identifiers role.Declaring t) h)
+identifiers_without_owners-all l at text value t h = identifiers_without_owners-mapped_tree l at text value role.DeclaringName t (all_none at (identifiers role.DeclaringName t) h)
 
 -- holds if names have values of the same types by name and by token
 abbrev pub Alike : {P : Type 0} → TypeMeanings Name → Meanings ℕ Shape P → List ℕ → Type 0
@@ -209,7 +209,7 @@ recorded m s t = identifiers_without_owners t
 
 -- Rewriting the fields in a part of a statement is the same as rewriting each token according to the table.
 pub recorded-mapped_tree : {P : Type 0} (l : ℕ → Name → Name) (at : ℕ → Option ℕ) (meaning : TypeMeanings Name) (m : Meanings ℕ Shape P) (value : ℕ → ℕ) (s : Option Shape) {sort : Sort} (t : Tree ℕ sort)
-    → AgreesWithOwnerList at (recorded m s t) → Alike meaning m (occurrences t) → rename_fields (renaming_by_record l) meaning s (mapped_tree m.written value t) ≡ mapped_tree (λ j. renaming_by_record l (at j) (m.written j)) value t
+    → AgreesWithOwnerList at (recorded m s t) → Alike meaning m (occurrences t) → rename_selected_fields (renaming_by_record l) meaning s (mapped_tree m.written value t) ≡ mapped_tree (λ j. renaming_by_record l (at j) (m.written j)) value t
 recorded-mapped_tree l at meaning m value s none h e = refl
 recorded-mapped_tree l at meaning m value s (one a) h e = λ i. one (recorded-mapped_tree l at meaning m value None a h e i)
 recorded-mapped_tree l at meaning m value s end h e = refl
@@ -217,7 +217,7 @@ recorded-mapped_tree l at meaning m value s (more a b) h e =
     let p = owners_split at (recorded m s a) (recorded m (type_after_selector m s a) b) h in
     let q = alike_split meaning m (occurrences a) (occurrences b) e in
     λ i. more (recorded-mapped_tree l at meaning m value s a p.0 q.0 i)
-    ((ap (λ z. rename_fields (renaming_by_record l) meaning z (mapped_tree m.written value b)) (following-mapped_tree m value s a) ∙ recorded-mapped_tree l at meaning m value (type_after_selector m s a) b p.1 q.1) i)
+    ((ap (λ z. rename_selected_fields (renaming_by_record l) meaning z (mapped_tree m.written value b)) (following-mapped_tree m value s a) ∙ recorded-mapped_tree l at meaning m value (type_after_selector m s a) b p.1 q.1) i)
 recorded-mapped_tree l at meaning m value s (compares a b) h e =
     let p0 = owners_split at (recorded m None a) (recorded m None b) h in
     let q0 = alike_split meaning m (occurrences a) (occurrences b) e in
@@ -233,7 +233,7 @@ recorded-mapped_tree l at meaning m value s (product a b) h e =
     let q0 = alike_split meaning m (occurrences a) (occurrences b) e in
     λ i. product (recorded-mapped_tree l at meaning m value None a p0.0 q0.0 i) (recorded-mapped_tree l at meaning m value None b p0.1 q0.1 i)
 recorded-mapped_tree l at meaning m value s (multiplies a b) h e = λ i. multiplies a (recorded-mapped_tree l at meaning m value None b h e i)
-recorded-mapped_tree l at meaning m value s (designator a b) h e = λ i. designator (renaming_by_record l (sym h.0 i) (m.written a)) ((ap (λ z. rename_fields (renaming_by_record l) meaning z (mapped_tree m.written value b)) e.0 ∙ recorded-mapped_tree l at meaning m value (type_of_variable_or_constant (m.object_for a)) b h.1 e.1) i)
+recorded-mapped_tree l at meaning m value s (designator a b) h e = λ i. designator (renaming_by_record l (sym h.0 i) (m.written a)) ((ap (λ z. rename_selected_fields (renaming_by_record l) meaning z (mapped_tree m.written value b)) e.0 ∙ recorded-mapped_tree l at meaning m value (type_of_variable_or_constant (m.object_for a)) b h.1 e.1) i)
 recorded-mapped_tree l at meaning m value s (integer a) h e = refl
 recorded-mapped_tree l at meaning m value s (parenthesised a) h e = λ i. parenthesised (recorded-mapped_tree l at meaning m value None a h e i)
 recorded-mapped_tree l at meaning m value s (negation a) h e = λ i. negation (recorded-mapped_tree l at meaning m value None a h e i)
@@ -243,7 +243,7 @@ recorded-mapped_tree l at meaning m value s empty h e = refl
 recorded-mapped_tree l at meaning m value s (assigns a b c) h e =
     let p0 = owners_split at (recorded m (type_of_variable_or_constant (m.object_for a)) b) (recorded m None c) h.1 in
     let q0 = alike_split meaning m (occurrences b) (occurrences c) e.1 in
-    λ i. assigns (renaming_by_record l (sym h.0 i) (m.written a)) ((ap (λ z. rename_fields (renaming_by_record l) meaning z (mapped_tree m.written value b)) e.0 ∙ recorded-mapped_tree l at meaning m value (type_of_variable_or_constant (m.object_for a)) b p0.0 q0.0) i) (recorded-mapped_tree l at meaning m value None c p0.1 q0.1 i)
+    λ i. assigns (renaming_by_record l (sym h.0 i) (m.written a)) ((ap (λ z. rename_selected_fields (renaming_by_record l) meaning z (mapped_tree m.written value b)) e.0 ∙ recorded-mapped_tree l at meaning m value (type_of_variable_or_constant (m.object_for a)) b p0.0 q0.0) i) (recorded-mapped_tree l at meaning m value None c p0.1 q0.1 i)
 recorded-mapped_tree l at meaning m value s (calls a b) h e = λ i. calls (renaming_by_record l (sym h.0 i) (m.written a)) (recorded-mapped_tree l at meaning m value None b h.1 e.1 i)
 recorded-mapped_tree l at meaning m value s (branches a b c d) h e =
     let p0 = owners_split at (recorded m None a) (recorded m None b ++ (recorded m None c ++ (recorded m None d))) h in

@@ -4,10 +4,10 @@ use Rattle.std.proofs.Common.{◌≡◌, ℕ, suc, ◌+◌, ◌++◌, map, Some,
 use Rattle.ob0_tree.specs.Tree.{Tree, item, items, maybe, array_type, block, declares, declares_procedure, declares_type, declares_type_section, declares_variable, declares_var_section, end, fields, formals, fields_after_semicolon, name_after_comma, section_after_semicolon, forms_block, listed, mapped_tree, more, named_type, names, no_fields, no_formals, none, one, procedure, record_type, section, some_fields, some_formals, semicolon_then_fields, comma_then_name, semicolon_then_section, type_definition, type_definitions, value_section, variable, variable_section, variables, written_type}
 use Rattle.ob0_language_names.specs.MappedNames.{map_names}
 use Rattle.ob0_language_names.specs.Names.{Name}
-use Rattle.ob0_language_names.specs.BlockParts.{formal_sections, names_after_first, names_in_list, parameter_section_type, section_types, section_variables}
-use Rattle.ob0_language_types.specs.Declarations.{block_constructor_count, formals_constructor_count, procedure_constructor_count, procedures_constructor_count, types_constructor_count, variables_constructor_count}
-use Rattle.ob0_language_types.specs.Typing.{constructor_count, group_constructor_count, groups_constructor_count}
-use Rattle.ob0_language_fields.specs.Fields.{rename_fields_in_formals, rename_fields_in_group, rename_fields_in_further_groups, rename_fields_in_parameter_section, rename_fields_in_further_parameter_sections, rename_fields_in_type, rename_fields_in_type_section, rename_fields_in_type_definitions, rename_fields_in_variable_section, rename_fields_in_variables}
+use Rattle.ob0_language_names.specs.BlockParts.{formal_parameter_sections, names_after_first, names_in_list, parameter_section_type, section_types, section_variables}
+use Rattle.ob0_language_types.specs.Declarations.{block_constructor_count, formals_constructor_count, procedure_constructor_count, procedure_list_constructor_count, types_constructor_count, variables_constructor_count}
+use Rattle.ob0_language_types.specs.Typing.{constructor_count, group_constructor_count, later_groups_constructor_count}
+use Rattle.ob0_language_fields.specs.RenamedFields.{rename_fields_in_formals, rename_fields_in_group, rename_fields_in_further_groups, rename_fields_in_parameter_section, rename_fields_in_further_parameter_sections, rename_fields_in_type, rename_fields_in_type_section, rename_fields_in_type_definitions, rename_fields_in_variable_section, rename_fields_in_variables}
 use Rattle.ob0_types_fields.specs.OwnerTables.{renaming_by_record}
 use Rattle.ob0_types_fields.specs.IdentifierOwners.{AgreesWithOwnerList, identifier_owners_in_formals, identifier_owners_in_group, identifier_owners_in_groups, identifier_owners_in_parameter_section, identifier_owners_in_parameter_sections, identifier_owners_in_type, identifier_owners_in_type_section, identifier_owners_in_types, identifier_owners_in_variable_section, identifier_owners_in_variables, identifiers_without_owners}
 use Rattle.ob0_types_fields.proofs.OwnedStatements.{owners_split, identifiers_without_owners-all}
@@ -24,7 +24,7 @@ module _ {M : Type 0} (f : ℕ → M) (g : ℕ → ℕ) where
     counted_group no_fields = refl
     counted_group (some_fields ns t) = counted_type t
 
-    pub counted_groups : (t : Tree ℕ (items fields_after_semicolon)) → groups_constructor_count (mapped_tree f g t) ≡ groups_constructor_count t
+    pub counted_groups : (t : Tree ℕ (items fields_after_semicolon)) → later_groups_constructor_count (mapped_tree f g t) ≡ later_groups_constructor_count t
     counted_groups end = refl
     counted_groups (more (semicolon_then_fields group) rest) = λ i. counted_group group i + counted_groups rest i
 
@@ -44,7 +44,7 @@ module _ {M : Type 0} (f : ℕ → M) (g : ℕ → ℕ) where
   counted_formals end = refl
   counted_formals (more (semicolon_then_section s) fs) = λ i. counted_section s i + counted_formals fs i
 
-  pub sections_mapped : (fs : Tree ℕ (maybe formals)) → formal_sections (mapped_tree f g fs) ≡ mapped_tree f g (formal_sections fs)
+  pub sections_mapped : (fs : Tree ℕ (maybe formals)) → formal_parameter_sections (mapped_tree f g fs) ≡ mapped_tree f g (formal_parameter_sections fs)
   sections_mapped none = refl
   sections_mapped (one no_formals) = refl
   sections_mapped (one (some_formals s rest)) = refl
@@ -63,14 +63,14 @@ module _ {M : Type 0} (f : ℕ → M) (g : ℕ → ℕ) where
   pub counted_variable_section : (vs : Tree ℕ (maybe variables)) → variables_constructor_count (section_variables (mapped_tree f g vs)) ≡ variables_constructor_count (section_variables vs)
   counted_variable_section vs = ap variables_constructor_count (variables_mapped vs) ∙ counted_variables (section_variables vs)
 
-  pub counted_formals_section : (fs : Tree ℕ (maybe formals)) → formals_constructor_count (formal_sections (mapped_tree f g fs)) ≡ formals_constructor_count (formal_sections fs)
-  counted_formals_section fs = ap formals_constructor_count (sections_mapped fs) ∙ counted_formals (formal_sections fs)
+  pub counted_formals_section : (fs : Tree ℕ (maybe formals)) → formals_constructor_count (formal_parameter_sections (mapped_tree f g fs)) ≡ formals_constructor_count (formal_parameter_sections fs)
+  counted_formals_section fs = ap formals_constructor_count (sections_mapped fs) ∙ counted_formals (formal_parameter_sections fs)
 
   mutual
     pub counted_block : (b : Tree ℕ block) → block_constructor_count (mapped_tree f g b) ≡ block_constructor_count b
     counted_block (forms_block (declares cs ts vs ps) statements) = λ i. counted_type_section ts i + (counted_variable_section vs i + counted_procedures ps i)
 
-    pub counted_procedures : (ps : Tree ℕ (items procedure)) → procedures_constructor_count (mapped_tree f g ps) ≡ procedures_constructor_count ps
+    pub counted_procedures : (ps : Tree ℕ (items procedure)) → procedure_list_constructor_count (mapped_tree f g ps) ≡ procedure_list_constructor_count ps
     counted_procedures end = refl
     counted_procedures (more p ps) = λ i. counted_procedure p i + counted_procedures ps i
 

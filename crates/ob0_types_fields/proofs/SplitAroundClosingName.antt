@@ -7,7 +7,7 @@ use Rattle.ob0_tree.specs.declared.tree.Role.{Role}
 use Rattle.ob0_tree.specs.IdentifierIndexes.{AreAscendingWithin, names_without_roles}
 use Rattle.ob0_tree.specs.FirstIdentifier.{token_of_first_identifier}
 use Rattle.ob0_tree.proofs.Leaves.{ascending_bounds}
-use Rattle.ob0_types_fields.specs.declared.field_name.FieldName.{FieldName}
+use Rattle.ob0_types_fields.specs.declared.field_identifier.FieldIdentifier.{FieldIdentifier}
 use Rattle.ob0_types_fields.specs.FieldLists.{fields_at_or_after_token}
 use Rattle.ob0_types_fields.specs.IdentifierOwners.{fields_with_owners}
 use Rattle.ob0_types_fields.proofs.WalkFindsAllFields.{among-append}
@@ -141,6 +141,6 @@ pub fields_around : (before inner after : List (ℕ × Option ℕ)) (closing : �
 fields_around before inner after closing = among-append before (inner ++ ((closing, None) ∷ after)) ∙ ap (λ l. fields_with_owners before ++ l) (among-append inner ((closing, None) ∷ after))
 
 -- All fields are at or after token 0.
-pub all_from_start : (xs : List FieldName) → fields_at_or_after_token 0 xs ≡ xs
+pub all_from_start : (xs : List FieldIdentifier) → fields_at_or_after_token 0 xs ≡ xs
 all_from_start [] = refl
 all_from_start (x ∷ xs) = (λ i. if le-leb 0 x.token (omega arith) i then x ∷ fields_at_or_after_token 0 xs else fields_at_or_after_token 0 xs) ∙ ap (λ l. x ∷ l) (all_from_start xs)

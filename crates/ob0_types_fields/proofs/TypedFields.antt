@@ -9,27 +9,27 @@ use Rattle.std.proofs.lemmas.List.Elements.{All-weaker}
 use Rattle.std.proofs.lemmas.Slice.Eq.{bytes_eq-Decides}
 use Rattle.std.specs.List.{AllByRecursion}
 use Rattle.ob0_tree.specs.ParsedModule.{named_tree_of, tree_of}
-use Rattle.ob0_tree.specs.Places.{token_text_at, token_value_at}
+use Rattle.ob0_tree.specs.TokenIndexLeaves.{token_text_at, token_value_at}
 use Rattle.ob0_tree.specs.Tree.{Tree, array_type, block, declares, declares_procedure, declares_type, declares_type_section, declares_variable, declares_var_section, end, fields, formals, fields_after_semicolon, name_after_comma, section_after_semicolon, forms_block, item, items, listed, mapped_tree, maybe, module_text, more, named_type, names, no_fields, no_formals, none, one, procedure, record_type, some_fields, some_formals, semicolon_then_fields, comma_then_name, semicolon_then_section, type_definition, type_definitions, value_section, variable, variable_section, variables, written_type}
 use Rattle.ob0_language_names.specs.ConsistentNames.{are_distinct, block_has_consistent_names, has_distinct_fields, formals_have_distinct_fields, group_field_names, group_has_distinct_fields, field_names_after_first_group, later_groups_have_distinct_fields, is_among, procedure_has_consistent_names, procedure_list_has_consistent_names, types_have_distinct_fields, variables_have_distinct_fields}
 use Rattle.ob0_language_names.specs.Names.{Label, Name, naming_by_label, naming_by_spelling, label_text, same_name}
-use Rattle.ob0_language_names.specs.BlockParts.{formal_names, formal_sections, names_after_first, module_block, names_in_list, section_types, section_variables}
+use Rattle.ob0_language_names.specs.BlockParts.{formal_parameter_names, formal_parameter_sections, names_after_first, module_block, names_in_list, section_types, section_variables}
 use Rattle.ob0_scope_table.specs.Resolution.{IsResolution, Resolution, ordinal_in}
 use Rattle.ob0_language_names.specs.Scopes.{label_from_ordinal}
 use Rattle.ob0_language_names.proofs.NameEquality.{same_name-refl}
-use Rattle.ob0_language_types.specs.Declarations.{constructors_before_procedure_block, constructors_before_variables, constructors_before_procedures, block_constructor_count, formals_constructor_count, procedure_constructor_count, procedures_constructor_count, types_constructor_count, variables_constructor_count}
+use Rattle.ob0_language_types.specs.Declarations.{constructor_count_before_procedure_block, constructor_count_before_variables, constructor_count_before_procedures, block_constructor_count, formals_constructor_count, procedure_constructor_count, procedure_list_constructor_count, types_constructor_count, variables_constructor_count}
 use Rattle.ob0_language_types.specs.Environments.{meanings}
 use Rattle.ob0_scope_table.specs.LabelledTrees.{tree_with_labels, label_at_token}
-use Rattle.ob0_language_types.specs.Typing.{array_length, constant_value, constructor_count, denoted_type, denoted_group_fields, denoted_further_fields, depth, element_type, group_constructor_count, groups_constructor_count, scalars, shape_of_field, type_of_object, prepend_fields, type_within_limits}
+use Rattle.ob0_language_types.specs.Typing.{array_length_from_value, constant_expression_value, constructor_count, denoted_type, denoted_group_fields, denoted_further_fields, depth, element_type, group_constructor_count, later_groups_constructor_count, scalars, named_field_shape, type_of_object, prepend_fields, type_within_limits}
 use Rattle.ob0_language_types.specs.WellTyped.{TypeEnvironment, WellTyped}
 use Rattle.ob0_language_types.proofs.Literals.{some_inverse}
 use Rattle.ob0_language_types.proofs.TypedElsewhere.{then_some}
 use Rattle.ob0_types_table.specs.FieldPlaces.{position_of_field}
-use Rattle.ob0_types_table.specs.declared.known.FieldId.{FieldId}
+use Rattle.ob0_types_table.specs.declared.declaration_table.FieldId.{FieldId}
 use Rattle.ob0_language_values.specs.Values.{FieldShapes, Shape, array_shape, integer_shape, next_field_shape, no_field_shape, record_shape}
-use Rattle.ob0_types_fields.specs.FieldTypes.{FieldsHaveTypes, TypedField, constructed_types, typed_field_with_name, first_name_listed, typed_field}
-use Rattle.ob0_types_fields.specs.declared.field_name.FieldName.{FieldName}
-use Rattle.ob0_types_fields.specs.Identifiers.{declared_fields, fields_declared_in_block, fields_declared_in_procedure, fields_declared_in_procedures, field_declaring_token, field_identifiers, first_token, belongs_to_field, tokens_of_field}
+use Rattle.ob0_types_fields.specs.FieldTypes.{FieldsHaveTypes, TypedField, constructed_types, typed_field_with_name, first_listed_name, typed_field}
+use Rattle.ob0_types_fields.specs.declared.field_identifier.FieldIdentifier.{FieldIdentifier}
+use Rattle.ob0_types_fields.specs.FieldIdentifiers.{declared_fields, fields_declared_in_block, fields_declared_in_procedure, fields_declared_in_procedures, field_declaring_token, field_identifiers, first_token, belongs_to_field, tokens_of_field}
 use Rattle.ob0_types_fields.specs.IdentifierOwners.{fields_in_group, fields_in_groups, fields_at_tokens, fields_in_parameter_sections, fields_in_type, fields_in_types, fields_in_variables}
 use Rattle.ob0_types_fields.proofs.DeclaredTypes.{BlockIsTyped, Denotes, FormalsAreTyped, ProcedureIsTyped, ProceduresAreTyped, TypesAreTyped, VariablesAreTyped, meaning, module-typed}
 use Rattle.ob0_types_fields.proofs.FieldLabels.{AllWritten, BlockPlain, GroupPlain, GroupsPlain, IsWritten, ProcedurePlain, ProceduresPlain, SectionsPlain, TypePlain, TypesPlain, VariablesPlain, numbered-plain}
@@ -70,27 +70,27 @@ distinct-apart y (x ∷ xs) ys h among = one (same_name y x) refl (distinct-apar
         absurd (true≢false (sym (subst (λ z. is_among z (xs ++ ys) ≡ true) same (among-right y xs ys among)) ∙ not_true (is_among x (xs ++ ys)) parts.0))
     one false e later = later
 
-with-among : (y : Name) (xs : List Name) (s : Shape) (later : FieldShapes) → is_among y xs ≡ true → shape_of_field (prepend_fields xs s later) y ≡ Some s
+with-among : (y : Name) (xs : List Name) (s : Shape) (later : FieldShapes) → is_among y xs ≡ true → named_field_shape (prepend_fields xs s later) y ≡ Some s
 with-among y [] s later h = absurd (true≢false (sym h))
 with-among y (x ∷ xs) s later h = one (same_name y x) h (with-among y xs s later)
   where
-    one : (b : Bool) → (b || is_among y xs) ≡ true → (is_among y xs ≡ true → shape_of_field (prepend_fields xs s later) y ≡ Some s) → (if b then Some s else shape_of_field (prepend_fields xs s later) y) ≡ Some s
+    one : (b : Bool) → (b || is_among y xs) ≡ true → (is_among y xs ≡ true → named_field_shape (prepend_fields xs s later) y ≡ Some s) → (if b then Some s else named_field_shape (prepend_fields xs s later) y) ≡ Some s
     one true e rest = refl
     one false e rest = rest e
 
-with-none : (y : Name) (xs : List Name) (s : Shape) (later : FieldShapes) → is_among y xs ≡ false → shape_of_field (prepend_fields xs s later) y ≡ shape_of_field later y
+with-none : (y : Name) (xs : List Name) (s : Shape) (later : FieldShapes) → is_among y xs ≡ false → named_field_shape (prepend_fields xs s later) y ≡ named_field_shape later y
 with-none y [] s later h = refl
 with-none y (x ∷ xs) s later h = one (same_name y x) h (with-none y xs s later)
   where
-    one : (b : Bool) → (b || is_among y xs) ≡ false → (is_among y xs ≡ false → shape_of_field (prepend_fields xs s later) y ≡ shape_of_field later y) → (if b then Some s else shape_of_field (prepend_fields xs s later) y) ≡ shape_of_field later y
+    one : (b : Bool) → (b || is_among y xs) ≡ false → (is_among y xs ≡ false → named_field_shape (prepend_fields xs s later) y ≡ named_field_shape later y) → (if b then Some s else named_field_shape (prepend_fields xs s later) y) ≡ named_field_shape later y
     one true e rest = absurd (true≢false e)
     one false e rest = rest e
 
-place-found : (fs : FieldShapes) (x : Name) (u : Shape) → shape_of_field fs x ≡ Some u → (i : ℕ) × (position_of_field fs x ≡ Some i)
+place-found : (fs : FieldShapes) (x : Name) (u : Shape) → named_field_shape fs x ≡ Some u → (i : ℕ) × (position_of_field fs x ≡ Some i)
 place-found no_field_shape x u h = absurd (cc)
 place-found (next_field_shape y s rest) x u h = one (same_name x y) h (place-found rest x u)
   where
-    one : (b : Bool) → (if b then Some s else shape_of_field rest x) ≡ Some u → (shape_of_field rest x ≡ Some u → (i : ℕ) × (position_of_field rest x ≡ Some i))
+    one : (b : Bool) → (if b then Some s else named_field_shape rest x) ≡ Some u → (named_field_shape rest x ≡ Some u → (i : ℕ) × (position_of_field rest x ≡ Some i))
         → (i : ℕ) × ((if b then Some 0 else option_map suc (position_of_field rest x)) ≡ Some i)
     one true e later = (0, refl)
     one false e later = let found = later e in (suc found.0, ap (option_map suc) found.1)
@@ -118,7 +118,7 @@ module _ (r : Resolution) where
     group-counted t no_fields = refl
     group-counted t (some_fields ns u) = type-counted _ u
 
-    groups-counted : (t : Option Shape) (gs : Tree ℕ (items fields_after_semicolon)) → length (constructed_types (meaning r) t gs) ≡ groups_constructor_count gs
+    groups-counted : (t : Option Shape) (gs : Tree ℕ (items fields_after_semicolon)) → length (constructed_types (meaning r) t gs) ≡ later_groups_constructor_count gs
     groups-counted t end = refl
     groups-counted t (more (semicolon_then_fields g) rest) =
         length-append (constructed_types (meaning r) t g) (constructed_types (meaning r) t rest) ∙ (λ i. group-counted t g i + groups-counted t rest i)
@@ -131,14 +131,14 @@ module _ (r : Resolution) where
   variables-counted : (gs : Tree ℕ (items variable)) → length (constructed_types (meaning r) None gs) ≡ variables_constructor_count gs
   variables-counted end = refl
   variables-counted (more (declares_variable ns u) gs) =
-      length-append (constructed_types (meaning r) None (declares_variable ns u)) (constructed_types (meaning r) None gs) ∙ (λ i. type-counted (type_of_object ((meaning r).object_for (first_name_listed ns))) u i + variables-counted gs i)
+      length-append (constructed_types (meaning r) None (declares_variable ns u)) (constructed_types (meaning r) None gs) ∙ (λ i. type-counted (type_of_object ((meaning r).object_for (first_listed_name ns))) u i + variables-counted gs i)
 
   sections-counted : (fs : Tree ℕ (items section_after_semicolon)) → length (constructed_types (meaning r) None fs) ≡ formals_constructor_count fs
   sections-counted end = refl
   sections-counted (more (semicolon_then_section (value_section ns u)) fs) =
-      length-append (constructed_types (meaning r) None (value_section ns u)) (constructed_types (meaning r) None fs) ∙ (λ i. type-counted (type_of_object ((meaning r).object_for (first_name_listed ns))) u i + sections-counted fs i)
+      length-append (constructed_types (meaning r) None (value_section ns u)) (constructed_types (meaning r) None fs) ∙ (λ i. type-counted (type_of_object ((meaning r).object_for (first_listed_name ns))) u i + sections-counted fs i)
   sections-counted (more (semicolon_then_section (variable_section ns u)) fs) =
-      length-append (constructed_types (meaning r) None (variable_section ns u)) (constructed_types (meaning r) None fs) ∙ (λ i. type-counted (type_of_object ((meaning r).object_for (first_name_listed ns))) u i + sections-counted fs i)
+      length-append (constructed_types (meaning r) None (variable_section ns u)) (constructed_types (meaning r) None fs) ∙ (λ i. type-counted (type_of_object ((meaning r).object_for (first_listed_name ns))) u i + sections-counted fs i)
 
   type_section-counted : (ts : Tree ℕ (maybe type_definitions)) → length (constructed_types (meaning r) None ts) ≡ types_constructor_count (section_types ts)
   type_section-counted none = refl
@@ -148,7 +148,7 @@ module _ (r : Resolution) where
   variable_section-counted none = refl
   variable_section-counted (one (declares_var_section vs)) = variables-counted vs
 
-  formal_section-counted : (fs : Tree ℕ (maybe formals)) → length (constructed_types (meaning r) None fs) ≡ formals_constructor_count (formal_sections fs)
+  formal_section-counted : (fs : Tree ℕ (maybe formals)) → length (constructed_types (meaning r) None fs) ≡ formals_constructor_count (formal_parameter_sections fs)
   formal_section-counted none = refl
   formal_section-counted (one no_formals) = refl
   formal_section-counted (one (some_formals (value_section ns u) fs)) = sections-counted (more (semicolon_then_section (value_section ns u)) fs)
@@ -161,7 +161,7 @@ module _ (r : Resolution) where
         ∙ ((λ i. type_section-counted ts i + length-append (constructed_types (meaning r) None vs) (constructed_types (meaning r) None ps) i)
         ∙ (λ i. types_constructor_count (section_types ts) + (variable_section-counted vs i + procedures-counted ps i)))
 
-    procedures-counted : (ps : Tree ℕ (items procedure)) → length (constructed_types (meaning r) None ps) ≡ procedures_constructor_count ps
+    procedures-counted : (ps : Tree ℕ (items procedure)) → length (constructed_types (meaning r) None ps) ≡ procedure_list_constructor_count ps
     procedures-counted end = refl
     procedures-counted (more p rest) =
         length-append (constructed_types (meaning r) None p) (constructed_types (meaning r) None rest) ∙ (λ i. procedure-counted p i + procedures-counted rest i)
@@ -232,33 +232,33 @@ module _ (r : Resolution) where
   texts (listed x rest) h = λ i. written-text x h.0 i ∷ further-texts rest h.1 i
 
   -- holds if the record of an identifier has a field with its name
-  abbrev HasField : List (Option Shape) → ℕ → FieldName → Type 0
+  abbrev HasField : List (Option Shape) → ℕ → FieldIdentifier → Type 0
   HasField made k x = Has made k x.owner (text x.token)
 
   -- holds if an identifier is a field of the record itself, or of a type within it
-  abbrev InRecord : Shape → ℕ → List (Option Shape) → ℕ → FieldName → Type 0
+  abbrev InRecord : Shape → ℕ → List (Option Shape) → ℕ → FieldIdentifier → Type 0
   InRecord s j made k x = ((x.owner ≡ j) × (is_some (typed_field_with_name s (text x.token)) ≡ true)) ⊎ HasField made k x
 
-  in-before : (s : Shape) (j : ℕ) (made later : List (Option Shape)) (k : ℕ) (x : FieldName) → InRecord s j made k x → InRecord s j (made ++ later) k x
+  in-before : (s : Shape) (j : ℕ) (made later : List (Option Shape)) (k : ℕ) (x : FieldIdentifier) → InRecord s j made k x → InRecord s j (made ++ later) k x
   in-before s j made later k x (inl own) = inl own
   in-before s j made later k x (inr h) = inr (has-before made later k x.owner (text x.token) h)
 
-  in-later : (s : Shape) (j : ℕ) (made later : List (Option Shape)) (k : ℕ) (x : FieldName) → InRecord s j later (k + length made) x → InRecord s j (made ++ later) k x
+  in-later : (s : Shape) (j : ℕ) (made later : List (Option Shape)) (k : ℕ) (x : FieldIdentifier) → InRecord s j later (k + length made) x → InRecord s j (made ++ later) k x
   in-later s j made later k x (inl own) = inl own
   in-later s j made later k x (inr h) = inr (has-later made later k x.owner (text x.token) h)
 
-  of-record : (s : Shape) (j : ℕ) (made : List (Option Shape)) (x : FieldName) → InRecord s j made (suc j) x → HasField (Some s ∷ made) j x
+  of-record : (s : Shape) (j : ℕ) (made : List (Option Shape)) (x : FieldIdentifier) → InRecord s j made (suc j) x → HasField (Some s ∷ made) j x
   of-record s j made x (inl own) = record { place = 0; is_at = omega (arith, own.0); within = omega arith; typed = own.1 }
   of-record s j made x (inr h) = has-next (Some s) made j x.owner (text x.token) h
 
   -- If the fields of two parts are fields of the parts' types, the fields of both are fields of all these types.
-  parts-have : (made later : List (Option Shape)) (k n : ℕ) (xs ys : List FieldName) → n ≡ k + length made → AllByRecursion (HasField made k) xs → AllByRecursion (HasField later n) ys → AllByRecursion (HasField (made ++ later) k) (xs ++ ys)
+  parts-have : (made later : List (Option Shape)) (k n : ℕ) (xs ys : List FieldIdentifier) → n ≡ k + length made → AllByRecursion (HasField made k) xs → AllByRecursion (HasField later n) ys → AllByRecursion (HasField (made ++ later) k) (xs ++ ys)
   parts-have made later k n xs ys e a b =
       each-both (HasField (made ++ later) k) xs ys
       (each-weaker (HasField made k) (HasField (made ++ later) k) (λ x h. has-before made later k x.owner (text x.token) h) xs a)
       (each-weaker (HasField later n) (HasField (made ++ later) k) (λ x h. has-later made later k x.owner (text x.token) (subst (λ j. Has later j x.owner (text x.token)) e h)) ys b)
 
-  groups-have : (s : Shape) (j : ℕ) (made later : List (Option Shape)) (k n : ℕ) (xs ys : List FieldName) → n ≡ k + length made → AllByRecursion (InRecord s j made k) xs → AllByRecursion (InRecord s j later n) ys
+  groups-have : (s : Shape) (j : ℕ) (made later : List (Option Shape)) (k n : ℕ) (xs ys : List FieldIdentifier) → n ≡ k + length made → AllByRecursion (InRecord s j made k) xs → AllByRecursion (InRecord s j later n) ys
       → AllByRecursion (InRecord s j (made ++ later) k) (xs ++ ys)
   groups-have s j made later k n xs ys e a b =
       each-both (InRecord s j (made ++ later) k) xs ys
@@ -267,7 +267,7 @@ module _ (r : Resolution) where
 
   module _ (o : ℕ) (all : FieldShapes) where
     -- A name that has a type in a record is a field of the record.
-    name-typed : (x : Name) (s : Shape) → shape_of_field all x ≡ Some s → is_some (typed_field_with_name (record_shape o all) x) ≡ true
+    name-typed : (x : Name) (s : Shape) → named_field_shape all x ≡ Some s → is_some (typed_field_with_name (record_shape o all) x) ≡ true
     name-typed x s typed =
         let place = place-found all x s typed in
         λ i. is_some (option_and_then (λ f. option_map (of_field f) (typed i)) (option_map (place_in o) (place.1 i)))
@@ -276,7 +276,7 @@ module _ (r : Resolution) where
     own-names j k made [] h = tt
     own-names j k made (x ∷ xs) h = (inl (refl, h.0), own-names j k made xs h.1)
 
-    further-have : (ns : Tree ℕ (items name_after_comma)) (before : List Name) (s : Shape) → ((y : Name) → is_among y (before ++ names_after_first (mapped_tree text value ns)) ≡ true → shape_of_field all y ≡ Some s)
+    further-have : (ns : Tree ℕ (items name_after_comma)) (before : List Name) (s : Shape) → ((y : Name) → is_among y (before ++ names_after_first (mapped_tree text value ns)) ≡ true → named_field_shape all y ≡ Some s)
         → AllByRecursion (λ x. is_some (typed_field_with_name (record_shape o all) (text x)) ≡ true) (names_after_first ns)
     further-have end before s has = tt
     further-have (more (comma_then_name x) rest) before s has = (
@@ -284,7 +284,7 @@ module _ (r : Resolution) where
       further-have rest [] s (λ y among. has y (among-right y before (text x ∷ names_after_first (mapped_tree text value rest)) (or_right (same_name y (text x)) (is_among y (names_after_first (mapped_tree text value rest))) among))),
     )
 
-    names-have : (ns : Tree ℕ names) (s : Shape) → ((y : Name) → is_among y (names_in_list (mapped_tree text value ns)) ≡ true → shape_of_field all y ≡ Some s)
+    names-have : (ns : Tree ℕ names) (s : Shape) → ((y : Name) → is_among y (names_in_list (mapped_tree text value ns)) ≡ true → named_field_shape all y ≡ Some s)
         → AllByRecursion (λ x. is_some (typed_field_with_name (record_shape o all) (text x)) ≡ true) (names_in_list ns)
     names-have (listed x rest) s has = (
       name-typed (text x) s (has (text x) (ap (λ b. b || is_among (text x) (names_after_first (mapped_tree text value rest))) (same_name-refl (text x)))),
@@ -293,17 +293,17 @@ module _ (r : Resolution) where
 
     -- holds if the names of a group have the same types in the whole record as in the record from this group onwards
     abbrev Agree : List Name → FieldShapes → Type 0
-    Agree own fs = (y : Name) → is_among y own ≡ true → shape_of_field all y ≡ shape_of_field fs y
+    Agree own fs = (y : Name) → is_among y own ≡ true → named_field_shape all y ≡ named_field_shape fs y
 
   -- A name that isn't in a group is found in the fields after the group.
   following-group : (env : TypeEnvironment Label) (k : ℕ) (later fs : FieldShapes) (g : Tree ℕ fields) → denoted_group_fields (meanings naming_by_label env) k later (tree_with_labels r g) ≡ Some fs → GroupPlain (tree_with_labels r g)
-      → (others : List Name) → are_distinct (group_field_names (mapped_tree text value g) ++ others) ≡ true → (y : Name) → is_among y others ≡ true → shape_of_field fs y ≡ shape_of_field later y
+      → (others : List Name) → are_distinct (group_field_names (mapped_tree text value g) ++ others) ≡ true → (y : Name) → is_among y others ≡ true → named_field_shape fs y ≡ named_field_shape later y
   unfolding denoted_type
-  following-group env k later fs no_fields h plain others distinct y among = ap (λ z. shape_of_field z y) (sym (some_inverse h))
+  following-group env k later fs no_fields h plain others distinct y among = ap (λ z. named_field_shape z y) (sym (some_inverse h))
   following-group env k later fs (some_fields ns t) h plain others distinct y among =
       let one = then_some (denoted_type (meanings naming_by_label env) k (tree_with_labels r t)) (λ s. Some (prepend_fields (map label_text (names_in_list (tree_with_labels r ns))) s later)) fs h in
       let own : List Name = names_in_list (mapped_tree text value ns) in
-      ap (λ z. shape_of_field z y) (sym (some_inverse one.2) ∙ ap (λ xs. prepend_fields xs one.0 later) (texts ns plain.0)) ∙ with-none y own one.0 later (distinct-apart y own others distinct among)
+      ap (λ z. named_field_shape z y) (sym (some_inverse one.2) ∙ ap (λ xs. prepend_fields xs one.0 later) (texts ns plain.0)) ∙ with-none y own one.0 later (distinct-apart y own others distinct among)
 
   mutual
     unfolding denoted_type
@@ -312,8 +312,8 @@ module _ (r : Resolution) where
         → (j : ℕ) → AllByRecursion (HasField (constructed_types (meaning r) (Some s) u) j) (fields_in_type j u)
     type-have env k (named_type x) s h plain once j = tt
     type-have env k (array_type e t) s h plain once j =
-        let one = then_some (constant_value (meanings naming_by_label env) (tree_with_labels r e)) (λ v. option_and_then (λ n. option_and_then (λ a. type_within_limits (array_shape k n a)) (denoted_type (meanings naming_by_label env) (suc k) (tree_with_labels r t))) (array_length v)) s h in
-        let two = then_some (array_length one.0) (λ n. option_and_then (λ a. type_within_limits (array_shape k n a)) (denoted_type (meanings naming_by_label env) (suc k) (tree_with_labels r t))) s one.2 in
+        let one = then_some (constant_expression_value (meanings naming_by_label env) (tree_with_labels r e)) (λ v. option_and_then (λ n. option_and_then (λ a. type_within_limits (array_shape k n a)) (denoted_type (meanings naming_by_label env) (suc k) (tree_with_labels r t))) (array_length_from_value v)) s h in
+        let two = then_some (array_length_from_value one.0) (λ n. option_and_then (λ a. type_within_limits (array_shape k n a)) (denoted_type (meanings naming_by_label env) (suc k) (tree_with_labels r t))) s one.2 in
         let three = then_some (denoted_type (meanings naming_by_label env) (suc k) (tree_with_labels r t)) (λ a. type_within_limits (array_shape k two.0 a)) s two.2 in
         let inner : List (Option Shape) = constructed_types (meaning r) (Some three.0) t in
         subst (λ z. AllByRecursion (HasField (constructed_types (meaning r) (Some z) (array_type e t)) j) (fields_in_type (suc j) t)) (within-is (array_shape k two.0 three.0) s three.2)
@@ -330,8 +330,8 @@ module _ (r : Resolution) where
         let o2 = and_parts (group_has_distinct_fields (mapped_tree text value g)) (later_groups_have_distinct_fields (mapped_tree text value rest)) o1.1 in
         let first : List (Option Shape) = constructed_types (meaning r) (Some z) g in
         let later : List (Option Shape) = constructed_types (meaning r) (Some z) rest in
-        let xs : List FieldName = fields_in_group j (suc j) g in
-        let ys : List FieldName = fields_in_groups j (suc j + group_constructor_count g) rest in
+        let xs : List FieldIdentifier = fields_in_group j (suc j) g in
+        let ys : List FieldIdentifier = fields_in_groups j (suc j + group_constructor_count g) rest in
         subst (λ y. AllByRecursion (HasField (constructed_types (meaning r) (Some y) (record_type g rest)) j) (xs ++ ys)) (within-is z s two.2)
         (each-weaker (InRecord z j (first ++ later) (suc j)) (HasField (Some z ∷ (first ++ later)) j) (λ x h. of-record z j (first ++ later) x h) (xs ++ ys)
         (groups-have z j first later (suc j) (suc j + group_constructor_count g) xs ys (ap (λ c. suc j + c) (sym (group-counted r (Some z) g)))
@@ -346,8 +346,8 @@ module _ (r : Resolution) where
         let own : List Name = names_in_list (mapped_tree text value ns) in
         let one = then_some (denoted_type (meanings naming_by_label env) k (tree_with_labels r t)) (λ s. Some (prepend_fields (map label_text (names_in_list (tree_with_labels r ns))) s later)) fs h in
         let is : fs ≡ prepend_fields own one.0 later = sym (some_inverse one.2) ∙ ap (λ xs. prepend_fields xs one.0 later) (texts ns plain.0) in
-        let has : (y : Name) → is_among y own ≡ true → shape_of_field all y ≡ Some one.0 = λ y among. agree y among ∙ (ap (λ z. shape_of_field z y) is ∙ with-among y own one.0 later among) in
-        let first : shape_of_field all (text x) ≡ Some one.0 = has (text x) (ap (λ b. b || is_among (text x) (names_after_first (mapped_tree text value rest))) (same_name-refl (text x))) in
+        let has : (y : Name) → is_among y own ≡ true → named_field_shape all y ≡ Some one.0 = λ y among. agree y among ∙ (ap (λ z. named_field_shape z y) is ∙ with-among y own one.0 later among) in
+        let first : named_field_shape all (text x) ≡ Some one.0 = has (text x) (ap (λ b. b || is_among (text x) (names_after_first (mapped_tree text value rest))) (same_name-refl (text x))) in
         let made : List (Option Shape) = constructed_types (meaning r) (Some one.0) t in
         subst (λ z. AllByRecursion (InRecord (record_shape o all) j (constructed_types (meaning r) z t) n) (fields_at_tokens j (names_in_list ns) ++ fields_in_type n t)) (sym first)
         (each-both (InRecord (record_shape o all) j made n) (fields_at_tokens j (names_in_list ns)) (fields_in_type n t)
@@ -415,8 +415,8 @@ module _ (r : Resolution) where
   variable_section-have none are_typed plain once k = tt
   variable_section-have (one (declares_var_section vs)) are_typed plain once k = variables-have vs are_typed plain once k
 
-  formal_section-have : (fs : Tree ℕ (maybe formals)) → FormalsAreTyped r (formal_sections fs) → SectionsPlain (formal_sections (tree_with_labels r fs)) → formals_have_distinct_fields (formal_sections (mapped_tree text value fs)) ≡ true → (k : ℕ)
-      → AllByRecursion (HasField (constructed_types (meaning r) None fs) k) (fields_in_parameter_sections k (formal_sections fs))
+  formal_section-have : (fs : Tree ℕ (maybe formals)) → FormalsAreTyped r (formal_parameter_sections fs) → SectionsPlain (formal_parameter_sections (tree_with_labels r fs)) → formals_have_distinct_fields (formal_parameter_sections (mapped_tree text value fs)) ≡ true → (k : ℕ)
+      → AllByRecursion (HasField (constructed_types (meaning r) None fs) k) (fields_in_parameter_sections k (formal_parameter_sections fs))
   formal_section-have none are_typed plain once k = tt
   formal_section-have (one no_formals) are_typed plain once k = tt
   formal_section-have (one (some_formals (value_section ns u) fs)) are_typed plain once k = sections-have (more (semicolon_then_section (value_section ns u)) fs) are_typed plain once k
@@ -432,12 +432,12 @@ module _ (r : Resolution) where
         let o1 = and_parts _ (T && (V && P)) once in
         let o2 = and_parts T (V && P) o1.1 in
         let o3 = and_parts V P o2.1 in
-        parts-have (constructed_types (meaning r) None ts) (constructed_types (meaning r) None vs ++ constructed_types (meaning r) None ps) k (constructors_before_variables k b)
-        (fields_in_types k (section_types ts)) (fields_in_variables (constructors_before_variables k b) (section_variables vs) ++ fields_declared_in_procedures (constructors_before_procedures k b) ps) (ap (λ c. k + c) (sym (type_section-counted r ts)))
+        parts-have (constructed_types (meaning r) None ts) (constructed_types (meaning r) None vs ++ constructed_types (meaning r) None ps) k (constructor_count_before_variables k b)
+        (fields_in_types k (section_types ts)) (fields_in_variables (constructor_count_before_variables k b) (section_variables vs) ++ fields_declared_in_procedures (constructor_count_before_procedures k b) ps) (ap (λ c. k + c) (sym (type_section-counted r ts)))
         (type_section-have ts are_typed.0.0 plain.0.0 o2.0 k)
-        (parts-have (constructed_types (meaning r) None vs) (constructed_types (meaning r) None ps) (constructors_before_variables k b) (constructors_before_procedures k b)
-        (fields_in_variables (constructors_before_variables k b) (section_variables vs)) (fields_declared_in_procedures (constructors_before_procedures k b) ps) (ap (λ c. constructors_before_variables k b + c) (sym (variable_section-counted r vs)))
-        (variable_section-have vs are_typed.0.1 plain.0.1 o3.0 (constructors_before_variables k b)) (procedures-have ps are_typed.1 plain.1 o3.1 (constructors_before_procedures k b)))
+        (parts-have (constructed_types (meaning r) None vs) (constructed_types (meaning r) None ps) (constructor_count_before_variables k b) (constructor_count_before_procedures k b)
+        (fields_in_variables (constructor_count_before_variables k b) (section_variables vs)) (fields_declared_in_procedures (constructor_count_before_procedures k b) ps) (ap (λ c. constructor_count_before_variables k b + c) (sym (variable_section-counted r vs)))
+        (variable_section-have vs are_typed.0.1 plain.0.1 o3.0 (constructor_count_before_variables k b)) (procedures-have ps are_typed.1 plain.1 o3.1 (constructor_count_before_procedures k b)))
 
     procedures-have : (ps : Tree ℕ (items procedure)) → ProceduresAreTyped r ps → ProceduresPlain (tree_with_labels r ps) → procedure_list_has_consistent_names (mapped_tree text value ps) ≡ true → (k : ℕ) → AllByRecursion (HasField (constructed_types (meaning r) None ps) k) (fields_declared_in_procedures k ps)
     procedures-have end are_typed plain once k = tt
@@ -449,13 +449,13 @@ module _ (r : Resolution) where
 
     procedure-has : (q : Tree ℕ (item procedure)) → ProcedureIsTyped r q → ProcedurePlain (tree_with_labels r q) → procedure_has_consistent_names (mapped_tree text value q) ≡ true → (k : ℕ) → AllByRecursion (HasField (constructed_types (meaning r) None q) k) (fields_declared_in_procedure k q)
     procedure-has (declares_procedure x fs b closing) are_typed plain once k =
-        let F : Bool = formals_have_distinct_fields (formal_sections (mapped_tree text value fs)) in
-        let B : Bool = block_has_consistent_names (formal_names (formal_sections (mapped_tree text value fs))) (mapped_tree text value b) in
+        let F : Bool = formals_have_distinct_fields (formal_parameter_sections (mapped_tree text value fs)) in
+        let B : Bool = block_has_consistent_names (formal_parameter_names (formal_parameter_sections (mapped_tree text value fs))) (mapped_tree text value b) in
         let o1 = and_parts (same_name (text x) (text closing)) (F && B) once in
         let o2 = and_parts F B o1.1 in
-        let n : ℕ = constructors_before_procedure_block k (declares_procedure x fs b closing) in
-        parts-have (constructed_types (meaning r) None fs) (constructed_types (meaning r) None b) k n (fields_in_parameter_sections k (formal_sections fs)) (fields_declared_in_block n b) (ap (λ c. k + c) (sym (formal_section-counted r fs)))
-        (formal_section-have fs are_typed.0 plain.0 o2.0 k) (block-has (formal_names (formal_sections (mapped_tree text value fs))) b are_typed.1 plain.1 o2.1 n)
+        let n : ℕ = constructor_count_before_procedure_block k (declares_procedure x fs b closing) in
+        parts-have (constructed_types (meaning r) None fs) (constructed_types (meaning r) None b) k n (fields_in_parameter_sections k (formal_parameter_sections fs)) (fields_declared_in_block n b) (ap (λ c. k + c) (sym (formal_section-counted r fs)))
+        (formal_section-have fs are_typed.0 plain.0 o2.0 k) (block-has (formal_parameter_names (formal_parameter_sections (mapped_tree text value fs))) b are_typed.1 plain.1 o2.1 n)
 
   -- returns all types that a module constructs
   abbrev made_in_module : List (Option Shape)
@@ -470,7 +470,7 @@ module _ (r : Resolution) where
       block-has [] b (module-typed r is well) plain once.1 0
 
   -- If an identifier declares a field of a record, the record's type has this field.
-  declaring-has : (k : ℕ) (x : Name) (xs : List FieldName) → AllByRecursion (HasField made_in_module 0) xs → is_some (first_token (tokens_of_field r.module_read.source k x xs)) ≡ true → Has made_in_module 0 k x
+  declaring-has : (k : ℕ) (x : Name) (xs : List FieldIdentifier) → AllByRecursion (HasField made_in_module 0) xs → is_some (first_token (tokens_of_field r.module_read.source k x xs)) ≡ true → Has made_in_module 0 k x
   declaring-has k x [] all h = absurd (true≢false (sym h))
   declaring-has k x (y ∷ ys) all h = go (belongs_to_field r.module_read.source k x y) refl h (declaring-has k x ys all.1)
     where
@@ -481,7 +481,7 @@ module _ (r : Resolution) where
           subst (λ n. Has made_in_module 0 n x) (eqb-true y.owner k parts.0) (subst (Has made_in_module 0 y.owner) ((bytes_eq-Decides (text y.token) x).0 parts.1) all.0)
       go false e found later = later found
 
-  has-typed : (x : FieldName) → Has made_in_module 0 x.owner (text x.token) → is_some (typed_field r x) ≡ true
+  has-typed : (x : FieldIdentifier) → Has made_in_module 0 x.owner (text x.token) → is_some (typed_field r x) ≡ true
   has-typed x h =
       let place : x.owner ≡ h.place = omega (arith, h.is_at) in
       ap (λ k. is_some (option_and_then (λ s. typed_field_with_name s (text x.token)) (get_or made_in_module k None))) place ∙ h.typed

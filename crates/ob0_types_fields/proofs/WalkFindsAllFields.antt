@@ -3,23 +3,23 @@ use Rattle.std.proofs.Common.{◌≡◌, ℕ, suc, ◌+◌, List, [], ◌∷◌,
 use Rattle.ob0_tree.specs.declared.tree.Role.{Role}
 use Rattle.ob0_tree.specs.declared.tree.Role.TheVariants as role
 use Rattle.ob0_tree.specs.Tree.{Sort, Tree, item, adds, array_type, assigns, begins, branches, calls, compares, declares, declares_constant, declares_const_section, declares_procedure, declares_type, declares_type_section, declares_variable, declares_var_section, designator, else_branch, elsif_branch, empty, end, field, forms_block, identifiers, index, integer, forms_module, listed, more, multiplies, named_type, negation, no_arguments, no_fields, no_formals, none, one, parenthesised, product, record_type, relates, repeat_loop, runs, some_arguments, some_fields, some_formals, sum, comma_then_argument, semicolon_then_fields, comma_then_name, semicolon_then_section, semicolon_then_statement, value_section, variable_section, while_loop, block, written_type, fields, fields_after_semicolon, section, section_after_semicolon, formals, type_definition, type_definitions, variable, variables, procedure, module_text, items, maybe, selector, GrammarItem}
-use Rattle.ob0_language_names.specs.BlockParts.{formal_sections, names_in_list, parameter_section_type, section_types, section_variables}
-use Rattle.ob0_language_types.specs.Declarations.{constructors_before_procedure_block, constructors_before_variables, constructors_before_procedures, procedure_constructor_count}
+use Rattle.ob0_language_names.specs.BlockParts.{formal_parameter_sections, names_in_list, parameter_section_type, section_types, section_variables}
+use Rattle.ob0_language_types.specs.Declarations.{constructor_count_before_procedure_block, constructor_count_before_variables, constructor_count_before_procedures, procedure_constructor_count}
 use Rattle.ob0_language_types.specs.Expressions.{Meanings}
 use Rattle.ob0_language_types.specs.Typing.{constructor_count, element_type, field_type, group_constructor_count, type_of_variable_or_constant}
 use Rattle.ob0_language_values.specs.Values.{Shape, integer_shape}
-use Rattle.ob0_types_fields.specs.declared.field_name.FieldName.{FieldName}
-use Rattle.ob0_types_fields.specs.IdentifierOwners.{fields_with_owners, field_if_owned, fields_in_tree, fields_in_block, fields_in_group, fields_in_groups, fields_in_module, fields_at_tokens, fields_in_path, fields_in_procedures, fields_in_parameter_sections, fields_in_type, fields_in_types, fields_in_variables, identifier_owners_in_tree, identifier_owners_in_block, identifier_owners_in_formals, identifier_owners_in_group, identifier_owners_in_groups, identifier_owners_in_module, identifier_owners_in_procedure, identifier_owners_in_procedures, identifier_owners_in_parameter_section, identifier_owners_in_parameter_sections, identifier_owners_in_type, identifier_owners_in_type_section, identifier_owners_in_types, identifier_owners_in_variable_section, identifier_owners_in_variables, owner, type_after_selector, identifiers_without_owners, unowned_identifiers}
+use Rattle.ob0_types_fields.specs.declared.field_identifier.FieldIdentifier.{FieldIdentifier}
+use Rattle.ob0_types_fields.specs.IdentifierOwners.{fields_with_owners, field_if_owned, fields_in_tree, fields_in_block, fields_in_group, fields_in_groups, fields_in_module, fields_at_tokens, fields_in_path, fields_in_procedures, fields_in_parameter_sections, fields_in_type, fields_in_types, fields_in_variables, identifier_owners_in_tree, identifier_owners_in_block, identifier_owners_in_formals, identifier_owners_in_group, identifier_owners_in_groups, identifier_owners_in_module, identifier_owners_in_procedure, identifier_owners_in_procedures, identifier_owners_in_parameter_section, identifier_owners_in_parameter_sections, identifier_owners_in_type, identifier_owners_in_type_section, identifier_owners_in_types, identifier_owners_in_variable_section, identifier_owners_in_variables, owner, type_after_selector, identifiers_without_owners, replace_roles_by_no_owner}
 
 pub among-append : (xs ys : List (ℕ × Option ℕ)) → fields_with_owners (xs ++ ys) ≡ fields_with_owners xs ++ fields_with_owners ys
 among-append [] ys = refl
 among-append ((x, None) ∷ xs) ys = among-append xs ys
 among-append ((x, Some k) ∷ xs) ys = ap (λ z. record { token = x; owner = k } ∷ z) (among-append xs ys)
 
-among-both : (xs ys : List (ℕ × Option ℕ)) {us vs : List FieldName} → fields_with_owners xs ≡ us → fields_with_owners ys ≡ vs → fields_with_owners (xs ++ ys) ≡ us ++ vs
+among-both : (xs ys : List (ℕ × Option ℕ)) {us vs : List FieldIdentifier} → fields_with_owners xs ≡ us → fields_with_owners ys ≡ vs → fields_with_owners (xs ++ ys) ≡ us ++ vs
 among-both xs ys e f = among-append xs ys ∙ (λ i. e i ++ f i)
 
-none-among : (xs : List (Role × ℕ)) → fields_with_owners (unowned_identifiers xs) ≡ []
+none-among : (xs : List (Role × ℕ)) → fields_with_owners (replace_roles_by_no_owner xs) ≡ []
 none-among [] = refl
 none-among (x ∷ xs) = none-among xs
 
@@ -84,30 +84,30 @@ mutual
   fields_in_tree-fields m (semicolon_then_statement a) = fields_in_tree-fields m a
   fields_in_tree-fields m (elsif_branch a b) = among-both (identifier_owners_in_tree m None a) (identifier_owners_in_tree m None b) (fields_in_tree-fields m a) (fields_in_tree-fields m b)
   fields_in_tree-fields m (else_branch a) = fields_in_tree-fields m a
-  fields_in_tree-fields m (listed a b) = none-among (identifiers role.Declaring (listed a b))
-  fields_in_tree-fields m (comma_then_name a) = none-among (identifiers role.Declaring (comma_then_name a))
-  fields_in_tree-fields m (named_type a) = none-among (identifiers role.Declaring (named_type a))
-  fields_in_tree-fields m (array_type a b) = none-among (identifiers role.Declaring (array_type a b))
-  fields_in_tree-fields m (record_type a b) = none-among (identifiers role.Declaring (record_type a b))
-  fields_in_tree-fields m no_fields = none-among (identifiers role.Declaring no_fields)
-  fields_in_tree-fields m (some_fields a b) = none-among (identifiers role.Declaring (some_fields a b))
-  fields_in_tree-fields m (semicolon_then_fields a) = none-among (identifiers role.Declaring (semicolon_then_fields a))
-  fields_in_tree-fields m no_formals = none-among (identifiers role.Declaring no_formals)
-  fields_in_tree-fields m (some_formals a b) = none-among (identifiers role.Declaring (some_formals a b))
-  fields_in_tree-fields m (value_section a b) = none-among (identifiers role.Declaring (value_section a b))
-  fields_in_tree-fields m (variable_section a b) = none-among (identifiers role.Declaring (variable_section a b))
-  fields_in_tree-fields m (semicolon_then_section a) = none-among (identifiers role.Declaring (semicolon_then_section a))
-  fields_in_tree-fields m (declares_constant a b) = none-among (identifiers role.Declaring (declares_constant a b))
-  fields_in_tree-fields m (declares_const_section a) = none-among (identifiers role.Declaring (declares_const_section a))
-  fields_in_tree-fields m (declares_type a b) = none-among (identifiers role.Declaring (declares_type a b))
-  fields_in_tree-fields m (declares_type_section a) = none-among (identifiers role.Declaring (declares_type_section a))
-  fields_in_tree-fields m (declares_variable a b) = none-among (identifiers role.Declaring (declares_variable a b))
-  fields_in_tree-fields m (declares_var_section a) = none-among (identifiers role.Declaring (declares_var_section a))
-  fields_in_tree-fields m (declares_procedure a b c d) = none-among (identifiers role.Declaring (declares_procedure a b c d))
-  fields_in_tree-fields m (declares a b c d) = none-among (identifiers role.Declaring (declares a b c d))
+  fields_in_tree-fields m (listed a b) = none-among (identifiers role.DeclaringName (listed a b))
+  fields_in_tree-fields m (comma_then_name a) = none-among (identifiers role.DeclaringName (comma_then_name a))
+  fields_in_tree-fields m (named_type a) = none-among (identifiers role.DeclaringName (named_type a))
+  fields_in_tree-fields m (array_type a b) = none-among (identifiers role.DeclaringName (array_type a b))
+  fields_in_tree-fields m (record_type a b) = none-among (identifiers role.DeclaringName (record_type a b))
+  fields_in_tree-fields m no_fields = none-among (identifiers role.DeclaringName no_fields)
+  fields_in_tree-fields m (some_fields a b) = none-among (identifiers role.DeclaringName (some_fields a b))
+  fields_in_tree-fields m (semicolon_then_fields a) = none-among (identifiers role.DeclaringName (semicolon_then_fields a))
+  fields_in_tree-fields m no_formals = none-among (identifiers role.DeclaringName no_formals)
+  fields_in_tree-fields m (some_formals a b) = none-among (identifiers role.DeclaringName (some_formals a b))
+  fields_in_tree-fields m (value_section a b) = none-among (identifiers role.DeclaringName (value_section a b))
+  fields_in_tree-fields m (variable_section a b) = none-among (identifiers role.DeclaringName (variable_section a b))
+  fields_in_tree-fields m (semicolon_then_section a) = none-among (identifiers role.DeclaringName (semicolon_then_section a))
+  fields_in_tree-fields m (declares_constant a b) = none-among (identifiers role.DeclaringName (declares_constant a b))
+  fields_in_tree-fields m (declares_const_section a) = none-among (identifiers role.DeclaringName (declares_const_section a))
+  fields_in_tree-fields m (declares_type a b) = none-among (identifiers role.DeclaringName (declares_type a b))
+  fields_in_tree-fields m (declares_type_section a) = none-among (identifiers role.DeclaringName (declares_type_section a))
+  fields_in_tree-fields m (declares_variable a b) = none-among (identifiers role.DeclaringName (declares_variable a b))
+  fields_in_tree-fields m (declares_var_section a) = none-among (identifiers role.DeclaringName (declares_var_section a))
+  fields_in_tree-fields m (declares_procedure a b c d) = none-among (identifiers role.DeclaringName (declares_procedure a b c d))
+  fields_in_tree-fields m (declares a b c d) = none-among (identifiers role.DeclaringName (declares a b c d))
   fields_in_tree-fields m (begins a) = fields_in_tree-fields m a
-  fields_in_tree-fields m (forms_block a b) = none-among (identifiers role.Declaring (forms_block a b))
-  fields_in_tree-fields m (forms_module a b c) = none-among (identifiers role.Declaring (forms_module a b c))
+  fields_in_tree-fields m (forms_block a b) = none-among (identifiers role.DeclaringName (forms_block a b))
+  fields_in_tree-fields m (forms_module a b c) = none-among (identifiers role.DeclaringName (forms_module a b c))
 
   path-fields : {P : Type 0} (m : Meanings ℕ Shape P) (s : Option Shape) (path : Tree ℕ (items selector)) → fields_with_owners (identifier_owners_in_tree m s path) ≡ fields_in_path m s path
   path-fields m s end = refl
@@ -123,10 +123,10 @@ names-fields r [] = refl
 names-fields r (x ∷ xs) = ap (λ z. record { token = x; owner = r } ∷ z) (names-fields r xs)
 
 plain-fields : {sort : Sort} (t : Tree ℕ sort) → fields_with_owners (identifiers_without_owners t) ≡ []
-plain-fields t = none-among (identifiers role.Declaring t)
+plain-fields t = none-among (identifiers role.DeclaringName t)
 
 -- A part without fields can be skipped.
-after-plain : {sort : Sort} (t : Tree ℕ sort) (xs : List (ℕ × Option ℕ)) {us : List FieldName} → fields_with_owners xs ≡ us → fields_with_owners (identifiers_without_owners t ++ xs) ≡ us
+after-plain : {sort : Sort} (t : Tree ℕ sort) (xs : List (ℕ × Option ℕ)) {us : List FieldIdentifier} → fields_with_owners xs ≡ us → fields_with_owners (identifiers_without_owners t ++ xs) ≡ us
 after-plain t xs e = among-both (identifiers_without_owners t) xs (plain-fields t) e
 
 mutual
@@ -168,7 +168,7 @@ sections-fields : (k : ℕ) (fs : Tree ℕ (items section_after_semicolon)) → 
 sections-fields k end = refl
 sections-fields k (more (semicolon_then_section f) fs) = among-both (identifier_owners_in_parameter_section k f) (identifier_owners_in_parameter_sections (k + constructor_count (parameter_section_type f)) fs) (section-fields k f) (sections-fields (k + constructor_count (parameter_section_type f)) fs)
 
-formals-fields : (k : ℕ) (fs : Tree ℕ (maybe formals)) → fields_with_owners (identifier_owners_in_formals k fs) ≡ fields_in_parameter_sections k (formal_sections fs)
+formals-fields : (k : ℕ) (fs : Tree ℕ (maybe formals)) → fields_with_owners (identifier_owners_in_formals k fs) ≡ fields_in_parameter_sections k (formal_parameter_sections fs)
 formals-fields k none = refl
 formals-fields k (one no_formals) = refl
 formals-fields k (one (some_formals f fs)) = among-both (identifier_owners_in_parameter_section k f) (identifier_owners_in_parameter_sections (k + constructor_count (parameter_section_type f)) fs) (section-fields k f) (sections-fields (k + constructor_count (parameter_section_type f)) fs)
@@ -177,11 +177,11 @@ mutual
   block-fields : {P : Type 0} (m : Meanings ℕ Shape P) (k : ℕ) (b : Tree ℕ block) → fields_with_owners (identifier_owners_in_block m k b) ≡ fields_in_block m k b
   block-fields m k (forms_block (declares cs ts vs ps) st) =
       let b : Tree ℕ block = forms_block (declares cs ts vs ps) st in
-      let V : List (ℕ × Option ℕ) = identifier_owners_in_variable_section (constructors_before_variables k b) vs in
-      let Q : List (ℕ × Option ℕ) = identifier_owners_in_procedures m (constructors_before_procedures k b) ps in
+      let V : List (ℕ × Option ℕ) = identifier_owners_in_variable_section (constructor_count_before_variables k b) vs in
+      let Q : List (ℕ × Option ℕ) = identifier_owners_in_procedures m (constructor_count_before_procedures k b) ps in
       among-both (identifiers_without_owners cs ++ (identifier_owners_in_type_section k ts ++ (V ++ Q))) (identifier_owners_in_tree m None st)
       (after-plain cs (identifier_owners_in_type_section k ts ++ (V ++ Q)) (among-both (identifier_owners_in_type_section k ts) (V ++ Q) (type_section-fields k ts)
-      (among-both V Q (variable_section-fields (constructors_before_variables k b) vs) (procedures-fields m (constructors_before_procedures k b) ps))))
+      (among-both V Q (variable_section-fields (constructor_count_before_variables k b) vs) (procedures-fields m (constructor_count_before_procedures k b) ps))))
       (fields_in_tree-fields m st)
 
   procedures-fields : {P : Type 0} (m : Meanings ℕ Shape P) (k : ℕ) (ps : Tree ℕ (items procedure)) → fields_with_owners (identifier_owners_in_procedures m k ps) ≡ fields_in_procedures m k ps
@@ -190,8 +190,8 @@ mutual
       let p : Tree ℕ (item procedure) = declares_procedure x fs b closing in
       let last : List (ℕ × Option ℕ) = (closing, None) ∷ [] in
       among-both (identifier_owners_in_procedure m k p) (identifier_owners_in_procedures m (k + procedure_constructor_count p) rest)
-      (among-both (identifier_owners_in_formals k fs) (identifier_owners_in_block m (constructors_before_procedure_block k p) b ++ last) (formals-fields k fs)
-      (among-both (identifier_owners_in_block m (constructors_before_procedure_block k p) b) last (block-fields m (constructors_before_procedure_block k p) b) refl ∙ append-nil (fields_in_block m (constructors_before_procedure_block k p) b)))
+      (among-both (identifier_owners_in_formals k fs) (identifier_owners_in_block m (constructor_count_before_procedure_block k p) b ++ last) (formals-fields k fs)
+      (among-both (identifier_owners_in_block m (constructor_count_before_procedure_block k p) b) last (block-fields m (constructor_count_before_procedure_block k p) b) refl ∙ append-nil (fields_in_block m (constructor_count_before_procedure_block k p) b)))
       (procedures-fields m (k + procedure_constructor_count p) rest)
 
 pub module-fields : {P : Type 0} (m : Meanings ℕ Shape P) (t : Tree ℕ module_text) → fields_with_owners (identifier_owners_in_module m t) ≡ fields_in_module m t

@@ -6,7 +6,7 @@ use Rattle.std.specs.Prelude.{◌≡◌, ℕ, true, is_some, List, [], ◌∷◌
 use Rattle.std.specs.List.{All}
 use Rattle.ob0_tree.specs.Tree.{Sort, Tree, names, array_type, declares, declares_procedure, declares_type, declares_type_section, declares_variable, declares_var_section, end, forms_block, forms_module, listed, more, none, one, record_type, some_fields, some_formals, semicolon_then_fields, semicolon_then_section, value_section, variable_section}
 use Rattle.ob0_tree.specs.ParsedModule.{named_tree_of, tree_of}
-use Rattle.ob0_tree.specs.Places.{token_text_at}
+use Rattle.ob0_tree.specs.TokenIndexLeaves.{token_text_at}
 use Rattle.ob0_language_names.specs.Names.{Name}
 use Rattle.ob0_scope_table.specs.Resolution.{IsResolution, Resolution}
 use Rattle.ob0_language_types.specs.Bindings.{declared_object}
@@ -14,15 +14,15 @@ use Rattle.ob0_language_types.specs.Expressions.{Meanings, Object}
 use Rattle.ob0_language_types.specs.Typing.{element_type, field_type, type_of_object}
 use Rattle.ob0_language_types.specs.WellTyped.{Signature, WellTyped}
 use Rattle.ob0_types_table.specs.FieldPlaces.{selected_field}
-use Rattle.ob0_types_table.specs.declared.known.FieldId.{FieldId}
+use Rattle.ob0_types_table.specs.declared.declaration_table.FieldId.{FieldId}
 use Rattle.ob0_language_values.specs.Values.{Shape, integer_shape}
-use Rattle.ob0_types_fields.specs.declared.field_name.FieldName.{FieldName}
-use Rattle.ob0_types_fields.specs.Identifiers.{field_identifiers}
+use Rattle.ob0_types_fields.specs.declared.field_identifier.FieldIdentifier.{FieldIdentifier}
+use Rattle.ob0_types_fields.specs.FieldIdentifiers.{field_identifiers}
 use Rattle.ob0_types_fields.specs.IdentifierOwners.{meanings_by_token}
 
 -- returns the first name of a list of names
-abbrev pub first_name_listed : {N : Type 0} → Tree N names → N
-first_name_listed (listed x rest) = x
+abbrev pub first_listed_name : {N : Type 0} → Tree N names → N
+first_listed_name (listed x rest) = x
 
 -- Returns the type that each ARRAY or RECORD in a tree constructs, in text order; None for an
 -- unknown type. `m` gives the meanings of names. If the tree is a written type, `t` is the type
@@ -42,18 +42,18 @@ constructed_types m t (array_type size of) =
     t ∷ constructed_types m (option_and_then (λ a. element_type a integer_shape) t) of
 constructed_types m t (record_type first others) = t ∷ (constructed_types m t first ++ constructed_types m t others)
 constructed_types m t (some_fields ns of) =
-    constructed_types m (option_and_then (λ r. field_type r (m.written (first_name_listed ns))) t) of
+    constructed_types m (option_and_then (λ r. field_type r (m.written (first_listed_name ns))) t) of
 constructed_types m t (semicolon_then_fields f) = constructed_types m t f
 constructed_types m t (some_formals first others) = constructed_types m t first ++ constructed_types m t others
 constructed_types m t (value_section ns of) =
-    constructed_types m (type_of_object (m.object_for (first_name_listed ns))) of
+    constructed_types m (type_of_object (m.object_for (first_listed_name ns))) of
 constructed_types m t (variable_section ns of) =
-    constructed_types m (type_of_object (m.object_for (first_name_listed ns))) of
+    constructed_types m (type_of_object (m.object_for (first_listed_name ns))) of
 constructed_types m t (semicolon_then_section s) = constructed_types m t s
 constructed_types m t (declares_type name of) = constructed_types m (type_of_object (m.object_for name)) of
 constructed_types m t (declares_type_section ts) = constructed_types m t ts
 constructed_types m t (declares_variable ns of) =
-    constructed_types m (type_of_object (m.object_for (first_name_listed ns))) of
+    constructed_types m (type_of_object (m.object_for (first_listed_name ns))) of
 constructed_types m t (declares_var_section vs) = constructed_types m t vs
 constructed_types m t (declares_procedure name fs b closing) = constructed_types m t fs ++ constructed_types m t b
 constructed_types m t (declares cs ts vs ps) =
@@ -91,7 +91,7 @@ typed_field_with_name s x =
 -- None if the field isn't found.
 abbrev pub typed_field_from_objects : (ℕ → Option (Object Shape Signature))
     → Resolution
-    → FieldName
+    → FieldIdentifier
     → Option TypedField
 typed_field_from_objects objects r x =
     option_and_then (λ s. typed_field_with_name s (token_text_at r.module_read.source x.token))
@@ -99,7 +99,7 @@ typed_field_from_objects objects r x =
 
 -- returns the field that an identifier of a module belongs to, with the field's type; None if the
 -- field isn't found
-abbrev pub typed_field : Resolution → FieldName → Option TypedField
+abbrev pub typed_field : Resolution → FieldIdentifier → Option TypedField
 typed_field r x = typed_field_from_objects (declared_object (named_tree_of r.module_read)) r x
 
 -- States that, for each field identifier of a well-typed module, `typed_field` returns a field and

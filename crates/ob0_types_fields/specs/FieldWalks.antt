@@ -3,13 +3,13 @@
 use Rattle.std.specs.Prelude.{ℕ, List, Option}
 use Rattle.ob0_tree.specs.Tree.{Tree, field, index, item, selector}
 use Rattle.ob0_language_types.specs.Expressions.{Meanings}
-use Rattle.ob0_types_table.specs.declared.known.RecordShape.{RecordShape}
-use Rattle.ob0_types_table.specs.declared.known.TypeEntry.TheVariants as made
+use Rattle.ob0_types_table.specs.declared.declaration_table.RecordShape.{RecordShape}
+use Rattle.ob0_types_table.specs.declared.declaration_table.TypeEntry.TheVariants as made
 use Rattle.ob0_types_table.specs.DeclarationTables.{declared_object_in, shapes_of}
 use Rattle.ob0_types_table.specs.DeclarationTableView.{entry_shape}
 use Rattle.ob0_language_types.specs.WellTyped.{Signature}
 use Rattle.ob0_language_values.specs.Values.{Shape}
-use Rattle.ob0_types_fields.specs.declared.field_name.FieldName.{FieldName}
+use Rattle.ob0_types_fields.specs.declared.field_identifier.FieldIdentifier.{FieldIdentifier}
 use Rattle.ob0_types_fields.specs.declared.field_walk.FieldWalk.{FieldWalk}
 use Rattle.ob0_types_fields.specs.IdentifierOwners.{field_if_owned, fields_in_tree, owner, meanings_by_token}
 
@@ -29,6 +29,6 @@ abbrev pub fields_in_selector : {P : Type 0}
     → Meanings ℕ Shape P
     → Option Shape
     → Tree ℕ (item selector)
-    → List FieldName
+    → List FieldIdentifier
 fields_in_selector m s (field x) = field_if_owned x (owner s (m.written x))
 fields_in_selector m s (index e) = fields_in_tree m e

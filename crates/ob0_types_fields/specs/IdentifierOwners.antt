@@ -7,29 +7,29 @@ use Rattle.ob0_tree.specs.declared.tree.Role.{Role}
 use Rattle.ob0_tree.specs.declared.tree.Role.TheVariants as role
 use Rattle.ob0_tree.specs.Tree.{Sort, Tree, GrammarItem, item, items, selector, maybe, adds, array_type, assigns, begins, block, branches, calls, compares, declares, declares_procedure, declares_type, declares_type_section, declares_variable, declares_var_section, designator, else_branch, elsif_branch, empty, end, field, fields, formals, fields_after_semicolon, section_after_semicolon, forms_block, identifiers, index, integer, forms_module, module_text, more, multiplies, named_type, negation, no_arguments, no_fields, no_formals, none, one, parenthesised, procedure, product, record_type, relates, repeat_loop, runs, section, some_arguments, some_fields, some_formals, sum, comma_then_argument, semicolon_then_fields, semicolon_then_section, semicolon_then_statement, type_definition, type_definitions, value_section, variable, variable_section, variables, while_loop, written_type}
 use Rattle.ob0_tree.specs.ParsedModule.{named_tree_of, tree_of}
-use Rattle.ob0_tree.specs.Places.{token_text_at}
+use Rattle.ob0_tree.specs.TokenIndexLeaves.{token_text_at}
 use Rattle.ob0_language_names.specs.Names.{Name}
-use Rattle.ob0_language_names.specs.BlockParts.{formal_sections, names_in_list, parameter_section_type, section_types, section_variables}
+use Rattle.ob0_language_names.specs.BlockParts.{formal_parameter_sections, names_in_list, parameter_section_type, section_types, section_variables}
 use Rattle.ob0_scope_table.specs.Resolution.{IsResolution, Resolution, ordinal_in}
 use Rattle.ob0_language_types.specs.Bindings.{declared_object}
-use Rattle.ob0_language_types.specs.Declarations.{constructors_before_procedure_block, constructors_before_variables, constructors_before_procedures, procedure_constructor_count}
+use Rattle.ob0_language_types.specs.Declarations.{constructor_count_before_procedure_block, constructor_count_before_variables, constructor_count_before_procedures, procedure_constructor_count}
 use Rattle.ob0_language_types.specs.Expressions.{Meanings, Object}
 use Rattle.ob0_types_table.specs.FieldPlaces.{selected_field}
 use Rattle.ob0_language_types.specs.Typing.{constructor_count, element_type, field_type, group_constructor_count, type_of_variable_or_constant}
 use Rattle.ob0_language_types.specs.WellTyped.{Signature, WellTyped}
 use Rattle.ob0_language_values.specs.Values.{Shape, integer_shape}
-use Rattle.ob0_types_fields.specs.declared.field_name.FieldName.{FieldName}
+use Rattle.ob0_types_fields.specs.declared.field_identifier.FieldIdentifier.{FieldIdentifier}
 use Rattle.ob0_types_fields.specs.OwnerTables.{IsOwnerTable}
 
 -- returns the identifiers of a list without their roles: each is a pair of the identifier's token index and None,
 -- because it has no owner
-abbrev pub unowned_identifiers : List (Role × ℕ) → List (ℕ × Option ℕ)
-unowned_identifiers xs = map (λ x. (x.1, None)) xs
+abbrev pub replace_roles_by_no_owner : List (Role × ℕ) → List (ℕ × Option ℕ)
+replace_roles_by_no_owner xs = map (λ x. (x.1, None)) xs
 
 -- returns the identifiers of a tree that has no field identifiers, in text order; each is a pair of the identifier's
 -- token index and None, because it has no owner
 abbrev pub identifiers_without_owners : {s : Sort} → Tree ℕ s → List (ℕ × Option ℕ)
-identifiers_without_owners t = unowned_identifiers (identifiers role.Declaring t)
+identifiers_without_owners t = replace_roles_by_no_owner (identifiers role.DeclaringName t)
 
 -- returns the type of a designator including one more selector, given the type `s` before this selector; returns None
 -- if `s` is unknown (None) or has no such field or element; for a tree that isn't a selector, returns `s`
@@ -169,8 +169,8 @@ abbrev mutual
   pub identifier_owners_in_block : {P : Type 0} → Meanings ℕ Shape P → ℕ → Tree ℕ block → List (ℕ × Option ℕ)
   identifier_owners_in_block m k (forms_block (declares cs ts vs ps) statements) =
       (identifiers_without_owners cs ++ (identifier_owners_in_type_section k ts
-      ++ (identifier_owners_in_variable_section (constructors_before_variables k (forms_block (declares cs ts vs ps) statements)) vs
-      ++ identifier_owners_in_procedures m (constructors_before_procedures k (forms_block (declares cs ts vs ps) statements)) ps)))
+      ++ (identifier_owners_in_variable_section (constructor_count_before_variables k (forms_block (declares cs ts vs ps) statements)) vs
+      ++ identifier_owners_in_procedures m (constructor_count_before_procedures k (forms_block (declares cs ts vs ps) statements)) ps)))
       ++ identifier_owners_in_tree m None statements
 
   -- returns the identifiers of the procedures of a block with their owners, in text order; `k` is the number of words
@@ -194,7 +194,7 @@ abbrev mutual
   identifier_owners_in_procedure m k (declares_procedure x fs b closing) =
       (x, None)
       ∷ (identifier_owners_in_formals k fs
-      ++ (identifier_owners_in_block m (constructors_before_procedure_block k (declares_procedure x fs b closing)) b
+      ++ (identifier_owners_in_block m (constructor_count_before_procedure_block k (declares_procedure x fs b closing)) b
       ++ ((closing, None) ∷ [])))
 
 -- returns the identifiers of a module with their owners, in text order
@@ -240,14 +240,14 @@ AgreeingTableIsOwnerTable =
     → IsOwnerTable r.module_read owners
 
 -- returns the identifiers in a list that have an owner; these are the field identifiers
-abbrev pub fields_with_owners : List (ℕ × Option ℕ) → List FieldName
+abbrev pub fields_with_owners : List (ℕ × Option ℕ) → List FieldIdentifier
 fields_with_owners [] = []
 fields_with_owners ((x, None) ∷ xs) = fields_with_owners xs
 fields_with_owners ((x, Some k) ∷ xs) = record { token = x; owner = k } ∷ fields_with_owners xs
 
 -- returns the table `table` with the owner (the record's ordinal) of each of these field identifiers entered at the
 -- index of the identifier's token
-abbrev pub table_with_owners : List (Option ℕ) → List FieldName → List (Option ℕ)
+abbrev pub table_with_owners : List (Option ℕ) → List FieldIdentifier → List (Option ℕ)
 table_with_owners table [] = table
 table_with_owners table (f ∷ fs) = table_with_owners (set table f.token (Some f.owner)) fs
 
@@ -265,7 +265,7 @@ TableWithEnteredOwnersIsOwnerTable =
 
 -- returns a list with the field identifier at token `x` if it has an owner (the ordinal of its record), otherwise an
 -- empty list
-abbrev pub field_if_owned : ℕ → Option ℕ → List FieldName
+abbrev pub field_if_owned : ℕ → Option ℕ → List FieldIdentifier
 field_if_owned x None = []
 field_if_owned x (Some k) = record { token = x; owner = k } ∷ []
 
@@ -273,7 +273,7 @@ field_if_owned x (Some k) = record { token = x; owner = k } ∷ []
 abbrev mutual
   -- returns the field identifiers in a statement or a part of a statement, in text order; an empty list if there are
   -- none; the fields of selectors are found with their designator, by `fields_in_path`
-  pub fields_in_tree : {P : Type 0} {s : Sort} → Meanings ℕ Shape P → Tree ℕ s → List FieldName
+  pub fields_in_tree : {P : Type 0} {s : Sort} → Meanings ℕ Shape P → Tree ℕ s → List FieldIdentifier
   fields_in_tree m none = []
   fields_in_tree m (one a) = fields_in_tree m a
   fields_in_tree m end = []
@@ -312,7 +312,7 @@ abbrev mutual
       → Meanings ℕ Shape P
       → Option Shape
       → Tree ℕ (items selector)
-      → List FieldName
+      → List FieldIdentifier
   fields_in_path m s end = []
   fields_in_path m s (more (field x) rest) =
       field_if_owned x (owner s (m.written x))
@@ -321,7 +321,7 @@ abbrev mutual
       fields_in_tree m e ++ fields_in_path m (option_and_then (λ t. element_type t integer_shape) s) rest
 
 -- returns the names at these tokens as field identifiers of the record with ordinal `r`
-abbrev pub fields_at_tokens : ℕ → List ℕ → List FieldName
+abbrev pub fields_at_tokens : ℕ → List ℕ → List FieldIdentifier
 fields_at_tokens r xs = map (λ x. record { token = x; owner = r }) xs
 
 -- Returns the fields that a written type or a part of it declares. `k` is the number of words ARRAY and RECORD before
@@ -329,7 +329,7 @@ fields_at_tokens r xs = map (λ x. record { token = x; owner = r }) xs
 abbrev mutual
   -- returns the fields that a written type declares, in text order; `k` is the number of words ARRAY and RECORD before
   -- the type; an array's length declares no fields
-  pub fields_in_type : ℕ → Tree ℕ written_type → List FieldName
+  pub fields_in_type : ℕ → Tree ℕ written_type → List FieldIdentifier
   fields_in_type k (named_type x) = []
   fields_in_type k (array_type e t) = fields_in_type (suc k) t
   fields_in_type k (record_type g rest) =
@@ -337,46 +337,46 @@ abbrev mutual
 
   -- returns the fields of a group, which belong to the record with ordinal `r`, then the fields that the group's type
   -- declares; `k` is the number of words ARRAY and RECORD before that type
-  pub fields_in_group : ℕ → ℕ → Tree ℕ fields → List FieldName
+  pub fields_in_group : ℕ → ℕ → Tree ℕ fields → List FieldIdentifier
   fields_in_group r k no_fields = []
   fields_in_group r k (some_fields ns t) = fields_at_tokens r (names_in_list ns) ++ fields_in_type k t
 
   -- returns the fields that a record's groups of fields after the first group declare, in text order; the record has
   -- ordinal `r`, and `k` is the number of words ARRAY and RECORD before these groups
-  pub fields_in_groups : ℕ → ℕ → Tree ℕ (items fields_after_semicolon) → List FieldName
+  pub fields_in_groups : ℕ → ℕ → Tree ℕ (items fields_after_semicolon) → List FieldIdentifier
   fields_in_groups r k end = []
   fields_in_groups r k (more (semicolon_then_fields g) rest) =
       fields_in_group r k g ++ fields_in_groups r (k + group_constructor_count g) rest
 
 -- returns the fields that type declarations declare; `k` is the number of words ARRAY and RECORD before the
 -- declarations
-abbrev pub fields_in_types : ℕ → Tree ℕ (items type_definition) → List FieldName
+abbrev pub fields_in_types : ℕ → Tree ℕ (items type_definition) → List FieldIdentifier
 fields_in_types k end = []
 fields_in_types k (more (declares_type x u) ds) =
     fields_in_type k u ++ fields_in_types (k + constructor_count u) ds
 
 -- returns the fields that variable declarations declare; `k` is the number of words ARRAY and RECORD before the
 -- declarations
-abbrev pub fields_in_variables : ℕ → Tree ℕ (items variable) → List FieldName
+abbrev pub fields_in_variables : ℕ → Tree ℕ (items variable) → List FieldIdentifier
 fields_in_variables k end = []
 fields_in_variables k (more (declares_variable ns u) gs) =
     fields_in_type k u ++ fields_in_variables (k + constructor_count u) gs
 
 -- returns the fields that sections of parameters declare; `k` is the number of words ARRAY and RECORD before the
 -- sections
-abbrev pub fields_in_parameter_sections : ℕ → Tree ℕ (items section_after_semicolon) → List FieldName
+abbrev pub fields_in_parameter_sections : ℕ → Tree ℕ (items section_after_semicolon) → List FieldIdentifier
 fields_in_parameter_sections k end = []
 fields_in_parameter_sections k (more (semicolon_then_section f) fs) =
     fields_in_type k (parameter_section_type f) ++ fields_in_parameter_sections (k + constructor_count (parameter_section_type f)) fs
 
 abbrev mutual
   -- returns the fields that a block declares and selects; `k` is the number of words ARRAY and RECORD before the block
-  pub fields_in_block : {P : Type 0} → Meanings ℕ Shape P → ℕ → Tree ℕ block → List FieldName
+  pub fields_in_block : {P : Type 0} → Meanings ℕ Shape P → ℕ → Tree ℕ block → List FieldIdentifier
   fields_in_block m k (forms_block (declares cs ts vs ps) statements) =
       (fields_in_types k (section_types ts)
-      ++ (fields_in_variables (constructors_before_variables k (forms_block (declares cs ts vs ps) statements))
+      ++ (fields_in_variables (constructor_count_before_variables k (forms_block (declares cs ts vs ps) statements))
       (section_variables vs)
-      ++ fields_in_procedures m (constructors_before_procedures k (forms_block (declares cs ts vs ps) statements)) ps))
+      ++ fields_in_procedures m (constructor_count_before_procedures k (forms_block (declares cs ts vs ps) statements)) ps))
       ++ fields_in_tree m statements
 
   -- returns the fields that procedures declare and select, in text order; `k` is the number of words ARRAY and RECORD
@@ -385,7 +385,7 @@ abbrev mutual
       → Meanings ℕ Shape P
       → ℕ
       → Tree ℕ (items procedure)
-      → List FieldName
+      → List FieldIdentifier
   fields_in_procedures m k end = []
   fields_in_procedures m k (more p rest) =
       fields_in_procedure m k p ++ fields_in_procedures m (k + procedure_constructor_count p) rest
@@ -396,13 +396,13 @@ abbrev mutual
       → Meanings ℕ Shape P
       → ℕ
       → Tree ℕ (item procedure)
-      → List FieldName
+      → List FieldIdentifier
   fields_in_procedure m k (declares_procedure x fs b closing) =
-      fields_in_parameter_sections k (formal_sections fs)
-      ++ fields_in_block m (constructors_before_procedure_block k (declares_procedure x fs b closing)) b
+      fields_in_parameter_sections k (formal_parameter_sections fs)
+      ++ fields_in_block m (constructor_count_before_procedure_block k (declares_procedure x fs b closing)) b
 
 -- returns the field identifiers of a module that a walk over its tree finds, in text order
-abbrev pub fields_in_module : {P : Type 0} → Meanings ℕ Shape P → Tree ℕ module_text → List FieldName
+abbrev pub fields_in_module : {P : Type 0} → Meanings ℕ Shape P → Tree ℕ module_text → List FieldIdentifier
 fields_in_module m (forms_module x b closing) = fields_in_block m 0 b
 
 -- States that the code's walk over a module (`fields_in_module`) finds exactly the identifiers of the list

@@ -5,12 +5,12 @@ use Rattle.std.specs.Prelude.{◌≡◌, ℕ, Bool, ◌&&◌, List, Option, Some
 use Rattle.ob0_scan.specs.TextWithTokens.{TextWithTokens}
 use Rattle.ob0_tree.specs.Tree.{mapped_tree}
 use Rattle.ob0_tree.specs.ParsedModule.{ParsedModule, named_tree_of, tree_of}
-use Rattle.ob0_tree.specs.Places.{token_text_at, token_value_at}
+use Rattle.ob0_tree.specs.TokenIndexLeaves.{token_text_at, token_value_at}
 use Rattle.ob0_language_names.specs.Names.{Name, same_name}
 use Rattle.ob0_scope_table.specs.Resolution.{ordinal_in}
 use Rattle.ob0_language_names.specs.Scopes.{same_ordinal}
-use Rattle.ob0_language_fields.specs.Fields.{FieldRenaming, rename_fields_in_module}
-use Rattle.ob0_language_fields.specs.Renaming.{module_with_renamed_field}
+use Rattle.ob0_language_fields.specs.RenamedFields.{FieldRenaming, rename_fields_in_module}
+use Rattle.ob0_language_fields.specs.SingleFieldRenaming.{module_with_renamed_field}
 
 -- Returns a renaming of fields. The field `x` of the record with ordinal `k` gets the name `l k x`.
 -- If the record isn't known (None), the field keeps its name.

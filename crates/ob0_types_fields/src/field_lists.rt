@@ -25,20 +25,20 @@ ghost use Rattle.std.specs.Prelude.{◌≡◌, ◌++◌, List, [], false, true, 
 ghost use Rattle.std.specs.List.{position_from};
 ghost use Rattle.std.specs.List.Sorted.{IsNonDecreasingBy, IsPartitionPoint};
 ghost use Rattle.ob0_tree.specs.ParsedModule.{tree_of};
-ghost use Rattle.ob0_tree.specs.Places.{token_text_at};
+ghost use Rattle.ob0_tree.specs.TokenIndexLeaves.{token_text_at};
 ghost use Rattle.ob0_tree.specs.View.{body_of};
 ghost use Rattle.ob0_language_names.specs.Names.{same_name};
 ghost use Rattle.ob0_types_table.specs.DeclarationTables.{declared_object_in};
-ghost use Rattle.ob0_types_fields.specs.declared.field_name.FieldName.{FieldName};
-ghost use Rattle.ob0_types_fields.specs.Identifiers.{AreInTextOrder, declared_fields, field_at_offset, first_token, field_tokens_of_record, tokens_of_field};
-ghost use Rattle.ob0_types_fields.specs.FieldLists.{HasSameTokensIfReplaced, field_with_shifted_token, fields_before_token, fields_at_or_after_token, all_fields_if_any_declared, field_lists_of, old_token_index, new_token_index, overwritten_fields};
+ghost use Rattle.ob0_types_fields.specs.declared.field_identifier.FieldIdentifier.{FieldIdentifier};
+ghost use Rattle.ob0_types_fields.specs.FieldIdentifiers.{AreInTextOrder, declared_fields, field_at_offset, first_token, field_tokens_of_record, tokens_of_field};
+ghost use Rattle.ob0_types_fields.specs.FieldLists.{ReplacesFieldsAtSameTokens, field_with_shifted_token, fields_before_token, fields_at_or_after_token, all_fields_if_any_declared, field_lists_of, old_token_index, new_token_index, overwritten_fields};
 ghost use Rattle.ob0_types_fields.specs.IdentifierOwners.{fields_in_module, fields_in_tree, meanings_by_token};
 
-use crate::declaring::add_block_declared_fields;
+use crate::declared_block_fields::add_fields_declared_in_block;
+use crate::field_identifier::{FieldIdentifier, FieldIdentifierList};
 use crate::field_lookups::{
-    field_at_offset, first_token_of_field, position_in_record, tokens_of_field,
+    field_at_offset, field_position_in_record, first_token_of_field, tokens_of_field,
 };
-use crate::field_name::{FieldName, FieldNameList};
 use crate::field_walk::FieldWalk;
 use ob0_scan::{CommonPrefixAndSuffix, Tokens};
 use ob0_scope_table::{BodyBounds, Resolved};
@@ -51,8 +51,8 @@ use std::marker::Model;
 /// that declare a field. `all` has these and the identifiers that select a field.
 #[derive(Drop)]
 pub struct ModuleFields {
-    declared: FieldNameList,
-    all: FieldNameList,
+    declared: FieldIdentifierList,
+    all: FieldIdentifierList,
 }
 
 impl Model for ModuleFields {
@@ -101,8 +101,8 @@ impl ModuleFields {
         statements: &Option<Vec<Statement>>,
     ) -> Result<ModuleFields, AllocError>
         ensures declared { IfOk result (λ f. f.declared ≡ self.declared) }
-        ensures all { IfOk result (λ f. (before after : List FieldName)
-            → HasSameTokensIfReplaced self.all before (fields_in_tree (meanings_by_token (declared_object_in table.now)
+        ensures all { IfOk result (λ f. (before after : List FieldIdentifier)
+            → ReplacesFieldsAtSameTokens self.all before (fields_in_tree (meanings_by_token (declared_object_in table.now)
             resolved.now) (body_of statements.now)) after
             → f.all
             ≡ before ++ (fields_in_tree (meanings_by_token (declared_object_in table.now) resolved.now)
@@ -140,7 +140,7 @@ impl ModuleFields {
     {
         let walk = FieldWalk { table, resolved };
         let mut all = Vec::with_capacity(alloc, self.all.len())?;
-        add_fields_before(&mut all, &self.all, place.first)?;
+        add_fields_before_token(&mut all, &self.all, place.first)?;
         walk.add_body_fields(&mut all, statements)?;
         add_fields_with_shifted_tokens(
             &mut all,
@@ -156,7 +156,11 @@ impl ModuleFields {
     /// Returns the first field identifier in the list `all` that contains the byte offset `offset`
     /// or ends there. Returns None if there is none. `tokens` must be the tokens of the text for
     /// which the list was made.
-    pub fn field_identifier_at_offset(&self, tokens: &Tokens, offset: usize) -> Option<FieldName>
+    pub fn field_identifier_at_offset(
+        &self,
+        tokens: &Tokens,
+        offset: usize,
+    ) -> Option<FieldIdentifier>
         ensures { AreInTextOrder tokens.now self.now.all
             → result ≡ field_at_offset tokens.now offset self.now.all }
     {
@@ -198,29 +202,29 @@ impl ModuleFields {
             ≡ position_from (λ token. same_name (token_text_at tokens.now token) name.now) 0
             (field_tokens_of_record owner self.now.declared) }
     {
-        position_in_record(tokens, &self.declared, owner, name)
+        field_position_in_record(tokens, &self.declared, owner, name)
     }
 }
 
 /// Replaces fields of the list `all` with the fields in `found`. Each field in `found` replaces the
 /// field of `all` that is at the same token. The replaced fields must be consecutive in `all`,
 /// which must be in text order.
-fn replace_fields_at_tokens(all: &mut FieldNameList, found: &[FieldName])
-    ensures { (before after : List FieldName) → HasSameTokensIfReplaced all.old.items before found.now after
+fn replace_fields_at_tokens(all: &mut FieldIdentifierList, found: &[FieldIdentifier])
+    ensures { (before after : List FieldIdentifier) → ReplacesFieldsAtSameTokens all.old.items before found.now after
         → all.new.items ≡ before ++ (found.now ++ after) }
 {
     match found.first() {
         None => (),
         Some(first) => {
-            let start = count_fields_before(all, first.token);
-            overwrite_fields_from(all, start, found);
+            let start = count_fields_before_token(all, first.token);
+            overwrite_fields_from_index(all, start, found);
         }
     }
 }
 
 /// Returns the number of fields in the list `all` whose token indexes are less than `token`. The
 /// list must be sorted by token index.
-fn count_fields_before(all: &[FieldName], token: usize) -> usize
+fn count_fields_before_token(all: &[FieldIdentifier], token: usize) -> usize
     ensures { IsNonDecreasingBy (λ x. x.token) all.now
         → IsPartitionPoint (λ x. nat_lt x.token token ≡ true)
         (λ x. nat_lt x.token token ≡ false) all.now result }
@@ -230,7 +234,11 @@ fn count_fields_before(all: &[FieldName], token: usize) -> usize
 
 /// Overwrites fields of the list `all` with the fields in `found`, starting at index `start` of
 /// `all`. Fields in `found` that would lie after the end of `all` are ignored.
-fn overwrite_fields_from(all: &mut FieldNameList, start: usize, found: &[FieldName])
+fn overwrite_fields_from_index(
+    all: &mut FieldIdentifierList,
+    start: usize,
+    found: &[FieldIdentifier],
+)
     ensures { all.new.items ≡ overwritten_fields all.old.items start found.now }
 {
     let mut place = start;
@@ -268,9 +276,9 @@ fn old_token_index(token: usize, same: CommonPrefixAndSuffix) -> usize
 }
 
 /// Appends to `found` the items of the list `fields` whose token indexes are less than `token`.
-fn add_fields_before(
-    found: &mut FieldNameList,
-    fields: &[FieldName],
+fn add_fields_before_token(
+    found: &mut FieldIdentifierList,
+    fields: &[FieldIdentifier],
     token: usize,
 ) -> Result<(), AllocError>
     ensures { OnOk result (found.new.items ≡ found.old.items ++ fields_before_token token fields.now) }
@@ -287,8 +295,8 @@ fn add_fields_before(
 /// `token` or more. Each appended item gets its token's index in the new text. `same` specifies the
 /// unchanged tokens.
 fn add_fields_with_shifted_tokens(
-    found: &mut FieldNameList,
-    fields: &[FieldName],
+    found: &mut FieldIdentifierList,
+    fields: &[FieldIdentifier],
     token: usize,
     same: CommonPrefixAndSuffix,
 ) -> Result<(), AllocError>
@@ -297,7 +305,7 @@ fn add_fields_with_shifted_tokens(
 {
     for field in fields {
         if field.token >= token {
-            let moved = FieldName {
+            let moved = FieldIdentifier {
                 token: new_token_index(field.token, same),
                 owner: field.owner,
             };
@@ -309,12 +317,15 @@ fn add_fields_with_shifted_tokens(
 
 /// Returns the identifiers that declare the fields of a module, in text order, each with the
 /// ordinal of its record.
-fn declared_fields(alloc: Global, resolved: &Resolved<'_>) -> Result<FieldNameList, AllocError>
+fn declared_fields(
+    alloc: Global,
+    resolved: &Resolved<'_>,
+) -> Result<FieldIdentifierList, AllocError>
     ensures { IfOk result (λ found. found.items ≡ declared_fields resolved.now.module_read) }
 {
     let mut found = Vec::new(alloc);
     let mut word_count = 0;
-    add_block_declared_fields(&mut found, &mut word_count, resolved.module().block())?;
+    add_fields_declared_in_block(&mut found, &mut word_count, resolved.module().block())?;
     Ok(found)
 }
 
@@ -324,8 +335,8 @@ fn all_fields_if_any_declared<'a, 't>(
     alloc: Global,
     table: &'a DeclarationTable,
     resolved: &'a Resolved<'t>,
-    declared: &[FieldName],
-) -> Result<FieldNameList, AllocError>
+    declared: &[FieldIdentifier],
+) -> Result<FieldIdentifierList, AllocError>
     ensures { IfOk result (λ found. found.items
         ≡ all_fields_if_any_declared declared.now
         (fields_in_module (meanings_by_token (declared_object_in table.now) resolved.now)
@@ -344,7 +355,7 @@ fn find_fields<'a, 't>(
     alloc: Global,
     table: &'a DeclarationTable,
     resolved: &'a Resolved<'t>,
-) -> Result<FieldNameList, AllocError>
+) -> Result<FieldIdentifierList, AllocError>
     ensures { IfOk result (λ found. found.items
         ≡ fields_in_module (meanings_by_token (declared_object_in table.now) resolved.now)
         (tree_of resolved.now.module_read)) }

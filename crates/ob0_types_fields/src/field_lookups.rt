@@ -3,13 +3,13 @@
 ghost use Rattle.std.specs.Prelude.{◌≡◌, ◌≤◌, IfOk, None, Some, false, if◌then◌else◌, length, nat_lt, true};
 ghost use Rattle.std.specs.List.{position_from};
 ghost use Rattle.std.specs.List.Sorted.{IsNonDecreasingBy, IsPartitionPoint};
-ghost use Rattle.ob0_tree.specs.Places.{token_text_at};
+ghost use Rattle.ob0_tree.specs.TokenIndexLeaves.{token_text_at};
 ghost use Rattle.ob0_language_names.specs.Names.{same_name};
-ghost use Rattle.ob0_scope_table.specs.Resolution.{span_at};
+ghost use Rattle.ob0_scope_table.specs.Resolution.{token_span};
 ghost use Rattle.ob0_scope_table.specs.Spans.{is_in_span_or_at_end};
-ghost use Rattle.ob0_types_fields.specs.Identifiers.{AreInTextOrder, field_at_offset, first_token, belongs_to_field, field_tokens_of_record, tokens_of_field};
+ghost use Rattle.ob0_types_fields.specs.FieldIdentifiers.{AreInTextOrder, field_at_offset, first_token, belongs_to_field, field_tokens_of_record, tokens_of_field};
 
-use crate::field_name::FieldName;
+use crate::field_identifier::FieldIdentifier;
 use ob0_scan::{Span, Tokens};
 use ob0_scope_table::{has_spelling, token_span};
 use std::alloc::{AllocError, Global};
@@ -21,13 +21,13 @@ use std::alloc::{AllocError, Global};
 pub(crate) fn field_at_offset(
     tokens: &Tokens,
     offset: usize,
-    found: &[FieldName],
-) -> Option<FieldName>
+    found: &[FieldIdentifier],
+) -> Option<FieldIdentifier>
     ensures { AreInTextOrder tokens.now found.now → result ≡ field_at_offset tokens.now offset found.now }
 {
     // The proof uses the invariant of the tokens, which this call's contract states.
     let _scanned = tokens.text();
-    match found.get(count_fields_ending_before(tokens, offset, found)) {
+    match found.get(count_fields_ending_before_offset(tokens, offset, found)) {
         Some(field) => field_if_at_offset(tokens, offset, *field),
         None => None,
     }
@@ -35,19 +35,27 @@ pub(crate) fn field_at_offset(
 
 /// Returns the number of identifiers in the list `found` that end before the byte offset `offset`.
 /// The list must be sorted by the ends of its identifiers.
-fn count_fields_ending_before(tokens: &Tokens, offset: usize, found: &[FieldName]) -> usize
+fn count_fields_ending_before_offset(
+    tokens: &Tokens,
+    offset: usize,
+    found: &[FieldIdentifier],
+) -> usize
     ensures bound { result ≤ length found.now }
-    ensures point { IsNonDecreasingBy (λ x. (span_at tokens.now x.token).end) found.now
-        → IsPartitionPoint (λ x. nat_lt (span_at tokens.now x.token).end offset ≡ true)
-        (λ x. nat_lt (span_at tokens.now x.token).end offset ≡ false) found.now result }
+    ensures point { IsNonDecreasingBy (λ x. (token_span tokens.now x.token).end) found.now
+        → IsPartitionPoint (λ x. nat_lt (token_span tokens.now x.token).end offset ≡ true)
+        (λ x. nat_lt (token_span tokens.now x.token).end offset ≡ false) found.now result }
 {
     found.partition_point(|field| (token_span(tokens, field.token).end as usize) < offset)
 }
 
 /// Returns the identifier `field` if it contains the byte offset `offset` or ends there, otherwise
 /// None.
-fn field_if_at_offset(tokens: &Tokens, offset: usize, field: FieldName) -> Option<FieldName>
-    ensures { result ≡ (if is_in_span_or_at_end offset (span_at tokens.now field.token) then Some field else None) }
+fn field_if_at_offset(
+    tokens: &Tokens,
+    offset: usize,
+    field: FieldIdentifier,
+) -> Option<FieldIdentifier>
+    ensures { result ≡ (if is_in_span_or_at_end offset (token_span tokens.now field.token) then Some field else None) }
 {
     if is_in_span_or_at_end(offset, token_span(tokens, field.token)) {
         Some(field)
@@ -66,9 +74,9 @@ fn is_in_span_or_at_end(offset: usize, span: Span) -> bool
 /// Returns the position of the field `name` among the items of the list `fields` that belong to the
 /// record with ordinal `owner`, counted from 0. A record's ordinal is the number of words ARRAY and
 /// RECORD before the record in the text. Returns None if no such item has this name.
-pub(crate) fn position_in_record(
+pub(crate) fn field_position_in_record(
     tokens: &Tokens,
-    fields: &[FieldName],
+    fields: &[FieldIdentifier],
     owner: usize,
     name: &str,
 ) -> Option<usize>
@@ -94,7 +102,7 @@ pub(crate) fn position_in_record(
 pub(crate) fn tokens_of_field(
     alloc: Global,
     tokens: &Tokens,
-    fields: &[FieldName],
+    fields: &[FieldIdentifier],
     owner: usize,
     name: &str,
 ) -> Result<Vec<usize>, AllocError>
@@ -115,7 +123,7 @@ pub(crate) fn tokens_of_field(
 /// RECORD before the record in the text. Returns None if there is no such identifier.
 pub(crate) fn first_token_of_field(
     tokens: &Tokens,
-    fields: &[FieldName],
+    fields: &[FieldIdentifier],
     owner: usize,
     name: &str,
 ) -> Option<usize>
@@ -131,7 +139,7 @@ pub(crate) fn first_token_of_field(
 
 /// Returns whether the identifier `field` has the spelling `name` and belongs to the record with
 /// ordinal `owner`.
-fn belongs_to_field(tokens: &Tokens, field: FieldName, owner: usize, name: &str) -> bool
+fn belongs_to_field(tokens: &Tokens, field: FieldIdentifier, owner: usize, name: &str) -> bool
     ensures { result ≡ belongs_to_field tokens.now owner name.now field }
 {
     field.owner == owner && has_spelling(tokens, field.token, name)

@@ -10,7 +10,7 @@
 //! depend on the stored ordinals.
 //!
 //! Each function of the walk visits one part of the module. It takes the state of the search before
-//! this part and returns the state after this part (`ConstructorSearch`). So all the functions'
+//! this part and returns the state after this part (`TypeConstructorSearch`). So all the functions'
 //! contracts have the same form (`state_after_constructors`). When the type is found, the remaining
 //! procedures are skipped.
 
@@ -21,9 +21,9 @@ ghost use Rattle.ob0_types_table.specs.DeclarationTables.{declared_object_in, sh
 ghost use Rattle.ob0_types_table.specs.DeclarationTableView.{type_shape};
 ghost use Rattle.ob0_language_values.specs.Values.{Shape, integer_shape};
 ghost use Rattle.ob0_types_fields.specs.FieldTypes.{constructed_types, constructed_type_from_objects, typed_field_from_objects};
-ghost use Rattle.ob0_types_fields.specs.ConstructorSearch.{state_after_constructors, state_after_constructor, constructor_walk_meanings, search_view, search_view_in_walk, shape_in_walk, typed_field_view};
+ghost use Rattle.ob0_types_fields.specs.TypeConstructorSearch.{state_after_constructors, state_after_constructor, constructor_walk_meanings, search_view, search_view_in_walk, shape_in_walk, typed_field_view};
 
-use crate::field_name::FieldName;
+use crate::field_identifier::FieldIdentifier;
 use ob0_scope_table::Resolved;
 use ob0_tree::{
     Block, FieldGroup, OptionalFieldGroup, ParameterSection, Procedure, RecordType,
@@ -44,7 +44,7 @@ pub struct TypedField {
 pub fn typed_field<'a, 't>(
     table: &'a DeclarationTable,
     resolved: &'a Resolved<'t>,
-    identifier: FieldName,
+    identifier: FieldIdentifier,
 ) -> Option<TypedField>
     ensures { option_map (typed_field_view (shapes_of table.now)) result
         ≡ typed_field_from_objects (declared_object_in table.now) resolved.now identifier }
@@ -67,40 +67,40 @@ fn constructed_type<'a, 't>(
     ensures { option_map (type_shape (shapes_of table.now)) result
         ≡ constructed_type_from_objects (declared_object_in table.now) resolved.now ordinal }
 {
-    let walk = ConstructorWalk { table, resolved };
+    let walk = TypeConstructorWalk { table, resolved };
     match walk.search_block(
-        ConstructorSearch::Skipping(ordinal),
+        TypeConstructorSearch::Skipping(ordinal),
         resolved.module().block(),
     ) {
-        ConstructorSearch::Found(of) => of,
-        ConstructorSearch::Skipping(_) => None,
+        TypeConstructorSearch::Found(of) => of,
+        TypeConstructorSearch::Skipping(_) => None,
     }
 }
 
 /// The state of a search for the word ARRAY or RECORD with a given ordinal.
 #[derive(Clone, Copy)]
-enum ConstructorSearch {
+enum TypeConstructorSearch {
     /// The word isn't found yet. The number is how many more words ARRAY and RECORD come before it.
     Skipping(usize),
     /// The word is found: the type that it constructs, or None if this type is unknown.
     Found(Option<TypeId>),
 }
 
-impl ConstructorSearch {
+impl TypeConstructorSearch {
     /// Returns the state of the search after one more word ARRAY or RECORD, given the state before
     /// this word. The word constructs the type `of`, or an unknown type if `of` is None.
-    fn after_constructor(self, of: Option<TypeId>) -> ConstructorSearch
+    fn after_constructor(self, of: Option<TypeId>) -> TypeConstructorSearch
         ensures { (shapes : List Shape)
             → search_view shapes result
             ≡ state_after_constructor (search_view shapes self) (option_map (type_shape shapes) of) }
     {
         match self {
-            ConstructorSearch::Found(found) => ConstructorSearch::Found(found),
-            ConstructorSearch::Skipping(n) => {
+            TypeConstructorSearch::Found(found) => TypeConstructorSearch::Found(found),
+            TypeConstructorSearch::Skipping(n) => {
                 if n == 0 {
-                    ConstructorSearch::Found(of)
+                    TypeConstructorSearch::Found(of)
                 } else {
-                    ConstructorSearch::Skipping(n - 1)
+                    TypeConstructorSearch::Skipping(n - 1)
                 }
             }
         }
@@ -110,12 +110,12 @@ impl ConstructorSearch {
 /// The module in which a walk searches for an ARRAY or RECORD, with the table of the module's
 /// declarations.
 #[derive(Clone, Copy)]
-struct ConstructorWalk<'a, 't> {
+struct TypeConstructorWalk<'a, 't> {
     table: &'a DeclarationTable,
     resolved: &'a Resolved<'t>,
 }
 
-impl<'a, 't> ConstructorWalk<'a, 't> {
+impl<'a, 't> TypeConstructorWalk<'a, 't> {
     /// Returns the type that the name at the token `token` means, or the type of the variable,
     /// parameter or constant that the name means. Returns None if the name is unbound or means
     /// anything else, or if the type is unknown.
@@ -132,7 +132,7 @@ impl<'a, 't> ConstructorWalk<'a, 't> {
         ensures { shape_in_walk self.now result
             ≡ option_and_then (λ a. element_type a integer_shape) (shape_in_walk self.now of) }
     {
-        self.table.element(of?)
+        self.table.element_type(of?)
     }
 
     /// Returns the type of a field in the record type `of`. The field's name is the identifier at
@@ -153,10 +153,10 @@ impl<'a, 't> ConstructorWalk<'a, 't> {
     #[cycle(types)]
     fn search_type(
         &self,
-        search: ConstructorSearch,
+        search: TypeConstructorSearch,
         of: Option<TypeId>,
         t: &WrittenType,
-    ) -> ConstructorSearch
+    ) -> TypeConstructorSearch
         ensures { search_view_in_walk self.now result
             ≡ state_after_constructors (search_view_in_walk self.now search)
             (constructed_types (constructor_walk_meanings self.now) (shape_in_walk self.now of) (type_of t.now)) }
@@ -180,10 +180,10 @@ impl<'a, 't> ConstructorWalk<'a, 't> {
     #[cycle(types)]
     fn search_record(
         &self,
-        search: ConstructorSearch,
+        search: TypeConstructorSearch,
         of: Option<TypeId>,
         r: &RecordType,
-    ) -> ConstructorSearch
+    ) -> TypeConstructorSearch
         ensures { search_view_in_walk self.now result
             ≡ state_after_constructors (search_view_in_walk self.now search)
             (constructed_types (constructor_walk_meanings self.now) (shape_in_walk self.now of) (record_type_of r.now)) }
@@ -200,10 +200,10 @@ impl<'a, 't> ConstructorWalk<'a, 't> {
     #[cycle(types)]
     fn search_group(
         &self,
-        search: ConstructorSearch,
+        search: TypeConstructorSearch,
         of: Option<TypeId>,
         f: &OptionalFieldGroup,
-    ) -> ConstructorSearch
+    ) -> TypeConstructorSearch
         ensures { search_view_in_walk self.now result
             ≡ state_after_constructors (search_view_in_walk self.now search)
             (constructed_types (constructor_walk_meanings self.now) (shape_in_walk self.now of) (optional_field_group_of f.now)) }
@@ -219,9 +219,9 @@ impl<'a, 't> ConstructorWalk<'a, 't> {
 
     fn search_type_section(
         &self,
-        search: ConstructorSearch,
+        search: TypeConstructorSearch,
         declared: &Option<Vec<TypeDeclaration>>,
-    ) -> ConstructorSearch
+    ) -> TypeConstructorSearch
         ensures { search_view_in_walk self.now result
             ≡ state_after_constructors (search_view_in_walk self.now search)
             (constructed_types (constructor_walk_meanings self.now) None (type_section_of declared.now)) }
@@ -238,9 +238,9 @@ impl<'a, 't> ConstructorWalk<'a, 't> {
 
     fn search_variable_section(
         &self,
-        search: ConstructorSearch,
+        search: TypeConstructorSearch,
         declared: &Option<Vec<VariableDeclaration>>,
-    ) -> ConstructorSearch
+    ) -> TypeConstructorSearch
         ensures { search_view_in_walk self.now result
             ≡ state_after_constructors (search_view_in_walk self.now search)
             (constructed_types (constructor_walk_meanings self.now) None (variable_section_of declared.now)) }
@@ -257,9 +257,9 @@ impl<'a, 't> ConstructorWalk<'a, 't> {
 
     fn search_formals(
         &self,
-        search: ConstructorSearch,
+        search: TypeConstructorSearch,
         sections: &Option<Vec<ParameterSection>>,
-    ) -> ConstructorSearch
+    ) -> TypeConstructorSearch
         ensures { search_view_in_walk self.now result
             ≡ state_after_constructors (search_view_in_walk self.now search)
             (constructed_types (constructor_walk_meanings self.now) None (formals_of sections.now)) }
@@ -277,9 +277,9 @@ impl<'a, 't> ConstructorWalk<'a, 't> {
     /// Returns the state of the search after the type of one section of parameters.
     fn search_parameter_section(
         &self,
-        search: ConstructorSearch,
+        search: TypeConstructorSearch,
         s: &ParameterSection,
-    ) -> ConstructorSearch
+    ) -> TypeConstructorSearch
         ensures { search_view_in_walk self.now result
             ≡ state_after_constructors (search_view_in_walk self.now search)
             (constructed_types (constructor_walk_meanings self.now) None (parameter_section_of s.now)) }
@@ -289,7 +289,7 @@ impl<'a, 't> ConstructorWalk<'a, 't> {
 
     /// Returns the state of the search after all declarations of a block, including its procedures.
     #[cycle(blocks)]
-    fn search_block(&self, search: ConstructorSearch, b: &Block) -> ConstructorSearch
+    fn search_block(&self, search: TypeConstructorSearch, b: &Block) -> TypeConstructorSearch
         ensures { search_view_in_walk self.now result
             ≡ state_after_constructors (search_view_in_walk self.now search)
             (constructed_types (constructor_walk_meanings self.now) None (block_of b.now)) }
@@ -303,14 +303,18 @@ impl<'a, 't> ConstructorWalk<'a, 't> {
     }
 
     #[cycle(blocks)]
-    fn search_procedure(&self, search: ConstructorSearch, p: &Procedure) -> ConstructorSearch
+    fn search_procedure(
+        &self,
+        search: TypeConstructorSearch,
+        p: &Procedure,
+    ) -> TypeConstructorSearch
         ensures { search_view_in_walk self.now result
             ≡ state_after_constructors (search_view_in_walk self.now search)
             (constructed_types (constructor_walk_meanings self.now) None (procedure_of p.now)) }
     {
         match search {
-            ConstructorSearch::Found(of) => ConstructorSearch::Found(of),
-            ConstructorSearch::Skipping(_) => self.search_block(
+            TypeConstructorSearch::Found(of) => TypeConstructorSearch::Found(of),
+            TypeConstructorSearch::Skipping(_) => self.search_block(
                 self.search_formals(search, &p.formals),
                 &p.block,
             ),

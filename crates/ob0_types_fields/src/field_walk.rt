@@ -20,8 +20,10 @@ ghost use Rattle.ob0_language_values.specs.Values.{integer_shape};
 ghost use Rattle.ob0_types_fields.specs.IdentifierOwners.{field_if_owned, fields_in_tree, fields_in_block, fields_in_procedure, owner, type_after_selector};
 ghost use Rattle.ob0_types_fields.specs.FieldWalks.{fields_in_selector, field_walk_meanings, record_shape_in_walk};
 
-use crate::declared::{add_formal_fields, add_type_section_fields, add_variable_section_fields};
-use crate::field_name::{FieldName, FieldNameList};
+use crate::field_identifier::{FieldIdentifier, FieldIdentifierList};
+use crate::written_type_fields::{
+    add_parameter_type_fields, add_type_section_fields, add_variable_section_fields,
+};
 use ob0_scope_table::Resolved;
 use ob0_tree::{
     Assignment, Block, Call, CompoundExpression, Designator, Elsif, Expression, Factor, If,
@@ -61,7 +63,7 @@ impl<'a, 't> FieldWalk<'a, 't> {
     /// nothing and returns None.
     fn add_selected_field(
         &self,
-        found: &mut FieldNameList,
+        found: &mut FieldIdentifierList,
         base: Option<TypeId>,
         name: usize,
     ) -> Result<Option<TypeId>, AllocError>
@@ -79,7 +81,7 @@ impl<'a, 't> FieldWalk<'a, 't> {
             return Ok(None);
         };
         match self.table.parts(base) {
-            TypeWithParts::Record(shape) => self.add_record_selection(found, shape, name),
+            TypeWithParts::Record(shape) => self.add_field_selected_in_record(found, shape, name),
             TypeWithParts::Integer => Ok(None),
             TypeWithParts::Boolean => Ok(None),
             TypeWithParts::Array(_) => Ok(None),
@@ -89,9 +91,9 @@ impl<'a, 't> FieldWalk<'a, 't> {
 
     /// Appends the field that the name at token `name` selects from the record `shape`, and returns
     /// the field's type. If the record has no such field, appends nothing and returns None.
-    fn add_record_selection(
+    fn add_field_selected_in_record(
         &self,
-        found: &mut FieldNameList,
+        found: &mut FieldIdentifierList,
         shape: &RecordShape,
         name: usize,
     ) -> Result<Option<TypeId>, AllocError>
@@ -111,7 +113,7 @@ impl<'a, 't> FieldWalk<'a, 't> {
             None => Ok(None),
             Some(of) => {
                 let owner = shape.ordinal;
-                found.push(FieldName { token: name, owner })?;
+                found.push(FieldIdentifier { token: name, owner })?;
                 Ok(Some(of))
             }
         }
@@ -126,7 +128,7 @@ impl<'a, 't> FieldWalk<'a, 't> {
     {
         match base {
             None => None,
-            Some(base) => self.table.element(base),
+            Some(base) => self.table.element_type(base),
         }
     }
 
@@ -134,7 +136,7 @@ impl<'a, 't> FieldWalk<'a, 't> {
     #[cycle(expressions)]
     fn add_expression_fields(
         &self,
-        found: &mut FieldNameList,
+        found: &mut FieldIdentifierList,
         e: &Expression,
     ) -> Result<(), AllocError>
         ensures { IfOk result (λ _. found.new.items
@@ -142,14 +144,14 @@ impl<'a, 't> FieldWalk<'a, 't> {
     {
         match e {
             Expression::Factor(f) => self.add_factor_fields(found, f),
-            Expression::CompoundExpression(c) => self.add_compound_fields(found, c),
+            Expression::CompoundExpression(c) => self.add_compound_expression_fields(found, c),
         }
     }
 
     #[cycle(expressions)]
-    fn add_compound_fields(
+    fn add_compound_expression_fields(
         &self,
-        found: &mut FieldNameList,
+        found: &mut FieldIdentifierList,
         c: &CompoundExpression,
     ) -> Result<(), AllocError>
         ensures { IfOk result (λ _. found.new.items
@@ -165,7 +167,7 @@ impl<'a, 't> FieldWalk<'a, 't> {
     #[cycle(expressions)]
     fn add_simple_expression_fields(
         &self,
-        found: &mut FieldNameList,
+        found: &mut FieldIdentifierList,
         s: &SimpleExpression,
     ) -> Result<(), AllocError>
         ensures { IfOk result (λ _. found.new.items
@@ -179,7 +181,7 @@ impl<'a, 't> FieldWalk<'a, 't> {
     }
 
     #[cycle(expressions)]
-    fn add_term_fields(&self, found: &mut FieldNameList, t: &Term) -> Result<(), AllocError>
+    fn add_term_fields(&self, found: &mut FieldIdentifierList, t: &Term) -> Result<(), AllocError>
         ensures { IfOk result (λ _. found.new.items
             ≡ found.old.items ++ fields_in_tree (field_walk_meanings self.now) (term_of t.now)) }
     {
@@ -191,7 +193,11 @@ impl<'a, 't> FieldWalk<'a, 't> {
     }
 
     #[cycle(expressions)]
-    fn add_factor_fields(&self, found: &mut FieldNameList, f: &Factor) -> Result<(), AllocError>
+    fn add_factor_fields(
+        &self,
+        found: &mut FieldIdentifierList,
+        f: &Factor,
+    ) -> Result<(), AllocError>
         ensures { IfOk result (λ _. found.new.items
             ≡ found.old.items ++ fields_in_tree (field_walk_meanings self.now) (factor_of f.now)) }
     {
@@ -206,7 +212,7 @@ impl<'a, 't> FieldWalk<'a, 't> {
     #[cycle(expressions)]
     fn add_designator_fields(
         &self,
-        found: &mut FieldNameList,
+        found: &mut FieldIdentifierList,
         d: &Designator,
     ) -> Result<(), AllocError>
         ensures { IfOk result (λ _. found.new.items
@@ -228,7 +234,7 @@ impl<'a, 't> FieldWalk<'a, 't> {
     #[cycle(expressions)]
     fn add_selector_fields(
         &self,
-        found: &mut FieldNameList,
+        found: &mut FieldIdentifierList,
         base: Option<TypeId>,
         s: &Selector,
     ) -> Result<Option<TypeId>, AllocError>
@@ -252,7 +258,7 @@ impl<'a, 't> FieldWalk<'a, 't> {
 
     fn add_assignment_fields(
         &self,
-        found: &mut FieldNameList,
+        found: &mut FieldIdentifierList,
         a: &Assignment,
     ) -> Result<(), AllocError>
         ensures { IfOk result (λ _. found.new.items
@@ -262,7 +268,7 @@ impl<'a, 't> FieldWalk<'a, 't> {
         self.add_expression_fields(found, &a.value)
     }
 
-    fn add_call_fields(&self, found: &mut FieldNameList, c: &Call) -> Result<(), AllocError>
+    fn add_call_fields(&self, found: &mut FieldIdentifierList, c: &Call) -> Result<(), AllocError>
         ensures { IfOk result (λ _. found.new.items
             ≡ found.old.items ++ fields_in_tree (field_walk_meanings self.now) (call_of c.now)) }
     {
@@ -274,7 +280,7 @@ impl<'a, 't> FieldWalk<'a, 't> {
 
     fn add_argument_fields(
         &self,
-        found: &mut FieldNameList,
+        found: &mut FieldIdentifierList,
         given: &Vec<Expression>,
     ) -> Result<(), AllocError>
         ensures { IfOk result (λ _. found.new.items
@@ -289,7 +295,7 @@ impl<'a, 't> FieldWalk<'a, 't> {
     #[cycle(statements)]
     fn add_sequence_fields(
         &self,
-        found: &mut FieldNameList,
+        found: &mut FieldIdentifierList,
         statements: &Vec<Statement>,
     ) -> Result<(), AllocError>
         ensures { IfOk result (λ _. found.new.items
@@ -304,7 +310,7 @@ impl<'a, 't> FieldWalk<'a, 't> {
     #[cycle(statements)]
     fn add_statement_fields(
         &self,
-        found: &mut FieldNameList,
+        found: &mut FieldIdentifierList,
         s: &Statement,
     ) -> Result<(), AllocError>
         ensures { IfOk result (λ _. found.new.items
@@ -329,7 +335,7 @@ impl<'a, 't> FieldWalk<'a, 't> {
     }
 
     #[cycle(statements)]
-    fn add_if_fields(&self, found: &mut FieldNameList, i: &If) -> Result<(), AllocError>
+    fn add_if_fields(&self, found: &mut FieldIdentifierList, i: &If) -> Result<(), AllocError>
         ensures { IfOk result
             (λ _. found.new.items
             ≡ found.old.items ++ fields_in_tree (field_walk_meanings self.now) (if_of i.now)) }
@@ -346,7 +352,7 @@ impl<'a, 't> FieldWalk<'a, 't> {
     #[cycle(statements)]
     fn add_elsif_fields(
         &self,
-        found: &mut FieldNameList,
+        found: &mut FieldIdentifierList,
         parts: &Vec<Elsif>,
     ) -> Result<(), AllocError>
         ensures { IfOk result (λ _. found.new.items
@@ -363,7 +369,7 @@ impl<'a, 't> FieldWalk<'a, 't> {
     /// there are no statements.
     pub(crate) fn add_body_fields(
         &self,
-        found: &mut FieldNameList,
+        found: &mut FieldIdentifierList,
         statements: &Option<Vec<Statement>>,
     ) -> Result<(), AllocError>
         ensures { IfOk result (λ _. found.new.items
@@ -382,7 +388,7 @@ impl<'a, 't> FieldWalk<'a, 't> {
     #[cycle(blocks)]
     pub(crate) fn add_block_fields(
         &self,
-        found: &mut FieldNameList,
+        found: &mut FieldIdentifierList,
         word_count: &mut usize,
         b: &Block,
     ) -> Result<(), AllocError>
@@ -406,7 +412,7 @@ impl<'a, 't> FieldWalk<'a, 't> {
     #[cycle(blocks)]
     fn add_procedure_fields(
         &self,
-        found: &mut FieldNameList,
+        found: &mut FieldIdentifierList,
         word_count: &mut usize,
         p: &Procedure,
     ) -> Result<(), AllocError>
@@ -417,7 +423,7 @@ impl<'a, 't> FieldWalk<'a, 't> {
         ensures word_count { IfOk result (λ _. word_count.new
             ≡ word_count.old + procedure_constructor_count (procedure_of p.now)) }
     {
-        add_formal_fields(found, word_count, &p.formals)?;
+        add_parameter_type_fields(found, word_count, &p.formals)?;
         self.add_block_fields(found, word_count, &p.block)
     }
 }

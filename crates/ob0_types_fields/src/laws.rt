@@ -4,7 +4,7 @@
 //! nothing; its contract is the law.
 
 ghost use Rattle.ob0_types_fields.specs.FieldTypes.{FieldsHaveTypes};
-ghost use Rattle.ob0_types_fields.specs.Identifiers.{DuplicateFieldNameHasDeclaringToken, FieldsAreDeclared, FieldsMatchGrammar, RenamingChangesFieldTokens};
+ghost use Rattle.ob0_types_fields.specs.FieldIdentifiers.{DuplicateFieldNameHasDeclaringToken, FieldsAreDeclared, FieldsMatchGrammar, RenamingChangesFieldTokens};
 ghost use Rattle.ob0_types_fields.specs.IdentifierOwners.{WalkFindsAllFields, AgreeingTableIsOwnerTable, TableWithEnteredOwnersIsOwnerTable};
 ghost use Rattle.ob0_types_fields.specs.OwnerTables.{RenamingFollowsOwners};
 

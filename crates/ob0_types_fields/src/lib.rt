@@ -2,15 +2,15 @@
 //! each field.
 #![tactic(auto)]
 
-mod declared;
-mod declaring;
+mod declared_block_fields;
+mod field_identifier;
 mod field_lists;
 mod field_lookups;
-mod field_name;
 mod field_types;
 mod field_walk;
 pub mod laws;
+mod written_type_fields;
 
+pub use field_identifier::FieldIdentifier;
 pub use field_lists::ModuleFields;
-pub use field_name::FieldName;
 pub use field_types::{TypedField, typed_field};

@@ -11,12 +11,12 @@ use Rattle.std.specs.Ordering.{nat_cmp}
 use Rattle.ob0_language_names.specs.Names.{Name, same_name}
 use Rattle.ob0_language_names.proofs.NameEquality.{same_name-comm}
 use Rattle.ob0_types_table.specs.declared.field_table.FirstField.{FirstField}
-use Rattle.ob0_types_table.specs.declared.known.Field.{Field}
+use Rattle.ob0_types_table.specs.declared.declaration_table.Field.{Field}
 use Rattle.ob0_types_table.specs.declared.types.TypeId.{TypeId}
-use Rattle.ob0_types_table.specs.FirstFieldMaps.{IsFirstFieldMapFrom, first_field_named_from, type_of_first_field_named}
+use Rattle.ob0_types_table.specs.FirstFieldMaps.{IsFirstFieldMapCountingFrom, find_field_counting_from, type_of_first_field_named}
 use Rattle.ob0_types_table.specs.FieldPlaces.{position_of_field}
 use Rattle.ob0_types_table.specs.DeclarationTableView.{field_shapes, type_shape}
-use Rattle.ob0_language_types.specs.Typing.{shape_of_field}
+use Rattle.ob0_language_types.specs.Typing.{named_field_shape}
 use Rattle.ob0_language_values.specs.Values.{Shape}
 
 either_type : (shapes : List Shape) (b : Bool) (k : ℕ) (t : TypeId) (o : Option FirstField)
@@ -24,38 +24,38 @@ either_type : (shapes : List Shape) (b : Bool) (k : ℕ) (t : TypeId) (o : Optio
 either_type shapes true k t o = refl
 either_type shapes false k t o = refl
 
-pub first_field_named_from-shape : (shapes : List Shape) (k : ℕ) (fs : List Field) (x : Name) → option_map (type_shape shapes) (option_map (λ (e : FirstField). e.of) (first_field_named_from k fs x)) ≡ shape_of_field (field_shapes shapes fs) x
-first_field_named_from-shape shapes k [] x = refl
-first_field_named_from-shape shapes k (f ∷ fs) x =
-    either_type shapes (same_name x (string_bytes f.name)) k f.of (first_field_named_from (suc k) fs x)
-    ∙ ap (cond (same_name x (string_bytes f.name)) (Some (type_shape shapes f.of))) (first_field_named_from-shape shapes (suc k) fs x)
+pub find_field_counting_from-shape : (shapes : List Shape) (k : ℕ) (fs : List Field) (x : Name) → option_map (type_shape shapes) (option_map (λ (e : FirstField). e.of) (find_field_counting_from k fs x)) ≡ named_field_shape (field_shapes shapes fs) x
+find_field_counting_from-shape shapes k [] x = refl
+find_field_counting_from-shape shapes k (f ∷ fs) x =
+    either_type shapes (same_name x (string_bytes f.name)) k f.of (find_field_counting_from (suc k) fs x)
+    ∙ ap (cond (same_name x (string_bytes f.name)) (Some (type_shape shapes f.of))) (find_field_counting_from-shape shapes (suc k) fs x)
 
 -- The first field with a name has the type that is found for the name.
-pub first_field_named_from-type : (k : ℕ) (fs : List Field) (x : Name) → option_map (λ (e : FirstField). e.of) (first_field_named_from k fs x) ≡ type_of_first_field_named fs x
-first_field_named_from-type k [] x = refl
-first_field_named_from-type k (f ∷ fs) x =
-    elim (same_name x (string_bytes f.name)) as (λ b. option_map (λ (e : FirstField). e.of) (cond b (Some (record { place = k; of = f.of })) (first_field_named_from (suc k) fs x)) ≡ cond b (Some f.of) (type_of_first_field_named fs x)) [ true ↦ refl | false ↦ first_field_named_from-type (suc k) fs x ]
+pub find_field_counting_from-type : (k : ℕ) (fs : List Field) (x : Name) → option_map (λ (e : FirstField). e.of) (find_field_counting_from k fs x) ≡ type_of_first_field_named fs x
+find_field_counting_from-type k [] x = refl
+find_field_counting_from-type k (f ∷ fs) x =
+    elim (same_name x (string_bytes f.name)) as (λ b. option_map (λ (e : FirstField). e.of) (cond b (Some (record { place = k; of = f.of })) (find_field_counting_from (suc k) fs x)) ≡ cond b (Some f.of) (type_of_first_field_named fs x)) [ true ↦ refl | false ↦ find_field_counting_from-type (suc k) fs x ]
 
 following : (k : ℕ) (o : Option ℕ) → option_map (λ i. suc k + i) o ≡ option_map (λ i. k + i) (option_map suc o)
 following k None = refl
 following k (Some i) = ap Some (omega arith)
 
-pub first_field_named_from-place : (shapes : List Shape) (k : ℕ) (fs : List Field) (x : Name) → option_map (λ (e : FirstField). e.place) (first_field_named_from k fs x) ≡ option_map (λ i. k + i) (position_of_field (field_shapes shapes fs) x)
-first_field_named_from-place shapes k [] x = refl
-first_field_named_from-place shapes k (f ∷ fs) x =
-    elim (same_name x (string_bytes f.name)) as (λ b. option_map (λ (e : FirstField). e.place) (cond b (Some (record { place = k; of = f.of })) (first_field_named_from (suc k) fs x)) ≡ option_map (λ i. k + i) (cond b (Some 0) (option_map suc (position_of_field (field_shapes shapes fs) x))))
-    [ true ↦ ap Some (omega arith) | false ↦ first_field_named_from-place shapes (suc k) fs x ∙ following k (position_of_field (field_shapes shapes fs) x) ]
+pub find_field_counting_from-place : (shapes : List Shape) (k : ℕ) (fs : List Field) (x : Name) → option_map (λ (e : FirstField). e.place) (find_field_counting_from k fs x) ≡ option_map (λ i. k + i) (position_of_field (field_shapes shapes fs) x)
+find_field_counting_from-place shapes k [] x = refl
+find_field_counting_from-place shapes k (f ∷ fs) x =
+    elim (same_name x (string_bytes f.name)) as (λ b. option_map (λ (e : FirstField). e.place) (cond b (Some (record { place = k; of = f.of })) (find_field_counting_from (suc k) fs x)) ≡ option_map (λ i. k + i) (cond b (Some 0) (option_map suc (position_of_field (field_shapes shapes fs) x))))
+    [ true ↦ ap Some (omega arith) | false ↦ find_field_counting_from-place shapes (suc k) fs x ∙ following k (position_of_field (field_shapes shapes fs) x) ]
 
 none_before : (o : Option ℕ) → option_map (λ i. 0 + i) o ≡ o
 none_before None = refl
 none_before (Some i) = ap Some (omega arith)
 
-pub first-place : (shapes : List Shape) (fs : List Field) (x : Name) → option_map (λ (e : FirstField). e.place) (first_field_named_from 0 fs x) ≡ position_of_field (field_shapes shapes fs) x
-first-place shapes fs x = first_field_named_from-place shapes 0 fs x ∙ none_before (position_of_field (field_shapes shapes fs) x)
+pub first-place : (shapes : List Shape) (fs : List Field) (x : Name) → option_map (λ (e : FirstField). e.place) (find_field_counting_from 0 fs x) ≡ position_of_field (field_shapes shapes fs) x
+first-place shapes fs x = find_field_counting_from-place shapes 0 fs x ∙ none_before (position_of_field (field_shapes shapes fs) x)
 
 -- holds if the map has the fields from a position onwards
 pub record Filled (map : BTreeMap (String Global) FirstField) (fs : List Field) (left : ℕ) : Type 0 where
-  pub index : IsFirstFieldMapFrom map left (drop left fs)
+  pub index : IsFirstFieldMapCountingFrom map left (drop left fs)
   pub within : left ≤ length fs
 
 pub filled_on : (map next : BTreeMap (String Global) FirstField) (fs : List Field) (left : ℕ) (bytes : List ℕ) (f d : Field) → Filled map fs left → 0 < left → f ≡ get_or fs (left - 1) d → bytes ≡ string_bytes f.name
@@ -70,8 +70,8 @@ filled_on map next fs left bytes f d h some here named renewed =
         found = λ x.
             btree_map_updates_text bytes map next (Some first) renewed x
             ∙ (λ i. cond (same_name-comm (named i) x i) (Some first) (h.index.found x i))
-            ∙ (λ i. cond (same_name x (string_bytes f.name)) (Some first) (first_field_named_from (sym after i) (drop left fs) x))
-            ∙ ap (λ gs. first_field_named_from (left - 1) gs x) (sym split);
+            ∙ (λ i. cond (same_name x (string_bytes f.name)) (Some first) (find_field_counting_from (sym after i) (drop left fs) x))
+            ∙ ap (λ gs. find_field_counting_from (left - 1) gs x) (sym split);
       };
       within = omega (arith, h.within);
     }

@@ -8,9 +8,9 @@ use Rattle.ob0_scan.specs.declared.lexeme.TokenKind.TheVariants as token
 use Rattle.ob0_scan.specs.declared.lexeme.LexemeKind.{LexemeKind}
 use Rattle.ob0_scan.specs.declared.lexeme.LexemeKind.TheVariants as lexeme
 use Rattle.ob0_scan.specs.LexemeClasses.{IsLexemeOfKind}
-use Rattle.ob0_scan.specs.Lexed.{AreLeadingLexemes, Lexeme}
-use Rattle.ob0_scan.specs.TextWithTokens.{IsScan, TextWithTokens, span_from, tokens_of_lexeme, tokens_of_lexemes_from}
-use Rattle.ob0_tree.specs.Places.{token_value_at, token_value_or_zero, integer_value_or_zero}
+use Rattle.ob0_scan.specs.TextLexemes.{AreLeadingLexemes, Lexeme}
+use Rattle.ob0_scan.specs.TextWithTokens.{IsScan, TextWithTokens, span_with_length, tokens_of_one_lexeme, tokens_of_lexemes_from}
+use Rattle.ob0_tree.specs.TokenIndexLeaves.{token_value_at, token_value_or_zero, integer_value_or_zero}
 
 pub token_value_at-read : (s : TextWithTokens) (i : ℕ) (d : Token) → i < length s.tokens → token_value_at s i ≡ integer_value_or_zero (get_or s.tokens i d).kind
 token_value_at-read s i d less = ap token_value_or_zero (slice_get-get_or s.tokens i d less)
@@ -25,8 +25,8 @@ small_kind (token.Integer value) text h = h.fits
 small_kind (token.Symbol symbol) text h = omega arith
 
 small_then : (kind : LexemeKind) (text : List ℕ) (span : Span) (rest : List Token) (d : Token) → IsLexemeOfKind kind text → ((i : ℕ) → i < length rest → integer_value_or_zero (get_or rest i d).kind ≤ 2147483647)
-    → (i : ℕ) → i < length (tokens_of_lexeme kind span ++ rest) → integer_value_or_zero (get_or (tokens_of_lexeme kind span ++ rest) i d).kind ≤ 2147483647
-small_then lexeme.Space text span rest d h small i less = small i less
+    → (i : ℕ) → i < length (tokens_of_one_lexeme kind span ++ rest) → integer_value_or_zero (get_or (tokens_of_one_lexeme kind span ++ rest) i d).kind ≤ 2147483647
+small_then lexeme.WhiteSpace text span rest d h small i less = small i less
 small_then lexeme.Comment text span rest d h small i less = small i less
 small_then (lexeme.Token kind) text span rest d h small zero less = small_kind kind text h
 small_then (lexeme.Token kind) text span rest d h small (suc i) less = small i (omega arith)
@@ -34,7 +34,7 @@ small_then (lexeme.Token kind) text span rest d h small (suc i) less = small i (
 small_from : (start : ℕ) (ls : List Lexeme) (after : List ℕ) (d : Token) → AreLeadingLexemes ls after → (i : ℕ) → i < length (tokens_of_lexemes_from start ls) → integer_value_or_zero (get_or (tokens_of_lexemes_from start ls) i d).kind ≤ 2147483647
 small_from start [] after d h i less = absurd (omega arith)
 small_from start (l ∷ ls) after d h i less =
-    small_then l.kind l.text (span_from start (length l.text)) (tokens_of_lexemes_from (start + length l.text) ls) d h.0.belongs (small_from (start + length l.text) ls after d h.1) i less
+    small_then l.kind l.text (span_with_length start (length l.text)) (tokens_of_lexemes_from (start + length l.text) ls) d h.0.belongs (small_from (start + length l.text) ls after d h.1) i less
 
 pub small_number : (s : TextWithTokens) → IsScan s → (i : ℕ) (d : Token) → i < length s.tokens → integer_value_or_zero (get_or s.tokens i d).kind ≤ 2147483647
 small_number s scan i d less =

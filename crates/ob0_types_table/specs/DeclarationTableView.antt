@@ -7,14 +7,14 @@ use Rattle.ob0_language_values.specs.Values.{FieldShapes, Shape, array_shape, bo
 use Rattle.ob0_scan.specs.TextWithTokens.{max_text_length}
 use Rattle.ob0_types_table.specs.declared.types.TypeId.{TypeId}
 use Rattle.ob0_types_table.specs.declared.types.TypeId.TheVariants as type
-use Rattle.ob0_types_table.specs.declared.known.TypeEntry as code
-use Rattle.ob0_types_table.specs.declared.known.TypeEntry.TheVariants as made
-use Rattle.ob0_types_table.specs.declared.known.Field.{Field}
-use Rattle.ob0_types_table.specs.declared.known.FormalParameter as formal
-use Rattle.ob0_types_table.specs.declared.known.StandardProcedure as standard
-use Rattle.ob0_types_table.specs.declared.known.StandardProcedure.TheVariants as standards
-use Rattle.ob0_types_table.specs.declared.known.Object as declaration
-use Rattle.ob0_types_table.specs.declared.known.Object.TheVariants as kind
+use Rattle.ob0_types_table.specs.declared.declaration_table.TypeEntry as code
+use Rattle.ob0_types_table.specs.declared.declaration_table.TypeEntry.TheVariants as made
+use Rattle.ob0_types_table.specs.declared.declaration_table.Field.{Field}
+use Rattle.ob0_types_table.specs.declared.declaration_table.FormalParameter as formal
+use Rattle.ob0_types_table.specs.declared.declaration_table.StandardProcedure as standard
+use Rattle.ob0_types_table.specs.declared.declaration_table.StandardProcedure.TheVariants as standards
+use Rattle.ob0_types_table.specs.declared.declaration_table.Object as declaration
+use Rattle.ob0_types_table.specs.declared.declaration_table.Object.TheVariants as kind
 use Rattle.ob0_language_types.specs.Expressions.{Object, StandardProcedure, a_constant, a_procedure, a_standard_procedure, a_type, a_variable, read_procedure, write_procedure, write_line_procedure}
 use Rattle.ob0_language_types.specs.Typing.{depth, scalars}
 use Rattle.ob0_language_types.specs.WellTyped.{FormalParameter, ParameterMode, Signature, by_place, by_value}
@@ -25,21 +25,21 @@ abbrev pub faulty_shape : Shape
 faulty_shape = record_shape max_text_length no_field_shape
 
 -- returns a shape if it is an array's, otherwise the shape of a faulty type
-abbrev pub array_or_faulty : Shape → Shape
-array_or_faulty (array_shape k n s) = array_shape k n s
-array_or_faulty _ = faulty_shape
+abbrev pub array_shape_or_faulty : Shape → Shape
+array_shape_or_faulty (array_shape k n s) = array_shape k n s
+array_shape_or_faulty _ = faulty_shape
 
 -- returns a shape if it is a record's, otherwise the shape of a faulty type
-abbrev pub record_or_faulty : Shape → Shape
-record_or_faulty (record_shape k fs) = record_shape k fs
-record_or_faulty _ = faulty_shape
+abbrev pub record_shape_or_faulty : Shape → Shape
+record_shape_or_faulty (record_shape k fs) = record_shape k fs
+record_shape_or_faulty _ = faulty_shape
 
 -- returns the shape of a type, given the shapes of the table's entries
 abbrev pub type_shape : List Shape → TypeId → Shape
 type_shape shapes type.Integer = integer_shape
 type_shape shapes type.Boolean = boolean_shape
-type_shape shapes (type.Array i) = array_or_faulty (slice_index_or shapes i faulty_shape)
-type_shape shapes (type.Record i) = record_or_faulty (slice_index_or shapes i faulty_shape)
+type_shape shapes (type.Array i) = array_shape_or_faulty (slice_index_or shapes i faulty_shape)
+type_shape shapes (type.Record i) = record_shape_or_faulty (slice_index_or shapes i faulty_shape)
 type_shape shapes type.Unknown = faulty_shape
 
 -- returns the names and shapes of a record's fields, in order, given the shapes of the table's
@@ -61,9 +61,9 @@ type_id_of_entry (made.Record r) place = type.Record place
 
 -- returns the shapes `known` of a table's first entries, followed by the shapes of the further entries in the list;
 -- each entry may refer only to entries before it
-abbrev pub shapes_after_entries : List Shape → List code.TypeEntry → List Shape
-shapes_after_entries known [] = known
-shapes_after_entries known (m ∷ ms) = shapes_after_entries (known ++ entry_shape known m ∷ []) ms
+abbrev pub append_shapes_of_entries : List Shape → List code.TypeEntry → List Shape
+append_shapes_of_entries known [] = known
+append_shapes_of_entries known (m ∷ ms) = append_shapes_of_entries (known ++ entry_shape known m ∷ []) ms
 
 -- states that the type refers to no entry of the table, or to one of the first `n` entries
 abbrev pub RefersOnlyToFirstEntries : ℕ → TypeId → Type 0
@@ -90,10 +90,10 @@ pub record IsValidEntry (shapes : List Shape) (m : code.TypeEntry) : Type 0 wher
 
 -- States that each entry of the list refers only to earlier entries and has the size of its shape. `known` has the
 -- shapes of the entries that precede the list in the table.
-abbrev pub AreEntriesInOrder : List Shape → List code.TypeEntry → Type 0
-AreEntriesInOrder known [] = Unit {0}
-AreEntriesInOrder known (m ∷ ms) =
-    IsValidEntry known m × AreEntriesInOrder (known ++ entry_shape known m ∷ []) ms
+abbrev pub AreValidEntries : List Shape → List code.TypeEntry → Type 0
+AreValidEntries known [] = Unit {0}
+AreValidEntries known (m ∷ ms) =
+    IsValidEntry known m × AreValidEntries (known ++ entry_shape known m ∷ []) ms
 
 -- returns the mode of a parameter: by reference (`by_place`) if the Bool is true, otherwise by value
 abbrev pub mode_from_flag : Bool → ParameterMode
@@ -101,8 +101,8 @@ mode_from_flag true = by_place
 mode_from_flag false = by_value
 
 -- converts a formal parameter of the table to a formal parameter of the definitions
-abbrev pub formal_view : List Shape → formal.FormalParameter → FormalParameter
-formal_view shapes f = record { mode = mode_from_flag f.by_place; shape = type_shape shapes f.of }
+abbrev pub formal_parameter_view : List Shape → formal.FormalParameter → FormalParameter
+formal_parameter_view shapes f = record { mode = mode_from_flag f.by_place; shape = type_shape shapes f.of }
 
 -- converts a standard procedure of the code to a standard procedure of the definitions
 abbrev pub standard_procedure_of : standard.StandardProcedure → StandardProcedure
@@ -117,5 +117,5 @@ object_view shapes (kind.Named t) = Some (a_type (type_shape shapes t))
 object_view shapes (kind.Constant v) = Some (a_constant (scalar_value v))
 object_view shapes kind.FaultyConstant = None
 object_view shapes (kind.Variable t) = Some (a_variable (type_shape shapes t))
-object_view shapes (kind.Procedure fs) = Some (a_procedure (map (formal_view shapes) fs.items))
+object_view shapes (kind.Procedure fs) = Some (a_procedure (map (formal_parameter_view shapes) fs.items))
 object_view shapes (kind.StandardProcedure s) = Some (a_standard_procedure (standard_procedure_of s))

@@ -2,10 +2,10 @@
 -- Rule: none; used in contracts of the table of types and declarations (`DeclarationTable`).
 use Rattle.std.specs.Prelude.{ℕ, List, [], None, Option, option_and_then, slice_index_or}
 use Rattle.ob0_language_values.specs.Values.{Shape}
-use Rattle.ob0_types_table.specs.declared.known.TypeEntry as code
-use Rattle.ob0_types_table.specs.declared.known.Object as declaration
+use Rattle.ob0_types_table.specs.declared.declaration_table.TypeEntry as code
+use Rattle.ob0_types_table.specs.declared.declaration_table.Object as declaration
 use Rattle.ob0_language_types.specs.Expressions.{Object}
-use Rattle.ob0_types_table.specs.DeclarationTableView.{object_view, shapes_after_entries}
+use Rattle.ob0_types_table.specs.DeclarationTableView.{object_view, append_shapes_of_entries}
 use Rattle.ob0_language_types.specs.WellTyped.{Signature}
 
 -- a table: the entries of the array and record types, and the object of each declaration, by ordinal, or None if the
@@ -16,7 +16,7 @@ pub record DeclarationTableView : Type 0 where
 
 -- returns the shapes of the table's entries, in order; each entry refers only to earlier ones
 abbrev pub shapes_of : DeclarationTableView → List Shape
-shapes_of t = shapes_after_entries [] t.shapes
+shapes_of t = append_shapes_of_entries [] t.shapes
 
 -- returns the object of the declaration with this ordinal, as an object of the definitions; None if there is none
 abbrev pub declared_object_in : DeclarationTableView → ℕ → Option (Object Shape Signature)

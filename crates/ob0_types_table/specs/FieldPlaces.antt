@@ -2,7 +2,7 @@
 -- Rule: none; used in contracts of functions that find a field by its name.
 use Rattle.std.specs.Prelude.{ℕ, suc, Some, None, Option, option_map, if◌then◌else◌}
 use Rattle.ob0_language_names.specs.Names.{Name, same_name}
-use Rattle.ob0_types_table.specs.declared.known.FieldId.{FieldId}
+use Rattle.ob0_types_table.specs.declared.declaration_table.FieldId.{FieldId}
 use Rattle.ob0_language_values.specs.Values.{FieldShapes, Shape, array_shape, boolean_shape, integer_shape, next_field_shape, no_field_shape, record_shape}
 
 -- returns the position of the first field with the name `x`, counted from 0; None if there is none

@@ -3,8 +3,8 @@
 use Rattle.std.specs.Prelude.{Bool, true, false, List, Option, Some, None, slice_get}
 use Rattle.ob0_types_table.specs.DeclarationTables.{DeclarationTableView}
 use Rattle.ob0_types_table.specs.DeclarationTableView.{HasSizeOfShape, entry_shape, faulty_shape}
-use Rattle.ob0_types_table.specs.declared.known.TypeEntry.{TypeEntry}
-use Rattle.ob0_types_table.specs.declared.known.TypeEntry.TheVariants as made
+use Rattle.ob0_types_table.specs.declared.declaration_table.TypeEntry.{TypeEntry}
+use Rattle.ob0_types_table.specs.declared.declaration_table.TypeEntry.TheVariants as made
 use Rattle.ob0_types_table.specs.declared.type_parts.TypeWithParts.{TypeWithParts}
 use Rattle.ob0_types_table.specs.declared.type_parts.TypeWithParts.TheVariants as parts
 use Rattle.ob0_types_table.specs.declared.types.TypeId.{TypeId}

@@ -3,7 +3,7 @@
 ghost use Rattle.std.specs.Prelude.{◌≡◌, ◌++◌, ◌∷◌, [], length, IfOk, OnOk, OnErr};
 ghost use Rattle.ob0_types_table.specs.DeclarationTableView.{type_id_of_entry};
 
-use crate::known::TypeEntry;
+use crate::declaration_table::TypeEntry;
 use crate::types::TypeId;
 use std::alloc::AllocError;
 

@@ -9,9 +9,9 @@ ghost use Rattle.ob0_language_values.specs.Values as shape;
 ghost use Rattle.ob0_types_table.specs.FirstFieldMaps.{IsFirstFieldMap, type_of_first_field_named};
 ghost use Rattle.ob0_types_table.specs.FieldPlaces.{position_of_field};
 ghost use Rattle.ob0_types_table.specs.DeclarationTableView.{field_shapes, type_shape};
-ghost use Rattle.ob0_language_types.specs.Typing.{shape_of_field};
+ghost use Rattle.ob0_language_types.specs.Typing.{named_field_shape};
 
-use crate::known::Field;
+use crate::declaration_table::Field;
 use crate::types::TypeId;
 use std::alloc::{AllocError, Global};
 use std::collections::BTreeMap;
@@ -34,7 +34,7 @@ pub struct FieldTable {
 
 impl Model for FieldTable {
     ghost use Rattle.std.specs.Prelude.{List};
-    ghost use Rattle.ob0_types_table.specs.declared.known.Field.{Field};
+    ghost use Rattle.ob0_types_table.specs.declared.declaration_table.Field.{Field};
 
     ghost Value = { List Field };
 
@@ -91,7 +91,7 @@ impl FieldTable {
         ensures first { result ≡ type_of_first_field_named self.now name.now }
         ensures shape { (shapes : List shape.Shape)
             → option_map (type_shape shapes) result
-            ≡ shape_of_field (field_shapes shapes self.now) name.now }
+            ≡ named_field_shape (field_shapes shapes self.now) name.now }
     {
         match self.first_fields_by_name.get(name) {
             None => None,

@@ -1,7 +1,7 @@
 //! Returns the values of integer tokens.
 
 ghost use Rattle.std.specs.Prelude.{◌≡◌, ◌≤◌, pos};
-ghost use Rattle.ob0_tree.specs.Places.{token_value_at, integer_value_or_zero};
+ghost use Rattle.ob0_tree.specs.TokenIndexLeaves.{token_value_at, integer_value_or_zero};
 ghost use Rattle.ob0_scan.specs.LexemeClasses.{max_integer};
 
 use ob0_scan::{TokenKind, Tokens};

@@ -11,7 +11,7 @@ ghost use Rattle.ob0_types_table.specs.TypeWithParts.{PartsHaveSizesOfShape, is_
 ghost use Rattle.ob0_types_table.specs.DeclarationTables.{shapes_of};
 ghost use Rattle.ob0_types_table.specs.DeclarationTableView.{type_shape};
 
-use crate::known::{ArrayShape, DeclarationTable, RecordShape, TypeEntry};
+use crate::declaration_table::{ArrayShape, DeclarationTable, RecordShape, TypeEntry};
 use crate::types::TypeId;
 
 /// A type with its parts. It is `Faulty` if the type isn't one of the module's types.

@@ -10,9 +10,9 @@ use Rattle.ob0_text.specs.OpenDocuments.{TextChange}
 use Rattle.ob0_text.specs.declared.position_types.Unit.{Unit}
 use Rattle.ob0_world_rules.specs.TextEdits.{whole_text_change}
 use Rattle.ob0_world_rules.specs.Asks.{Ask}
-use Rattle.ob0_world_rules.specs.ClientAndServer.{OpenDocument, SentAsk, Editor, editor_document_at, MessageToServer, MessageToEditor, publishes, answers, Applied, ClientAndServer, new_editor}
-use Rattle.ob0_world_rules.specs.EditorActs.{Act, version_as_natural, next_version, opening_result, rewriting_result, closing_result, asking_result, editor_without_answer, act_result, editor_after_reading}
-use Rattle.ob0_world_rules.specs.Happens.{Event, editor_acts, serve, take_message, state_after_editor_takes_message, ServerTakesFirstMessage, Happens}
+use Rattle.ob0_world_rules.specs.ClientAndServer.{OpenDocument, SentAsk, Editor, editor_document_with_uri, MessageToServer, MessageToEditor, publishes, answers, Applied, ClientAndServer, new_editor}
+use Rattle.ob0_world_rules.specs.EditorActs.{EditorAct, version_as_natural, next_version, result_of_opening_document, result_of_changing_text, result_of_closing_document, result_of_sending_ask, editor_without_answer, act_result, editor_after_message}
+use Rattle.ob0_world_rules.specs.Events.{Event, editor_acts, serve, take_message, state_after_editor_takes_message, ServerTakesFirstMessage, EventLeadsTo}
 use Rattle.ob0_world_rules.proofs.PerformsAct.{edit_of, of_each}
 use Rattle.ob0_world_rules.proofs.SameDocument.{found, left}
 use Rattle.ob0_world_editor.specs.EditorCalls.{CountsCanGrow}
@@ -47,19 +47,19 @@ put n e uri new openings within version few_openings =
           (λ was. let a : version_as_natural d.version ≤ n = within.versions q d was in omega arith);
     }
 
-rewritten_within : (n : ℕ) (e : Editor) (uri : List ℕ) (d : OpenDocument) (text : List ℕ) (how : List TextChange) (applied : List Applied) → editor_document_at e uri ≡ Some d → CountsAreAtMost n e → CountsAreAtMost (n + 1) (rewriting_result e uri d text how applied).editor
+rewritten_within : (n : ℕ) (e : Editor) (uri : List ℕ) (d : OpenDocument) (text : List ℕ) (how : List TextChange) (applied : List Applied) → editor_document_with_uri e uri ≡ Some d → CountsAreAtMost n e → CountsAreAtMost (n + 1) (result_of_changing_text e uri d text how applied).editor
 rewritten_within n e uri d text how applied at within =
     let a : version_as_natural d.version ≤ n = within.versions uri d at in
     let b : e.openings ≤ n = within.openings in
     put n e uri (record d { version = next_version d.version; text = text }) e.openings within (omega arith) (omega arith)
 
 module _ (n : ℕ) (e : Editor) (within : CountsAreAtMost n e) where
-  open_within : (uri text : List ℕ) → CountsAreAtMost (n + 1) (opening_result e uri text).editor
+  open_within : (uri text : List ℕ) → CountsAreAtMost (n + 1) (result_of_opening_document e uri text).editor
   open_within uri text =
       let b : e.openings ≤ n = within.openings in
       put n e uri (record { version = pos 1; text = text; opening = e.openings + 1 }) (e.openings + 1) within (omega arith) (omega arith)
 
-  close_within : (uri : List ℕ) → CountsAreAtMost (n + 1) (closing_result e uri).editor
+  close_within : (uri : List ℕ) → CountsAreAtMost (n + 1) (result_of_closing_document e uri).editor
   close_within uri =
       record {
         openings = let a : e.openings ≤ n = within.openings in omega arith;
@@ -67,7 +67,7 @@ module _ (n : ℕ) (e : Editor) (within : CountsAreAtMost n e) where
         versions = λ q x at. let a : version_as_natural x.version ≤ n = within.versions q x (left e.documents uri q x at) in omega arith;
       }
 
-  ask_within : (uri : List ℕ) (ask : Ask) (d : OpenDocument) → CountsAreAtMost (n + 1) (asking_result e uri ask d).editor
+  ask_within : (uri : List ℕ) (ask : Ask) (d : OpenDocument) → CountsAreAtMost (n + 1) (result_of_sending_ask e uri ask d).editor
   ask_within uri ask d =
       record {
         openings = let a : e.openings ≤ n = within.openings in omega arith;
@@ -81,7 +81,7 @@ module _ (n : ℕ) (e : Editor) (within : CountsAreAtMost n e) where
   without : (k : ℕ) → CountsAreAtMost n (editor_without_answer e k)
   without k = record { openings = within.openings; asks = within.asks; versions = within.versions }
 
-  act_within : (act : Act) → CountsAreAtMost (n + 1) (act_result e act).editor
+  act_within : (act : EditorAct) → CountsAreAtMost (n + 1) (act_result e act).editor
   act_within = of_each e (λ done. CountsAreAtMost (n + 1) done.editor) (record {
     still = more n e within;
     opened = λ uri text none. open_within uri text;
@@ -92,7 +92,7 @@ module _ (n : ℕ) (e : Editor) (within : CountsAreAtMost n e) where
     dropped = λ k. more n (editor_without_answer e k) (without k);
   })
 
-  read_within : (m : MessageToEditor) → CountsAreAtMost (n + 1) (editor_after_reading e m)
+  read_within : (m : MessageToEditor) → CountsAreAtMost (n + 1) (editor_after_message e m)
   read_within (publishes uri version empty) = more n e within
   read_within (answers k []) = more n e within
   read_within (answers k (edit ∷ edits)) = let m : CountsAreAtMost (n + 1) e = more n e within in record { openings = m.openings; asks = m.asks; versions = m.versions }
@@ -106,7 +106,7 @@ module _ (n : ℕ) (w : ClientAndServer) (within : CountsAreAtMost n w.editor) w
   same_editor [] new h = ap (λ (x : ClientAndServer). x.editor) h
   same_editor (m ∷ rest) new (said, made, may, is) = ap (λ (x : ClientAndServer). x.editor) is
 
-  pub within_step : (event : Event) (new : ClientAndServer) → Happens w event new → CountsAreAtMost (n + 1) new.editor
+  pub within_step : (event : Event) (new : ClientAndServer) → EventLeadsTo w event new → CountsAreAtMost (n + 1) new.editor
   within_step (editor_acts act) new h = subst (λ (x : ClientAndServer). CountsAreAtMost (n + 1) x.editor) (sym h) (act_within n w.editor within act)
   within_step serve new h = subst (CountsAreAtMost (n + 1)) (sym (same_editor w.to_server new h)) (more n w.editor within)
   within_step take_message new h = subst (λ (x : ClientAndServer). CountsAreAtMost (n + 1) x.editor) (sym h) (take_within w.to_editor)

@@ -11,24 +11,24 @@ use Rattle.ob0_rpc.specs.Requests as asked
 use Rattle.ob0_rpc.specs.Requests.{request_by_method}
 use Rattle.ob0_session_server.specs.Answers as server
 use Rattle.ob0_session_server.specs.Answers.{state_after_initialize}
-use Rattle.ob0_session_server.specs.Units.{unit_for_client}
-use Rattle.ob0_world_editor.specs.InitializeRequest.{client_features_for}
-use Rattle.ob0_world_editor.specs.MessagesToServer.{request_number_from_id, client_request_for, IsRequestWithId, IsMessageToServer}
+use Rattle.ob0_session_server.specs.ClientUnits.{unit_for_client}
+use Rattle.ob0_world_editor.specs.InitializeRequest.{client_features_for_unit}
+use Rattle.ob0_world_editor.specs.MessagesToServer.{request_number_from_id, client_request_for_ask, IsRequestWithId, IsMessageToServer}
 use Rattle.ob0_world_editor.specs.Shapes.{method_of_ask, empty_range_at}
-use Rattle.ob0_world_editor.specs.MessagesToEditor.{message_to_editor_in, message_to_editor_by_numbering}
+use Rattle.ob0_world_editor.specs.MessagesToEditor.{message_to_editor_in_content, message_to_editor_by_id_conversion}
 use Rattle.ob0_world_rules.specs.Asks.{Ask, rename, inline_here, inline_all, format}
-use Rattle.ob0_world_rules.specs.ClientAndServer.{SentAsk, Editor, request_with_number, MessageToServer, notifies, requests, MessageToEditor, publishes, answers, Applied, ClientAndServer, start}
-use Rattle.ob0_world_rules.specs.EditorActs.{Act, ActResult, result_without_messages, act_result, editor_after_reading}
-use Rattle.ob0_world_rules.specs.Happens.{Event, editor_acts, serve, take_message, state_after_editor_takes_message, ServerTakesFirstMessage}
+use Rattle.ob0_world_rules.specs.ClientAndServer.{SentAsk, Editor, sent_ask_with_number, MessageToServer, notifies, requests, MessageToEditor, publishes, answers, Applied, ClientAndServer, start}
+use Rattle.ob0_world_rules.specs.EditorActs.{EditorAct, ActResult, result_without_messages, act_result, editor_after_message}
+use Rattle.ob0_world_rules.specs.Events.{Event, editor_acts, serve, take_message, state_after_editor_takes_message, ServerTakesFirstMessage}
 use Rattle.ob0_world_rules.specs.EveryEditor.{ExchangeTurn, editor_moves, server_takes_message, editor_takes_message}
-use Rattle.ob0_world_rules.specs.PublicationsInOrder.{AnnouncedDocument, documents_announced_in}
+use Rattle.ob0_world_rules.specs.PublicationsAreInOrder.{AnnouncedDocument, documents_announced_by_sent_messages}
 use Rattle.ob0_world_rules.proofs.ModelEditor.{IsMove, act_may, knows_event}
 use Rattle.ob0_world.specs.Worlds.{Wire, Connection, SessionTakesFirstContent, EditorTakesFirstContent, ChangesWire, AreMessagesToServer, ConnectionSteps, IsConnectionCourse}
-use Rattle.ob0_world.specs.Exchanges.{SentRequestId, number_id, ask_number_of_request_id, ask_number_of_json_id, AssignsAskIds, Exchange, IsInitialExchange, IsCodeActionRequest, IsRequestForAsk, AcceptsLiteralActions, AcceptsEditsFor, IsMessageToSession, AreMessagesToSession, message_to_editor_by_ids, editor_after_reading_if_any, EditorReadsFirstContent, wire_with_queued_contents, IsExchangeCourse, ACourseIsAnExchange}
+use Rattle.ob0_world.specs.Exchanges.{SentRequestId, number_id, ask_number_of_request_id, ask_number_of_json_id, AssignsAskIds, Exchange, IsInitialExchange, IsCodeActionRequest, IsRequestForAsk, AcceptsLiteralActions, AcceptsEditsForAsk, IsMessageToSession, AreMessagesToSession, message_to_editor_by_request_ids, editor_after_optional_message, EditorReadsFirstContent, wire_with_queued_contents, IsExchangeCourse, EveryConnectionCourseIsExchange}
 use Rattle.ob0_world.proofs.Conversing.{answered_once}
 use Rattle.std.proofs.lemmas.Bool.{eqb-true, eqb-false}
 use Rattle.std.proofs.lemmas.Option.{same_Some, none-some}
-use Rattle.ob0_rpc.specs.declared.clients.ClientFeatures.{ClientFeatures}
+use Rattle.ob0_rpc.specs.declared.client_capabilities.ClientFeatures.{ClientFeatures}
 use Rattle.ob0_world_rules.proofs.PerformsAct.{of_each}
 use Rattle.ob0_world_rules.proofs.SameDocument.{Knows, knows_first}
 use Rattle.ob0_world.specs.Queues.{RunsWithModelEditor}
@@ -76,15 +76,15 @@ has_id (b ∷ list) n (suc i) a h = go (n == n + suc i) refl (has_id list (suc n
     go false is later = subst (λ m. ask_number_of_request_id (ids_from (suc n) list) (number_id m) ≡ Some (Some m)) on later
 
 -- The number of an ask is its id.
-numbered_so : (requested : List SentAsk) (k : ℕ) (a : SentAsk) → request_with_number requested k ≡ Some a → ask_number_of_json_id (ids_from 1 requested) (number (unsigned k)) ≡ Some k
+numbered_so : (requested : List SentAsk) (k : ℕ) (a : SentAsk) → sent_ask_with_number requested k ≡ Some a → ask_number_of_json_id (ids_from 1 requested) (number (unsigned k)) ≡ Some k
 numbered_so requested zero a h = absurd (none-some a h)
 numbered_so requested (suc k) a h = ap (option_and_then (λ ask. ask)) (subst (λ m. ask_number_of_request_id (ids_from 1 requested) (number_id m) ≡ Some (Some m)) (omega arith) (has_id requested 1 k a h))
 
 -- A JSON number that is the number of an ask is read as that ask's id.
-named_so : (requested : List SentAsk) (d : Data) (k : ℕ) (a : SentAsk) → request_with_number requested k ≡ Some a → request_number_from_id d ≡ Some k → ask_number_of_json_id (ids_from 1 requested) d ≡ Some k
+named_so : (requested : List SentAsk) (d : Data) (k : ℕ) (a : SentAsk) → sent_ask_with_number requested k ≡ Some a → request_number_from_id d ≡ Some k → ask_number_of_json_id (ids_from 1 requested) d ≡ Some k
 named_so requested (number (unsigned n)) k a h is =
     let same : n ≡ k = same_Some n k is in
-    subst (λ j. ask_number_of_json_id (ids_from 1 requested) (number (unsigned n)) ≡ Some j) same (numbered_so requested n a (subst (λ j. request_with_number requested j ≡ Some a) (sym same) h))
+    subst (λ j. ask_number_of_json_id (ids_from 1 requested) (number (unsigned n)) ≡ Some j) same (numbered_so requested n a (subst (λ j. sent_ask_with_number requested j ≡ Some a) (sym same) h))
 named_so requested (number (negative z)) k a h is = absurd (none-some k is)
 named_so requested (number (float x)) k a h is = absurd (none-some k is)
 named_so requested null k a h is = absurd (none-some k is)
@@ -116,7 +116,7 @@ last_say requested now [] more (c ∷ contents) others h k = absurd h
 last_say requested now (m ∷ messages) more [] others h k = absurd h
 
 -- An ask to inline sends a request for the actions at an empty range, of all kinds.
-inline_said : (id : Data) (uri : List ℕ) (position : Position) (ask : Ask) (content : List ℕ) → method_of_ask ask ≡ codes "textDocument/codeAction" → client_request_for uri ask ≡ asked.code_action uri (empty_range_at position) None → IsRequestWithId id uri ask content
+inline_said : (id : Data) (uri : List ℕ) (position : Position) (ask : Ask) (content : List ℕ) → method_of_ask ask ≡ codes "textDocument/codeAction" → client_request_for_ask uri ask ≡ asked.code_action uri (empty_range_at position) None → IsRequestWithId id uri ask content
     → IsCodeActionRequest id uri position content
 inline_said id uri position ask content method call is =
     record {
@@ -139,7 +139,7 @@ request_said id uri (inline_all position) content is = inline_said id uri positi
 request_said id uri (format indent) content is = is
 
 module _ (client : ClientFeatures) (takes : AcceptsLiteralActions client) where
-  takes_ask : (ask : Ask) → AcceptsEditsFor client ask
+  takes_ask : (ask : Ask) → AcceptsEditsForAsk client ask
   takes_ask (rename position name) = tt
   takes_ask (inline_here position) = takes
   takes_ask (inline_all position) = takes
@@ -157,7 +157,7 @@ module _ (client : ClientFeatures) (takes : AcceptsLiteralActions client) where
   each_says requested (m ∷ messages) [] h = absurd h
 
 -- The asks that an act sends have their numbers as ids.
-sent_names : (e : Editor) (act : Act) → AssignsAskIds (ids_from 1 e.requested) (act_result e act).sent (ids_from 1 (act_result e act).editor.requested)
+sent_names : (e : Editor) (act : EditorAct) → AssignsAskIds (ids_from 1 e.requested) (act_result e act).sent (ids_from 1 (act_result e act).editor.requested)
 sent_names e act =
     of_each e (λ done. AssignsAskIds (ids_from 1 e.requested) done.sent (ids_from 1 done.editor.requested))
     (record {
@@ -180,7 +180,7 @@ sent_names e act =
 -- states that a connection's contents are its messages, its session runs, and its editor knows its asks
 record Goes (c : Connection) : Type 0 where
   says : AreMessagesToServer c.model.editor.requested c.model.to_server c.wire.to_server
-  means : map (message_to_editor_in c.model.editor.requested) c.wire.to_editor ≡ map Some c.model.to_editor
+  means : map (message_to_editor_in_content c.model.editor.requested) c.wire.to_editor ≡ map Some c.model.to_editor
   running : RunsWithModelEditor c.wire.session
   knows : Knows c.model.editor
 
@@ -224,7 +224,7 @@ module _ (c : Connection) (announced : List AnnouncedDocument) (goes : Goes c) w
         };
       }
 
-  act_comes : (contents : List (List ℕ)) (act : Act) → AreMessagesToServer (act_result c.model.editor act).editor.requested (act_result c.model.editor act).sent contents
+  act_comes : (contents : List (List ℕ)) (act : EditorAct) → AreMessagesToServer (act_result c.model.editor act).editor.requested (act_result c.model.editor act).sent contents
       → Comes (act_result c.model.editor act).editor (wire_with_queued_contents c.wire contents) (c.model.applied ++ (act_result c.model.editor act).applied)
   act_comes contents act say = go (act_may c.model.editor act goes.knows)
     where
@@ -233,7 +233,7 @@ module _ (c : Connection) (announced : List AnnouncedDocument) (goes : Goes c) w
       go (inl is) = still contents (act_result c.model.editor act) is say
       go (inr (move, may)) =
           let done : ActResult = act_result c.model.editor act in
-          let more : List AnnouncedDocument = documents_announced_in done.editor done.sent in
+          let more : List AnnouncedDocument = documents_announced_by_sent_messages done.editor done.sent in
           let ids : List SentRequestId = ids_from 1 done.editor.requested in
           let y : Exchange = record { editor = done.editor; ids = ids; wire = wire_with_queued_contents c.wire contents; announced = announced ++ more; applied = c.model.applied ++ done.applied } in
           record {
@@ -259,26 +259,26 @@ serve_same : (w : ClientAndServer) (queue : List MessageToServer) (new : ClientA
 serve_same w [] new is = (ap (λ (v : ClientAndServer). v.editor) is, ap (λ (v : ClientAndServer). v.applied) is)
 serve_same w (m ∷ rest) new (said, made, replies, is) = (ap (λ (v : ClientAndServer). v.editor) is, ap (λ (v : ClientAndServer). v.applied) is)
 
-reads_asks : (e : Editor) (m : MessageToEditor) → (editor_after_reading e m).requested ≡ e.requested
+reads_asks : (e : Editor) (m : MessageToEditor) → (editor_after_message e m).requested ≡ e.requested
 reads_asks e (publishes uri version empty) = refl
 reads_asks e (answers k []) = refl
 reads_asks e (answers k (edit ∷ edits)) = refl
 
 -- An answer is read the same if the ids of asks are their numbers.
-read_so_too : (requested : List SentAsk) (content : List ℕ) (m : MessageToEditor) → message_to_editor_in requested content ≡ Some m → message_to_editor_by_ids (ids_from 1 requested) requested content ≡ Some m
-read_so_too requested content m h = subst (λ asks. message_to_editor_by_numbering (ask_number_of_json_id (ids_from 1 requested)) asks content ≡ Some m) (append-nil requested) (read_still request_number_from_id (ask_number_of_json_id (ids_from 1 requested)) requested [] (named_so requested) content m h)
+read_so_too : (requested : List SentAsk) (content : List ℕ) (m : MessageToEditor) → message_to_editor_in_content requested content ≡ Some m → message_to_editor_by_request_ids (ids_from 1 requested) requested content ≡ Some m
+read_so_too requested content m h = subst (λ asks. message_to_editor_by_id_conversion (ask_number_of_json_id (ids_from 1 requested)) asks content ≡ Some m) (append-nil requested) (read_still request_number_from_id (ask_number_of_json_id (ids_from 1 requested)) requested [] (named_so requested) content m h)
 
 take_comes : (c : Connection) (announced : List AnnouncedDocument) (wire : Wire) (queue : List MessageToEditor) (contents : List (List ℕ)) → c.wire.to_editor ≡ contents
-    → map (message_to_editor_in c.model.editor.requested) contents ≡ map Some queue → EditorTakesFirstContent contents c.wire wire
+    → map (message_to_editor_in_content c.model.editor.requested) contents ≡ map Some queue → EditorTakesFirstContent contents c.wire wire
     → ComesTo (exchange_of c announced) (state_after_editor_takes_message c.model queue).editor wire (state_after_editor_takes_message c.model queue).applied
 take_comes c announced wire [] [] waits means is = record { turns = []; announced = announced; leads = λ i. record (exchange_of c announced) { wire = is i } }
 take_comes c announced wire (m ∷ queue) (content ∷ rest) waits means is =
     let e : Editor = c.model.editor in
-    let first : message_to_editor_in e.requested content ≡ Some m = ap (λ os. get_or os 0 None) means in
-    let so : message_to_editor_by_ids (ids_from 1 e.requested) e.requested content ≡ Some m = read_so_too e.requested content m first in
+    let first : message_to_editor_in_content e.requested content ≡ Some m = ap (λ os. get_or os 0 None) means in
+    let so : message_to_editor_by_request_ids (ids_from 1 e.requested) e.requested content ≡ Some m = read_so_too e.requested content m first in
     let x : Exchange = exchange_of c announced in
-    let y : Exchange = record { editor = editor_after_reading e m; ids = ids_from 1 (editor_after_reading e m).requested; wire = wire; announced = announced; applied = c.model.applied } in
-    let gets : EditorReadsFirstContent (content ∷ rest) x y = λ i. record x { editor = editor_after_reading_if_any x.editor (sym so i); ids = ids_from 1 (reads_asks e m i); wire = is i } in
+    let y : Exchange = record { editor = editor_after_message e m; ids = ids_from 1 (editor_after_message e m).requested; wire = wire; announced = announced; applied = c.model.applied } in
+    let gets : EditorReadsFirstContent (content ∷ rest) x y = λ i. record x { editor = editor_after_optional_message x.editor (sym so i); ids = ids_from 1 (reads_asks e m i); wire = is i } in
     record {
       turns = editor_takes_message ∷ [];
       announced = announced;
@@ -327,24 +327,24 @@ course_comes (event ∷ events) begin end announced goes (between, step, rest) =
       leads = leads_append first.turns more.turns (exchange_of begin announced) (exchange_of between first.announced) (exchange_of end more.announced) first.leads more.leads;
     }
 
-same_unit : (unit : Unit) → unit_for_client (client_features_for unit) ≡ unit
+same_unit : (unit : Unit) → unit_for_client (client_features_for_unit unit) ≡ unit
 same_unit Utf16 = refl
 same_unit Utf8 = refl
 
-pub a_course_is_an_exchange : ACourseIsAnExchange
-a_course_is_an_exchange unit begin end events b course =
-    let wire : Wire = record { session = state_after_initialize (client_features_for unit); taken = b.content ∷ []; to_server = []; got = b.replies; to_editor = [] } in
+pub every_connection_course_is_exchange : EveryConnectionCourseIsExchange
+every_connection_course_is_exchange unit begin end events b course =
+    let wire : Wire = record { session = state_after_initialize (client_features_for_unit unit); taken = b.content ∷ []; to_server = []; got = b.replies; to_editor = [] } in
     let first_goes : Goes (record { model = start unit; wire = wire }) = record { says = tt; means = refl; running = (refl, refl, refl); knows = knows_first unit } in
     let goes : Goes begin = subst Goes (λ i. record { model = sym b.model i; wire = sym b.wire i }) first_goes in
     let c : ComesTo (exchange_of begin []) end.model.editor end.wire end.model.applied = course_comes events begin end [] goes course in
     let last : Exchange = exchange_of end c.announced in
     let first : IsInitialExchange unit (exchange_of begin []) =
     record {
-      client = client_features_for unit;
+      client = client_features_for_unit unit;
       counts = same_unit unit;
       taken = b.content ∷ [];
       got = b.replies;
-      initialized = answered_once server.start b.content b.replies (state_after_initialize (client_features_for unit)) b.answers;
+      initialized = answered_once server.start b.content b.replies (state_after_initialize (client_features_for_unit unit)) b.answers;
       is = λ i. record { editor = (b.model i).editor; ids = ids_from 1 (b.model i).editor.requested; wire = b.wire i; announced = []; applied = (b.model i).applied };
     } in
     (exchange_of begin [], c.turns, last, first, c.leads, refl, refl, refl)

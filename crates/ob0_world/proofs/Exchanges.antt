@@ -14,42 +14,42 @@ use Rattle.ob0_text.specs.declared.edits.Indent.{Indent}
 use Rattle.ob0_text.specs.declared.refusals.EditRefusal.TheVariants.{TooLong}
 use Rattle.ob0_text.specs.declared.position_types.Unit.{Unit}
 use Rattle.ob0_text.specs.OpenDocuments.{OpenDocuments, Document, InStep, OutOfStep, Opened, Changed, Lost, Closed, documents_after_event, no_open_documents, document_at}
-use Rattle.ob0_rpc.specs.declared.incoming.RpcFault.{RpcFault}
-use Rattle.ob0_rpc.specs.declared.incoming.RpcFault.TheVariants.{NotAMessage}
+use Rattle.ob0_rpc.specs.declared.incoming_messages.RpcFault.{RpcFault}
+use Rattle.ob0_rpc.specs.declared.incoming_messages.RpcFault.TheVariants.{NotAMessage}
 use Rattle.ob0_rpc.specs.Faults.{negative_of, error_code, error_text}
-use Rattle.ob0_rpc.specs.Messages.{ReadsContent, MessageMeaning, not_json, not_a_message, response, request, notice, meaning_of_message}
+use Rattle.ob0_rpc.specs.Messages.{IsJsonOfContent, MessageMeaning, not_json, not_a_message, response, request, notice, meaning_of_message}
 use Rattle.ob0_rpc.specs.Notifications.{other}
 use Rattle.ob0_rpc.specs.Requests as asked
 use Rattle.ob0_rpc.specs.Requests.{DocumentPlace, ClientRequest, request_by_method}
-use Rattle.ob0_rpc.specs.Shapes.{result_message, error_response_message}
+use Rattle.ob0_rpc.specs.JsonShapes.{result_message, error_response_message}
 use Rattle.ob0_session_answers.specs.Questions.{NameQuestion, hover_question, definition_question, references_question, prepare_rename_question}
 use Rattle.ob0_session_answers.specs.Actions.{VersionedActionsRequest}
-use Rattle.ob0_session_json.specs.Shapes.{edit_list_value, workspace_edit}
+use Rattle.ob0_session_json.specs.JsonShapes.{edit_list_value, workspace_edit_value}
 use Rattle.ob0_session_server.specs.Answers.{ServerState, Reply, AreContentsOfReply, SendsMessage, Reaction, react_to_message, react_to_request, react_to_notification, apply_notification, react_to_parsed_request, react_to_allowed_request, react_to_document_request, question_reply, react_to_question, rename_reply, actions_reply, formatting_reply, react_with_error, Answers}
-use Rattle.ob0_world_editor.specs.MessagesToServer.{request_number_from_id, message_of_sent_ask, message_of_notification, message_to_server_of, message_to_server_in}
-use Rattle.ob0_world_editor.specs.MessagesToEditor.{message_to_editor_in, publication_of_notification, answer_of_response, message_to_editor_of, message_to_editor_by_numbering, answer_to_ask, edits_in_answer}
+use Rattle.ob0_world_editor.specs.MessagesToServer.{request_number_from_id, message_of_sent_ask, message_of_notification, message_to_server_of_meaning, message_to_server_in_content}
+use Rattle.ob0_world_editor.specs.MessagesToEditor.{message_to_editor_in_content, publication_of_notification, answer_of_response, message_to_editor_of_value, message_to_editor_by_id_conversion, answer_to_ask, edits_in_answer}
 use Rattle.ob0_world_editor.proofs.Hearing.{said, says_heard, read_as}
 use Rattle.ob0_world_rules.specs.Asks.{Ask, rename, inline_here, inline_all, format}
-use Rattle.ob0_world_rules.specs.ClientAndServer.{OpenDocument, SentAsk, Editor, request_with_number, MessageToServer, notifies, requests, MessageToEditor, publishes, answers, PublicationWithText, documents_after_message}
-use Rattle.ob0_world_rules.specs.EditorActs.{ActResult, editor_after_reading, editor_without_answer}
-use Rattle.ob0_world_rules.specs.EditorMoves.{Revision, Move, editor_opens, editor_revises, editor_closes, editor_asks, editor_applies, editor_discards, revised_document, editor_with_document, RevisesDocument, IsAllowedMove}
-use Rattle.ob0_world_rules.specs.EveryEditor.{EditorAndServer, initial_editor_and_server, modeled_messages, notifications_among, ExchangeTurn, editor_moves, editor_sends_unmodeled_message, server_takes_message, editor_takes_message, MayHappen, MayLeadTo, GuaranteesHoldForEditorAndServer}
-use Rattle.ob0_world_rules.specs.Answers.{OneUse, Everywhere, IsEmptyExactlyIfWellTyped}
+use Rattle.ob0_world_rules.specs.ClientAndServer.{OpenDocument, SentAsk, Editor, sent_ask_with_number, MessageToServer, notifies, requests, MessageToEditor, publishes, answers, PublicationWithText, documents_after_message}
+use Rattle.ob0_world_rules.specs.EditorActs.{ActResult, editor_after_message, editor_without_answer}
+use Rattle.ob0_world_rules.specs.EditorMoves.{Revision, EditorMove, editor_opens, editor_revises, editor_closes, editor_asks, editor_applies, editor_discards, revised_document, editor_with_document, RevisesDocument, IsAllowedMove}
+use Rattle.ob0_world_rules.specs.EveryEditor.{EditorAndServer, initial_editor_and_server, modeled_messages, notifications_in_queue, ExchangeTurn, editor_moves, editor_sends_unmodeled_message, server_takes_message, editor_takes_message, TurnMayLeadTo, IsCourseOfTurns, GuaranteesHoldForEditorAndServer}
+use Rattle.ob0_world_rules.specs.Answers.{OneUse, Everywhere, NoDiagnosticsExactlyIfWellTyped}
 use Rattle.ob0_world_rules.specs.ServerReplies.{SendsDiagnostics, RepliesToMessage}
 use Rattle.ob0_world_rules.specs.Headline.{IsCorrectPublication, last_publication}
-use Rattle.ob0_world_rules.specs.PublicationsInOrder.{AnnouncedDocument, AreMadeForDocumentsInOrder, uris_and_versions_announced_by, uris_and_versions_announced_in}
+use Rattle.ob0_world_rules.specs.PublicationsAreInOrder.{AnnouncedDocument, AreMadeForDocumentsInOrder, uri_and_version_announced_by_message, uris_and_versions_announced_in_queue}
 use Rattle.ob0_world_rules.proofs.UriLaws.{mapped_choice}
 use Rattle.ob0_world_rules.proofs.EveryEditor.{guarantees_hold_for_every_editor}
 use Rattle.ob0_world.specs.Worlds.{Wire, SessionTakesFirstContent}
 use Rattle.ob0_session_server.specs.declared.session.Phase.TheVariants.{Running}
 use Rattle.ob0_world.specs.Queues.{publication_in_first_message}
-use Rattle.ob0_world.specs.Exchanges.{RequestId, id_of_value, is_same_id, SentRequestId, ask_number_of_request_id, ask_number_of_json_id, AssignsAskIds, ids_with_non_ask_id, IsNonAskId, Exchange, IsInitialExchange, IsMessageToSession, IsRequestForAsk, IsReadOnlyRequest, IsUnmodeledMessage, IsUnmodeledContent, message_to_editor_by_ids, editor_after_reading_if_any, EditorReadsFirstContent, wire_with_queued_contents, Exchanges, IsExchangeCourse, AreMessagesToSession, AreMessagesToEditor, EveryExchangeFollowsModel, VersionedPublication, versioned_publications_of, versioned_publications_in, AreCorrectForDocuments, last_versioned_publication, notifications_in, GuaranteesHoldForEveryExchange}
+use Rattle.ob0_world.specs.Exchanges.{RequestId, id_of_value, is_same_id, SentRequestId, ask_number_of_request_id, ask_number_of_json_id, AssignsAskIds, ids_with_non_ask_id, IsNonAskId, Exchange, IsInitialExchange, IsMessageToSession, IsRequestForAsk, IsReadOnlyRequest, IsUnmodeledMessage, IsUnmodeledContent, message_to_editor_by_request_ids, editor_after_optional_message, EditorReadsFirstContent, wire_with_queued_contents, ExchangeTakesTurn, IsExchangeCourse, AreMessagesToSession, AreMessagesToEditor, EveryExchangeFollowsModel, VersionedPublication, versioned_publications_in_message, versioned_publications_in_contents, AreCorrectForDocuments, last_versioned_publication, notifications_in_contents, GuaranteesHoldForEveryExchange}
 use Rattle.ob0_world.proofs.Answering.{Served, note_answered, ask_answered, actions_answered, going_on, reacts_so}
 use Rattle.ob0_world.proofs.Waiting.{read_still}
 use Rattle.ob0_world.proofs.Ending.{ends_well}
 use Rattle.ob0_world.proofs.Courses.{Conversed, takes_conversed, gets_conversed, written_conversed, initialized_conversed, as_conversation}
 use Rattle.ob0_session_answers.specs.RenamingAnswers.{VersionedRenameRequest}
-use Rattle.ob0_rpc.specs.declared.clients.ClientFeatures.{ClientFeatures}
+use Rattle.ob0_rpc.specs.declared.client_capabilities.ClientFeatures.{ClientFeatures}
 use Rattle.ob0_world_rules.proofs.Asked.{numbered_push}
 use Rattle.std.proofs.lemmas.Option.{none-some}
 
@@ -112,7 +112,7 @@ module _ (client : ClientFeatures) (ids later : List SentRequestId) (requested m
   means_on : (r : List (Option MessageToEditor)) (contents : List (List ℕ)) → AreMessagesToEditor ids requested r contents → AreMessagesToEditor (ids ++ later) (requested ++ more) r contents
   means_on [] [] h = tt
   means_on (Some m ∷ r) (c ∷ contents) h = (read_still (ask_number_of_json_id ids) (ask_number_of_json_id (ids ++ later)) requested more (λ d k a is named. ask_with_still ids later d k named) c m h.0, means_on r contents h.1)
-  means_on (None ∷ r) (c ∷ contents) h = (λ further all. subst (λ more. message_to_editor_by_ids more all c ≡ None) (sym (append_assoc ids later further)) (h.0 (later ++ further) all), means_on r contents h.1)
+  means_on (None ∷ r) (c ∷ contents) h = (λ further all. subst (λ more. message_to_editor_by_request_ids more all c ≡ None) (sym (append_assoc ids later further)) (h.0 (later ++ further) all), means_on r contents h.1)
   means_on [] (c ∷ contents) h = absurd h
   means_on (Some m ∷ r) [] h = absurd h
   means_on (None ∷ r) [] h = absurd h
@@ -134,12 +134,12 @@ module _ (client : ClientFeatures) (ids : List SentRequestId) (requested : List 
   means_append (Some m ∷ r) p [] others h k = absurd h
   means_append (None ∷ r) p [] others h k = absurd h
 
-  each_means : (sent : List (List ℕ)) → All (λ content. (m : MessageToEditor) × (message_to_editor_by_ids ids requested content ≡ Some m)) sent → AreMessagesToEditor ids requested (map Some (filter_map (message_to_editor_by_ids ids requested) sent)) sent
+  each_means : (sent : List (List ℕ)) → All (λ content. (m : MessageToEditor) × (message_to_editor_by_request_ids ids requested content ≡ Some m)) sent → AreMessagesToEditor ids requested (map Some (filter_map (message_to_editor_by_request_ids ids requested) sent)) sent
   each_means [] all = tt
   each_means (c ∷ sent) all =
-      let first : (m : MessageToEditor) × (message_to_editor_by_ids ids requested c ≡ Some m) = All-head (λ content. (m : MessageToEditor) × (message_to_editor_by_ids ids requested content ≡ Some m)) c sent all in
-      subst (λ o. AreMessagesToEditor ids requested (map Some (cons_option o (filter_map (message_to_editor_by_ids ids requested) sent))) (c ∷ sent)) (sym first.1)
-      (first.1, each_means sent (All-tail (λ content. (m : MessageToEditor) × (message_to_editor_by_ids ids requested content ≡ Some m)) c sent all))
+      let first : (m : MessageToEditor) × (message_to_editor_by_request_ids ids requested c ≡ Some m) = All-head (λ content. (m : MessageToEditor) × (message_to_editor_by_request_ids ids requested content ≡ Some m)) c sent all in
+      subst (λ o. AreMessagesToEditor ids requested (map Some (cons_option o (filter_map (message_to_editor_by_request_ids ids requested) sent))) (c ∷ sent)) (sym first.1)
+      (first.1, each_means sent (All-tail (λ content. (m : MessageToEditor) × (message_to_editor_by_request_ids ids requested content ≡ Some m)) c sent all))
 
 -- ---- what a move asks
 
@@ -153,7 +153,7 @@ AsksMore e done = (more : List SentAsk) × (done.editor.requested ≡ e.requeste
 asks_none : (e : Editor) (done : ActResult) → done.editor.requested ≡ e.requested → AsksMore e done
 asks_none e done same = ([], same ∙ sym (append-nil e.requested))
 
-asks_more : (e : Editor) (move : Move) (done : ActResult) (announced : List AnnouncedDocument) → IsAllowedMove e move done announced → AsksMore e done
+asks_more : (e : Editor) (move : EditorMove) (done : ActResult) (announced : List AnnouncedDocument) → IsAllowedMove e move done announced → AsksMore e done
 asks_more e (editor_opens uri version text) done announced (is, are) = asks_none e done (ap (λ (x : ActResult). x.editor.requested) is)
 asks_more e (editor_revises uri revisions) done announced (new, revises, is) = asks_none e done (ap (λ (x : ActResult). x.editor.requested) is ∙ revises_asks revisions e uri new announced revises)
 asks_more e (editor_closes uri) done announced (is, are) = asks_none e done (ap (λ (x : ActResult). x.editor.requested) is)
@@ -181,7 +181,7 @@ abbrev IsReply : Data → Data → Type 0
 IsReply id message = (is_some (get (codes "method") message) ≡ false) × (get (codes "id") message ≡ Some id)
 
 -- A reply to a request that isn't an ask is no answer to an ask.
-no_answer_to : (ids : List SentRequestId) (id message : Data) → IsReply id message → IsNonAskId ids (id_of_value id) → (later : List SentRequestId) (requested : List SentAsk) → message_to_editor_of (ask_number_of_json_id (ids ++ later)) requested message ≡ None
+no_answer_to : (ids : List SentRequestId) (id message : Data) → IsReply id message → IsNonAskId ids (id_of_value id) → (later : List SentRequestId) (requested : List SentAsk) → message_to_editor_of_value (ask_number_of_json_id (ids ++ later)) requested message ≡ None
 no_answer_to ids id message (no_method, has_id) own later requested =
     ap (λ b. cond b (publication_of_notification message) (answer_of_response (ask_number_of_json_id (ids ++ later)) requested message)) no_method
     ∙ ap (λ o. option_and_then (answer_to_ask requested message) (option_and_then (ask_number_of_json_id (ids ++ later)) o)) has_id
@@ -205,8 +205,8 @@ module _ (ids : List SentRequestId) (requested : List SentAsk) (before after : S
   abbrev Replied : Data → Type 0
   Replied id = (message : Data) × SendsMessage message sent × IsReply id message
 
-  reply_is_determined : (id : Data) → IsNonAskId ids (id_of_value id) → after ≡ before → Replied id → OtherServed ids requested before after sent
-  reply_is_determined id own same (message, (content, is, writes), reply) =
+  reply_contents_are_determined : (id : Data) → IsNonAskId ids (id_of_value id) → after ≡ before → Replied id → OtherServed ids requested before after sent
+  reply_contents_are_determined id own same (message, (content, is, writes), reply) =
       record {
         same = same;
         said = None ∷ [];
@@ -216,20 +216,20 @@ module _ (ids : List SentRequestId) (requested : List SentAsk) (before after : S
       }
 
   refused_other : (id : Data) (code : ℤ) (why : List ℕ) → IsNonAskId ids (id_of_value id) → after ≡ before → SendsMessage (error_response_message id code why) sent → OtherServed ids requested before after sent
-  refused_other id code why own same sends = reply_is_determined id own same (error_response_message id code why, sends, (refl, refl))
+  refused_other id code why own same sends = reply_contents_are_determined id own same (error_response_message id code why, sends, (refl, refl))
 
   -- A request about a document changes nothing and gets one reply or a refusal.
   about_served : (id : Data) (say : ℤ → List ℕ → Reply) → IsNonAskId ids (id_of_value id) → ((version : ℤ) (text : List ℕ) → AreContentsOfReply (say version text) sent → Replied id) → (o : Option Document)
       → after ≡ (react_to_document_request before id o say).after → AreContentsOfReply (react_to_document_request before id o say).reply sent → OtherServed ids requested before after sent
   about_served id say own in_step None same saying = refused_other id (negative_of 32803) (codes "unopened") own same saying
   about_served id say own in_step (Some OutOfStep) same saying = refused_other id (negative_of 32803) (codes "out of step") own same saying
-  about_served id say own in_step (Some (InStep version text)) same saying = reply_is_determined id own same (in_step version text saying)
+  about_served id say own in_step (Some (InStep version text)) same saying = reply_contents_are_determined id own same (in_step version text saying)
 
   named_replied : (unit : Unit) (id : Data) (at : DocumentPlace) (question : NameQuestion) (text : List ℕ) → AreContentsOfReply (question_reply unit id at question text) sent → Replied id
   named_replied unit id at question text (value, answers_it, sends) = (result_message id value, sends, (refl, refl))
 
   rename_replied : (unit : Unit) (r : VersionedRenameRequest) (text : List ℕ) → AreContentsOfReply (rename_reply unit r text) sent → Replied r.id
-  rename_replied unit r text (message, inl (edits, found, is), sends) = (result_message r.id (workspace_edit r.client r.at.uri r.version edits), subst (λ m. SendsMessage m sent) is sends, (refl, refl))
+  rename_replied unit r text (message, inl (edits, found, is), sends) = (result_message r.id (workspace_edit_value r.client r.at.uri r.version edits), subst (λ m. SendsMessage m sent) is sends, (refl, refl))
   rename_replied unit r text (message, inr (inl (refusal, why, is)), sends) = (error_response_message r.id (negative_of 32803) (refusal_text refusal), subst (λ m. SendsMessage m sent) is sends, (refl, refl))
   rename_replied unit r text (message, inr (inr (unfit, is)), sends) = (error_response_message r.id (negative_of 32803) (codes "ill-typed"), subst (λ m. SendsMessage m sent) is sends, (refl, refl))
 
@@ -286,46 +286,46 @@ module _ (ids : List SentRequestId) (requested : List SentAsk) (before after : S
 -- ---- diagnostics
 
 -- An answer has no list of diagnostics in it, whatever was requested.
-answer_published : (number_of : Data → Option ℕ) (requested : List SentAsk) (d : Data) → versioned_publications_of (answer_of_response number_of requested d) ≡ []
+answer_published : (number_of : Data → Option ℕ) (requested : List SentAsk) (d : Data) → versioned_publications_in_message (answer_of_response number_of requested d) ≡ []
 answer_published number_of requested d = go (option_and_then number_of (get (codes "id") d))
   where
-    at : (k : ℕ) (o : Option SentAsk) → versioned_publications_of (option_map (λ (a : SentAsk). answers k (edits_in_answer a.uri a.ask d)) o) ≡ []
+    at : (k : ℕ) (o : Option SentAsk) → versioned_publications_in_message (option_map (λ (a : SentAsk). answers k (edits_in_answer a.uri a.ask d)) o) ≡ []
     at k None = refl
     at k (Some a) = refl
 
-    go : (o : Option ℕ) → versioned_publications_of (option_and_then (answer_to_ask requested d) o) ≡ []
+    go : (o : Option ℕ) → versioned_publications_in_message (option_and_then (answer_to_ask requested d) o) ≡ []
     go None = refl
-    go (Some k) = at k (request_with_number requested k)
+    go (Some k) = at k (sent_ask_with_number requested k)
 
-any_published : (number_of : Data → Option ℕ) (requested : List SentAsk) (content : List ℕ) → versioned_publications_of (message_to_editor_by_numbering number_of requested content) ≡ versioned_publications_of (message_to_editor_in [] content)
-unfolding message_to_editor_by_numbering
+any_published : (number_of : Data → Option ℕ) (requested : List SentAsk) (content : List ℕ) → versioned_publications_in_message (message_to_editor_by_id_conversion number_of requested content) ≡ versioned_publications_in_message (message_to_editor_in_content [] content)
+unfolding message_to_editor_by_id_conversion
 any_published number_of requested content = go (is_utf8 content) (read content)
   where
-    value : (d : Data) (b : Bool) → versioned_publications_of (cond b (publication_of_notification d) (answer_of_response number_of requested d)) ≡ versioned_publications_of (cond b (publication_of_notification d) (answer_of_response request_number_from_id [] d))
+    value : (d : Data) (b : Bool) → versioned_publications_in_message (cond b (publication_of_notification d) (answer_of_response number_of requested d)) ≡ versioned_publications_in_message (cond b (publication_of_notification d) (answer_of_response request_number_from_id [] d))
     value d true = refl
     value d false = answer_published number_of requested d ∙ sym (answer_published request_number_from_id [] d)
 
-    go : (b : Bool) (o : Option Data) → versioned_publications_of (cond b (option_and_then (message_to_editor_of number_of requested) o) None) ≡ versioned_publications_of (cond b (option_and_then (message_to_editor_of request_number_from_id []) o) None)
+    go : (b : Bool) (o : Option Data) → versioned_publications_in_message (cond b (option_and_then (message_to_editor_of_value number_of requested) o) None) ≡ versioned_publications_in_message (cond b (option_and_then (message_to_editor_of_value request_number_from_id []) o) None)
     go false o = refl
     go true None = refl
     go true (Some d) = value d (is_some (get (codes "method") d))
 
 abbrev versions : List (Option MessageToEditor) → List VersionedPublication
 versions [] = []
-versions (o ∷ r) = versioned_publications_of o ++ versions r
+versions (o ∷ r) = versioned_publications_in_message o ++ versions r
 
-means_published : (ids : List SentRequestId) (requested : List SentAsk) (r : List (Option MessageToEditor)) (contents : List (List ℕ)) → AreMessagesToEditor ids requested r contents → versioned_publications_in contents ≡ versions r
+means_published : (ids : List SentRequestId) (requested : List SentAsk) (r : List (Option MessageToEditor)) (contents : List (List ℕ)) → AreMessagesToEditor ids requested r contents → versioned_publications_in_contents contents ≡ versions r
 means_published ids requested [] [] h = refl
-means_published ids requested (Some m ∷ r) (c ∷ contents) h = λ i. (sym (any_published (ask_number_of_json_id ids) requested c) ∙ ap versioned_publications_of h.0) i ++ means_published ids requested r contents h.1 i
+means_published ids requested (Some m ∷ r) (c ∷ contents) h = λ i. (sym (any_published (ask_number_of_json_id ids) requested c) ∙ ap versioned_publications_in_message h.0) i ++ means_published ids requested r contents h.1 i
 means_published ids requested (None ∷ r) (c ∷ contents) h =
-    λ i. (sym (any_published (ask_number_of_json_id (ids ++ [])) requested c) ∙ ap versioned_publications_of (h.0 [] requested)) i ++ means_published ids requested r contents h.1 i
+    λ i. (sym (any_published (ask_number_of_json_id (ids ++ [])) requested c) ∙ ap versioned_publications_in_message (h.0 [] requested)) i ++ means_published ids requested r contents h.1 i
 means_published ids requested [] (c ∷ contents) h = absurd h
 means_published ids requested (Some m ∷ r) [] h = absurd h
 means_published ids requested (None ∷ r) [] h = absurd h
 
-published_append : (xs ys : List (List ℕ)) → versioned_publications_in (xs ++ ys) ≡ versioned_publications_in xs ++ versioned_publications_in ys
+published_append : (xs ys : List (List ℕ)) → versioned_publications_in_contents (xs ++ ys) ≡ versioned_publications_in_contents xs ++ versioned_publications_in_contents ys
 published_append [] ys = refl
-published_append (c ∷ xs) ys = ap (λ ps. versioned_publications_of (message_to_editor_in [] c) ++ ps) (published_append xs ys) ∙ sym (append_assoc (versioned_publications_of (message_to_editor_in [] c)) (versioned_publications_in xs) (versioned_publications_in ys))
+published_append (c ∷ xs) ys = ap (λ ps. versioned_publications_in_message (message_to_editor_in_content [] c) ++ ps) (published_append xs ys) ∙ sym (append_assoc (versioned_publications_in_message (message_to_editor_in_content [] c)) (versioned_publications_in_contents xs) (versioned_publications_in_contents ys))
 
 others_published : (said : List (Option MessageToEditor)) → modeled_messages said ≡ [] → versions said ≡ []
 others_published [] none = refl
@@ -356,12 +356,12 @@ replies_named held (requests k uri ask) said made (edits, may, is_said, is_made)
 record Shown (got : List (List ℕ)) (wire : Wire) (made : List PublicationWithText) : Type 0 where
   since : List (List ℕ)
   sent : wire.got ++ wire.to_editor ≡ got ++ since
-  published : versioned_publications_in since ≡ map named made
+  published : versioned_publications_in_contents since ≡ map named made
 
 shown_written : (got contents : List (List ℕ)) (wire : Wire) (made : List PublicationWithText) → Shown got wire made → Shown got (wire_with_queued_contents wire contents) made
 shown_written got contents wire made h = record { since = h.since; sent = h.sent; published = h.published }
 
-shown_served : (got more taken rest : List (List ℕ)) (wire : Wire) (after : ServerState) (made these : List PublicationWithText) → Shown got wire made → versioned_publications_in more ≡ map named these
+shown_served : (got more taken rest : List (List ℕ)) (wire : Wire) (after : ServerState) (made these : List PublicationWithText) → Shown got wire made → versioned_publications_in_contents more ≡ map named these
     → Shown got (record wire { session = after; taken = taken; to_server = rest; to_editor = wire.to_editor ++ more }) (made ++ these)
 shown_served got more taken rest wire after made these h new =
     record {
@@ -414,11 +414,11 @@ record Step (got : List (List ℕ)) (w : EditorAndServer) (turn : ExchangeTurn) 
   q : List (Option MessageToServer)
   r : List (Option MessageToEditor)
   made : List PublicationWithText
-  happens : MayHappen w turn (model_of y q r made)
+  happens : TurnMayLeadTo w turn (model_of y q r made)
   tied : Tied got y q r made
 
 module _ (got : List (List ℕ)) (x : Exchange) (made : List PublicationWithText) where
-  does_step : (q : List (Option MessageToServer)) (r : List (Option MessageToEditor)) (move : Move) (y : Exchange) → Tied got x q r made → Exchanges x (editor_moves move) y → Step got (model_of x q r made) (editor_moves move) y
+  does_step : (q : List (Option MessageToServer)) (r : List (Option MessageToEditor)) (move : EditorMove) (y : Exchange) → Tied got x q r made → ExchangeTakesTurn x (editor_moves move) y → Step got (model_of x q r made) (editor_moves move) y
   does_step q r move y tied (done, announced, ids, contents, may, names, say, is) =
       let client : ClientFeatures = x.wire.session.client in
       let known : List SentAsk = x.editor.requested in
@@ -443,7 +443,7 @@ module _ (got : List (List ℕ)) (x : Exchange) (made : List PublicationWithText
         };
       })
 
-  says_step : (q : List (Option MessageToServer)) (r : List (Option MessageToEditor)) (y : Exchange) → Tied got x q r made → Exchanges x editor_sends_unmodeled_message y → Step got (model_of x q r made) editor_sends_unmodeled_message y
+  says_step : (q : List (Option MessageToServer)) (r : List (Option MessageToEditor)) (y : Exchange) → Tied got x q r made → ExchangeTakesTurn x editor_sends_unmodeled_message y → Step got (model_of x q r made) editor_sends_unmodeled_message y
   says_step q r y tied (id, content, is_other, is) =
       let client : ClientFeatures = x.wire.session.client in
       let known : List SentAsk = x.editor.requested in
@@ -484,7 +484,7 @@ module _ (got : List (List ℕ)) (x : Exchange) (made : List PublicationWithText
       let s : Served (ask_number_of_json_id x.ids) known m x.wire.session after sent = session_served x.ids known m x.wire.session after c sent tied.running says.0 answered in
       let now : Wire = record x.wire { session = after; taken = x.wire.taken ++ c ∷ []; to_server = rest; to_editor = x.wire.to_editor ++ sent } in
       let more : List PublicationWithText = option_to_list (publication_in_first_message after.held s.said) in
-      let means : AreMessagesToEditor x.ids known (map Some s.said) sent = subst (λ ms. AreMessagesToEditor x.ids known (map Some ms) sent) s.message_to_server_in.all (each_means client x.ids known sent s.message_to_server_in.each) in
+      let means : AreMessagesToEditor x.ids known (map Some s.said) sent = subst (λ ms. AreMessagesToEditor x.ids known (map Some ms) sent) s.message_to_server_in_content.all (each_means client x.ids known sent s.message_to_server_in_content.each) in
       let y : Exchange = record x { wire = now } in
       subst (λ v. Step got (model_of x (Some m ∷ q) r made) server_takes_message (record x { wire = v })) (sym is)
       (record {
@@ -527,7 +527,7 @@ module _ (got : List (List ℕ)) (x : Exchange) (made : List PublicationWithText
   serve_step (Some m ∷ q) r [] wire waits tied takes = absurd (subst (AreMessagesToSession x.wire.session.client x.ids x.editor.requested (Some m ∷ q)) waits tied.says)
   serve_step (None ∷ q) r [] wire waits tied takes = absurd (subst (AreMessagesToSession x.wire.session.client x.ids x.editor.requested (None ∷ q)) waits tied.says)
 
-  reads_asks : (e : Editor) (m : MessageToEditor) → (editor_after_reading e m).requested ≡ e.requested
+  reads_asks : (e : Editor) (m : MessageToEditor) → (editor_after_message e m).requested ≡ e.requested
   reads_asks e (publishes uri version empty) = refl
   reads_asks e (answers k []) = refl
   reads_asks e (answers k (edit ∷ edits)) = refl
@@ -550,19 +550,19 @@ module _ (got : List (List ℕ)) (x : Exchange) (made : List PublicationWithText
   get_step q (Some m ∷ r) (c ∷ rest) y waits tied is =
       let means : AreMessagesToEditor x.ids x.editor.requested (Some m ∷ r) (c ∷ rest) = subst (AreMessagesToEditor x.ids x.editor.requested (Some m ∷ r)) waits tied.means in
       let now : Wire = record x.wire { got = x.wire.got ++ c ∷ []; to_editor = rest } in
-      subst (Step got (model_of x q (Some m ∷ r) made) editor_takes_message) (sym (is ∙ (λ i. record x { editor = editor_after_reading_if_any x.editor (means.0 i); wire = now })))
-      (record { q = q; r = r; made = made; happens = refl; tied = got_so q (Some m ∷ r) r c rest (editor_after_reading x.editor m) waits tied (reads_asks x.editor m) means.1 })
+      subst (Step got (model_of x q (Some m ∷ r) made) editor_takes_message) (sym (is ∙ (λ i. record x { editor = editor_after_optional_message x.editor (means.0 i); wire = now })))
+      (record { q = q; r = r; made = made; happens = refl; tied = got_so q (Some m ∷ r) r c rest (editor_after_message x.editor m) waits tied (reads_asks x.editor m) means.1 })
   get_step q (None ∷ r) (c ∷ rest) y waits tied is =
       let means : AreMessagesToEditor x.ids x.editor.requested (None ∷ r) (c ∷ rest) = subst (AreMessagesToEditor x.ids x.editor.requested (None ∷ r)) waits tied.means in
       let now : Wire = record x.wire { got = x.wire.got ++ c ∷ []; to_editor = rest } in
-      let none : message_to_editor_by_ids x.ids x.editor.requested c ≡ None = subst (λ all. message_to_editor_by_ids all x.editor.requested c ≡ None) (append-nil x.ids) (means.0 [] x.editor.requested) in
-      subst (Step got (model_of x q (None ∷ r) made) editor_takes_message) (sym (is ∙ (λ i. record x { editor = editor_after_reading_if_any x.editor (none i); wire = now })))
+      let none : message_to_editor_by_request_ids x.ids x.editor.requested c ≡ None = subst (λ all. message_to_editor_by_request_ids all x.editor.requested c ≡ None) (append-nil x.ids) (means.0 [] x.editor.requested) in
+      subst (Step got (model_of x q (None ∷ r) made) editor_takes_message) (sym (is ∙ (λ i. record x { editor = editor_after_optional_message x.editor (none i); wire = now })))
       (record { q = q; r = r; made = made; happens = refl; tied = got_so q (None ∷ r) r c rest x.editor waits tied refl means.1 })
   get_step q [] (c ∷ rest) y waits tied is = absurd (subst (AreMessagesToEditor x.ids x.editor.requested []) waits tied.means)
   get_step q (Some m ∷ r) [] y waits tied is = absurd (subst (AreMessagesToEditor x.ids x.editor.requested (Some m ∷ r)) waits tied.means)
   get_step q (None ∷ r) [] y waits tied is = absurd (subst (AreMessagesToEditor x.ids x.editor.requested (None ∷ r)) waits tied.means)
 
-  turn_step : (q : List (Option MessageToServer)) (r : List (Option MessageToEditor)) (turn : ExchangeTurn) (y : Exchange) → Tied got x q r made → Exchanges x turn y → Step got (model_of x q r made) turn y
+  turn_step : (q : List (Option MessageToServer)) (r : List (Option MessageToEditor)) (turn : ExchangeTurn) (y : Exchange) → Tied got x q r made → ExchangeTakesTurn x turn y → Step got (model_of x q r made) turn y
   turn_step q r (editor_moves move) y tied h = does_step q r move y tied h
   turn_step q r editor_sends_unmodeled_message y tied h = says_step q r y tied h
   turn_step q r server_takes_message y tied (wire, takes, is) = subst (Step got (model_of x q r made) server_takes_message) (sym is) (serve_step q r x.wire.to_server wire refl tied takes)
@@ -574,7 +574,7 @@ record Led (got : List (List ℕ)) (w : EditorAndServer) (turns : List ExchangeT
   q : List (Option MessageToServer)
   r : List (Option MessageToEditor)
   made : List PublicationWithText
-  leads : MayLeadTo w turns (model_of y q r made)
+  leads : IsCourseOfTurns w turns (model_of y q r made)
   tied : Tied got y q r made
 
 turns_lead : (got : List (List ℕ)) (turns : List ExchangeTurn) (x y : Exchange) (q : List (Option MessageToServer)) (r : List (Option MessageToEditor)) (made : List PublicationWithText) → Tied got x q r made → IsExchangeCourse x turns y → Led got (model_of x q r made) turns y
@@ -622,7 +622,7 @@ right_of [] [] all h = tt
 right_of (m ∷ made) (t ∷ announced) all ((uri_is, version_is, text_is), rest) = (
   uri_is,
   version_is,
-  subst (λ text. IsEmptyExactlyIfWellTyped text m.no_diagnostics) text_is (All-head IsCorrectPublication m made all),
+  subst (λ text. NoDiagnosticsExactlyIfWellTyped text m.no_diagnostics) text_is (All-head IsCorrectPublication m made all),
   right_of made announced (All-tail IsCorrectPublication m made all) rest,
 )
 right_of [] (t ∷ announced) all h = absurd h
@@ -645,9 +645,9 @@ last_right uri last (m ∷ made) h all = last_right uri (cond (bytes_eq m.uri ur
     go false = h
 
 latest_right : (d : OpenDocument) (o : Option PublicationWithText) → MatchOption o ⊥ (λ m. (m.version ≡ d.version) × (m.text ≡ d.text)) → MatchOption o ⊤ IsCorrectPublication
-    → MatchOption (option_map named o) ⊥ (λ p. (p.version ≡ d.version) × IsEmptyExactlyIfWellTyped d.text p.no_diagnostics)
+    → MatchOption (option_map named o) ⊥ (λ p. (p.version ≡ d.version) × NoDiagnosticsExactlyIfWellTyped d.text p.no_diagnostics)
 latest_right d None h right = h
-latest_right d (Some m) h right = (h.0, subst (λ text. IsEmptyExactlyIfWellTyped text m.no_diagnostics) h.1 right)
+latest_right d (Some m) h right = (h.0, subst (λ text. NoDiagnosticsExactlyIfWellTyped text m.no_diagnostics) h.1 right)
 
 -- ---- the meaning of waiting contents
 
@@ -657,22 +657,22 @@ none_read None = refl
 none_read (Some zero) = refl
 none_read (Some (suc k)) = refl
 
-request_unheard : (content : List ℕ) (json id params : Data) (method : List ℕ) → ReadsContent content (Some json) → meaning_of_message json ≡ request id method params → message_to_server_in [] content ≡ None
-unfolding message_to_server_in
+request_unheard : (content : List ℕ) (json id params : Data) (method : List ℕ) → IsJsonOfContent content (Some json) → meaning_of_message json ≡ request id method params → message_to_server_in_content [] content ≡ None
+unfolding message_to_server_in_content
 request_unheard content json id params method reads_so means =
-    said (λ d. message_to_server_of [] (meaning_of_message d)) content json reads_so ∙ ap (message_to_server_of []) means ∙ none_read (request_number_from_id id)
+    said (λ d. message_to_server_of_meaning [] (meaning_of_message d)) content json reads_so ∙ ap (message_to_server_of_meaning []) means ∙ none_read (request_number_from_id id)
 
-ask_unheard : (id : Data) (uri : List ℕ) (ask : Ask) (content : List ℕ) → IsRequestForAsk id uri ask content → message_to_server_in [] content ≡ None
+ask_unheard : (id : Data) (uri : List ℕ) (ask : Ask) (content : List ℕ) → IsRequestForAsk id uri ask content → message_to_server_in_content [] content ≡ None
 ask_unheard id uri (rename position name) content is = request_unheard content is.json id is.params (codes "textDocument/rename") is.reads is.means
 ask_unheard id uri (inline_here position) content is = request_unheard content is.json id is.params (codes "textDocument/codeAction") is.reads is.means
 ask_unheard id uri (inline_all position) content is = request_unheard content is.json id is.params (codes "textDocument/codeAction") is.reads is.means
 ask_unheard id uri (format indent) content is = request_unheard content is.json id is.params (codes "textDocument/formatting") is.reads is.means
 
-other_unheard : (ids : List SentRequestId) (content : List ℕ) → IsUnmodeledContent ids content → message_to_server_in [] content ≡ None
-unfolding message_to_server_in
-other_unheard ids content (json, reads_so, is) = said (λ d. message_to_server_of [] (meaning_of_message d)) content json reads_so ∙ go (meaning_of_message json) is
+other_unheard : (ids : List SentRequestId) (content : List ℕ) → IsUnmodeledContent ids content → message_to_server_in_content [] content ≡ None
+unfolding message_to_server_in_content
+other_unheard ids content (json, reads_so, is) = said (λ d. message_to_server_of_meaning [] (meaning_of_message d)) content json reads_so ∙ go (meaning_of_message json) is
   where
-    go : (m : MessageMeaning) → IsUnmodeledMessage ids m → message_to_server_of [] m ≡ None
+    go : (m : MessageMeaning) → IsUnmodeledMessage ids m → message_to_server_of_meaning [] m ≡ None
     go not_json is = refl
     go not_a_message is = refl
     go response is = refl
@@ -680,7 +680,7 @@ other_unheard ids content (json, reads_so, is) = said (λ d. message_to_server_o
     go (notice method params) is = ap message_of_notification is
 
 -- The notifications in the waiting contents are the notifications among the model's messages.
-notes_waiting : (client : ClientFeatures) (ids : List SentRequestId) (requested : List SentAsk) (q : List (Option MessageToServer)) (contents : List (List ℕ)) → AreMessagesToSession client ids requested q contents → notifications_in contents ≡ notifications_among (modeled_messages q)
+notes_waiting : (client : ClientFeatures) (ids : List SentRequestId) (requested : List SentAsk) (q : List (Option MessageToServer)) (contents : List (List ℕ)) → AreMessagesToSession client ids requested q contents → notifications_in_contents contents ≡ notifications_in_queue (modeled_messages q)
 notes_waiting client ids requested [] [] h = refl
 notes_waiting client ids requested (Some (notifies note) ∷ q) (c ∷ contents) h = λ i. cons_option (says_heard [] (notifies note) c h.0 i) (notes_waiting client ids requested q contents h.1 i)
 notes_waiting client ids requested (Some (requests k uri ask) ∷ q) (c ∷ contents) ((id, is, of, takes), h) = λ i. cons_option (ask_unheard id uri ask c is i) (notes_waiting client ids requested q contents h i)
@@ -690,12 +690,12 @@ notes_waiting client ids requested (Some m ∷ q) [] h = absurd h
 notes_waiting client ids requested (None ∷ q) [] h = absurd h
 
 -- Only notifications announce documents.
-notes_named : (q : List MessageToServer) → uris_and_versions_announced_in q ≡ uris_and_versions_announced_in (notifications_among q)
+notes_named : (q : List MessageToServer) → uris_and_versions_announced_in_queue q ≡ uris_and_versions_announced_in_queue (notifications_in_queue q)
 notes_named [] = refl
-notes_named (notifies note ∷ q) = ap (λ names. uris_and_versions_announced_by (notifies note) ++ names) (notes_named q)
+notes_named (notifies note ∷ q) = ap (λ names. uri_and_version_announced_by_message (notifies note) ++ names) (notes_named q)
 notes_named (requests k uri ask ∷ q) = notes_named q
 
-notes_change : (held : OpenDocuments) (q : List MessageToServer) → fold documents_after_message held (notifications_among q) ≡ fold documents_after_message held q
+notes_change : (held : OpenDocuments) (q : List MessageToServer) → fold documents_after_message held (notifications_in_queue q) ≡ fold documents_after_message held q
 notes_change held [] = refl
 notes_change held (notifies note ∷ q) = notes_change (documents_after_message held (notifies note)) q
 notes_change held (requests k uri ask ∷ q) = notes_change held q
@@ -707,7 +707,7 @@ guarantees_hold_for_every_exchange unit begin now turns b leads =
     let holds : GuaranteesHoldForEditorAndServer w = guarantees_hold_for_every_editor unit turns w led.leads in
     let shown : Shown begin.wire.got now.wire led.made = led.tied.shown in
     let waiting : List MessageToServer = modeled_messages led.q in
-    let notes : notifications_in now.wire.to_server ≡ notifications_among waiting = notes_waiting now.wire.session.client now.ids now.editor.requested led.q now.wire.to_server led.tied.says in
+    let notes : notifications_in_contents now.wire.to_server ≡ notifications_in_queue waiting = notes_waiting now.wire.session.client now.ids now.editor.requested led.q now.wire.to_server led.tied.says in
     record {
       applied = holds.holds.applied;
       since = shown.since;
@@ -716,9 +716,9 @@ guarantees_hold_for_every_exchange unit begin now turns b leads =
       unpublished_documents = holds.waiting;
       announced = holds.all;
       right = subst (λ ps. AreCorrectForDocuments ps holds.published) (sym shown.published) (right_of led.made holds.published holds.holds.made holds.are_made_for_documents);
-      unpublished_are_queued = holds.unpublished_are_queued ∙ notes_named waiting ∙ ap uris_and_versions_announced_in (sym notes);
+      unpublished_are_queued = holds.unpublished_are_queued ∙ notes_named waiting ∙ ap uris_and_versions_announced_in_queue (sym notes);
       latest = λ quiet uri d at.
-          subst (λ o. MatchOption o ⊥ (λ p. (p.version ≡ d.version) × IsEmptyExactlyIfWellTyped d.text p.no_diagnostics)) (sym (ap (last_versioned_publication uri) shown.published ∙ last_named uri None led.made))
+          subst (λ o. MatchOption o ⊥ (λ p. (p.version ≡ d.version) × NoDiagnosticsExactlyIfWellTyped d.text p.no_diagnostics)) (sym (ap (last_versioned_publication uri) shown.published ∙ last_named uri None led.made))
           (latest_right d (last_publication uri led.made)
           (holds.latest (sym notes ∙ quiet) uri d at)
           (last_right uri None led.made tt holds.holds.made));

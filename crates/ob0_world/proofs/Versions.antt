@@ -18,32 +18,32 @@ use Rattle.ob0_text.specs.declared.refusals.EditRefusal.TheVariants.{TooLong}
 use Rattle.ob0_text.specs.OpenDocuments.{OpenDocuments, Document, InStep, OutOfStep, DocumentEvent, Opened, Changed, Lost, Closed, document_at, documents_after_event, documents_after_open, documents_after_change}
 use Rattle.ob0_text.specs.RefusalTexts.{refusal_text}
 use Rattle.ob0_rpc.specs.Faults.{negative_of}
-use Rattle.ob0_rpc.specs.Messages.{ReadsContent, meaning_of_message}
+use Rattle.ob0_rpc.specs.Messages.{IsJsonOfContent, meaning_of_message}
 use Rattle.ob0_rpc.specs.Requests.{request_by_method}
-use Rattle.ob0_rpc.specs.Shapes.{result_message, error_response_message}
-use Rattle.ob0_rpc.specs.declared.clients.ClientFeatures.{ClientFeatures}
+use Rattle.ob0_rpc.specs.JsonShapes.{result_message, error_response_message}
+use Rattle.ob0_rpc.specs.declared.client_capabilities.ClientFeatures.{ClientFeatures}
 use Rattle.ob0_session_answers.specs.Actions.{VersionedActionsRequest, ListsActions, actions_array}
 use Rattle.ob0_session_answers.specs.FormattingAnswers.{AnswersFormattingRequest}
 use Rattle.ob0_session_answers.specs.RenamingAnswers.{VersionedRenameRequest, AnswersRenameRequest}
-use Rattle.ob0_session_json.specs.Shapes.{document_edit_value, edit_list_value, workspace_edit, publication}
+use Rattle.ob0_session_json.specs.JsonShapes.{document_edit_value, edit_list_value, workspace_edit_value, publication}
 use Rattle.ob0_session_server.specs.Answers as answers_of
-use Rattle.ob0_session_server.specs.Answers.{ServerState, Reply, AreContentsOfReply, SendsMessage, Reaction, state_after_initialize, react_to_message, apply_notification, react_to_notification, react_to_allowed_request, react_to_parsed_request, react_to_document_request, formatting_reply, rename_reply, actions_reply, publication_reply, Answers, AnswersInPhase, AnswersBeforeEnd, says}
-use Rattle.ob0_session_server.specs.Units.{unit_for_client}
-use Rattle.ob0_world_editor.specs.InitializeRequest.{client_features_for}
-use Rattle.ob0_world_editor.specs.MessagesToServer.{IsMessageToServer, SentRequestAsksFor, notification_for, client_request_for, request_number_from_id}
+use Rattle.ob0_session_server.specs.Answers.{ServerState, Reply, AreContentsOfReply, SendsMessage, Reaction, state_after_initialize, react_to_message, apply_notification, react_to_notification, react_to_allowed_request, react_to_parsed_request, react_to_document_request, formatting_reply, rename_reply, actions_reply, publication_reply, Answers, AnswersInPhase, AnswersBeforeSessionEnd, fixed_reply}
+use Rattle.ob0_session_server.specs.ClientUnits.{unit_for_client}
+use Rattle.ob0_world_editor.specs.InitializeRequest.{client_features_for_unit}
+use Rattle.ob0_world_editor.specs.MessagesToServer.{IsMessageToServer, SentRequestAsksForEdits, notification_for_event, client_request_for_ask, request_number_from_id}
 use Rattle.ob0_world_editor.specs.Shapes.{method_of_ask}
 use Rattle.ob0_world_editor.specs.MessagesToEditor.{edits_in_answer}
-use Rattle.ob0_world_rules.specs.Answers.{Inlining, OneUse, Everywhere}
+use Rattle.ob0_world_rules.specs.Answers.{InliningKind, OneUse, Everywhere}
 use Rattle.ob0_world_rules.specs.Asks.{Ask, rename, inline_here, inline_all, format, clamped_indent}
 use Rattle.ob0_world_rules.specs.TextEdits.{text_after_edits, whole_text_change}
-use Rattle.ob0_world_rules.specs.EditorActs.{Act, ActResult, next_version, is_same_version, act_result, rewriting_result, document_if_unchanged_since}
-use Rattle.ob0_world_rules.specs.ClientAndServer.{OpenDocument, SentAsk, request_with_number, editor_document_at, MessageToServer, notifies, requests, MessageToEditor, publishes, answers, ClientAndServer, start, documents_after_message}
-use Rattle.ob0_world_rules.specs.Happens.{Event, editor_acts, serve, take_message, state_after_editor_takes_message, ServerTakesFirstMessage}
+use Rattle.ob0_world_rules.specs.EditorActs.{EditorAct, ActResult, next_version, is_same_version, act_result, result_of_changing_text, document_if_unchanged_since_ask}
+use Rattle.ob0_world_rules.specs.ClientAndServer.{OpenDocument, SentAsk, sent_ask_with_number, editor_document_with_uri, MessageToServer, notifies, requests, MessageToEditor, publishes, answers, ClientAndServer, start, documents_after_message}
+use Rattle.ob0_world_rules.specs.Events.{Event, editor_acts, serve, take_message, state_after_editor_takes_message, ServerTakesFirstMessage}
 use Rattle.ob0_world_rules.specs.MirroredDocuments.{in_step_document, ServerWillMirrorEditor}
 use Rattle.ob0_world_rules.proofs.PerformsAct.{of_each}
 use Rattle.ob0_world_rules.proofs.Asked.{numbered_push, slice_get_last}
 use Rattle.ob0_world.specs.Queues.{IsReachable, RunsWithModelEditor}
-use Rattle.ob0_world.specs.Versions.{uri_and_version_in_answer, uri_and_version_in_edit, MentionsAskedDocument, ContentMentionsAskedDocument, IsFormatting, AnswersMentionVersions, VersionsSufficeForApplying}
+use Rattle.ob0_world.specs.Versions.{uri_and_version_in_answer, uri_and_version_in_edit, MentionsAskedDocument, ContentMentionsAskedDocument, IsFormatting, AnswersMentionVersions, VersionsSufficeToApplyAnswers}
 use Rattle.ob0_world.specs.Worlds.{Wire, Connection, IsInitialConnection, SessionTakesFirstContent, EditorTakesFirstContent, AreMessagesToServer, QueuesMatch, ConnectionSteps, IsConnectionCourse}
 use Rattle.ob0_world.proofs.Answering.{reacts_so, request_reaction, served, runs_on, inlining_at, none_read_back, actions_requested_at}
 use Rattle.ob0_world.proofs.Stepping.{reached_start, reached_more, reached_mirrors}
@@ -53,7 +53,7 @@ use Rattle.ob0_world.proofs.Stepping.{reached_start, reached_more, reached_mirro
 -- states that the document has the version that it had when request k was sent
 pub record IsHeldAsAsked (requested : List SentAsk) (held : OpenDocuments) (k : ℕ) (uri : List ℕ) : Type 0 where
   pub sent : SentAsk
-  pub is : request_with_number requested k ≡ Some sent
+  pub is : sent_ask_with_number requested k ≡ Some sent
   pub text : List ℕ
   pub holds : document_at held uri ≡ Some (InStep sent.version text)
 
@@ -98,7 +98,7 @@ module _ (w : ClientAndServer) (contents : List (List ℕ)) (mirrors : ServerWil
   noted : (note : DocumentEvent) → AsksHeld w.editor.requested w.held (w.to_server ++ notifies note ∷ [])
   noted note = asks_append w.editor.requested w.held w.to_server (notifies note ∷ []) asked tt
 
-  asks_now : (uri : List ℕ) (ask : Ask) (d : OpenDocument) → editor_document_at w.editor uri ≡ Some d → (a : SentAsk) → a.version ≡ d.version
+  asks_now : (uri : List ℕ) (ask : Ask) (d : OpenDocument) → editor_document_with_uri w.editor uri ≡ Some d → (a : SentAsk) → a.version ≡ d.version
       → AsksHeld (w.editor.requested ++ a ∷ []) w.held (w.to_server ++ requests (suc (length w.editor.requested)) uri ask ∷ []) × All (ContentMentionsAskedDocument (w.editor.requested ++ a ∷ [])) contents
   asks_now uri ask d is a same =
       let this : IsHeldAsAsked (w.editor.requested ++ a ∷ []) (fold documents_after_message w.held w.to_server) (suc (length w.editor.requested)) uri = record {
@@ -111,7 +111,7 @@ module _ (w : ClientAndServer) (contents : List (List ℕ)) (mirrors : ServerWil
         names_more w.editor.requested (a ∷ []) contents named,
       )
 
-  act_keeps : (act : Act) → Keeps w contents (act_result w.editor act)
+  act_keeps : (act : EditorAct) → Keeps w contents (act_result w.editor act)
   act_keeps =
       of_each w.editor (Keeps w contents)
       (record {
@@ -126,11 +126,11 @@ module _ (w : ClientAndServer) (contents : List (List ℕ)) (mirrors : ServerWil
 
 -- ---- what a session writes
 
-same_data : (content : List ℕ) (d e : Data) → ReadsContent content (Some d) → ReadsContent content (Some e) → d ≡ e
+same_data : (content : List ℕ) (d e : Data) → IsJsonOfContent content (Some d) → IsJsonOfContent content (Some e) → d ≡ e
 same_data content d e one other = same_Some d e (sym one.1 ∙ other.1)
 
 abbrev Names : List SentAsk → ℕ → Data → Type 0
-Names requested k answer = (a : SentAsk) × (request_with_number requested k ≡ Some a) × MentionsAskedDocument a answer
+Names requested k answer = (a : SentAsk) × (sent_ask_with_number requested k ≡ Some a) × MentionsAskedDocument a answer
 
 -- If one message is sent, `ContentMentionsAskedDocument` holds of the sent contents if it holds of that message.
 sent_one : (requested : List SentAsk) (message : Data) (sent : List (List ℕ)) → SendsMessage message sent → ((k : ℕ) → option_and_then request_number_from_id (get (codes "id") message) ≡ Some k → Names requested k message) → All (ContentMentionsAskedDocument requested) sent
@@ -151,7 +151,7 @@ published_names requested unit uri (Some (InStep version text)) sent (ds, diagno
 published_names requested unit uri (Some OutOfStep) sent saying = sent_none requested sent saying
 published_names requested unit uri None sent saying = sent_none requested sent saying
 
-note_names : (requested : List SentAsk) (note : DocumentEvent) (before : ServerState) (sent : List (List ℕ)) → AreContentsOfReply (apply_notification before (notification_for note)).reply sent → All (ContentMentionsAskedDocument requested) sent
+note_names : (requested : List SentAsk) (note : DocumentEvent) (before : ServerState) (sent : List (List ℕ)) → AreContentsOfReply (apply_notification before (notification_for_event note)).reply sent → All (ContentMentionsAskedDocument requested) sent
 note_names requested (Opened uri version text) before sent saying =
     published_names requested before.held.unit uri (document_at (documents_after_open before.held uri version text) uri) sent saying
 note_names requested (Changed uri version how) before sent saying =
@@ -159,7 +159,7 @@ note_names requested (Changed uri version how) before sent saying =
 note_names requested (Lost uri) before sent saying = sent_none requested sent saying
 note_names requested (Closed uri) before sent saying = go (is_some (document_at before.held uri)) saying
   where
-    go : (b : Bool) → AreContentsOfReply (cond b (says (publication uri None [])) answers_of.nothing) sent → All (ContentMentionsAskedDocument requested) sent
+    go : (b : Bool) → AreContentsOfReply (cond b (fixed_reply (publication uri None [])) answers_of.no_reply) sent → All (ContentMentionsAskedDocument requested) sent
     go true saying = sent_one requested (publication uri None []) sent saying (λ k numbered. absurd (none-some k numbered))
     go false saying = sent_none requested sent saying
 
@@ -168,7 +168,7 @@ integer_back (pos n) = refl
 integer_back (negsuc n) = refl
 
 -- The uri and the version that a WorkspaceEdit has are read back.
-edit_names : (client : ClientFeatures) (uri : List ℕ) (version : ℤ) (edits : List Edit) → client.accepts_document_changes ≡ true → uri_and_version_in_edit (workspace_edit client uri version edits) ≡ Some (uri, version)
+edit_names : (client : ClientFeatures) (uri : List ℕ) (version : ℤ) (edits : List Edit) → client.accepts_document_changes ≡ true → uri_and_version_in_edit (workspace_edit_value client uri version edits) ≡ Some (uri, version)
 edit_names client uri version edits takes = go client.accepts_document_changes takes
   where
     pair : ℤ → List ℕ × ℤ
@@ -184,19 +184,19 @@ abbrev NamesFor : Ask → List ℕ → ℤ → Data → Type 0
 NamesFor ask uri version answer = (uri_and_version_in_answer ask answer ≡ Some (uri, version)) ⊎ ((edits_in_answer uri ask answer ≡ []) ⊎ IsFormatting ask)
 
 module _ (requested : List SentAsk) (k : ℕ) (uri : List ℕ) (sent : List (List ℕ)) where
-  answer_names : (ask : Ask) (of : SentRequestAsksFor requested k uri ask) (message : Data) → SendsMessage message sent → option_and_then request_number_from_id (get (codes "id") message) ≡ Some k → NamesFor ask uri of.sent.version message → All (ContentMentionsAskedDocument requested) sent
+  answer_names : (ask : Ask) (of : SentRequestAsksForEdits requested k uri ask) (message : Data) → SendsMessage message sent → option_and_then request_number_from_id (get (codes "id") message) ≡ Some k → NamesFor ask uri of.sent.version message → All (ContentMentionsAskedDocument requested) sent
   answer_names ask of message sends numbered names =
       sent_one requested message sent sends
       (λ n is. (
         of.sent,
-        subst (λ x. request_with_number requested x ≡ Some of.sent) (same_Some k n (sym numbered ∙ is)) of.is,
+        subst (λ x. sent_ask_with_number requested x ≡ Some of.sent) (same_Some k n (sym numbered ∙ is)) of.is,
         subst (λ u. NamesFor of.sent.ask u of.sent.version message) (sym of.about) (subst (λ x. NamesFor x uri of.sent.version message) (sym of.same_ask) names),
       ))
 
-  refusal_names : (ask : Ask) (of : SentRequestAsksFor requested k uri ask) (code : ℤ) (why : List ℕ) (message : Data) → SendsMessage message sent → message ≡ error_response_message (number (unsigned k)) code why → All (ContentMentionsAskedDocument requested) sent
+  refusal_names : (ask : Ask) (of : SentRequestAsksForEdits requested k uri ask) (code : ℤ) (why : List ℕ) (message : Data) → SendsMessage message sent → message ≡ error_response_message (number (unsigned k)) code why → All (ContentMentionsAskedDocument requested) sent
   refusal_names ask of code why message sends is = answer_names ask of (error_response_message (number (unsigned k)) code why) (subst (λ m. SendsMessage m sent) is sends) refl (inr (inl refl))
 
-  rename_names : (position : Position) (name : List ℕ) (of : SentRequestAsksFor requested k uri (rename position name)) (client : ClientFeatures) (unit : Unit) (text : List ℕ) → client.accepts_document_changes ≡ true
+  rename_names : (position : Position) (name : List ℕ) (of : SentRequestAsksForEdits requested k uri (rename position name)) (client : ClientFeatures) (unit : Unit) (text : List ℕ) → client.accepts_document_changes ≡ true
       → AreContentsOfReply (rename_reply unit (record { id = number (unsigned k); client = client; at = record { uri = uri; position = position }; version = of.sent.version; new = name }) text) sent → All (ContentMentionsAskedDocument requested) sent
   rename_names position name of client unit text takes (message, how, sends) = go how
     where
@@ -205,21 +205,21 @@ module _ (requested : List SentAsk) (k : ℕ) (uri : List ℕ) (sent : List (Lis
 
       go : AnswersRenameRequest unit request text message → All (ContentMentionsAskedDocument requested) sent
       go (inl (edits, found, is)) =
-          answer_names (rename position name) of (result_message (number (unsigned k)) (workspace_edit client uri of.sent.version edits)) (subst (λ m. SendsMessage m sent) is sends) refl (inl (edit_names client uri of.sent.version edits takes))
+          answer_names (rename position name) of (result_message (number (unsigned k)) (workspace_edit_value client uri of.sent.version edits)) (subst (λ m. SendsMessage m sent) is sends) refl (inl (edit_names client uri of.sent.version edits takes))
       go (inr (inl (refusal, why, is))) = refusal_names (rename position name) of (negative_of 32803) (refusal_text refusal) message sends is
       go (inr (inr (unfit, is))) = refusal_names (rename position name) of (negative_of 32803) (codes "ill-typed") message sends is
 
-  inline_names : (how : Inlining) (position : Position) (of : SentRequestAsksFor requested k uri (inlining_at how position)) (client : ClientFeatures) (unit : Unit) (text : List ℕ) → client.accepts_document_changes ≡ true
+  inline_names : (how : InliningKind) (position : Position) (of : SentRequestAsksForEdits requested k uri (inlining_at how position)) (client : ClientFeatures) (unit : Unit) (text : List ℕ) → client.accepts_document_changes ≡ true
       → AreContentsOfReply (actions_reply unit (actions_requested_at client (number (unsigned k)) uri position of.sent.version) text) sent → All (ContentMentionsAskedDocument requested) sent
   inline_names how position of client unit text takes (message, (value, listed, is), sends) = go listed
     where
       request : VersionedActionsRequest
       request = actions_requested_at client (number (unsigned k)) uri position of.sent.version
 
-      names_edit : (edits : List Edit) → uri_and_version_in_edit (workspace_edit client uri of.sent.version edits) ≡ Some (uri, of.sent.version)
+      names_edit : (edits : List Edit) → uri_and_version_in_edit (workspace_edit_value client uri of.sent.version edits) ≡ Some (uri, of.sent.version)
       names_edit edits = edit_names client uri of.sent.version edits takes
 
-      offered : (how : Inlining) (here everywhere : Option (Vec Edit Global)) → NamesFor (inlining_at how position) uri of.sent.version (result_message (number (unsigned k)) (actions_array request here everywhere))
+      offered : (how : InliningKind) (here everywhere : Option (Vec Edit Global)) → NamesFor (inlining_at how position) uri of.sent.version (result_message (number (unsigned k)) (actions_array request here everywhere))
       offered OneUse (Some edits) everywhere = inl (names_edit edits.items)
       offered OneUse None (Some other) = inr (inl refl)
       offered OneUse None None = inr (inl refl)
@@ -235,7 +235,7 @@ module _ (requested : List SentAsk) (k : ℕ) (uri : List ℕ) (sent : List (Lis
       go (inl h) = with_value (actions_array request h.here h.everywhere) h.listed (offered how h.here h.everywhere)
       go (inr (why, none)) = with_value (array no_items) none (inr (inl (none_read_back how position uri (number (unsigned k)))))
 
-  layout_names : (indent : Indent) (of : SentRequestAsksFor requested k uri (format indent)) (unit : Unit) (text : List ℕ) → AreContentsOfReply (formatting_reply unit (number (unsigned k)) (clamped_indent indent) text) sent → All (ContentMentionsAskedDocument requested) sent
+  layout_names : (indent : Indent) (of : SentRequestAsksForEdits requested k uri (format indent)) (unit : Unit) (text : List ℕ) → AreContentsOfReply (formatting_reply unit (number (unsigned k)) (clamped_indent indent) text) sent → All (ContentMentionsAskedDocument requested) sent
   layout_names indent of unit text (message, how, sends) = go how
     where
       go : AnswersFormattingRequest unit (number (unsigned k)) (clamped_indent indent) text message → All (ContentMentionsAskedDocument requested) sent
@@ -244,7 +244,7 @@ module _ (requested : List SentAsk) (k : ℕ) (uri : List ℕ) (sent : List (Lis
       go (inr (inr (unfit, is))) = refusal_names (format indent) of (negative_of 32803) (codes "ill-typed") message sends is
 
   -- `ContentMentionsAskedDocument` holds of the answer of a running session to a request about a document in step.
-  request_names : (ask : Ask) (of : SentRequestAsksFor requested k uri ask) (params : Data) (before : ServerState) (text : List ℕ) → RunsWithModelEditor before → document_at before.held uri ≡ Some (InStep of.sent.version text) → request_by_method (method_of_ask ask) params ≡ Ok (client_request_for uri ask)
+  request_names : (ask : Ask) (of : SentRequestAsksForEdits requested k uri ask) (params : Data) (before : ServerState) (text : List ℕ) → RunsWithModelEditor before → document_at before.held uri ≡ Some (InStep of.sent.version text) → request_by_method (method_of_ask ask) params ≡ Ok (client_request_for_ask uri ask)
       → AreContentsOfReply (react_to_allowed_request before (number (unsigned k)) (method_of_ask ask) params).reply sent → All (ContentMentionsAskedDocument requested) sent
   request_names (rename position name) of params before text running holds call saying =
       let id : Data = number (unsigned k) in
@@ -270,9 +270,9 @@ module _ (requested : List SentAsk) (k : ℕ) (uri : List ℕ) (sent : List (Lis
 -- `ContentMentionsAskedDocument` holds of the replies to each message.
 content_names : (requested : List SentAsk) (m : MessageToServer) (before after : ServerState) (content : List ℕ) (sent : List (List ℕ)) → RunsWithModelEditor before → IsMessageToServer requested m content → Answers before content sent after → AsksHeld requested before.held (m ∷ []) → All (ContentMentionsAskedDocument requested) sent
 content_names requested (notifies note) before after content sent running is h meets =
-    let going : AnswersBeforeEnd before content sent after = subst (λ phase. AnswersInPhase phase before content sent after) running.0 h in
+    let going : AnswersBeforeSessionEnd before content sent after = subst (λ phase. AnswersInPhase phase before content sent after) running.0 h in
     let answer = reacts_so before after content sent is.json going is.reads in
-    let so : react_to_message before (meaning_of_message is.json) ≡ apply_notification before (notification_for note) =
+    let so : react_to_message before (meaning_of_message is.json) ≡ apply_notification before (notification_for_event note) =
     ap (react_to_message before) is.means ∙ ap (λ phase. react_to_notification phase before is.method is.params) running.0 ∙ ap (apply_notification before) is.reported in
     note_names requested note before sent (subst (λ (x : Reaction). AreContentsOfReply x.reply sent) so answer.1)
 content_names requested (requests k uri ask) before after content sent running (is, of) h (meets, none) =
@@ -361,7 +361,7 @@ course_known : (begin : Connection) (events : List Event) (now : Connection) →
 course_known begin [] now k is = subst Known (sym is) k
 course_known begin (e ∷ events) now k (between, step, rest) = course_known between events now (step_known begin e between k step) rest
 
-unit_back : (unit : Unit) → unit ≡ unit_for_client (client_features_for unit)
+unit_back : (unit : Unit) → unit ≡ unit_for_client (client_features_for_unit unit)
 unit_back Utf16 = refl
 unit_back Utf8 = refl
 
@@ -371,7 +371,7 @@ begin_known unit begin b = subst Known (λ i. record { model = sym b.model i; wi
     this : Connection
     this = record {
       model = start unit;
-      wire = record { session = state_after_initialize (client_features_for unit); taken = b.content ∷ []; to_server = []; got = b.replies; to_editor = [] };
+      wire = record { session = state_after_initialize (client_features_for_unit unit); taken = b.content ∷ []; to_server = []; got = b.replies; to_editor = [] };
     }
 
     first : Known this
@@ -388,23 +388,23 @@ answers_mention_versions unit begin events now begins_so course = (course_known 
 
 -- ---- a client that goes by the version
 
-pub versions_suffice_for_applying : VersionsSufficeForApplying
-versions_suffice_for_applying e k a edits numbered not_reopened = go (editor_document_at e a.uri) refl ∙ sym (ap (option_and_then then_asked) numbered)
+pub versions_suffice_to_apply_answers : VersionsSufficeToApplyAnswers
+versions_suffice_to_apply_answers e k a edits numbered not_reopened = go (editor_document_with_uri e a.uri) refl ∙ sym (ap (option_and_then then_asked) numbered)
   where
     makes : (uri : List ℕ) → OpenDocument → List ℕ → Option ActResult
-    makes uri d text = Some (rewriting_result e uri d text (whole_text_change text ∷ []) (record { uri = uri; before = d.text; after = text } ∷ []))
+    makes uri d text = Some (result_of_changing_text e uri d text (whole_text_change text ∷ []) (record { uri = uri; before = d.text; after = text } ∷ []))
 
     then_open : (uri : List ℕ) → OpenDocument → Option ActResult
     then_open uri d = option_and_then (makes uri d) (text_after_edits e.unit d.text edits)
 
     then_asked : SentAsk → Option ActResult
-    then_asked x = option_and_then (then_open x.uri) (option_and_then (document_if_unchanged_since x) (editor_document_at e x.uri))
+    then_asked x = option_and_then (then_open x.uri) (option_and_then (document_if_unchanged_since_ask x) (editor_document_with_uri e x.uri))
 
     of_version : (d : OpenDocument) (b : Bool) → option_and_then (makes a.uri d) (cond b (text_after_edits e.unit d.text edits) None) ≡ option_and_then (then_open a.uri) (cond b (Some d) None)
     of_version d true = refl
     of_version d false = refl
 
-    go : (o : Option OpenDocument) → editor_document_at e a.uri ≡ o → option_and_then (λ d. option_and_then (makes a.uri d) (cond (is_same_version d.version a.version) (text_after_edits e.unit d.text edits) None)) o ≡ option_and_then (then_open a.uri) (option_and_then (document_if_unchanged_since a) o)
+    go : (o : Option OpenDocument) → editor_document_with_uri e a.uri ≡ o → option_and_then (λ d. option_and_then (makes a.uri d) (cond (is_same_version d.version a.version) (text_after_edits e.unit d.text edits) None)) o ≡ option_and_then (then_open a.uri) (option_and_then (document_if_unchanged_since_ask a) o)
     go None is = refl
     go (Some d) is =
         of_version d (is_same_version d.version a.version)

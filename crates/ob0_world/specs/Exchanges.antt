@@ -10,30 +10,30 @@ use Rattle.ob0_text.specs.declared.position_types.Position.{Position}
 use Rattle.ob0_text.specs.declared.position_types.Range.{Range}
 use Rattle.ob0_text.specs.declared.position_types.Unit.{Unit}
 use Rattle.ob0_text.specs.OpenDocuments.{document_at}
-use Rattle.ob0_rpc.specs.declared.clients.ClientFeatures.{ClientFeatures}
-use Rattle.ob0_rpc.specs.declared.incoming.RpcFault.{RpcFault}
-use Rattle.ob0_rpc.specs.Messages.{ReadsContent, MessageMeaning, not_json, not_a_message, response, request, notice, meaning_of_message}
+use Rattle.ob0_rpc.specs.declared.client_capabilities.ClientFeatures.{ClientFeatures}
+use Rattle.ob0_rpc.specs.declared.incoming_messages.RpcFault.{RpcFault}
+use Rattle.ob0_rpc.specs.Messages.{IsJsonOfContent, MessageMeaning, not_json, not_a_message, response, request, notice, meaning_of_message}
 use Rattle.ob0_rpc.specs.Notifications.{other, notification_by_method}
-use Rattle.ob0_rpc.specs.Shapes.{result_message}
+use Rattle.ob0_rpc.specs.JsonShapes.{result_message}
 use Rattle.ob0_rpc.specs.Requests as asked
 use Rattle.ob0_rpc.specs.Requests.{ClientRequest, request_by_method}
 use Rattle.ob0_session_answers.specs.Actions.{requested_kinds_include_inlining}
 use Rattle.ob0_session_server.specs.Answers as server
 use Rattle.ob0_session_server.specs.Answers.{ServerState, state_after_initialize, SendsMessage, IsConversation}
 use Rattle.ob0_session_server.specs.declared.session.Phase.TheVariants.{Ended}
-use Rattle.ob0_session_server.specs.Units.{unit_for_client}
-use Rattle.ob0_world_editor.specs.MessagesToServer.{message_to_server_in, IsNotificationFor, IsRequestWithId, SentRequestAsksFor}
-use Rattle.ob0_world_editor.specs.MessagesToEditor.{message_to_editor_in, message_to_editor_by_numbering}
+use Rattle.ob0_session_server.specs.ClientUnits.{unit_for_client}
+use Rattle.ob0_world_editor.specs.MessagesToServer.{message_to_server_in_content, IsNotificationOfEvent, IsRequestWithId, SentRequestAsksForEdits}
+use Rattle.ob0_world_editor.specs.MessagesToEditor.{message_to_editor_in_content, message_to_editor_by_id_conversion}
 use Rattle.ob0_world_rules.specs.Asks.{Ask, rename, inline_here, inline_all, format}
-use Rattle.ob0_world_rules.specs.ClientAndServer.{OpenDocument, SentAsk, Editor, new_editor, editor_document_at, MessageToServer, notifies, requests, MessageToEditor, publishes, answers, Applied, documents_after_message}
-use Rattle.ob0_world_rules.specs.EditorActs.{ActResult, editor_after_reading}
+use Rattle.ob0_world_rules.specs.ClientAndServer.{OpenDocument, SentAsk, Editor, new_editor, editor_document_with_uri, MessageToServer, notifies, requests, MessageToEditor, publishes, answers, Applied, documents_after_message}
+use Rattle.ob0_world_rules.specs.EditorActs.{ActResult, editor_after_message}
 use Rattle.ob0_world_rules.specs.EditorMoves.{IsAllowedMove}
-use Rattle.ob0_world_rules.specs.EveryEditor.{EditorAndServer, initial_editor_and_server, ExchangeTurn, editor_moves, editor_sends_unmodeled_message, server_takes_message, editor_takes_message, MayLeadTo, GuaranteesHoldForEditorAndServer}
-use Rattle.ob0_world_rules.specs.Answers.{IsEmptyExactlyIfWellTyped}
+use Rattle.ob0_world_rules.specs.EveryEditor.{EditorAndServer, initial_editor_and_server, ExchangeTurn, editor_moves, editor_sends_unmodeled_message, server_takes_message, editor_takes_message, IsCourseOfTurns, GuaranteesHoldForEditorAndServer}
+use Rattle.ob0_world_rules.specs.Answers.{NoDiagnosticsExactlyIfWellTyped}
 use Rattle.ob0_world_rules.specs.Headline.{PreservesRun}
 use Rattle.ob0_world_rules.specs.MirroredDocuments.{in_step_document}
-use Rattle.ob0_world_rules.specs.PublicationsInOrder.{AnnouncedDocument, uris_and_versions_announced_in, uri_and_version_of}
-use Rattle.ob0_world_rules.specs.Happens.{Event}
+use Rattle.ob0_world_rules.specs.PublicationsAreInOrder.{AnnouncedDocument, uris_and_versions_announced_in_queue, uri_and_version_of}
+use Rattle.ob0_world_rules.specs.Events.{Event}
 use Rattle.ob0_world.specs.Worlds.{Wire, Connection, IsInitialConnection, IsConnectionCourse, SessionTakesFirstContent}
 
 -- ---- the ids of requests
@@ -174,7 +174,7 @@ IsUnmodeledMessage ids (notice method params) = notification_by_method method pa
 -- states that the content is a message outside the model (`IsUnmodeledMessage`)
 abbrev pub IsUnmodeledContent : List SentRequestId → List ℕ → Type 0
 IsUnmodeledContent ids content =
-    (json : Data) × ReadsContent content (Some json) × IsUnmodeledMessage ids (meaning_of_message json)
+    (json : Data) × IsJsonOfContent content (Some json) × IsUnmodeledMessage ids (meaning_of_message json)
 
 -- ---- messages of the model: asks and notifications
 
@@ -188,7 +188,7 @@ IsAtOrBefore p q = (p.line < q.line) ⊎ ((p.line ≡ q.line) × (p.character �
 pub record IsCodeActionRequest (id : Data) (uri : List ℕ) (position : Position) (content : List ℕ)
     : Type 0 where
   pub json : Data
-  pub reads : ReadsContent content (Some json)
+  pub reads : IsJsonOfContent content (Some json)
   pub params : Data
   pub means : meaning_of_message json
       ≡ request id (codes "textDocument/codeAction") params
@@ -216,33 +216,33 @@ AcceptsLiteralActions client = client.accepts_literal_actions ≡ true
 -- States that the client accepts the edits that answer this ask (request for edits). For an
 -- inlining, it must accept literal code actions (`AcceptsLiteralActions`). For any other ask there
 -- is no condition.
-abbrev pub AcceptsEditsFor : ClientFeatures → Ask → Type 0
-AcceptsEditsFor client (rename position name) = ⊤
-AcceptsEditsFor client (inline_here position) = AcceptsLiteralActions client
-AcceptsEditsFor client (inline_all position) = AcceptsLiteralActions client
-AcceptsEditsFor client (format indent) = ⊤
+abbrev pub AcceptsEditsForAsk : ClientFeatures → Ask → Type 0
+AcceptsEditsForAsk client (rename position name) = ⊤
+AcceptsEditsForAsk client (inline_here position) = AcceptsLiteralActions client
+AcceptsEditsForAsk client (inline_all position) = AcceptsLiteralActions client
+AcceptsEditsForAsk client (format indent) = ⊤
 
 -- states that the sent request with number `k` asks for these edits (`ask`) of the document with
 -- this uri, and that it has this id
 pub record IsAskWithId (ids : List SentRequestId) (requested : List SentAsk) (id : Data) (k : ℕ)
     (uri : List ℕ) (ask : Ask) : Type 0 where
   pub numbered : ask_number_of_json_id ids id ≡ Some k
-  pub is : SentRequestAsksFor requested k uri ask
+  pub is : SentRequestAsksForEdits requested k uri ask
 
 -- States that the content is this message, sent to a session whose client has these features. If
--- the message is a request for edits, the client must accept the edits (`AcceptsEditsFor`).
+-- the message is a request for edits, the client must accept the edits (`AcceptsEditsForAsk`).
 abbrev pub IsMessageToSession : ClientFeatures
     → List SentRequestId
     → List SentAsk
     → MessageToServer
     → List ℕ
     → Type 0
-IsMessageToSession client ids requested (notifies note) content = IsNotificationFor note content
+IsMessageToSession client ids requested (notifies note) content = IsNotificationOfEvent note content
 IsMessageToSession client ids requested (requests k uri ask) content =
     (id : Data)
     × IsRequestForAsk id uri ask content
     × IsAskWithId ids requested id k uri ask
-    × AcceptsEditsFor client ask
+    × AcceptsEditsForAsk client ask
 
 -- States that there are as many contents as messages, and that the n-th content is the n-th
 -- message. If the n-th message is None, the n-th content is a message outside the model.
@@ -266,14 +266,14 @@ AreMessagesToSession client ids requested (None ∷ messages) [] = ⊥
 
 -- Returns the message that the editor reads in a content, or None if the content isn't a message to
 -- the editor. The ids of the sent requests (`ids`) decide which request is answered.
-abbrev pub message_to_editor_by_ids : List SentRequestId → List SentAsk → List ℕ → Option MessageToEditor
-message_to_editor_by_ids ids requested content = message_to_editor_by_numbering (ask_number_of_json_id ids) requested content
+abbrev pub message_to_editor_by_request_ids : List SentRequestId → List SentAsk → List ℕ → Option MessageToEditor
+message_to_editor_by_request_ids ids requested content = message_to_editor_by_id_conversion (ask_number_of_json_id ids) requested content
 
 -- Returns the editor after it has read this message, or the unchanged editor for None (no message).
 -- The editor stores each answer that has edits, and nothing else.
-abbrev pub editor_after_reading_if_any : Editor → Option MessageToEditor → Editor
-editor_after_reading_if_any e None = e
-editor_after_reading_if_any e (Some message) = editor_after_reading e message
+abbrev pub editor_after_optional_message : Editor → Option MessageToEditor → Editor
+editor_after_optional_message e None = e
+editor_after_optional_message e (Some message) = editor_after_message e message
 
 -- States that the editor takes the first waiting content, and reads the message in it if there is
 -- one. If no content waits for the editor, nothing changes.
@@ -282,7 +282,7 @@ EditorReadsFirstContent [] old new = new ≡ old
 EditorReadsFirstContent (content ∷ rest) old new =
     new
     ≡ record old {
-      editor = editor_after_reading_if_any old.editor (message_to_editor_by_ids old.ids old.editor.requested content);
+      editor = editor_after_optional_message old.editor (message_to_editor_by_request_ids old.ids old.editor.requested content);
       wire = record old.wire { got = old.wire.got ++ content ∷ []; to_editor = rest };
     }
 
@@ -291,8 +291,8 @@ abbrev pub wire_with_queued_contents : Wire → List (List ℕ) → Wire
 wire_with_queued_contents wire contents = record wire { to_server = wire.to_server ++ contents }
 
 -- states that this turn (`ExchangeTurn`) may lead from the exchange `old` to the exchange `new`
-abbrev pub Exchanges : Exchange → ExchangeTurn → Exchange → Type 0
-Exchanges old (editor_moves move) new =
+abbrev pub ExchangeTakesTurn : Exchange → ExchangeTurn → Exchange → Type 0
+ExchangeTakesTurn old (editor_moves move) new =
     (done : ActResult)
     × (announced : List AnnouncedDocument)
     × (ids : List SentRequestId)
@@ -308,7 +308,7 @@ Exchanges old (editor_moves move) new =
       announced = old.announced ++ announced;
       applied = old.applied ++ done.applied;
     })
-Exchanges old editor_sends_unmodeled_message new =
+ExchangeTakesTurn old editor_sends_unmodeled_message new =
     (id : Option RequestId)
     × (content : List ℕ)
     × IsUnmodeledContent (ids_with_non_ask_id old.ids id) content
@@ -317,18 +317,18 @@ Exchanges old editor_sends_unmodeled_message new =
       ids = ids_with_non_ask_id old.ids id;
       wire = wire_with_queued_contents old.wire (content ∷ []);
     })
-Exchanges old server_takes_message new =
+ExchangeTakesTurn old server_takes_message new =
     (wire : Wire)
     × SessionTakesFirstContent old.wire.to_server old.wire wire
     × (new ≡ record old { wire = wire })
-Exchanges old editor_takes_message new = EditorReadsFirstContent old.wire.to_editor old new
+ExchangeTakesTurn old editor_takes_message new = EditorReadsFirstContent old.wire.to_editor old new
 
 -- states that these turns, one after another, may lead from the exchange `old` to the exchange
 -- `new`
 abbrev pub IsExchangeCourse : Exchange → List ExchangeTurn → Exchange → Type 0
 IsExchangeCourse old [] new = new ≡ old
 IsExchangeCourse old (turn ∷ turns) new =
-    (between : Exchange) × Exchanges old turn between × IsExchangeCourse between turns new
+    (between : Exchange) × ExchangeTakesTurn old turn between × IsExchangeCourse between turns new
 
 -- ---- the law that every exchange follows the model
 
@@ -336,7 +336,7 @@ IsExchangeCourse old (turn ∷ turns) new =
 abbrev pub NeverMeansMessageToEditor : List SentRequestId → List ℕ → Type 0
 NeverMeansMessageToEditor ids content =
     (later : List SentRequestId) (requested : List SentAsk)
-    → message_to_editor_by_ids (ids ++ later) requested content ≡ None
+    → message_to_editor_by_request_ids (ids ++ later) requested content ≡ None
 
 -- States that there are as many contents as messages, and that the editor reads the n-th message in
 -- the n-th content. If the n-th message is None, the editor never reads a message there.
@@ -347,7 +347,7 @@ abbrev pub AreMessagesToEditor : List SentRequestId
     → Type 0
 AreMessagesToEditor ids requested [] [] = ⊤
 AreMessagesToEditor ids requested (Some m ∷ messages) (content ∷ contents) =
-    (message_to_editor_by_ids ids requested content ≡ Some m) × AreMessagesToEditor ids requested messages contents
+    (message_to_editor_by_request_ids ids requested content ≡ Some m) × AreMessagesToEditor ids requested messages contents
 AreMessagesToEditor ids requested (None ∷ messages) (content ∷ contents) =
     NeverMeansMessageToEditor ids content × AreMessagesToEditor ids requested messages contents
 AreMessagesToEditor ids requested [] (content ∷ contents) = ⊥
@@ -360,7 +360,7 @@ AreMessagesToEditor ids requested (None ∷ messages) [] = ⊥
 -- exchange (`GuaranteesHoldForEditorAndServer`).
 pub record FollowsModel (unit : Unit) (turns : List ExchangeTurn) (x : Exchange) : Type 0 where
   pub model : EditorAndServer
-  pub leads : MayLeadTo (initial_editor_and_server unit) turns model
+  pub leads : IsCourseOfTurns (initial_editor_and_server unit) turns model
   pub editor : model.editor ≡ x.editor
   pub held : model.held ≡ x.wire.session.held
   pub announced : model.announced ≡ x.announced
@@ -387,14 +387,14 @@ EveryExchangeFollowsModel =
 -- states that the content is the request `shutdown` with this id
 pub record IsShutdownRequest (id : Data) (content : List ℕ) : Type 0 where
   pub json : Data
-  pub reads : ReadsContent content (Some json)
+  pub reads : IsJsonOfContent content (Some json)
   pub params : Data
   pub means : meaning_of_message json ≡ request id (codes "shutdown") params
 
 -- states that the content is the notification `exit`
 pub record IsExitNotification (content : List ℕ) : Type 0 where
   pub json : Data
-  pub reads : ReadsContent content (Some json)
+  pub reads : IsJsonOfContent content (Some json)
   pub params : Data
   pub means : meaning_of_message json ≡ notice (codes "exit") params
 
@@ -417,17 +417,17 @@ pub record VersionedPublication : Type 0 where
 
 -- returns a list of one publication if the message publishes diagnostics with a version, otherwise
 -- an empty list
-abbrev pub versioned_publications_of : Option MessageToEditor → List VersionedPublication
-versioned_publications_of (Some (publishes uri (Some version) empty)) =
+abbrev pub versioned_publications_in_message : Option MessageToEditor → List VersionedPublication
+versioned_publications_in_message (Some (publishes uri (Some version) empty)) =
     record { uri = uri; version = version; no_diagnostics = empty } ∷ []
-versioned_publications_of (Some (publishes uri None empty)) = []
-versioned_publications_of (Some (answers k edits)) = []
-versioned_publications_of None = []
+versioned_publications_in_message (Some (publishes uri None empty)) = []
+versioned_publications_in_message (Some (answers k edits)) = []
+versioned_publications_in_message None = []
 
 -- returns the publications with a version in these contents, in order
-abbrev pub versioned_publications_in : List (List ℕ) → List VersionedPublication
-versioned_publications_in [] = []
-versioned_publications_in (content ∷ contents) = versioned_publications_of (message_to_editor_in [] content) ++ versioned_publications_in contents
+abbrev pub versioned_publications_in_contents : List (List ℕ) → List VersionedPublication
+versioned_publications_in_contents [] = []
+versioned_publications_in_contents (content ∷ contents) = versioned_publications_in_message (message_to_editor_in_content [] content) ++ versioned_publications_in_contents contents
 
 -- States that there are as many lists of diagnostics as documents. The n-th list has the n-th
 -- document's uri and version, and is empty exactly if that document's text is a well-typed module.
@@ -436,7 +436,7 @@ AreCorrectForDocuments [] [] = ⊤
 AreCorrectForDocuments (p ∷ published) (t ∷ announced) =
     (p.uri ≡ t.uri)
     × (p.version ≡ t.document.version)
-    × IsEmptyExactlyIfWellTyped t.document.text p.no_diagnostics
+    × NoDiagnosticsExactlyIfWellTyped t.document.text p.no_diagnostics
     × AreCorrectForDocuments published announced
 AreCorrectForDocuments [] (t ∷ announced) = ⊥
 AreCorrectForDocuments (p ∷ published) [] = ⊥
@@ -449,8 +449,8 @@ last_versioned_publication uri published =
 -- Returns the notifications about documents in these contents, in order. Each one opens, changes or
 -- closes a document. A notification that can't be read, but has a uri, puts that document out of
 -- step.
-abbrev pub notifications_in : List (List ℕ) → List MessageToServer
-notifications_in contents = filter_map (message_to_server_in []) contents
+abbrev pub notifications_in_contents : List (List ℕ) → List MessageToServer
+notifications_in_contents contents = filter_map (message_to_server_in_content []) contents
 
 -- States the guarantees for an exchange of a session and an editor that keeps ob0's rules, from
 -- `begin` to `now`.
@@ -465,20 +465,20 @@ pub record GuaranteesHoldForExchange (begin now : Exchange) : Type 0 where
   pub published_documents : List AnnouncedDocument
   pub unpublished_documents : List AnnouncedDocument
   pub announced : now.announced ≡ published_documents ++ unpublished_documents
-  pub right : AreCorrectForDocuments (versioned_publications_in since) published_documents
+  pub right : AreCorrectForDocuments (versioned_publications_in_contents since) published_documents
   -- the contents that still wait for the session announce the other documents,
   -- `unpublished_documents`
-  pub unpublished_are_queued : map uri_and_version_of unpublished_documents ≡ uris_and_versions_announced_in (notifications_in now.wire.to_server)
+  pub unpublished_are_queued : map uri_and_version_of unpublished_documents ≡ uris_and_versions_announced_in_queue (notifications_in_contents now.wire.to_server)
   -- If no notification about a document waits for the session, the latest list of diagnostics of
   -- each open document is for the document's present version and text.
-  pub latest : notifications_in now.wire.to_server ≡ [] → (uri : List ℕ) (d : OpenDocument)
-      → editor_document_at now.editor uri ≡ Some d
-      → MatchOption (last_versioned_publication uri (versioned_publications_in since)) ⊥
-      (λ p. (p.version ≡ d.version) × IsEmptyExactlyIfWellTyped d.text p.no_diagnostics)
+  pub latest : notifications_in_contents now.wire.to_server ≡ [] → (uri : List ℕ) (d : OpenDocument)
+      → editor_document_with_uri now.editor uri ≡ Some d
+      → MatchOption (last_versioned_publication uri (versioned_publications_in_contents since)) ⊥
+      (λ p. (p.version ≡ d.version) × NoDiagnosticsExactlyIfWellTyped d.text p.no_diagnostics)
   -- once the session has taken the waiting contents, the session's documents are the editor's
   pub mirrors : (uri : List ℕ)
-      → document_at (fold documents_after_message now.wire.session.held (notifications_in now.wire.to_server)) uri
-      ≡ option_map in_step_document (editor_document_at now.editor uri)
+      → document_at (fold documents_after_message now.wire.session.held (notifications_in_contents now.wire.to_server)) uri
+      ≡ option_map in_step_document (editor_document_with_uri now.editor uri)
   -- the session has taken and sent these contents in one conversation, from the session's start
   pub conversation : IsConversation server.start now.wire.taken
       (now.wire.got ++ now.wire.to_editor) now.wire.session
@@ -502,8 +502,8 @@ GuaranteesHoldForEveryExchange =
 -- States that each list of events of the model's editor and a session (`IsConnectionCourse`) is
 -- also an exchange of an editor that keeps ob0's rules. So each guarantee for exchanges also holds
 -- for every list of events that `play` plays.
-abbrev pub ACourseIsAnExchange : Type 0
-ACourseIsAnExchange =
+abbrev pub EveryConnectionCourseIsExchange : Type 0
+EveryConnectionCourseIsExchange =
     (unit : Unit) (begin end : Connection) (events : List Event)
     → IsInitialConnection unit begin
     → IsConnectionCourse begin events end

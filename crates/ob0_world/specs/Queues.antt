@@ -2,7 +2,7 @@
 -- (`ClientAndServer`), the connection's invariant, and the clauses of its private functions'
 -- contracts. No contract of a public function mentions these definitions. A connection stores each
 -- queue as a list of contents. A content is the bytes of one message. The messages of the model are
--- read from these contents (`all_messages_to_server`, `all_messages_to_editor`).
+-- read from these contents (`messages_to_server_in_contents`, `messages_to_editor_in_contents`).
 -- By the invariant, each queued content is a message of the model. It is still the same message
 -- after the editor has sent more requests (`proofs/Waiting`). `RunsWithModelEditor` states that the
 -- session's client has two features of the model's editor. So the session writes each WorkspaceEdit
@@ -13,18 +13,18 @@ use Rattle.ob0_text.specs.OpenDocuments.{OpenDocuments, Document, InStep, OutOfS
 use Rattle.ob0_text.specs.declared.position_types.Unit.{Unit}
 use Rattle.ob0_session_server.specs.Answers.{ServerState}
 use Rattle.ob0_session_server.specs.declared.session.Phase.TheVariants.{Running, Failed}
-use Rattle.ob0_world_editor.specs.MessagesToServer.{message_to_server_in, IsMessageToServer}
-use Rattle.ob0_world_editor.specs.MessagesToEditor.{message_to_editor_in}
-use Rattle.ob0_world_editor.specs.ModelValues.{applied_edit_of}
-use Rattle.ob0_world_editor.specs.declared.applied.Applied as applied
-use Rattle.ob0_world_rules.specs.ClientAndServer.{OpenDocument, SentAsk, Editor, editor_document_at, MessageToServer, MessageToEditor, publishes, answers, PublicationWithText, ClientAndServer, start}
+use Rattle.ob0_world_editor.specs.MessagesToServer.{message_to_server_in_content, IsMessageToServer}
+use Rattle.ob0_world_editor.specs.MessagesToEditor.{message_to_editor_in_content}
+use Rattle.ob0_world_editor.specs.ModelValues.{model_applied_edit_of}
+use Rattle.ob0_world_editor.specs.declared.applied_edits.Applied as applied
+use Rattle.ob0_world_rules.specs.ClientAndServer.{OpenDocument, SentAsk, Editor, editor_document_with_uri, MessageToServer, MessageToEditor, publishes, answers, PublicationWithText, ClientAndServer, start}
 use Rattle.ob0_world_rules.specs.EditorActs.{version_as_natural}
-use Rattle.ob0_world_rules.specs.Happens.{Event, IsCourse}
+use Rattle.ob0_world_rules.specs.Events.{Event, IsCourse}
 use Rattle.ob0_world.specs.declared.events.Seen as seen
-use Rattle.ob0_world.specs.declared.played.Made as made
-pub use Rattle.ob0_world.specs.ModelValues.{content_bytes}
-use Rattle.ob0_world.specs.ModelValues.{publication_of}
-use Rattle.ob0_world.specs.Seen.{nothing, sent, report_of}
+use Rattle.ob0_world.specs.declared.play_results.Made as made
+pub use Rattle.ob0_world.specs.ModelValues.{bytes_of_contents}
+use Rattle.ob0_world.specs.ModelValues.{model_publication_of}
+use Rattle.ob0_world.specs.Seen.{nothing, sent, model_report_of}
 use Rattle.ob0_world.specs.Worlds.{Wire, Connection}
 
 -- a list of contents, for example a queue; a content is the bytes of one message
@@ -33,13 +33,13 @@ Contents = List (Vec ℕ Global)
 
 -- Returns the messages to the server in these contents, in order. `requested` lists the requests
 -- for edits that the editor has sent. Any other content is left out.
-abbrev pub all_messages_to_server : List SentAsk → Contents → List MessageToServer
-all_messages_to_server requested contents = filter_map (message_to_server_in requested) (content_bytes contents)
+abbrev pub messages_to_server_in_contents : List SentAsk → Contents → List MessageToServer
+messages_to_server_in_contents requested contents = filter_map (message_to_server_in_content requested) (bytes_of_contents contents)
 
 -- Returns the messages to the editor in these contents, in order. `requested` lists the requests
 -- for edits that the editor has sent. Any other content is left out.
-abbrev pub all_messages_to_editor : List SentAsk → Contents → List MessageToEditor
-all_messages_to_editor requested contents = filter_map (message_to_editor_in requested) (content_bytes contents)
+abbrev pub messages_to_editor_in_contents : List SentAsk → Contents → List MessageToEditor
+messages_to_editor_in_contents requested contents = filter_map (message_to_editor_in_content requested) (bytes_of_contents contents)
 
 -- states that the content is a message to an editor's server; `requested` lists the requests for
 -- edits that the editor has sent
@@ -49,7 +49,7 @@ MeansMessageToServer requested content = (m : MessageToServer) × IsMessageToSer
 -- states that the content is a message to an editor; `requested` lists the requests for edits that
 -- the editor has sent
 abbrev pub MeansMessageToEditor : List SentAsk → Vec ℕ Global → Type 0
-MeansMessageToEditor requested content = (m : MessageToEditor) × (message_to_editor_in requested content.items ≡ Some m)
+MeansMessageToEditor requested content = (m : MessageToEditor) × (message_to_editor_in_content requested content.items ≡ Some m)
 
 -- ---- the session
 
@@ -113,11 +113,11 @@ abbrev pub model_from_fields : Editor
 model_from_fields e to_server session to_editor applied made =
     record {
       editor = e;
-      to_server = all_messages_to_server e.requested to_server;
+      to_server = messages_to_server_in_contents e.requested to_server;
       held = session.held;
-      to_editor = all_messages_to_editor e.requested to_editor;
-      applied = map applied_edit_of applied;
-      made = map publication_of made;
+      to_editor = messages_to_editor_in_contents e.requested to_editor;
+      applied = map model_applied_edit_of applied;
+      made = map model_publication_of made;
     }
 
 -- returns the session and the contents in each direction (`Wire`) for these fields of the code's
@@ -126,10 +126,10 @@ abbrev pub wire_from_fields : ServerState → Contents → Contents → Contents
 wire_from_fields session taken to_server got to_editor =
     record {
       session = session;
-      taken = content_bytes taken;
-      to_server = content_bytes to_server;
-      got = content_bytes got;
-      to_editor = content_bytes to_editor;
+      taken = bytes_of_contents taken;
+      to_server = bytes_of_contents to_server;
+      got = bytes_of_contents got;
+      to_editor = bytes_of_contents to_editor;
     }
 
 -- returns the model's connection for these fields of the code's connection: the model's client and
@@ -156,7 +156,7 @@ connection_from_fields e to_server session to_editor applied made taken got =
 pub record CountsAreAtMost (n : ℕ) (e : Editor) : Type 0 where
   pub openings : e.openings ≤ n
   pub asks : length e.requested ≤ n
-  pub versions : (uri : List ℕ) (d : OpenDocument) → editor_document_at e uri ≡ Some d → version_as_natural d.version ≤ n
+  pub versions : (uri : List ℕ) (d : OpenDocument) → editor_document_with_uri e uri ≡ Some d → version_as_natural d.version ≤ n
 
 -- states that some list of events leads from the initial state (`start`) to this state
 abbrev pub IsReachable : ClientAndServer → Type 0
@@ -169,14 +169,14 @@ IsReachable w = (unit : Unit) × (events : List Event) × IsCourse (start unit) 
 abbrev pub publication_in_first_content : OpenDocuments → List SentAsk → Contents → Option PublicationWithText
 publication_in_first_content held requested [] = None
 publication_in_first_content held requested (content ∷ contents) =
-    option_and_then (publication_in_message held) (message_to_editor_in requested content.items)
+    option_and_then (publication_in_message held) (message_to_editor_in_content requested content.items)
 
 -- States that the queue `new` is the queue `old` with this content appended, and that the report
 -- `seen` is `sent`. If there is no content (None), the queue is unchanged and the report is
 -- `nothing`.
 abbrev pub QueuesContent : Contents → Option (Vec ℕ Global) → seen.Seen → Contents → Type 0
-QueuesContent old None seen new = (report_of seen ≡ nothing) × (new ≡ old)
-QueuesContent old (Some content) seen new = (report_of seen ≡ sent) × (new ≡ old ++ content ∷ [])
+QueuesContent old None seen new = (model_report_of seen ≡ nothing) × (new ≡ old)
+QueuesContent old (Some content) seen new = (model_report_of seen ≡ sent) × (new ≡ old ++ content ∷ [])
 
 -- States that the first waiting content was moved to the end of the contents that the editor has
 -- taken (`got`). If no content waits, nothing has changed. The last two arguments are the waiting

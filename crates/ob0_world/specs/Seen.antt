@@ -4,8 +4,8 @@ use Rattle.std.specs.Prelude.{◌≡◌, ℕ, ◌-◌, List, [], ◌∷◌, Bool
 use Rattle.ob0_world.specs.declared.events.Seen as seen
 use Rattle.ob0_world_editor.specs.EditorCalls.{has_edits}
 use Rattle.ob0_world_rules.specs.ClientAndServer.{Editor, MessageToServer, MessageToEditor, publishes, answers, ClientAndServer}
-use Rattle.ob0_world_rules.specs.EditorActs.{Act, open_document, change_document, close_document, ask_about, apply, discard, ActResult, act_result, edits_of_answer}
-use Rattle.ob0_world_rules.specs.Happens.{Event, editor_acts, serve, take_message, Happens}
+use Rattle.ob0_world_rules.specs.EditorActs.{EditorAct, open_document, change_document, close_document, request_edits, apply, discard, ActResult, act_result, edits_of_answer_to_request}
+use Rattle.ob0_world_rules.specs.Events.{Event, editor_acts, serve, take_message, EventLeadsTo}
 
 -- a report on an event: a message was sent or taken, an answer was applied or discarded, or nothing
 -- happened
@@ -21,28 +21,28 @@ pub data Seen : Type 0 where
   drops : ℕ → Seen
 
 -- returns the report `some` if the list has an element, otherwise the report `none`
-abbrev pub report_if_any : {A : Type 0} → List A → Seen → Seen → Seen
-report_if_any [] some none = none
-report_if_any (x ∷ xs) some none = some
+abbrev pub report_if_nonempty : {A : Type 0} → List A → Seen → Seen → Seen
+report_if_nonempty [] some none = none
+report_if_nonempty (x ∷ xs) some none = some
 
 -- returns the report `sent` if the act of the editor sent a message, otherwise `nothing`
 abbrev pub report_on_sending : ActResult → Seen
-report_on_sending done = report_if_any done.sent sent nothing
+report_on_sending done = report_if_nonempty done.sent sent nothing
 
 -- Returns the report on an act of this editor. For an act about a document, the report says whether
 -- a message was sent (`report_on_sending`). Applying an answer is reported as `applies` if the
 -- editor makes the edits, otherwise as `drops`. Discarding an answer is reported as `drops`. If the
 -- editor doesn't have the answer, the report is `nothing`.
-abbrev pub report_on_act : Editor → Act → Seen
+abbrev pub report_on_act : Editor → EditorAct → Seen
 report_on_act e (open_document uri text) = report_on_sending (act_result e (open_document uri text))
 report_on_act e (change_document uri how) = report_on_sending (act_result e (change_document uri how))
 report_on_act e (close_document uri) = report_on_sending (act_result e (close_document uri))
-report_on_act e (ask_about uri ask) = report_on_sending (act_result e (ask_about uri ask))
+report_on_act e (request_edits uri ask) = report_on_sending (act_result e (request_edits uri ask))
 report_on_act e (apply k) =
-    if is_some (edits_of_answer k e.answers)
-    then report_if_any (act_result e (apply k)).applied (applies k) (drops k)
+    if is_some (edits_of_answer_to_request k e.answers)
+    then report_if_nonempty (act_result e (apply k)).applied (applies k) (drops k)
     else nothing
-report_on_act e (discard k) = if is_some (edits_of_answer k e.answers) then drops k else nothing
+report_on_act e (discard k) = if is_some (edits_of_answer_to_request k e.answers) then drops k else nothing
 
 -- Returns the report on the event `serve`: the number of messages that the server sent, or
 -- `nothing` if no message waited for the server. The first argument is the queue to the server
@@ -65,15 +65,15 @@ report_on_event old serve new = report_on_serve old.to_server old.to_editor new.
 report_on_event old take_message new = report_on_take old.to_editor
 
 -- states that the event leads from `old` to `new`, and that `seen` is the report on it
-abbrev pub HappensWithReport : ClientAndServer → Event → Seen → ClientAndServer → Type 0
-HappensWithReport old event seen new = Happens old event new × (seen ≡ report_on_event old event new)
+abbrev pub EventLeadsToWithReport : ClientAndServer → Event → Seen → ClientAndServer → Type 0
+EventLeadsToWithReport old event seen new = EventLeadsTo old event new × (seen ≡ report_on_event old event new)
 
 -- converts a report of the code's type `Seen` to the model's
-abbrev pub report_of : seen.Seen → Seen
-report_of seen.TheVariants.Nothing = nothing
-report_of seen.TheVariants.Sent = sent
-report_of (seen.TheVariants.Served n) = served n
-report_of (seen.TheVariants.Published uri empty) = published (string_bytes uri) empty
-report_of (seen.TheVariants.Answered k edits) = answered k edits
-report_of (seen.TheVariants.Applied k) = applies k
-report_of (seen.TheVariants.Dropped k) = drops k
+abbrev pub model_report_of : seen.Seen → Seen
+model_report_of seen.TheVariants.Nothing = nothing
+model_report_of seen.TheVariants.Sent = sent
+model_report_of (seen.TheVariants.Served n) = served n
+model_report_of (seen.TheVariants.Published uri empty) = published (string_bytes uri) empty
+model_report_of (seen.TheVariants.Answered k edits) = answered k edits
+model_report_of (seen.TheVariants.Applied k) = applies k
+model_report_of (seen.TheVariants.Dropped k) = drops k

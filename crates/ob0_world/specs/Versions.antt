@@ -7,14 +7,14 @@ use Rattle.serde_json.specs.Data.{Data}
 use Rattle.serde_json.specs.Find.{get, at, as_array, as_number, as_integer}
 use Rattle.ob0_text.specs.declared.position_types.Unit.{Unit}
 use Rattle.ob0_rpc.specs.Members.{text_member}
-use Rattle.ob0_rpc.specs.Messages.{ReadsContent}
+use Rattle.ob0_rpc.specs.Messages.{IsJsonOfContent}
 use Rattle.ob0_world_editor.specs.MessagesToServer.{request_number_from_id}
 use Rattle.ob0_world_editor.specs.MessagesToEditor.{first_action_with_title, edits_in_answer}
 use Rattle.ob0_world_rules.specs.Asks.{Ask, rename, inline_here, inline_all, format}
 use Rattle.ob0_world_rules.specs.TextEdits.{Replacement, text_after_edits, whole_text_change}
-use Rattle.ob0_world_rules.specs.EditorActs.{ActResult, is_same_version, rewriting_result, applying_result}
-use Rattle.ob0_world_rules.specs.ClientAndServer.{OpenDocument, SentAsk, Editor, request_with_number, editor_document_at}
-use Rattle.ob0_world_rules.specs.Happens.{Event}
+use Rattle.ob0_world_rules.specs.EditorActs.{ActResult, is_same_version, result_of_changing_text, result_of_applying_answer}
+use Rattle.ob0_world_rules.specs.ClientAndServer.{OpenDocument, SentAsk, Editor, sent_ask_with_number, editor_document_with_uri}
+use Rattle.ob0_world_rules.specs.Events.{Event}
 use Rattle.ob0_world.specs.Worlds.{Connection, IsInitialConnection, IsConnectionCourse}
 
 -- ---- the versions in answers
@@ -77,9 +77,9 @@ MentionsAskedDocument a answer =
 abbrev pub ContentMentionsAskedDocument : List SentAsk → List ℕ → Type 0
 ContentMentionsAskedDocument requested content =
     (answer : Data) (k : ℕ)
-    → ReadsContent content (Some answer)
+    → IsJsonOfContent content (Some answer)
     → option_and_then request_number_from_id (get (codes "id") answer) ≡ Some k
-    → (a : SentAsk) × (request_with_number requested k ≡ Some a) × MentionsAskedDocument a answer
+    → (a : SentAsk) × (sent_ask_with_number requested k ≡ Some a) × MentionsAskedDocument a answer
 
 -- States that after any list of events, `ContentMentionsAskedDocument` holds for each content that
 -- waits for the editor. Each content that the editor has taken waited before, so it also holds for
@@ -100,26 +100,26 @@ has_version version d = is_same_version d.version version
 -- Returns the result of applying an answer's edits in a client that relies on the uri and the
 -- version in the answer. The edits are made in the open document with this uri. Returns None if no
 -- open document has this uri and this version, or if two edits share a character.
-abbrev pub applying_result_by_version : Editor → List ℕ → ℤ → List Replacement → Option ActResult
-applying_result_by_version e uri version edits =
+abbrev pub result_of_applying_by_version : Editor → List ℕ → ℤ → List Replacement → Option ActResult
+result_of_applying_by_version e uri version edits =
     option_and_then
     (λ d. option_and_then
-    (λ text. Some (rewriting_result e uri d text (whole_text_change text ∷ [])
+    (λ text. Some (result_of_changing_text e uri d text (whole_text_change text ∷ [])
     (record { uri = uri; before = d.text; after = text } ∷ [])))
     (if has_version version d then text_after_edits e.unit d.text edits else None))
-    (editor_document_at e uri)
+    (editor_document_with_uri e uri)
 
 -- States that the request's document hasn't been opened again since the request: it is closed, or
 -- has the opening number that is stored with the request.
 abbrev pub IsNotReopened : Editor → SentAsk → Type 0
-IsNotReopened e a = (d : OpenDocument) → editor_document_at e a.uri ≡ Some d → d.opening ≡ a.opening
+IsNotReopened e a = (d : OpenDocument) → editor_document_with_uri e a.uri ≡ Some d → d.opening ≡ a.opening
 
 -- States that a client that relies on the version in an answer gets the same result as the model's
 -- editor when it applies the answer's edits. The condition is that the document hasn't been opened
 -- again since the request.
-abbrev pub VersionsSufficeForApplying : Type 0
-VersionsSufficeForApplying =
+abbrev pub VersionsSufficeToApplyAnswers : Type 0
+VersionsSufficeToApplyAnswers =
     (e : Editor) (k : ℕ) (a : SentAsk) (edits : List Replacement)
-    → request_with_number e.requested k ≡ Some a
+    → sent_ask_with_number e.requested k ≡ Some a
     → IsNotReopened e a
-    → applying_result_by_version e a.uri a.version edits ≡ applying_result e k edits
+    → result_of_applying_by_version e a.uri a.version edits ≡ result_of_applying_answer e k edits

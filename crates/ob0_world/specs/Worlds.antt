@@ -4,22 +4,22 @@
 use Rattle.std.specs.Prelude.{◌≡◌, ◌<◌, ◌+◌, ◌++◌, ◌⊎◌, ⊤, ℕ, List, [], ◌∷◌, map, take, length, Bool, true, false, Option, Some}
 use Rattle.std.specs.Option.{option_to_list}
 use Rattle.ob0_text.specs.declared.position_types.Unit.{Unit}
-use Rattle.ob0_rpc.specs.Messages.{ReadsContent}
+use Rattle.ob0_rpc.specs.Messages.{IsJsonOfContent}
 use Rattle.ob0_session_server.specs.Answers as server
 use Rattle.ob0_session_server.specs.Answers.{ServerState, state_after_initialize, Answers, IsConversation}
-use Rattle.ob0_world_editor.specs.InitializeRequest.{client_features_for, initialize_message}
+use Rattle.ob0_world_editor.specs.InitializeRequest.{client_features_for_unit, initialize_message}
 use Rattle.ob0_world_editor.specs.MessagesToServer.{IsMessageToServer}
-use Rattle.ob0_world_editor.specs.MessagesToEditor.{message_to_editor_in}
+use Rattle.ob0_world_editor.specs.MessagesToEditor.{message_to_editor_in_content}
 use Rattle.ob0_world_rules.specs.ClientAndServer.{SentAsk, MessageToServer, ClientAndServer, start}
-use Rattle.ob0_world_rules.specs.Happens.{Event, editor_acts, serve, take_message, Happens}
-use Rattle.ob0_world_rules.specs.Headline.{Headline}
-use Rattle.ob0_world.specs.ModelValues.{event_of, content_bytes, played_edits, played_publications}
+use Rattle.ob0_world_rules.specs.Events.{Event, editor_acts, serve, take_message, EventLeadsTo}
+use Rattle.ob0_world_rules.specs.Headline.{GuaranteesHoldForEvents}
+use Rattle.ob0_world.specs.ModelValues.{model_event_of, bytes_of_contents, played_edits, played_publications}
 use Rattle.ob0_world.specs.Seen.{Seen, report_on_event}
 use Rattle.ob0_world.specs.declared.events.Event as event
 use Rattle.ob0_world.specs.declared.faults.PlayFault.{PlayFault}
 use Rattle.ob0_world.specs.declared.faults.WorldFault.{WorldFault}
 use Rattle.ob0_world.specs.declared.faults.WorldFault.TheVariants.{Memory, Ended}
-use Rattle.ob0_world.specs.declared.played.Played as played
+use Rattle.ob0_world.specs.declared.play_results.Played as played
 
 -- ---- the session, and the contents between it and the editor
 
@@ -45,12 +45,12 @@ pub record Connection : Type 0 where
 pub record IsInitialConnection (unit : Unit) (w : Connection) : Type 0 where
   pub content : List ℕ
   pub replies : List (List ℕ)
-  pub initializes : ReadsContent content (Some (initialize_message unit))
-  pub answers : Answers server.start content replies (state_after_initialize (client_features_for unit))
+  pub initializes : IsJsonOfContent content (Some (initialize_message unit))
+  pub answers : Answers server.start content replies (state_after_initialize (client_features_for_unit unit))
   pub model : w.model ≡ start unit
   pub wire : w.wire
       ≡ record {
-        session = state_after_initialize (client_features_for unit);
+        session = state_after_initialize (client_features_for_unit unit);
         taken = content ∷ [];
         to_server = [];
         got = replies;
@@ -105,15 +105,15 @@ AreMessagesToServer requested (m ∷ messages) [] = ⊥
 -- documents of the model's server are the session's.
 pub record QueuesMatch (w : Connection) : Type 0 where
   pub says : AreMessagesToServer w.model.editor.requested w.model.to_server w.wire.to_server
-  pub means : map (message_to_editor_in w.model.editor.requested) w.wire.to_editor
+  pub means : map (message_to_editor_in_content w.model.editor.requested) w.wire.to_editor
       ≡ map Some w.model.to_editor
   pub documents : w.model.held ≡ w.wire.session.held
 
--- States that this event leads from `old` to `new`, both in the model (`Happens`) and for the
+-- States that this event leads from `old` to `new`, both in the model (`EventLeadsTo`) and for the
 -- session and the contents (`ChangesWire`). After the event, the waiting contents are the messages
 -- that wait in the model (`QueuesMatch`).
 pub record ConnectionSteps (old : Connection) (event : Event) (new : Connection) : Type 0 where
-  pub happens : Happens old.model event new.model
+  pub happens : EventLeadsTo old.model event new.model
   pub moves : ChangesWire event old.wire new.wire
   pub tied : QueuesMatch new
 
@@ -127,49 +127,49 @@ IsConnectionCourse old (event ∷ events) new =
 
 -- states that `p`, which `play` returns, has the applied edits and the publications of the model's
 -- state `w`, in order
-abbrev pub ResultsMatch : ClientAndServer → played.Played → Type 0
-ResultsMatch w p = (played_edits p ≡ w.applied) × (played_publications p ≡ w.made)
+abbrev pub ResultsMatchModel : ClientAndServer → played.Played → Type 0
+ResultsMatchModel w p = (played_edits p ≡ w.applied) × (played_publications p ≡ w.made)
 
 -- states that `p`, which `play` returns, has the contents that each side has taken according to
 -- `w`, and the contents that wait for the editor
-abbrev pub ContentsMatch : Wire → played.Played → Type 0
-ContentsMatch w p =
-    (content_bytes p.taken.items ≡ w.taken)
-    × (content_bytes p.got.items ≡ w.got)
-    × (content_bytes p.unread.items ≡ w.to_editor)
+abbrev pub ContentsMatchWire : Wire → played.Played → Type 0
+ContentsMatchWire w p =
+    (bytes_of_contents p.taken.items ≡ w.taken)
+    × (bytes_of_contents p.got.items ≡ w.got)
+    × (bytes_of_contents p.unread.items ≡ w.to_editor)
 
--- States that `p` has the results of these events. The guarantees (`Headline`) hold
+-- States that `p` has the results of these events. The guarantees (`GuaranteesHoldForEvents`) hold
 -- for its edits and publications. The events lead from an initialized connection to one that has
 -- these results and contents. The contents in `p` are a session's conversation, from the session's
 -- start.
-pub record Plays (unit : Unit) (events : List event.Event) (p : played.Played) : Type 0 where
-  pub headline : Headline unit (map event_of events) (played_edits p) (played_publications p)
+pub record IsResultOfPlaying (unit : Unit) (events : List event.Event) (p : played.Played) : Type 0 where
+  pub headline : GuaranteesHoldForEvents unit (map model_event_of events) (played_edits p) (played_publications p)
   pub begin : Connection
   pub begins : IsInitialConnection unit begin
   pub end : Connection
-  pub course : IsConnectionCourse begin (map event_of events) end
-  pub results_match : ResultsMatch end.model p
-  pub contents_match : ContentsMatch end.wire p
+  pub course : IsConnectionCourse begin (map model_event_of events) end
+  pub results_match : ResultsMatchModel end.model p
+  pub contents_match : ContentsMatchWire end.wire p
   pub after : ServerState
-  pub conversation : IsConversation server.start (content_bytes p.taken.items)
-      (content_bytes p.got.items ++ content_bytes p.unread.items) after
+  pub conversation : IsConversation server.start (bytes_of_contents p.taken.items)
+      (bytes_of_contents p.got.items ++ bytes_of_contents p.unread.items) after
 
 -- States that no event happened: `fault` reports 0 steps, and has no edit, no publication and no
--- content. So the guarantees (`Headline`) hold for the empty list of events.
-pub record PlaysNothing (unit : Unit) (fault : PlayFault) : Type 0 where
+-- content. So the guarantees (`GuaranteesHoldForEvents`) hold for the empty list of events.
+pub record IsFaultBeforeFirstEvent (unit : Unit) (fault : PlayFault) : Type 0 where
   pub none : fault.steps ≡ 0
-  pub headline : Headline unit [] (played_edits fault.played) (played_publications fault.played)
+  pub headline : GuaranteesHoldForEvents unit [] (played_edits fault.played) (played_publications fault.played)
   pub taken : fault.played.taken.items ≡ []
   pub got : fault.played.got.items ≡ []
   pub unread : fault.played.unread.items ≡ []
 
 -- States with which results `play` may return this fault. Either only the first `fault.steps`
--- events happened, fewer than all, and the fault has their results (`Plays`). Or no
--- event happened, and there are no results (`PlaysNothing`).
-abbrev pub PlaysPrefix : Unit → List event.Event → PlayFault → Type 0
-PlaysPrefix unit events fault =
-    ((fault.steps < length events) × Plays unit (take fault.steps events) fault.played)
-    ⊎ PlaysNothing unit fault
+-- events happened, fewer than all, and the fault has their results (`IsResultOfPlaying`). Or no
+-- event happened, and there are no results (`IsFaultBeforeFirstEvent`).
+abbrev pub IsFaultOfPlaying : Unit → List event.Event → PlayFault → Type 0
+IsFaultOfPlaying unit events fault =
+    ((fault.steps < length events) × IsResultOfPlaying unit (take fault.steps events) fault.played)
+    ⊎ IsFaultBeforeFirstEvent unit fault
 
 -- ---- a world, event by event
 
@@ -189,16 +189,16 @@ pub record IsNewWorld (unit : Unit) (w : World) : Type 0 where
 
 -- states that the event happens, is reported and is counted as a step, and that the world hasn't
 -- ended
-pub record MakesStep (old : World) (event : Event) (seen : Seen) (new : World) : Type 0 where
+pub record IsReportedAndCountedStep (old : World) (event : Event) (seen : Seen) (new : World) : Type 0 where
   pub made : ConnectionSteps old.connection event new.connection
   pub shown : seen ≡ report_on_event old.connection.model event new.connection.model
   pub counted : new.steps ≡ old.steps + 1
   pub has_not_ended : new.ended ≡ false
 
--- States that the world makes this step (`MakesStep`). The first argument is true
+-- States that the world makes this step (`IsReportedAndCountedStep`). The first argument is true
 -- if the world had ended before the step. In that case, the statement is false.
 abbrev pub StepsUnlessEnded : Bool → World → Event → Seen → World → Type 0
-StepsUnlessEnded false old event seen new = MakesStep old event seen new
+StepsUnlessEnded false old event seen new = IsReportedAndCountedStep old event seen new
 StepsUnlessEnded true old event seen new = ⊥
 
 -- states that the event happens in the world with this report, as one step

@@ -7,20 +7,20 @@ ghost use Rattle.std.specs.Vec.{vec_capacity, vec_len};
 ghost use Rattle.ob0_text.specs.OpenDocuments.{text_change_of, document_at};
 ghost use Rattle.ob0_session_server.specs.Answers.{Answers};
 ghost use Rattle.ob0_session_server.specs.declared.session.Phase.TheVariants.{Failed};
-ghost use Rattle.ob0_world_editor.specs.ModelValues.{ask_of};
+ghost use Rattle.ob0_world_editor.specs.ModelValues.{model_ask_of};
 ghost use Rattle.ob0_world_editor.specs.EditorCalls.{CountsCanGrow};
-ghost use Rattle.ob0_world_editor.specs.MessagesToEditor.{message_to_editor_in};
+ghost use Rattle.ob0_world_editor.specs.MessagesToEditor.{message_to_editor_in_content};
 ghost use Rattle.ob0_world_rules.specs.EditorActs as acts;
-ghost use Rattle.ob0_world_rules.specs.EditorActs.{open_document, change_document, close_document, ask_about};
-ghost use Rattle.ob0_world_rules.specs.Happens as events;
-ghost use Rattle.ob0_world_rules.specs.Happens.{editor_acts, take_message};
-ghost use Rattle.ob0_world.specs.ModelValues.{event_of, publication_of};
-ghost use Rattle.ob0_world.specs.Seen.{report_of, HappensWithReport};
-ghost use Rattle.ob0_world.specs.Queues.{content_bytes, QueuesContent, MovesFirstContent, publication_in_message, publication_with_text, publication_in_first_content};
-ghost use Rattle.ob0_world.specs.Worlds.{IsInitialConnection, EditorTakesFirstContent, ResultsMatch, ContentsMatch, QueuesMatch, ChangesWire, HaveSameHistory, SessionTakesFirstContent, QueuesAtMostOneContent};
+ghost use Rattle.ob0_world_rules.specs.EditorActs.{open_document, change_document, close_document, request_edits};
+ghost use Rattle.ob0_world_rules.specs.Events as events;
+ghost use Rattle.ob0_world_rules.specs.Events.{editor_acts, take_message};
+ghost use Rattle.ob0_world.specs.ModelValues.{model_event_of, model_publication_of};
+ghost use Rattle.ob0_world.specs.Seen.{model_report_of, EventLeadsToWithReport};
+ghost use Rattle.ob0_world.specs.Queues.{bytes_of_contents, QueuesContent, MovesFirstContent, publication_in_message, publication_with_text, publication_in_first_content};
+ghost use Rattle.ob0_world.specs.Worlds.{IsInitialConnection, EditorTakesFirstContent, ResultsMatchModel, ContentsMatchWire, QueuesMatch, ChangesWire, HaveSameHistory, SessionTakesFirstContent, QueuesAtMostOneContent};
 
 use crate::events::{Event, Seen};
-use crate::played::{Made, Played};
+use crate::play_results::{Made, Played};
 use ob0_session_server::{Session, SessionFault};
 use ob0_text::{Change, Documents, Held, TextStore, Unit};
 use ob0_world_editor::{Applied, ApplyOutcome, Ask, Editor, ServerMessage, initialize};
@@ -100,8 +100,8 @@ impl<T: TextStore> Connection<T> {
     /// Returns the applied edits, the publications, the contents that each side has taken, and the
     /// contents that wait for the editor.
     pub fn into_played(self) -> Played
-        ensures results_match { ResultsMatch self.model result }
-        ensures contents_match { ContentsMatch self.wire result }
+        ensures results_match { ResultsMatchModel self.model result }
+        ensures contents_match { ContentsMatchWire self.wire result }
     {
         Played {
             applied: self.applied,
@@ -117,8 +117,8 @@ impl<T: TextStore> Connection<T> {
     pub fn perform_event(&mut self, event: &Event) -> Result<Seen, AllocError>
         requires { CountsCanGrow self.old.model.editor }
         ensures ok { IfOk result
-            (λ seen. HappensWithReport self.old.model (event_of event.now) (report_of seen) self.new.model) }
-        ensures wire { OnOk result (ChangesWire (event_of event.now) self.old.wire self.new.wire) }
+            (λ seen. EventLeadsToWithReport self.old.model (model_event_of event.now) (model_report_of seen) self.new.model) }
+        ensures wire { OnOk result (ChangesWire (model_event_of event.now) self.old.wire self.new.wire) }
         ensures err { OnErr result (HaveSameHistory self.old self.new) }
     {
         match event {
@@ -127,16 +127,16 @@ impl<T: TextStore> Connection<T> {
             Event::CloseDoc { uri } => self.close(uri.as_str()),
             Event::Ask { uri, ask } => self.ask(uri.as_str(), ask),
             Event::Serve => self.serve(),
-            Event::Take => self.let_editor_take(),
-            Event::Apply { k } => self.apply(*k),
-            Event::Discard { k } => Ok(self.discard(*k)),
+            Event::Take => self.let_editor_take_message(),
+            Event::Apply { k } => self.apply_answer(*k),
+            Event::Discard { k } => Ok(self.discard_answer(*k)),
         }
     }
 
     fn open(&mut self, uri: &str, text: &str) -> Result<Seen, AllocError>
         requires { CountsCanGrow self.old.model.editor }
-        ensures ok { IfOk result (λ seen. HappensWithReport self.old.model
-            (editor_acts (open_document uri.now (chars text.now))) (report_of seen) self.new.model) }
+        ensures ok { IfOk result (λ seen. EventLeadsToWithReport self.old.model
+            (editor_acts (open_document uri.now (chars text.now))) (model_report_of seen) self.new.model) }
         ensures wire { OnOk result (QueuesAtMostOneContent self.old.wire self.new.wire) }
         ensures err { OnErr result (HaveSameHistory self.old self.new) }
     {
@@ -146,8 +146,8 @@ impl<T: TextStore> Connection<T> {
 
     fn change(&mut self, uri: &str, changes: &[Change]) -> Result<Seen, AllocError>
         requires { CountsCanGrow self.old.model.editor }
-        ensures ok { IfOk result (λ seen. HappensWithReport self.old.model
-            (editor_acts (change_document uri.now (map text_change_of changes.now))) (report_of seen)
+        ensures ok { IfOk result (λ seen. EventLeadsToWithReport self.old.model
+            (editor_acts (change_document uri.now (map text_change_of changes.now))) (model_report_of seen)
             self.new.model) }
         ensures wire { OnOk result (QueuesAtMostOneContent self.old.wire self.new.wire) }
         ensures err { OnErr result (HaveSameHistory self.old self.new) }
@@ -157,8 +157,8 @@ impl<T: TextStore> Connection<T> {
     }
 
     fn close(&mut self, uri: &str) -> Result<Seen, AllocError>
-        ensures ok { IfOk result (λ seen. HappensWithReport self.old.model
-            (editor_acts (close_document uri.now)) (report_of seen) self.new.model) }
+        ensures ok { IfOk result (λ seen. EventLeadsToWithReport self.old.model
+            (editor_acts (close_document uri.now)) (model_report_of seen) self.new.model) }
         ensures wire { OnOk result (QueuesAtMostOneContent self.old.wire self.new.wire) }
         ensures err { OnErr result (HaveSameHistory self.old self.new) }
     {
@@ -168,8 +168,8 @@ impl<T: TextStore> Connection<T> {
 
     fn ask(&mut self, uri: &str, ask: &Ask) -> Result<Seen, AllocError>
         requires { CountsCanGrow self.old.model.editor }
-        ensures ok { IfOk result (λ seen. HappensWithReport self.old.model
-            (editor_acts (ask_about uri.now (ask_of ask.now))) (report_of seen) self.new.model) }
+        ensures ok { IfOk result (λ seen. EventLeadsToWithReport self.old.model
+            (editor_acts (request_edits uri.now (model_ask_of ask.now))) (model_report_of seen) self.new.model) }
         ensures wire { OnOk result (QueuesAtMostOneContent self.old.wire self.new.wire) }
         ensures err { OnErr result (HaveSameHistory self.old self.new) }
     {
@@ -182,7 +182,7 @@ impl<T: TextStore> Connection<T> {
     /// document's text in the session. If no content waits, nothing happens.
     fn serve(&mut self) -> Result<Seen, AllocError>
         ensures ok { IfOk result
-            (λ seen. HappensWithReport self.old.model events.serve (report_of seen) self.new.model) }
+            (λ seen. EventLeadsToWithReport self.old.model events.serve (model_report_of seen) self.new.model) }
         ensures wire { OnOk result
             (SessionTakesFirstContent self.old.wire.to_server self.old.wire self.new.wire) }
         ensures err { OnErr result (HaveSameHistory self.old self.new) }
@@ -208,9 +208,9 @@ impl<T: TextStore> Connection<T> {
         Ok(Seen::Served(count))
     }
 
-    fn let_editor_take(&mut self) -> Result<Seen, AllocError>
+    fn let_editor_take_message(&mut self) -> Result<Seen, AllocError>
         ensures ok { IfOk result
-            (λ seen. HappensWithReport self.old.model take_message (report_of seen) self.new.model) }
+            (λ seen. EventLeadsToWithReport self.old.model take_message (model_report_of seen) self.new.model) }
         ensures wire { OnOk result
             (EditorTakesFirstContent self.old.wire.to_editor self.old.wire self.new.wire) }
         ensures err { OnErr result (HaveSameHistory self.old self.new) }
@@ -239,14 +239,14 @@ impl<T: TextStore> Connection<T> {
         }
     }
 
-    fn apply(&mut self, k: u64) -> Result<Seen, AllocError>
+    fn apply_answer(&mut self, k: u64) -> Result<Seen, AllocError>
         requires { CountsCanGrow self.old.model.editor }
         ensures ok { IfOk result
-            (λ seen. HappensWithReport self.old.model (editor_acts (acts.apply k)) (report_of seen) self.new.model) }
+            (λ seen. EventLeadsToWithReport self.old.model (editor_acts (acts.apply k)) (model_report_of seen) self.new.model) }
         ensures wire { OnOk result (QueuesAtMostOneContent self.old.wire self.new.wire) }
         ensures err { OnErr result (HaveSameHistory self.old self.new) }
     {
-        match self.editor.apply(k)? {
+        match self.editor.apply_answer(k)? {
             ApplyOutcome::NoSuchAnswer => Ok(Seen::Nothing),
             ApplyOutcome::Dropped => Ok(Seen::Dropped { k }),
             ApplyOutcome::Made { applied, content } => {
@@ -257,11 +257,11 @@ impl<T: TextStore> Connection<T> {
         }
     }
 
-    fn discard(&mut self, k: u64) -> Seen
-        ensures ok { HappensWithReport self.old.model (editor_acts (acts.discard k)) (report_of result) self.new.model }
+    fn discard_answer(&mut self, k: u64) -> Seen
+        ensures ok { EventLeadsToWithReport self.old.model (editor_acts (acts.discard k)) (model_report_of result) self.new.model }
         ensures wire { QueuesAtMostOneContent self.old.wire self.new.wire }
     {
-        if self.editor.discard(k) {
+        if self.editor.discard_answer(k) {
             Seen::Dropped { k }
         } else {
             Seen::Nothing
@@ -302,7 +302,7 @@ fn serve_content<T: TextStore>(
     content: &[u8],
 ) -> Result<Vec<Vec<u8>>, AllocError>
     ensures ok { IfOk result
-        (λ sent. Answers session.old content.now (content_bytes sent.items) session.new) }
+        (λ sent. Answers session.old content.now (bytes_of_contents sent.items) session.new) }
     ensures err { OnErr result (session.new.phase ≡ Failed) }
 {
     match session.step(content) {
@@ -324,7 +324,7 @@ fn first_publication<T: TextStore>(
     sent: &[Vec<u8>],
 ) -> Result<Option<Made>, AllocError>
     ensures { IfOk result
-        (λ made. option_map publication_of made
+        (λ made. option_map model_publication_of made
         ≡ publication_in_first_content documents.now editor.now.requested sent.now) }
 {
     if sent.is_empty() {
@@ -339,8 +339,8 @@ fn publication_in_content<T: TextStore>(
     documents: &Documents<T>,
     content: &[u8],
 ) -> Result<Option<Made>, AllocError>
-    ensures { IfOk result (λ made. option_map publication_of made
-        ≡ option_and_then (publication_in_message documents.now) (message_to_editor_in editor.now.requested content.now)) }
+    ensures { IfOk result (λ made. option_map model_publication_of made
+        ≡ option_and_then (publication_in_message documents.now) (message_to_editor_in_content editor.now.requested content.now)) }
 {
     let Some(message) = editor.read(content)? else {
         return Ok(None);
@@ -351,7 +351,7 @@ fn publication_in_content<T: TextStore>(
             version,
             empty,
         } => match version {
-            Some(version) => publication_from_documents(alloc, documents, uri, version, empty),
+            Some(version) => publication_with_document_text(alloc, documents, uri, version, empty),
             None => Ok(None),
         },
         ServerMessage::Answered {
@@ -363,14 +363,14 @@ fn publication_in_content<T: TextStore>(
 
 /// Returns the publication with this uri and version, and with the text that its document has in
 /// `documents`. Returns None if the document isn't open or is out of step (its text isn't known).
-fn publication_from_documents<T: TextStore>(
+fn publication_with_document_text<T: TextStore>(
     alloc: Global,
     documents: &Documents<T>,
     uri: String,
     version: i64,
     empty: bool,
 ) -> Result<Option<Made>, AllocError>
-    ensures { IfOk result (λ made. option_map publication_of made
+    ensures { IfOk result (λ made. option_map model_publication_of made
         ≡ option_and_then (publication_with_text (string_bytes uri) version empty)
         (document_at documents.now (string_bytes uri))) }
 {

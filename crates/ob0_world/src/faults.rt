@@ -1,6 +1,6 @@
 //! Defines the faults of a world and of `play`. The only cause of a fault is a failed allocation.
 
-use crate::played::Played;
+use crate::play_results::Played;
 use thiserror::Error;
 
 /// The reason why a world wasn't made, or why a step failed.

@@ -1,7 +1,7 @@
 //! Proves laws about an editor and a session: which versions answers mention, and what holds in
 //! every exchange of messages.
-ghost use Rattle.ob0_world.specs.Exchanges.{ACourseIsAnExchange, GuaranteesHoldForEveryExchange, EveryExchangeFollowsModel};
-ghost use Rattle.ob0_world.specs.Versions.{AnswersMentionVersions, VersionsSufficeForApplying};
+ghost use Rattle.ob0_world.specs.Exchanges.{EveryConnectionCourseIsExchange, GuaranteesHoldForEveryExchange, EveryExchangeFollowsModel};
+ghost use Rattle.ob0_world.specs.Versions.{AnswersMentionVersions, VersionsSufficeToApplyAnswers};
 
 /// Proves that an answer with edits mentions the document that was asked about, and the version
 /// that this document had when the request was sent. Both are in the member `documentChanges`. The
@@ -13,8 +13,8 @@ pub fn answers_mention_versions()
 /// Proves that a client may decide by the version in an answer whether to apply the answer's edits.
 /// If the document hasn't been opened again since the request, such a client gets the same result
 /// as the model's editor.
-pub fn versions_suffice_for_applying()
-    ensures { VersionsSufficeForApplying }
+pub fn versions_suffice_to_apply_answers()
+    ensures { VersionsSufficeToApplyAnswers }
 {}
 
 /// Proves that every exchange between a session and an editor that keeps ob0's rules follows the
@@ -35,6 +35,6 @@ pub fn guarantees_hold_for_every_exchange()
 
 /// Proves that each list of events, as `play` plays it with the model's editor and a session, is an
 /// exchange of an editor that keeps ob0's rules.
-pub fn a_course_is_an_exchange()
-    ensures { ACourseIsAnExchange }
+pub fn every_connection_course_is_exchange()
+    ensures { EveryConnectionCourseIsExchange }
 {}

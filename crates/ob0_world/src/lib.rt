@@ -7,11 +7,11 @@ mod connection;
 mod events;
 mod faults;
 pub mod laws;
-mod played;
+mod play_results;
 mod world;
 
 pub use events::{Event, Seen};
 pub use faults::{PlayFault, WorldFault};
 pub use ob0_world_editor::{Applied, Ask};
-pub use played::{Made, Played};
+pub use play_results::{Made, Played};
 pub use world::World;

@@ -9,7 +9,7 @@
 //! only for its contract.) The contract of `step` has two cases: the step makes its event happen
 //! (`WorldSteps`), or it fails (`WorldFails`).
 //!
-//! The contract of `play` (`Plays`) states the guarantees (`Headline`).
+//! The contract of `play` (`IsResultOfPlaying`) states the guarantees (`GuaranteesHoldForEvents`).
 //! It also states that the events are a course of the connection (`IsConnectionCourse`) that begins
 //! with an initialized session (`IsInitialConnection`). The code also returns the exchanged
 //! contents, and the contract requires that they are a session's conversation. So a body that only
@@ -18,15 +18,15 @@ ghost use Rattle.std.specs.Prelude.{◌≡◌, ◌<◌, ◌-◌, ◌^◌, [], le
 ghost use Rattle.ob0_text.specs.declared.position_types.Unit.TheVariants.{Utf16};
 ghost use Rattle.ob0_world_rules.specs.Headline.{GuaranteesHold};
 ghost use Rattle.ob0_world_rules.specs.MirroredDocuments.{ServerWillMirrorEditor};
-ghost use Rattle.ob0_world.specs.ModelValues.{event_of, played_edits, played_publications};
-ghost use Rattle.ob0_world.specs.Seen.{report_of};
-ghost use Rattle.ob0_world.specs.Worlds.{ResultsMatch, ContentsMatch, IsNewWorld, Plays, PlaysPrefix, WorldSteps, WorldFails};
+ghost use Rattle.ob0_world.specs.ModelValues.{model_event_of, played_edits, played_publications};
+ghost use Rattle.ob0_world.specs.Seen.{model_report_of};
+ghost use Rattle.ob0_world.specs.Worlds.{ResultsMatchModel, ContentsMatchWire, IsNewWorld, IsResultOfPlaying, IsFaultOfPlaying, WorldSteps, WorldFails};
 ghost use Rattle.ob0_world.specs.declared.faults.WorldFault.TheVariants.{Memory};
 
 use crate::connection::Connection;
 use crate::events::{Event, Seen};
 use crate::faults::{PlayFault, WorldFault};
-use crate::played::Played;
+use crate::play_results::Played;
 use ob0_text::{TextStore, Unit};
 use std::alloc::{AllocError, Global};
 use std::collections::VecDeque;
@@ -101,7 +101,7 @@ impl<T: TextStore> World<T> {
     pub fn step(&mut self, event: &Event) -> Result<Seen, WorldFault>
         requires few { self.old.steps < 2 ^ 63 - 1 }
         ensures ok { IfOk result
-            (λ seen. WorldSteps self.old (event_of event.now) (report_of seen) self.new) }
+            (λ seen. WorldSteps self.old (model_event_of event.now) (model_report_of seen) self.new) }
         ensures holds { OnOk result (GuaranteesHold self.new.connection.model) }
         ensures mirror { OnOk result (ServerWillMirrorEditor self.new.connection.model) }
         ensures err { IfErr result (λ fault. WorldFails self.old fault self.new) }
@@ -125,8 +125,8 @@ impl<T: TextStore> World<T> {
     /// Returns the applied edits, the publications and the exchanged contents, up to the last step
     /// that returned Ok.
     pub fn into_played(self) -> Played
-        ensures results_match { ResultsMatch self.connection.model result }
-        ensures contents_match { ContentsMatch self.connection.wire result }
+        ensures results_match { ResultsMatchModel self.connection.model result }
+        ensures contents_match { ContentsMatchWire self.connection.wire result }
     {
         self.connection.into_played()
     }
@@ -135,8 +135,8 @@ impl<T: TextStore> World<T> {
     /// positions in UTF-16 units.
     pub fn play(alloc: Global, events: &[Event]) -> Result<Played, PlayFault>
         requires few { length events.now < 2 ^ 63 - 1 }
-        ensures ok { IfOk result (λ played. Plays Utf16 events.now played) }
-        ensures err { IfErr result (λ fault. PlaysPrefix Utf16 events.now fault) }
+        ensures ok { IfOk result (λ played. IsResultOfPlaying Utf16 events.now played) }
+        ensures err { IfErr result (λ fault. IsFaultOfPlaying Utf16 events.now fault) }
     {
         World::<T>::play_in(alloc, Unit::Utf16, events)
     }
@@ -152,8 +152,8 @@ impl<T: TextStore> World<T> {
     /// editor that keeps ob0's rules.
     pub fn play_in(alloc: Global, unit: Unit, events: &[Event]) -> Result<Played, PlayFault>
         requires few { length events.now < 2 ^ 63 - 1 }
-        ensures ok { IfOk result (λ played. Plays unit events.now played) }
-        ensures err { IfErr result (λ fault. PlaysPrefix unit events.now fault) }
+        ensures ok { IfOk result (λ played. IsResultOfPlaying unit events.now played) }
+        ensures err { IfErr result (λ fault. IsFaultOfPlaying unit events.now fault) }
     {
         let mut world: World<T> = match World::new_in(alloc, unit) {
             Ok(world) => world,

@@ -6,14 +6,14 @@ use Rattle.ob0_inline_answers.specs.InlineAnswers.{InliningEverywhereAlwaysHasAn
 use Rattle.ob0_module_values.proofs.ModuleValues.{OneTree}
 use Rattle.ob0_rename_answers.specs.RenameAnswers.{RenamingAlwaysHasAnswer}
 use Rattle.ob0_world_rules.specs.Asks.{Ask, format, inline_all, inline_here, rename}
-use Rattle.ob0_world_rules.specs.EditorActs.{apply, ask_about, change_document, close_document, discard, open_document}
-use Rattle.ob0_world_rules.specs.Happens.{Event, editor_acts, serve, take_message}
+use Rattle.ob0_world_rules.specs.EditorActs.{apply, request_edits, change_document, close_document, discard, open_document}
+use Rattle.ob0_world_rules.specs.Events.{Event, editor_acts, serve, take_message}
 use Rattle.ob0_world_rules.specs.Laws.{CourseExistsIfAsksHaveAnswers, AlwaysHasAnswer, HasAnswerIfAsk}
-use Rattle.ob0_world_worked.specs.Formatting.{FormattingHasAnswers}
+use Rattle.ob0_world_worked.specs.Formatting.{FormattingAlwaysHasAnswer}
 use Rattle.ob0_world_answers.specs.AnswersExist.{EachAskHasAnswers, EachEventListHasACourse}
 use Rattle.ob0_world_answers.proofs.ModuleValues.{each_has_names, each_is_read}
 
-pub each_ask_answered : OneTree → FormattingHasAnswers → RenamingAlwaysHasAnswer → InliningHereAlwaysHasAnswer → InliningEverywhereAlwaysHasAnswer → EachAskHasAnswers
+pub each_ask_answered : OneTree → FormattingAlwaysHasAnswer → RenamingAlwaysHasAnswer → InliningHereAlwaysHasAnswer → InliningEverywhereAlwaysHasAnswer → EachAskHasAnswers
 each_ask_answered tree formats renames here everywhere (rename position name) = renames (each_has_names tree) position name
 each_ask_answered tree formats renames here everywhere (inline_here position) = here (each_is_read tree) position
 each_ask_answered tree formats renames here everywhere (inline_all position) = everywhere (each_is_read tree) position
@@ -23,7 +23,7 @@ event_answered : EachAskHasAnswers → (event : Event) → HasAnswerIfAsk event
 event_answered answered (editor_acts (open_document uri text)) = tt
 event_answered answered (editor_acts (change_document uri how)) = tt
 event_answered answered (editor_acts (close_document uri)) = tt
-event_answered answered (editor_acts (ask_about uri ask)) = answered ask
+event_answered answered (editor_acts (request_edits uri ask)) = answered ask
 event_answered answered (editor_acts (apply k)) = tt
 event_answered answered (editor_acts (discard k)) = tt
 event_answered answered serve = tt

@@ -7,7 +7,7 @@ use Rattle.ob0_language_types.specs.WellTyped.{WellTyped}
 use Rattle.ob0_scope_table.specs.Resolution.{Resolution}
 use Rattle.ob0_types.specs.CheckedModules.{IsWellTyped}
 use Rattle.ob0_analysis.specs.AnalysisAnswers.{IsResolvedWellTypedModule, IsParsedWellTypedModule}
-use Rattle.ob0_analysis.specs.Texts.{utf8}
+use Rattle.ob0_analysis.specs.TextBytes.{utf8}
 use Rattle.ob0_module_values.proofs.ModuleValues.{OneTree, parsed_of, resolution_of}
 use Rattle.ob0_world_rules.specs.WellTypedTexts.{WellTypedText}
 use Rattle.ob0_world_rules.proofs.ModuleTexts.{well_typed_module}

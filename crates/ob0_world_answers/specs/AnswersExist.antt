@@ -5,7 +5,7 @@ use Rattle.std.specs.Prelude.{List}
 use Rattle.ob0_text.specs.declared.position_types.Unit.{Unit}
 use Rattle.ob0_world_rules.specs.Asks.{Ask}
 use Rattle.ob0_world_rules.specs.ClientAndServer.{ClientAndServer, start}
-use Rattle.ob0_world_rules.specs.Happens.{Event, IsCourse}
+use Rattle.ob0_world_rules.specs.Events.{Event, IsCourse}
 use Rattle.ob0_world_rules.specs.Laws.{AlwaysHasAnswer}
 
 -- States that each request for edits has an answer for each text and unit. The formula is a double

@@ -8,14 +8,14 @@ use ob0_inline_answers::laws::{
 use ob0_parse::tree_is_unique;
 use ob0_rename_answers::laws::renaming_always_has_answer;
 use ob0_world_rules::laws::course_exists_if_asks_have_answers;
-use ob0_world_worked::laws::formatting_has_answers;
+use ob0_world_worked::laws::formatting_always_has_answer;
 
 /// Proves that each request for edits has an answer for each text.
 pub fn each_ask_has_answers()
     ensures { EachAskHasAnswers }
 {
     tree_is_unique();
-    formatting_has_answers();
+    formatting_always_has_answer();
     renaming_always_has_answer();
     inlining_here_always_has_answer();
     inlining_everywhere_always_has_answer();

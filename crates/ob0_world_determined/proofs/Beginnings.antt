@@ -5,12 +5,12 @@ use Rattle.std.specs.List.{flat_map}
 use Rattle.std.proofs.lemmas.Grind.{flat_map-append}
 use Rattle.std.proofs.lemmas.List.{append_cancel_left}
 use Rattle.ob0_frame.specs.Frames.{frame}
-use Rattle.ob0_frame.specs.FramerState.{StreamRest, Open, Broken, Feeds}
+use Rattle.ob0_frame.specs.FramerState.{StreamRest, Open, Broken, FeedsStream}
 use Rattle.ob0_session_server.specs.Answers.{ServerState, start, IsConversation}
-use Rattle.ob0_session.specs.Serving.{HasServed}
-use Rattle.ob0_session.specs.declared.serving.ServeFault.{ServeFault}
-use Rattle.ob0_session.specs.declared.serving.ServeFault.TheVariants.{BadHead, Truncated, Read, Write, Memory, TooManyReads}
-use Rattle.ob0_world_determined.specs.DeterminedOutput.{MayServe, ConversationIsDetermined, OutputIsDetermined}
+use Rattle.ob0_session.specs.ServeResults.{AnswersAllButWaiting}
+use Rattle.ob0_session.specs.declared.serve_loop.ServeFault.{ServeFault}
+use Rattle.ob0_session.specs.declared.serve_loop.ServeFault.TheVariants.{BadHead, Truncated, Read, Write, Memory, TooManyReads}
+use Rattle.ob0_world_determined.specs.DeterminedOutput.{ServeMayReturn, ConversationIsDetermined, OutputIsDetermined}
 use Rattle.ob0_world_determined.proofs.Conversations.{Contents}
 use Rattle.ob0_world_determined.proofs.Fronts.{fed_front, front_more}
 use Rattle.ob0_world_determined.proofs.Streams.{Cut, cut, begins_other, longer, Ending, at_exit, with_rest, EndsIn, ending_of, all_written, OneFeed}
@@ -20,13 +20,13 @@ record Part (taken put : List ℕ) : Type 0 where
   pub answered : Contents
   pub sent : Contents
   pub after : ServerState
-  pub front : (more : List ℕ) (contents : Contents) (rest : StreamRest) → Feeds (Open []) (taken ++ more) contents rest → (others : Contents) × (contents ≡ answered ++ others)
+  pub front : (more : List ℕ) (contents : Contents) (rest : StreamRest) → FeedsStream (Open []) (taken ++ more) contents rest → (others : Contents) × (contents ≡ answered ++ others)
   pub conversation : IsConversation start answered sent after
   pub unwritten : List ℕ
   pub frames : flat_map frame sent ≡ put ++ unwritten
 
 module _ (one : ConversationIsDetermined) (feeds : OneFeed) (taken : List ℕ) where
-  part_of_served : (waiting : Contents) (rest : StreamRest) (after : ServerState) (put unwritten : List ℕ) → HasServed taken waiting rest after (put ++ unwritten) → Part taken put
+  part_of_served : (waiting : Contents) (rest : StreamRest) (after : ServerState) (put unwritten : List ℕ) → AnswersAllButWaiting taken waiting rest after (put ++ unwritten) → Part taken put
   part_of_served waiting rest after put unwritten h = record {
     answered = h.answered;
     sent = h.sent;
@@ -37,10 +37,10 @@ module _ (one : ConversationIsDetermined) (feeds : OneFeed) (taken : List ℕ) w
     frames = sym h.frames;
   }
 
-  whole : (waiting : Contents) (rest : StreamRest) (after : ServerState) (put : List ℕ) → HasServed taken waiting rest after put → Part taken put
-  whole waiting rest after put h = part_of_served waiting rest after put [] (subst (λ p. HasServed taken waiting rest after p) (sym (append-nil put)) h)
+  whole : (waiting : Contents) (rest : StreamRest) (after : ServerState) (put : List ℕ) → AnswersAllButWaiting taken waiting rest after put → Part taken put
+  whole waiting rest after put h = part_of_served waiting rest after put [] (subst (λ p. AnswersAllButWaiting taken waiting rest after p) (sym (append-nil put)) h)
 
-  part_of : (result : Result ℕ ServeFault) (put : List ℕ) → MayServe result taken put → Part taken put
+  part_of : (result : Result ℕ ServeFault) (put : List ℕ) → ServeMayReturn result taken put → Part taken put
   part_of (Ok status) put (r, w, (inl (ends, over), none)) = whole ends.waiting ends.rest ends.after put ends.served
   part_of (Ok status) put (r, w, (inr (all, at_end, is), none)) = whole [] (Open []) all.after put all.served
   part_of (Err BadHead) put (r, w, (all, none)) = whole [] Broken all.after put all.served

@@ -1,25 +1,25 @@
 -- Proves that a conversation is determined if each reply is.
 use Rattle.std.proofs.Common.{◌≡◌, ◌∙◌, ℕ, Option, Some, None, List, [], ◌∷◌, ◌++◌, refl, sym, subst}
 use Rattle.serde_json.specs.Data.{Data}
-use Rattle.ob0_rpc.specs.Messages.{ReadsContent, meaning_of_content}
-use Rattle.ob0_session_server.specs.Answers.{ServerState, AreContentsOfReply, react_to_message, AnswersInPhase, AnswersBeforeEnd, IsConversation}
+use Rattle.ob0_rpc.specs.Messages.{IsJsonOfContent, meaning_of_content}
+use Rattle.ob0_session_server.specs.Answers.{ServerState, AreContentsOfReply, react_to_message, AnswersInPhase, AnswersBeforeSessionEnd, IsConversation}
 use Rattle.ob0_session_server.specs.declared.session.Phase.{Phase}
 use Rattle.ob0_session_server.specs.declared.session.Phase.TheVariants.{Starting, Running, ShutDown, Ended, Failed}
-use Rattle.ob0_world_determined.specs.DeterminedOutput.{AnswerIsDetermined, ConversationIsDetermined, ReplyIsDetermined}
+use Rattle.ob0_world_determined.specs.DeterminedOutput.{AnswerIsDetermined, ConversationIsDetermined, ReplyContentsAreDetermined}
 
 abbrev pub Contents : Type 0
 Contents = List (List ℕ)
 
 -- ---- one content
 
-one_json : (content : List ℕ) (a b : Option Data) → ReadsContent content a → ReadsContent content b → a ≡ b
+one_json : (content : List ℕ) (a b : Option Data) → IsJsonOfContent content a → IsJsonOfContent content b → a ≡ b
 one_json content (Some x) (Some y) p q = sym p.1 ∙ q.1
 one_json content (Some x) None p q = sym p.1 ∙ q p.0
 one_json content None (Some y) p q = sym (p q.0) ∙ q.1
 one_json content None None p q = refl
 
-module _ (says : ReplyIsDetermined) where
-  going_on_one : (before : ServerState) (content : List ℕ) (sent more : Contents) (after other : ServerState) → AnswersBeforeEnd before content sent after → AnswersBeforeEnd before content more other → (sent ≡ more) × (after ≡ other)
+module _ (says : ReplyContentsAreDetermined) where
+  going_on_one : (before : ServerState) (content : List ℕ) (sent more : Contents) (after other : ServerState) → AnswersBeforeSessionEnd before content sent after → AnswersBeforeSessionEnd before content more other → (sent ≡ more) × (after ≡ other)
   going_on_one before content sent more after other (json, reads, h) (another, reads_too, k) =
       let same : json ≡ another = one_json content json another reads reads_too in
       let there = subst (λ j. (other ≡ (react_to_message before (meaning_of_content j)).after) × AreContentsOfReply (react_to_message before (meaning_of_content j)).reply more) (sym same) k in

@@ -6,30 +6,30 @@ use Rattle.serde_json.specs.Data.{Data, array}
 use Rattle.serde_json.specs.View.{items_of}
 use Rattle.ob0_scan.specs.TextWithTokens.{TextWithTokens}
 use Rattle.ob0_text.specs.declared.position_types.Unit.{Unit}
-use Rattle.ob0_tree.specs.Places.{tree_with_names, token_text_at}
+use Rattle.ob0_tree.specs.TokenIndexLeaves.{tree_with_names, token_text_at}
 use Rattle.ob0_tree.specs.Tree.{Tree, identifiers, module_text}
 use Rattle.ob0_tree.specs.declared.tree.Role.TheVariants as role
 use Rattle.ob0_language_names.specs.BlockParts.{module_block}
-use Rattle.ob0_scope_table.specs.Resolution.{Resolution, declaring_names, ordinal_in, span_at, declaration_token}
-use Rattle.ob0_scope.specs.NamesAtPlaces.{is_bound_to}
+use Rattle.ob0_scope_table.specs.Resolution.{Resolution, declaring_names, ordinal_in, token_span, declaration_token}
+use Rattle.ob0_scope.specs.NamesAtPlaces.{identifier_is_bound_to_declaration}
 use Rattle.ob0_scope.specs.declared.bound_names.BoundName.{BoundName}
 use Rattle.ob0_language_types.specs.Bindings.{declared_object}
 use Rattle.ob0_language_values.specs.Values.{Shape}
-use Rattle.ob0_types.specs.IdentifierMeanings.{identifier_meaning_at, meaning_of_name_or_field}
+use Rattle.ob0_types.specs.IdentifierMeanings.{identifier_meaning_at_offset, meaning_of_name_or_field}
 use Rattle.ob0_types.specs.declared.identifier_meanings.IdentifierWithMeaning.{IdentifierWithMeaning}
 use Rattle.ob0_types.specs.declared.identifier_meanings.IdentifierMeaning.{IdentifierMeaning}
 use Rattle.ob0_types.specs.declared.identifier_meanings.IdentifierMeaning.TheVariants.{Name, Field}
 use Rattle.ob0_types_fields.specs.FieldTypes.{constructed_types, typed_field_with_name}
-use Rattle.ob0_types_fields.specs.declared.field_name.FieldName.{FieldName}
-use Rattle.ob0_types_fields.specs.Identifiers.{fields_declared_in_block, field_identifiers, field_at_offset, first_token, tokens_of_field}
+use Rattle.ob0_types_fields.specs.declared.field_identifier.FieldIdentifier.{FieldIdentifier}
+use Rattle.ob0_types_fields.specs.FieldIdentifiers.{fields_declared_in_block, field_identifiers, field_at_offset, first_token, tokens_of_field}
 use Rattle.ob0_refs.specs.DeclarationTexts.{hover_text_of_object}
-use Rattle.ob0_refs.specs.Hovers.{field_text, predeclared_text, type_text}
-use Rattle.ob0_refs.specs.Questions.{definition_of_identifier, definition_at, field_reference_tokens, hover_at_offset, hover_of_identifier, references_of_optional_identifier, references_of_identifier, list_without_optional_token, references_at, renamable_span_at, renamable_span_of_identifier}
+use Rattle.ob0_refs.specs.Hovers.{field_text, predeclared_name_text, type_text}
+use Rattle.ob0_refs.specs.Questions.{definition_of_identifier, definition_at_offset, field_reference_tokens, hover_at_offset, hover_of_identifier, references_of_optional_identifier, references_of_identifier, list_without_optional_token, references_at_offset, renamable_span_at_offset, renamable_span_of_identifier}
 use Rattle.ob0_refs.specs.NameHovers.{HoverTextWithSpan}
 use Rattle.ob0_rpc.specs.Requests.{DocumentPlace}
 use Rattle.ob0_analysis.specs.AnalysisAnswers.{IsResolvedWellTypedModule}
 use Rattle.ob0_analysis.specs.ReportedErrors.{IsWellTypedModule}
-use Rattle.ob0_analysis.specs.Texts.{utf8}
+use Rattle.ob0_analysis.specs.TextBytes.{utf8}
 use Rattle.ob0_session_answers.specs.Questions.{AnswersQuestionInModule, AnswersQuestion, NameQuestion, definition_question, hover_question, hover_value_with_range, location_value_of_span, value_or_null, offset_of_place, range_value_of_span, references_question, prepare_rename_question}
 use Rattle.ob0_world_rules.proofs.OneFields.{one_list_of_fields}
 use Rattle.ob0_world_rules.proofs.OneModule.{Same, same_module, one_name, identifiers_of}
@@ -38,16 +38,16 @@ use Rattle.ob0_world_determined.specs.DeterminedOutput.{ResolutionIsDetermined}
 -- returns the hover of a name, by the tokens and the tree over them
 abbrev hover_in_tree : TextWithTokens → Tree ℕ module_text → BoundName → Option HoverTextWithSpan
 hover_in_tree s t n =
-    option_map (λ text. record { span = span_at s n.token; text = text })
-    (if nat_lt n.ordinal 7 then Some (predeclared_text (token_text_at s n.token))
-    else option_and_then (hover_text_of_object (token_text_at s n.token) (map (token_text_at s) (drop (n.ordinal + 1 - 7) (declaring_names (identifiers role.Declaring t))))) (declared_object (tree_with_names s t) n.ordinal))
+    option_map (λ text. record { span = token_span s n.token; text = text })
+    (if nat_lt n.ordinal 7 then Some (predeclared_name_text (token_text_at s n.token))
+    else option_and_then (hover_text_of_object (token_text_at s n.token) (map (token_text_at s) (drop (n.ordinal + 1 - 7) (declaring_names (identifiers role.DeclaringName t))))) (declared_object (tree_with_names s t) n.ordinal))
 
 -- returns the hover of a field's identifier, whose type is this one
 abbrev hover_of_shape : TextWithTokens → ℕ → Shape → HoverTextWithSpan
-hover_of_shape s token of = record { span = span_at s token; text = field_text (token_text_at s token) (type_text of) }
+hover_of_shape s token of = record { span = token_span s token; text = field_text (token_text_at s token) (type_text of) }
 
 module _ (r q : Resolution) (e : Same r.module_read q.module_read) (fields : field_identifiers r ≡ field_identifiers q) (tables : (token : ℕ) → ordinal_in r.ordinals token ≡ ordinal_in q.ordinals token) (offset : ℕ) where
-  same_meant : identifier_meaning_at r offset ≡ identifier_meaning_at q offset
+  same_meant : identifier_meaning_at_offset r offset ≡ identifier_meaning_at_offset q offset
   same_meant = λ i. meaning_of_name_or_field (one_name e offset i) (field_at_offset (e.source i) offset (fields i))
 
   -- ---- its hover text
@@ -65,37 +65,37 @@ module _ (r q : Resolution) (e : Same r.module_read q.module_read) (fields : fie
   -- ---- the place of its declaration
 
   one_declaration : (token : ℕ) (x : IdentifierMeaning) → definition_of_identifier r.module_read token x ≡ definition_of_identifier q.module_read token x
-  one_declaration token (Name ordinal) = λ i. option_map (span_at (e.source i)) (declaration_token (declaring_names (identifiers role.Declaring (e.tree i))) ordinal)
-  one_declaration token (Field k) = λ i. option_map (span_at (e.source i)) (first_token (tokens_of_field (e.source i) k (token_text_at (e.source i) token) (fields_declared_in_block 0 (module_block (e.tree i)))))
+  one_declaration token (Name ordinal) = λ i. option_map (token_span (e.source i)) (declaration_token (declaring_names (identifiers role.DeclaringName (e.tree i))) ordinal)
+  one_declaration token (Field k) = λ i. option_map (token_span (e.source i)) (first_token (tokens_of_field (e.source i) k (token_text_at (e.source i) token) (fields_declared_in_block 0 (module_block (e.tree i)))))
 
-  same_definition : definition_at r offset ≡ definition_at q offset
+  same_definition : definition_at_offset r offset ≡ definition_at_offset q offset
   same_definition = λ i. option_and_then (λ (x : IdentifierWithMeaning). one_declaration x.token x.means i) (same_meant i)
 
   -- ---- the places of its uses
 
-  field_referred : (x : FieldName) (include : Bool) → field_reference_tokens r x include ≡ field_reference_tokens q x include
+  field_referred : (x : FieldIdentifier) (include : Bool) → field_reference_tokens r x include ≡ field_reference_tokens q x include
   field_referred x true = λ i. tokens_of_field (e.source i) x.owner (token_text_at (e.source i) x.token) (fields i)
   field_referred x false = λ i.
       list_without_optional_token (first_token (tokens_of_field (e.source i) x.owner (token_text_at (e.source i) x.token) (fields_declared_in_block 0 (module_block (e.tree i))))) (tokens_of_field (e.source i) x.owner (token_text_at (e.source i) x.token) (fields i))
 
   named_one : (include : Bool) (token : ℕ) (x : IdentifierMeaning) → references_of_identifier r include token x ≡ references_of_identifier q include token x
-  named_one include token (Name ordinal) = λ i. map (span_at (e.source i)) (map (λ s. s.0.1) (filter (is_bound_to include ordinal) (identifiers_of (e.source i) (e.tree i))))
-  named_one include token (Field k) = λ i. map (span_at (e.source i)) (field_referred (record { token = token; owner = k }) include i)
+  named_one include token (Name ordinal) = λ i. map (token_span (e.source i)) (map (λ s. s.0.1) (filter (identifier_is_bound_to_declaration include ordinal) (identifiers_of (e.source i) (e.tree i))))
+  named_one include token (Field k) = λ i. map (token_span (e.source i)) (field_referred (record { token = token; owner = k }) include i)
 
   named_in_one : (include : Bool) (found : Option IdentifierWithMeaning) → references_of_optional_identifier r include found ≡ references_of_optional_identifier q include found
   named_in_one include None = refl
   named_in_one include (Some x) = named_one include x.token x.means
 
-  same_references : (include : Bool) → references_at r offset include ≡ references_at q offset include
-  same_references include = named_in_one include (identifier_meaning_at r offset) ∙ ap (references_of_optional_identifier q include) same_meant
+  same_references : (include : Bool) → references_at_offset r offset include ≡ references_at_offset q offset include
+  same_references include = named_in_one include (identifier_meaning_at_offset r offset) ∙ ap (references_of_optional_identifier q include) same_meant
 
   -- ---- the range to rename
 
   one_renamable : (token : ℕ) (x : IdentifierMeaning) → renamable_span_of_identifier r.module_read token x ≡ renamable_span_of_identifier q.module_read token x
-  one_renamable token (Name ordinal) = λ i. if nat_lt ordinal 7 then None else Some (span_at (e.source i) token)
-  one_renamable token (Field k) = λ i. Some (span_at (e.source i) token)
+  one_renamable token (Name ordinal) = λ i. if nat_lt ordinal 7 then None else Some (token_span (e.source i) token)
+  one_renamable token (Field k) = λ i. Some (token_span (e.source i) token)
 
-  same_renamable : renamable_span_at r offset ≡ renamable_span_at q offset
+  same_renamable : renamable_span_at_offset r offset ≡ renamable_span_at_offset q offset
   same_renamable = λ i. option_and_then (λ (x : IdentifierWithMeaning). one_renamable x.token x.means i) (same_meant i)
 
 -- ---- values

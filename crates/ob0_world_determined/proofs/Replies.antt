@@ -13,24 +13,24 @@ use Rattle.ob0_text.specs.declared.position_types.Range.{Range}
 use Rattle.ob0_text.specs.declared.position_types.Unit.{Unit}
 use Rattle.ob0_text.specs.declared.refusals.EditRefusal.{EditRefusal}
 use Rattle.ob0_edits_tokens.specs.Replacements.{range_and_text}
-use Rattle.ob0_rpc.specs.declared.clients.ClientFeatures.{ClientFeatures}
-use Rattle.ob0_rpc.specs.Shapes.{range_value, result_message, text as text_value}
+use Rattle.ob0_rpc.specs.declared.client_capabilities.ClientFeatures.{ClientFeatures}
+use Rattle.ob0_rpc.specs.JsonShapes.{range_value, result_message, text_value}
 use Rattle.ob0_edits.specs.Renamings.{IsRenameRefusedInText}
 use Rattle.ob0_analysis.specs.ReportedErrors.{IsWellTypedModule}
-use Rattle.ob0_analysis.specs.Texts.{utf8}
+use Rattle.ob0_analysis.specs.TextBytes.{utf8}
 use Rattle.ob0_edits.specs.InliningEdits.{IsInlineResultInText}
-use Rattle.ob0_edits.specs.declared.inlinings.Inlining.{Inlining}
-use Rattle.ob0_edits.specs.declared.inlinings.Inlining.TheVariants.{OneUse, Everywhere}
-use Rattle.ob0_session_answers.specs.Actions.{VersionedActionsRequest, ListsActions, offered_action_values, first_offset_in_range, title, wants_inlining}
+use Rattle.ob0_edits.specs.declared.inline_question.InliningKind.{InliningKind}
+use Rattle.ob0_edits.specs.declared.inline_question.InliningKind.TheVariants.{OneUse, Everywhere}
+use Rattle.ob0_session_answers.specs.Actions.{VersionedActionsRequest, ListsActions, offered_action_values, first_offset_in_range, inlining_title, wants_inlining}
 use Rattle.ob0_session_answers.specs.Diagnostics.{diagnostic_of}
 use Rattle.ob0_session_answers.specs.FormattingAnswers.{AnswersFormattingRequest}
 use Rattle.ob0_session_answers.specs.RenamingAnswers.{AnswersRenameRequest, VersionedRenameRequest, edits_for_client}
-use Rattle.ob0_session_json.specs.Shapes.{code_action_value, edit_refusal_message, edit_value, publication, versioned_document_value}
-use Rattle.ob0_session_server.specs.Answers.{SendsMessage, diagnoses, question_reply, formatting_reply, nothing, actions_reply, rename_reply, says}
+use Rattle.ob0_session_json.specs.JsonShapes.{code_action_value, edit_refusal_message, edit_value, publication, versioned_document_value}
+use Rattle.ob0_session_server.specs.Answers.{SendsMessage, diagnostics_reply, question_reply, formatting_reply, no_reply, actions_reply, rename_reply, fixed_reply}
 use Rattle.ob0_world_rules.proofs.OneInlining.{inlines_or_refused, inlines_parts}
 use Rattle.ob0_world_rules.proofs.OneLayout.{lays_out_or_long, lays_out_said}
 use Rattle.ob0_world_rules.proofs.OneRenaming.{refuses_one, renames_or_refused, renames_parts}
-use Rattle.ob0_world_determined.specs.DeterminedOutput.{DiagnosesAreDetermined, ReplyIsDetermined, ResolutionIsDetermined}
+use Rattle.ob0_world_determined.specs.DeterminedOutput.{DiagnosesAreDetermined, ReplyContentsAreDetermined, ResolutionIsDetermined}
 use Rattle.ob0_world_determined.proofs.NamesShown.{name_one}
 
 sends_one : (message another : Data) (sent other : List (List ℕ)) → message ≡ another → SendsMessage message sent → SendsMessage another other → sent ≡ other
@@ -52,8 +52,8 @@ workspace_with client uri version vs =
     then object (member (codes "documentChanges") (array (item (object (member (codes "edits") (array (items_of vs)) (member (codes "textDocument") (versioned_document_value uri version) no_members))) no_items)) no_members)
     else object (member (codes "changes") (object (member uri (array (items_of vs)) no_members)) no_members)
 
-abbrev action_with : VersionedActionsRequest → Inlining → List Data → Data
-action_with requested how vs = code_action_value (workspace_with requested.client requested.uri requested.version vs) (title how)
+abbrev action_with : VersionedActionsRequest → InliningKind → List Data → Data
+action_with requested how vs = code_action_value (workspace_with requested.client requested.uri requested.version vs) (inlining_title how)
 
 -- ---- layouts
 
@@ -98,14 +98,14 @@ module _ (unit : Unit) (requested : VersionedActionsRequest) (text : List ℕ) w
   abbrev offset : ℕ
   offset = first_offset_in_range unit text requested.range
 
-  offered_one : (how : Inlining) (a b : Option (Vec Edit Global)) → IsInlineResultInText how unit text offset a → IsInlineResultInText how unit text offset b → offered_action_values requested how a ≡ offered_action_values requested how b
+  offered_one : (how : InliningKind) (a b : Option (Vec Edit Global)) → IsInlineResultInText how unit text offset a → IsInlineResultInText how unit text offset b → offered_action_values requested how a ≡ offered_action_values requested how b
   offered_one how (Some xs) (Some ys) h k =
       ap (λ vs. action_with requested how vs ∷ []) (values_by_parts xs.items ys.items (inlines_parts unit text offset xs how ys h k))
   offered_one how (Some xs) None h k = absurd (inlines_or_refused unit text offset xs how h k)
   offered_one how None (Some ys) h k = absurd (inlines_or_refused unit text offset ys how k h)
   offered_one how None None h k = refl
 
-  fits_offered : (how : Inlining) (a : Option (Vec Edit Global)) → IsInlineResultInText how unit text offset a → IsWellTypedModule (utf8 text)
+  fits_offered : (how : InliningKind) (a : Option (Vec Edit Global)) → IsInlineResultInText how unit text offset a → IsWellTypedModule (utf8 text)
   fits_offered how (Some xs) h = h.runs.old
   fits_offered how None h =
       record { tree = _; text_of = record { scanned = h.module_read.source; scan = h.read.scan; module_of = h.read.parsed.module_of }; well_typed = h.read.well_typed }
@@ -126,15 +126,15 @@ module _ (unit : Unit) (requested : VersionedActionsRequest) (text : List ℕ) w
 
 -- ---- everything
 
-pub reply_is_determined : DiagnosesAreDetermined → ResolutionIsDetermined → ReplyIsDetermined
-reply_is_determined reports tables nothing sent other h k = h ∙ sym k
-reply_is_determined reports tables (says message) sent other h k = sends_one message message sent other refl h k
-reply_is_determined reports tables (diagnoses unit uri version text) sent other (ds, (list, reports_list, is), sends) (es, (more, reports_too, too), sends_too) =
+pub reply_contents_are_determined : DiagnosesAreDetermined → ResolutionIsDetermined → ReplyContentsAreDetermined
+reply_contents_are_determined reports tables no_reply sent other h k = h ∙ sym k
+reply_contents_are_determined reports tables (fixed_reply message) sent other h k = sends_one message message sent other refl h k
+reply_contents_are_determined reports tables (diagnostics_reply unit uri version text) sent other (ds, (list, reports_list, is), sends) (es, (more, reports_too, too), sends_too) =
     let same : ds ≡ es = is ∙ ap (map (diagnostic_of unit text)) (reports (utf8 text) list more reports_list reports_too) ∙ sym too in
     sends_one _ _ sent other (ap (publication uri (Some version)) same) sends sends_too
-reply_is_determined reports tables (formatting_reply unit id indent text) sent other (message, h, sends) (another, k, sends_too) = sends_one message another sent other (formats_one unit id indent text message another h k) sends sends_too
-reply_is_determined reports tables (question_reply unit id at question text) sent other (value, h, sends) (another, k, sends_too) =
+reply_contents_are_determined reports tables (formatting_reply unit id indent text) sent other (message, h, sends) (another, k, sends_too) = sends_one message another sent other (formats_one unit id indent text message another h k) sends sends_too
+reply_contents_are_determined reports tables (question_reply unit id at question text) sent other (value, h, sends) (another, k, sends_too) =
     sends_one _ _ sent other (ap (result_message id) (name_one tables unit text at question value another h k)) sends sends_too
-reply_is_determined reports tables (rename_reply unit requested text) sent other (message, h, sends) (another, k, sends_too) = sends_one message another sent other (renaming_one unit requested text message another h k) sends sends_too
-reply_is_determined reports tables (actions_reply unit requested text) sent other (message, (value, h, is), sends) (another, (more, k, too), sends_too) =
+reply_contents_are_determined reports tables (rename_reply unit requested text) sent other (message, h, sends) (another, k, sends_too) = sends_one message another sent other (renaming_one unit requested text message another h k) sends sends_too
+reply_contents_are_determined reports tables (actions_reply unit requested text) sent other (message, (value, h, is), sends) (another, (more, k, too), sends_too) =
     sends_one message another sent other (is ∙ ap (result_message requested.id) (lists_one unit requested text value more h k) ∙ sym too) sends sends_too

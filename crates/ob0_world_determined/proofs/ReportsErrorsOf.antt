@@ -17,10 +17,10 @@ use Rattle.ob0_scan.specs.declared.fault.FaultCode.{FaultCode}
 use Rattle.ob0_scan.specs.declared.fault.FaultCode.TheVariants as code
 use Rattle.ob0_scan.specs.declared.fault.Fault.{Fault}
 use Rattle.ob0_text.proofs.StableSort.{one_sorted, rises_sorted}
-use Rattle.ob0_tree.specs.Lexeme.{Terminal, EndOfText}
+use Rattle.ob0_tree.specs.Terminals.{Terminal, EndOfText}
 use Rattle.ob0_tree.specs.Module.{IsModuleWithTree, terminals_of_text}
 use Rattle.ob0_tree.specs.ParsedModule.{tree_of, named_tree_of}
-use Rattle.ob0_tree.specs.Places.{token_text_at, tree_with_names}
+use Rattle.ob0_tree.specs.TokenIndexLeaves.{token_text_at, tree_with_names}
 use Rattle.ob0_tree.specs.Tree.{Tree, module_text, occurrences}
 use Rattle.ob0_parse.specs.IsRightParseRefusal.{NoModuleBeginsWithTokens, IsRightParseRefusal}
 use Rattle.ob0_parse_descent.specs.declared.refusal.ParseRefusal.{ParseRefusal}
@@ -29,14 +29,14 @@ use Rattle.ob0_scope_table.specs.DuplicatesAndEndNames.{tree_declaration_faults}
 use Rattle.ob0_scope_table.specs.FaultsAtTokens.{fault_with_span}
 use Rattle.ob0_language_names.specs.Occurrences.{bindings}
 use Rattle.ob0_language_names.specs.BlockParts.{module_block}
-use Rattle.ob0_scope_table.specs.Resolution.{Resolution, IsResolution, declaring_names, is_duplicate_or_end_name, is_undeclared_fault, undeclared_faults_from_labels}
+use Rattle.ob0_scope_table.specs.Resolution.{Resolution, IsResolution, declaring_names, is_duplicate_or_end_name_fault, is_undeclared_fault, undeclared_faults_from_labels}
 use Rattle.ob0_tree.specs.declared.tree.Role.TheVariants as role
 use Rattle.ob0_tree.specs.Tree.{identifiers}
 use Rattle.ob0_types.specs.FaultOrder.{AreFirstFaultsOfModule, fault_code_number, compare_faults, all_faults_of, compare_spans}
-use Rattle.ob0_types_check.specs.DeclarationFaults.{every_body, undeclared_name_and_type_faults, report_on_block, report_on_module, walk_at_start}
-use Rattle.ob0_types_check.proofs.SomeBodies.{closing_of}
-use Rattle.ob0_types_check.specs.KnownDeclarations.{known_declarations_at_start, predeclared_meanings}
-use Rattle.ob0_analysis.specs.ReportedErrors.{ReportedDiagnosis, IsDiagnosisOfRefusal, ReportedRefusalIsUnique, ReportsErrorsOf, ReportsFaults, ReportsLexicalFaults, ReportsParserRefusal, ReportsNameAndTypeFaults, reported_diagnosis_of_fault}
+use Rattle.ob0_types_check.specs.DeclarationFaults.{includes_every_body, undeclared_name_and_type_faults, report_on_block, report_on_module, walk_progress_at_module_start}
+use Rattle.ob0_types_check.proofs.WalksOverSomeBodies.{closing_of}
+use Rattle.ob0_types_check.specs.KnownDeclarations.{known_declarations_at_module_start, predeclared_meanings}
+use Rattle.ob0_analysis.specs.ReportedErrors.{ReportedDiagnosis, IsDiagnosisOfRefusal, ReportedRefusalIsUnique, ReportsErrorsOf, ReportsErrorsOfInvalidText, ReportsLexicalFaults, ReportsParserRefusal, ReportsNameAndTypeFaults, reported_diagnosis_of_fault}
 use Rattle.ob0_world_rules.proofs.OneModule.{Same, same_module}
 use Rattle.ob0_world_determined.specs.DeterminedOutput.{DiagnosesAreDetermined, ResolutionIsDetermined}
 use Rattle.ob0_world_determined.proofs.SameTables.{Like, block_like}
@@ -182,11 +182,11 @@ sorted_one faults xs ys p q sorted sorted_too =
 -- ---- faults of names and types
 
 module _ (r q : Resolution) (h : IsResolution r) (k : IsResolution q) (e : Same r.module_read q.module_read) (tables : ResolutionIsDetermined) where
-  first_like : Like (known_declarations_at_start r) (known_declarations_at_start q)
+  first_like : Like (known_declarations_at_module_start r) (known_declarations_at_module_start q)
   first_like = record {
     source = e.source;
     ordinals = tables r q h k (e.source, e.tree);
-    declared = ap (λ ds. predeclared_meanings ++ map (λ token. None) ds) (h.declaring ∙ ap (λ t. declaring_names (identifiers role.Declaring t)) e.tree ∙ sym k.declaring);
+    declared = ap (λ ds. predeclared_meanings ++ map (λ token. None) ds) (h.declaring ∙ ap (λ t. declaring_names (identifiers role.DeclaringName t)) e.tree ∙ sym k.declaring);
     made = refl;
   }
 
@@ -197,13 +197,13 @@ module _ (r q : Resolution) (h : IsResolution r) (k : IsResolution q) (e : Same 
   same_reported : undeclared_name_and_type_faults r ≡ undeclared_name_and_type_faults q
   unfolding undeclared_name_and_type_faults
   same_reported =
-      let found : (report_on_module every_body r).faults ≡ (report_on_module every_body q).faults =
-      (block_like r.module_read.closing (walk_at_start r) (walk_at_start q) (module_block (tree_of r.module_read)) first_like).faults ∙ ap (λ t. (report_on_block every_body (closing_of t) (walk_at_start q) (module_block t)).faults) e.tree in
+      let found : (report_on_module includes_every_body r).faults ≡ (report_on_module includes_every_body q).faults =
+      (block_like r.module_read.closing (walk_progress_at_module_start r) (walk_progress_at_module_start q) (module_block (tree_of r.module_read)) first_like).faults ∙ ap (λ t. (report_on_block includes_every_body (closing_of t) (walk_progress_at_module_start q) (module_block t)).faults) e.tree in
       λ i. filter is_undeclared_fault (same_of_names i) ++ found i
 
   same_faults : (xs ys : List Fault) → AreFirstFaultsOfModule r xs → AreFirstFaultsOfModule q ys → xs ≡ ys
   same_faults xs ys a b =
-      let found : map (fault_with_span r.module_read.source) (all_faults_of r) ≡ map (fault_with_span q.module_read.source) (all_faults_of q) = λ i. map (fault_with_span (e.source i)) (same_reported i ++ filter is_duplicate_or_end_name (same_of_names i)) in
+      let found : map (fault_with_span r.module_read.source) (all_faults_of r) ≡ map (fault_with_span q.module_read.source) (all_faults_of q) = λ i. map (fault_with_span (e.source i)) (same_reported i ++ filter is_duplicate_or_end_name_fault (same_of_names i)) in
       a.first ∙ ap (take 100) (sorted_one _ a.all b.all (subst (λ fs. IsPermutation fs a.all) found a.joined) b.joined a.in_order b.in_order) ∙ sym b.first
 
 types_one : (text : List ℕ) (list other : List ReportedDiagnosis) → ResolutionIsDetermined → ReportsNameAndTypeFaults text list → ReportsNameAndTypeFaults text other → list ≡ other
@@ -225,7 +225,7 @@ module _ (scans : OneScan) (reports : OneScanReport) (refusals : ReportedRefusal
       let same : k.names.module_read.source ≡ h.scanned = one_source k.names.module_read.source h.scanned k.scan h.scan in
       absurd (not_refused h.scanned h.refusal h.parser_diagnosis (named_tree_of k.names.module_read) h.refused h.reports_refusal (subst (λ s. IsModuleWithTree s (named_tree_of k.names.module_read)) same k.resolved.parsed.module_of))
 
-  faults_one : (list other : List ReportedDiagnosis) → ReportsFaults text list → ReportsFaults text other → list ≡ other
+  faults_one : (list other : List ReportedDiagnosis) → ReportsErrorsOfInvalidText text list → ReportsErrorsOfInvalidText text other → list ≡ other
   faults_one list other (inl a) (inl b) = a.all ∙ ap (map reported_diagnosis_of_fault) (reports text a.faults b.faults a.of_text.reported b.of_text.reported) ∙ sym b.all
   faults_one list other (inl a) (inr (inl b)) = lexemes_only list b.scanned a b.scan
   faults_one list other (inl a) (inr (inr b)) = lexemes_only list b.names.module_read.source a b.scan

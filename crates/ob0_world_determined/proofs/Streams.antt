@@ -7,15 +7,15 @@ use Rattle.std.specs.List.{flat_map}
 use Rattle.std.proofs.lemmas.Grind.{flat_map-append}
 use Rattle.ob0_frame.specs.Frames.{Frames, frame}
 use Rattle.ob0_frame.specs.Head.{max_content_length}
-use Rattle.ob0_frame.specs.FramerState.{StreamRest, Open, Broken, Feeds}
+use Rattle.ob0_frame.specs.FramerState.{StreamRest, Open, Broken, FeedsStream}
 use Rattle.ob0_frame.proofs.InTurn.{fed_in_turn}
 use Rattle.ob0_session_server.specs.Answers.{ServerState, start, Answers, AnswersInPhase, IsConversation}
-use Rattle.ob0_session.specs.Serving.{HasServed, HasServedAll, EndsByExit}
+use Rattle.ob0_session.specs.ServeResults.{AnswersAllButWaiting, AnswersAllContents, EndsByExit}
 use Rattle.ob0_session_server.specs.Steps.{HasNotEnded}
 use Rattle.ob0_session_server.specs.declared.session.Phase.TheVariants.{Ended}
-use Rattle.ob0_session.specs.declared.serving.ServeFault.{ServeFault}
-use Rattle.ob0_session.specs.declared.serving.ServeFault.TheVariants.{BadHead, Truncated, Read, Write, Memory, TooManyReads}
-use Rattle.ob0_world_determined.specs.DeterminedOutput.{ConversationIsServed, ConversationIsServedAsPrefix, EndedConversationIsServed, IsFinalResult, IsDeterminedByBytes, IsFullyWritten, MayServe, ConversationIsDetermined, ResultIsDetermined}
+use Rattle.ob0_session.specs.declared.serve_loop.ServeFault.{ServeFault}
+use Rattle.ob0_session.specs.declared.serve_loop.ServeFault.TheVariants.{BadHead, Truncated, Read, Write, Memory, TooManyReads}
+use Rattle.ob0_world_determined.specs.DeterminedOutput.{ServeAnswersLikeSession, ServeAnswersPrefixLikeSession, ServeEndsLikeSession, IsFinalResult, IsDeterminedByBytes, AllOutputIsWritten, ServeMayReturn, ConversationIsDetermined, ResultIsDetermined}
 use Rattle.ob0_world_determined.proofs.Conversations.{Contents}
 use Rattle.ob0_world_determined.proofs.Fronts.{Framed, fed_front}
 
@@ -73,7 +73,7 @@ begins_other (x ∷ xs) ys (z ∷ zs) ws e =
 -- ---- the contents read are answered up to an `exit`, or all of them
 
 abbrev pub OneFeed : Type 0
-OneFeed = (from r q : StreamRest) (piece : List ℕ) (c d : Contents) → Feeds from piece c r → Feeds from piece d q → (c ≡ d) × (r ≡ q)
+OneFeed = (from r q : StreamRest) (piece : List ℕ) (c d : Contents) → FeedsStream from piece c r → FeedsStream from piece d q → (c ≡ d) × (r ≡ q)
 
 -- the ending of a conversation: a status at an `exit`, or the rest of the bytes
 pub data Ending : Type 0 where
@@ -82,7 +82,7 @@ pub data Ending : Type 0 where
 
 abbrev pub EndsIn : Ending → List ℕ → List ℕ → Type 0
 EndsIn (at_exit status) taken put = EndsByExit status taken put
-EndsIn (with_rest rest) taken put = HasServedAll taken rest put
+EndsIn (with_rest rest) taken put = AnswersAllContents taken rest put
 
 same_status : (s t : ℕ) → Ended s ≡ Ended t → s ≡ t
 same_status s t e = cc
@@ -96,7 +96,7 @@ module _ (one : ConversationIsDetermined) (feeds : OneFeed) (taken : List ℕ) w
       let quiet = silent status parts.between more parts.later end (ap (λ (s : ServerState). s.phase) (sym same.1) ∙ over) parts.goes_on in
       (sym (parts.is ∙ (λ i. sym same.0 i ++ quiet.0 i) ∙ append-nil sent), quiet.1 ∙ sym same.1)
 
-  all_one : (r q : StreamRest) (put other : List ℕ) → HasServedAll taken r put → HasServedAll taken q other → (put ≡ other) × (with_rest r ≡ with_rest q)
+  all_one : (r q : StreamRest) (put other : List ℕ) → AnswersAllContents taken r put → AnswersAllContents taken q other → (put ≡ other) × (with_rest r ≡ with_rest q)
   all_one r q put other h k =
       let fed = feeds (Open []) r q taken (h.served.answered ++ []) (k.served.answered ++ []) h.served.feeds k.served.feeds in
       let contents : h.served.answered ≡ k.served.answered = sym (append-nil h.served.answered) ∙ fed.0 ∙ append-nil k.served.answered in
@@ -118,7 +118,7 @@ module _ (one : ConversationIsDetermined) (feeds : OneFeed) (taken : List ℕ) w
   ended_goes_on status s over not_ended = let no : HasNotEnded (Ended status) = subst HasNotEnded over not_ended in cc
 
   -- If one call ended at an `exit`, another over the same bytes can't have served all of them.
-  never_both : (status : ℕ) (q : StreamRest) (put other : List ℕ) → EndsByExit status taken put → HasServedAll taken q other → ⊥
+  never_both : (status : ℕ) (q : StreamRest) (put other : List ℕ) → EndsByExit status taken put → AnswersAllContents taken q other → ⊥
   never_both status q put other (h, h_ended) k =
       let fed : h.served.answered ++ h.waiting ≡ k.served.answered =
       (feeds (Open []) h.rest q taken (h.served.answered ++ h.waiting) (k.served.answered ++ []) h.served.feeds k.served.feeds).0 ∙ append-nil k.served.answered in
@@ -134,7 +134,7 @@ module _ (one : ConversationIsDetermined) (feeds : OneFeed) (taken : List ℕ) w
 -- ---- by the result
 
 -- If neither an allocation nor the writer failed, the bytes have an ending.
-pub ending_of : (result : Result ℕ ServeFault) (taken put : List ℕ) → IsFullyWritten result → MayServe result taken put → (e : Ending) × EndsIn e taken put
+pub ending_of : (result : Result ℕ ServeFault) (taken put : List ℕ) → AllOutputIsWritten result → ServeMayReturn result taken put → (e : Ending) × EndsIn e taken put
 ending_of (Ok status) taken put written (r, w, (inl ends, none)) = (at_exit status, ends)
 ending_of (Ok status) taken put written (r, w, (inr (all, at_end, is), none)) = (with_rest (Open []), all)
 ending_of (Err BadHead) taken put written (r, w, (all, none)) = (with_rest Broken, all)
@@ -155,7 +155,7 @@ truncated : (left : List ℕ) → left ≢ [] → answer_text (with_rest (Open l
 truncated [] some = absurd (some refl)
 truncated (x ∷ xs) some = refl
 
-led_to : (result : Result ℕ ServeFault) (taken put : List ℕ) → IsDeterminedByBytes result → MayServe result taken put → (e : Ending) × EndsIn e taken put × (answer_text e ≡ result)
+led_to : (result : Result ℕ ServeFault) (taken put : List ℕ) → IsDeterminedByBytes result → ServeMayReturn result taken put → (e : Ending) × EndsIn e taken put × (answer_text e ≡ result)
 led_to (Ok status) taken put of (r, w, (inl ends, none)) = (at_exit status, ends, refl)
 led_to (Ok status) taken put of (r, w, (inr (all, at_end, is), none)) = (with_rest (Open []), all, ap Ok (sym is))
 led_to (Err BadHead) taken put of (r, w, (all, none)) = (with_rest Broken, all, refl)
@@ -182,21 +182,21 @@ further (at_exit status) taken more put closed f (h, ended) =
     let s = h.served in
     let parts = fed_front (Open []) h.rest f.rest taken more (s.answered ++ h.waiting) f.contents s.feeds f.feeds in
     let same : f.contents ≡ s.answered ++ (h.waiting ++ parts.0) = parts.1 ∙ append_assoc s.answered h.waiting parts.0 in
-    let served : HasServed (taken ++ more) (h.waiting ++ parts.0) f.rest h.after put =
-    record { answered = s.answered; sent = s.sent; feeds = subst (λ cs. Feeds (Open []) (taken ++ more) cs f.rest) same f.feeds; conversation = s.conversation; frames = s.frames } in
+    let served : AnswersAllButWaiting (taken ++ more) (h.waiting ++ parts.0) f.rest h.after put =
+    record { answered = s.answered; sent = s.sent; feeds = subst (λ cs. FeedsStream (Open []) (taken ++ more) cs f.rest) same f.feeds; conversation = s.conversation; frames = s.frames } in
     (record { after = h.after; waiting = h.waiting ++ parts.0; rest = f.rest; served = served }, ended)
 further (with_rest Broken) taken more put closed f h =
     let s = h.served in
-    let fed : Feeds (Open []) (taken ++ more) ((s.answered ++ []) ++ []) Broken = fed_in_turn (Open []) Broken Broken taken more (s.answered ++ []) [] s.feeds refl in
+    let fed : FeedsStream (Open []) (taken ++ more) ((s.answered ++ []) ++ []) Broken = fed_in_turn (Open []) Broken Broken taken more (s.answered ++ []) [] s.feeds refl in
     record {
       after = h.after;
-      served = record { answered = s.answered; sent = s.sent; feeds = subst (λ cs. Feeds (Open []) (taken ++ more) cs Broken) (append-nil (s.answered ++ [])) fed; conversation = s.conversation; frames = s.frames };
+      served = record { answered = s.answered; sent = s.sent; feeds = subst (λ cs. FeedsStream (Open []) (taken ++ more) cs Broken) (append-nil (s.answered ++ [])) fed; conversation = s.conversation; frames = s.frames };
       not_ended = h.not_ended;
     }
 further (with_rest (Open left)) taken more put closed f h = absurd closed
 
 -- A result that the bytes decide has an ending that more bytes can't change.
-pub decided : (result : Result ℕ ServeFault) (taken put : List ℕ) → IsFinalResult result taken put → MayServe result taken put → (e : Ending) × EndsIn e taken put × IsClosed e × (answer_text e ≡ result)
+pub decided : (result : Result ℕ ServeFault) (taken put : List ℕ) → IsFinalResult result taken put → ServeMayReturn result taken put → (e : Ending) × EndsIn e taken put × IsClosed e × (answer_text e ≡ result)
 decided (Ok status) taken put is served = (at_exit status, is, tt, refl)
 decided (Err BadHead) taken put is (r, w, (all, none)) = (with_rest Broken, all, tt, refl)
 decided (Err Truncated) taken put is served = absurd is
@@ -209,14 +209,14 @@ nothing_more : (taken more : List ℕ) → more ≡ [] → taken ++ more ≡ tak
 nothing_more taken more none = ap (λ xs. taken ++ xs) none ∙ append-nil taken
 
 -- If no more bytes can be written, both calls have written the same.
-pub all_written : ConversationIsDetermined → OneFeed → (taken more put all : List ℕ) (result end : Result ℕ ServeFault) → IsFullyWritten result → IsFullyWritten end → MayServe result taken put → MayServe end (taken ++ more) all → IsFinalResult result taken put ⊎ (more ≡ []) → put ≡ all
+pub all_written : ConversationIsDetermined → OneFeed → (taken more put all : List ℕ) (result end : Result ℕ ServeFault) → AllOutputIsWritten result → AllOutputIsWritten end → ServeMayReturn result taken put → ServeMayReturn end (taken ++ more) all → IsFinalResult result taken put ⊎ (more ≡ []) → put ≡ all
 all_written one feeds taken more put all result end written written_too h k (inl is) =
     let e = decided result taken put is h in
     let f = ending_of end (taken ++ more) all written_too k in
     (one_ending one feeds (taken ++ more) e.0 f.0 put all (further e.0 taken more put e.2 (framed_by f.0 (taken ++ more) all f.1) e.1) f.1).0
 all_written one feeds taken more put all result end written written_too h k (inr none) =
     let e = ending_of result taken put written h in
-    let f = ending_of end taken all written_too (subst (λ xs. MayServe end xs all) (nothing_more taken more none) k) in
+    let f = ending_of end taken all written_too (subst (λ xs. ServeMayReturn end xs all) (nothing_more taken more none) k) in
     (one_ending one feeds taken e.0 f.0 put all e.1 f.1).0
 
 pub result_is_determined : ConversationIsDetermined → OneFeed → ResultIsDetermined
@@ -226,12 +226,12 @@ result_is_determined one feeds taken more put all result end of of_too h k (inl 
     sym e.3 ∙ ap answer_text (one_ending one feeds (taken ++ more) e.0 f.0 put all (further e.0 taken more put e.2 (framed_by f.0 (taken ++ more) all f.1) e.1) f.1).1 ∙ f.2
 result_is_determined one feeds taken more put all result end of of_too h k (inr none) =
     let e = led_to result taken put of h in
-    let f = led_to end taken all of_too (subst (λ xs. MayServe end xs all) (nothing_more taken more none) k) in
+    let f = led_to end taken all of_too (subst (λ xs. ServeMayReturn end xs all) (nothing_more taken more none) k) in
     sym e.2 ∙ ap answer_text (one_ending one feeds taken e.0 f.0 put all e.1 f.1).1 ∙ f.2
 
 -- ---- the frames of a conversation
 
-module _ (one : ConversationIsDetermined) (feeds : OneFeed) (taken sent : Contents) (after : ServerState) (talk : IsConversation start taken sent after) (fed : Feeds (Open []) (flat_map frame taken) taken (Open [])) where
+module _ (one : ConversationIsDetermined) (feeds : OneFeed) (taken sent : Contents) (after : ServerState) (talk : IsConversation start taken sent after) (fed : FeedsStream (Open []) (flat_map frame taken) taken (Open [])) where
   frames_sent : (put : List ℕ) (e : Ending) → EndsIn e (flat_map frame taken) put → put ≡ flat_map frame sent
   frames_sent put (at_exit status) (h, ended) =
       let s = h.served in
@@ -243,7 +243,7 @@ module _ (one : ConversationIsDetermined) (feeds : OneFeed) (taken sent : Conten
       s.frames ∙ ap (flat_map frame) (one start s.answered s.sent sent h.after after s.conversation (subst (λ cs. IsConversation start cs sent after) same talk)).0
 
 -- a conversation with which a longer input begins
-module _ (one : ConversationIsDetermined) (feeds : OneFeed) (taken sent : Contents) (after : ServerState) (talk : IsConversation start taken sent after) (fed : Feeds (Open []) (flat_map frame taken) taken (Open [])) (more : List ℕ) where
+module _ (one : ConversationIsDetermined) (feeds : OneFeed) (taken sent : Contents) (after : ServerState) (talk : IsConversation start taken sent after) (fed : FeedsStream (Open []) (flat_map frame taken) taken (Open [])) (more : List ℕ) where
   -- The answers to more contents begin with the answers to these.
   goes_on : (mid answered said : Contents) (end : ServerState) → answered ≡ taken ++ mid → IsConversation start answered said end → (later : List ℕ) × (flat_map frame said ≡ flat_map frame sent ++ later)
   goes_on mid answered said end is h =
@@ -267,25 +267,25 @@ module _ (one : ConversationIsDetermined) (feeds : OneFeed) (taken sent : Conten
       let found = goes_on parts.0 s.answered s.sent h.after (sym (append-nil s.answered) ∙ parts.1) s.conversation in
       (found.0, s.frames ∙ found.1)
 
-pub conversation_is_served_first : ConversationIsDetermined → OneFeed → Feeds (Open []) [] [] (Open []) → ((contents : Contents) → All (λ content. length content ≤ max_content_length) contents → Frames (flat_map frame contents) contents []) → ConversationIsServedAsPrefix
+pub conversation_is_served_first : ConversationIsDetermined → OneFeed → FeedsStream (Open []) [] [] (Open []) → ((contents : Contents) → All (λ content. length content ≤ max_content_length) contents → Frames (flat_map frame contents) contents []) → ServeAnswersPrefixLikeSession
 conversation_is_served_first one feeds nothing read taken sent after small talk more put result written served =
     let e = ending_of result (flat_map frame taken ++ more) put written served in
     frames_first one feeds taken sent after talk (read taken small, nothing.1) more put e.0 e.1
 
-pub conversation_is_served : ConversationIsDetermined → OneFeed → Feeds (Open []) [] [] (Open []) → ((contents : Contents) → All (λ content. length content ≤ max_content_length) contents → Frames (flat_map frame contents) contents []) → ConversationIsServed
+pub conversation_is_served : ConversationIsDetermined → OneFeed → FeedsStream (Open []) [] [] (Open []) → ((contents : Contents) → All (λ content. length content ≤ max_content_length) contents → Frames (flat_map frame contents) contents []) → ServeAnswersLikeSession
 conversation_is_served one feeds nothing read taken sent after small talk put result written served =
     let e = ending_of result (flat_map frame taken) put written served in
     frames_sent one feeds taken sent after talk (read taken small, nothing.1) put e.0 e.1
 
 -- ---- the frames of a conversation that ended
 
-module _ (one : ConversationIsDetermined) (feeds : OneFeed) (taken sent : Contents) (after : ServerState) (status : ℕ) (talk : IsConversation start taken sent after) (over : after.phase ≡ Ended status) (fed : Feeds (Open []) (flat_map frame taken) taken (Open [])) (more : List ℕ) where
+module _ (one : ConversationIsDetermined) (feeds : OneFeed) (taken sent : Contents) (after : ServerState) (status : ℕ) (talk : IsConversation start taken sent after) (over : after.phase ≡ Ended status) (fed : FeedsStream (Open []) (flat_map frame taken) taken (Open [])) (more : List ℕ) where
   -- nothing is answered after it
   nothing_more_said : (mid answered said : Contents) (end : ServerState) → answered ≡ taken ++ mid → IsConversation start answered said end → (sent ≡ said) × (end ≡ after)
   nothing_more_said mid answered said end is h =
       longer one feeds (flat_map frame taken) status taken mid sent said after end over talk (subst (λ cs. IsConversation start cs said end) is h)
 
-  no_rest : (put : List ℕ) (rest : StreamRest) → HasServedAll (flat_map frame taken ++ more) rest put → ⊥
+  no_rest : (put : List ℕ) (rest : StreamRest) → AnswersAllContents (flat_map frame taken ++ more) rest put → ⊥
   no_rest put rest h =
       let s = h.served in
       let parts = fed_front (Open []) (Open []) rest (flat_map frame taken) more taken (s.answered ++ []) fed s.feeds in
@@ -303,7 +303,7 @@ module _ (one : ConversationIsDetermined) (feeds : OneFeed) (taken sent : Conten
       ] in
       (s.frames ∙ ap (flat_map frame) same.0, same_status found status (sym ended ∙ ap (λ (s : ServerState). s.phase) same.1 ∙ over))
 
-  returned : (put : List ℕ) (result : Result ℕ ServeFault) → IsFullyWritten result → MayServe result (flat_map frame taken ++ more) put → (put ≡ flat_map frame sent) × (result ≡ Ok status)
+  returned : (put : List ℕ) (result : Result ℕ ServeFault) → AllOutputIsWritten result → ServeMayReturn result (flat_map frame taken ++ more) put → (put ≡ flat_map frame sent) × (result ≡ Ok status)
   returned put (Ok found) written (r, w, (inl ends, none)) = let same = exit_one put found ends in (same.0, ap Ok same.1)
   returned put (Ok found) written (r, w, (inr (all, at_end, is), none)) = absurd (no_rest put (Open []) all)
   returned put (Err BadHead) written (r, w, (all, none)) = absurd (no_rest put Broken all)
@@ -313,6 +313,6 @@ module _ (one : ConversationIsDetermined) (feeds : OneFeed) (taken sent : Conten
   returned put (Err Write) written served = absurd (written.1 refl)
   returned put (Err Memory) written served = absurd (written.0 refl)
 
-pub ended_conversation_is_served : ConversationIsDetermined → OneFeed → Feeds (Open []) [] [] (Open []) → ((contents : Contents) → All (λ content. length content ≤ max_content_length) contents → Frames (flat_map frame contents) contents []) → EndedConversationIsServed
+pub ended_conversation_is_served : ConversationIsDetermined → OneFeed → FeedsStream (Open []) [] [] (Open []) → ((contents : Contents) → All (λ content. length content ≤ max_content_length) contents → Frames (flat_map frame contents) contents []) → ServeEndsLikeSession
 ended_conversation_is_served one feeds nothing read taken sent after status small talk over more put result written served =
     returned one feeds taken sent after status talk over (read taken small, nothing.1) more put result written served

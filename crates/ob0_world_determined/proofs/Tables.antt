@@ -6,9 +6,9 @@ use Rattle.std.specs.List.{list_any}
 use Rattle.ob0_scan.specs.TextWithTokens.{TextWithTokens}
 use Rattle.ob0_tree.specs.IdentifierIndexes.{identifier_names}
 use Rattle.ob0_tree.specs.ParsedModule.{tree_of}
-use Rattle.ob0_tree.specs.Places.{tree_with_names, token_value_at}
+use Rattle.ob0_tree.specs.TokenIndexLeaves.{tree_with_names, token_value_at}
 use Rattle.ob0_language_names.specs.Names.{Name, naming_by_spelling}
-use Rattle.ob0_scope_table.specs.Resolution.{Resolution, IsResolution, ordinal_and_spelling_at, is_identifier_token, ordinal_in, ordinal_and_spelling}
+use Rattle.ob0_scope_table.specs.Resolution.{Resolution, IsResolution, ordinal_and_spelling_at_token, is_identifier_token, ordinal_in, ordinal_and_spelling}
 use Rattle.ob0_language_names.specs.Scopes.{relabel_module}
 use Rattle.ob0_world_rules.proofs.OneFields.{leaves_mapped}
 use Rattle.ob0_world_determined.specs.DeterminedOutput.{ResolutionIsDetermined}
@@ -23,7 +23,7 @@ abbrev is_among : List ℕ → ℕ → Bool
 is_among tokens token = list_any (λ i. i == token) tokens
 
 -- Two tables agree at each of some tokens if they agree at all of these.
-among : (s : TextWithTokens) (a b : List (Option ℕ)) (tokens : List ℕ) (token : ℕ) → is_among tokens token ≡ true → map (ordinal_and_spelling_at s a) tokens ≡ map (ordinal_and_spelling_at s b) tokens → ordinal_in a token ≡ ordinal_in b token
+among : (s : TextWithTokens) (a b : List (Option ℕ)) (tokens : List ℕ) (token : ℕ) → is_among tokens token ≡ true → map (ordinal_and_spelling_at_token s a) tokens ≡ map (ordinal_and_spelling_at_token s b) tokens → ordinal_in a token ≡ ordinal_in b token
 among s a b [] token is same = absurd (cc)
 among s a b (x ∷ xs) token is same = go (x == token) refl (λ later. among s a b xs token later (tail_of same))
   where
@@ -32,12 +32,12 @@ among s a b (x ∷ xs) token is same = go (x == token) refl (λ later. among s a
     go false here next = next (sym (ap (λ c. c || is_among xs token) here) ∙ is)
 
 module _ (r q : Resolution) (h : IsResolution r) (k : IsResolution q) (source : r.module_read.source ≡ q.module_read.source) (tree : tree_of r.module_read ≡ tree_of q.module_read) where
-  same_bound : map (ordinal_and_spelling_at r.module_read.source r.ordinals) (identifier_names (tree_of r.module_read)) ≡ map (ordinal_and_spelling_at r.module_read.source q.ordinals) (identifier_names (tree_of r.module_read))
+  same_bound : map (ordinal_and_spelling_at_token r.module_read.source r.ordinals) (identifier_names (tree_of r.module_read)) ≡ map (ordinal_and_spelling_at_token r.module_read.source q.ordinals) (identifier_names (tree_of r.module_read))
   same_bound =
-      sym (leaves_mapped (ordinal_and_spelling_at r.module_read.source r.ordinals) (token_value_at r.module_read.source) (tree_of r.module_read))
+      sym (leaves_mapped (ordinal_and_spelling_at_token r.module_read.source r.ordinals) (token_value_at r.module_read.source) (tree_of r.module_read))
       ∙ (ap identifier_names (sym h.binding ∙ ((λ i. relabel_module naming_by_spelling ordinal_and_spelling (tree_with_names (source i) (tree i))) ∙ k.binding))
-      ∙ (leaves_mapped (ordinal_and_spelling_at q.module_read.source q.ordinals) (token_value_at q.module_read.source) (tree_of q.module_read)
-      ∙ (λ i. map (ordinal_and_spelling_at (sym source i) q.ordinals) (identifier_names (sym tree i)))))
+      ∙ (leaves_mapped (ordinal_and_spelling_at_token q.module_read.source q.ordinals) (token_value_at q.module_read.source) (tree_of q.module_read)
+      ∙ (λ i. map (ordinal_and_spelling_at_token (sym source i) q.ordinals) (identifier_names (sym tree i)))))
 
   same_ordinal : (token : ℕ) → ordinal_in r.ordinals token ≡ ordinal_in q.ordinals token
   same_ordinal token = go (is_identifier_token r.module_read token) refl

@@ -10,9 +10,9 @@ use Rattle.ob0_tree.specs.ParsedModule.{ParsedModule, tree_of}
 use Rattle.ob0_analysis.specs.ReportedErrors.{ReportedDiagnosis, ReportsErrorsOf}
 use Rattle.ob0_session_server.specs.Answers.{ServerState, start, Reply, AreContentsOfReply, Answers, IsConversation}
 use Rattle.ob0_session_server.specs.declared.session.Phase.TheVariants.{Ended}
-use Rattle.ob0_session.specs.Serving.{EndsByExit, Serves}
-use Rattle.ob0_session.specs.declared.serving.ServeFault.{ServeFault}
-use Rattle.ob0_session.specs.declared.serving.ServeFault.TheVariants.{BadHead, Truncated, Read, Write, Memory, TooManyReads}
+use Rattle.ob0_session.specs.ServeResults.{EndsByExit, Serves}
+use Rattle.ob0_session.specs.declared.serve_loop.ServeFault.{ServeFault}
+use Rattle.ob0_session.specs.declared.serve_loop.ServeFault.TheVariants.{BadHead, Truncated, Read, Write, Memory, TooManyReads}
 
 -- ---- diagnostics
 
@@ -37,8 +37,8 @@ DiagnosesAreDetermined =
 -- ---- replies
 
 -- states that a reply (`Reply`) determines the contents that the session sends as this reply
-abbrev pub ReplyIsDetermined : Type 0
-ReplyIsDetermined =
+abbrev pub ReplyContentsAreDetermined : Type 0
+ReplyContentsAreDetermined =
     (reply : Reply) (sent other : List (List ℕ))
     → AreContentsOfReply reply sent → AreContentsOfReply reply other → sent ≡ other
 
@@ -62,14 +62,14 @@ ConversationIsDetermined =
 
 -- States that `serve` may return this result after it has read the bytes `taken` and written the
 -- bytes `put`. The reader or the writer may have failed.
-abbrev pub MayServe : Result ℕ ServeFault → List ℕ → List ℕ → Type 0
-MayServe result taken put =
+abbrev pub ServeMayReturn : Result ℕ ServeFault → List ℕ → List ℕ → Type 0
+ServeMayReturn result taken put =
     (reader_failed : Bool) × (writer_failed : Bool)
     × Serves result taken put ⊤ ⊤ reader_failed writer_failed ⊤
 
 -- states that the result is neither `Memory` nor `Write`, so that all output has been written
-abbrev pub IsFullyWritten : Result ℕ ServeFault → Type 0
-IsFullyWritten result = (result ≢ Err Memory) × (result ≢ Err Write)
+abbrev pub AllOutputIsWritten : Result ℕ ServeFault → Type 0
+AllOutputIsWritten result = (result ≢ Err Memory) × (result ≢ Err Write)
 
 -- states that the bytes read determine this result of `serve`: an `exit`, the end of the input, or
 -- a bad head ended the call
@@ -100,10 +100,10 @@ IsFinalResult (Err Memory) taken put = ⊥
 -- inputs are equal, or an `exit` or a bad head ended the first call.
 abbrev pub OutputIsDetermined : Type 0
 OutputIsDetermined =
-    (taken more put all : List ℕ) (result end : Result ℕ ServeFault) → IsFullyWritten end
-    → MayServe result taken put → MayServe end (taken ++ more) all
+    (taken more put all : List ℕ) (result end : Result ℕ ServeFault) → AllOutputIsWritten end
+    → ServeMayReturn result taken put → ServeMayReturn end (taken ++ more) all
     → (unwritten : List ℕ) × (all ≡ put ++ unwritten)
-    × (IsFullyWritten result → IsFinalResult result taken put ⊎ (more ≡ []) → unwritten ≡ [])
+    × (AllOutputIsWritten result → IsFinalResult result taken put ⊎ (more ≡ []) → unwritten ≡ [])
 
 -- States that two calls of `serve` with the same input return the same result. If an `exit` or a
 -- bad head ended the first call, the input of the second call may have further bytes. The law
@@ -112,7 +112,7 @@ abbrev pub ResultIsDetermined : Type 0
 ResultIsDetermined =
     (taken more put all : List ℕ) (result end : Result ℕ ServeFault)
     → IsDeterminedByBytes result → IsDeterminedByBytes end
-    → MayServe result taken put → MayServe end (taken ++ more) all
+    → ServeMayReturn result taken put → ServeMayReturn end (taken ++ more) all
     → IsFinalResult result taken put ⊎ (more ≡ []) → result ≡ end
 
 -- States that each list of bytes can be split into complete messages with some contents, and a rest
@@ -129,26 +129,26 @@ FramingExists =
 -- contents that a session took, the output is the frames of the contents that the session sent.
 -- The law excludes calls that return `Memory` or `Write`, and contents of more than
 -- `max_content_length` bytes.
-abbrev pub ConversationIsServed : Type 0
-ConversationIsServed =
+abbrev pub ServeAnswersLikeSession : Type 0
+ServeAnswersLikeSession =
     (taken sent : List (List ℕ)) (after : ServerState)
     → All (λ content. length content ≤ max_content_length) taken
     → IsConversation start taken sent after
-    → (put : List ℕ) (result : Result ℕ ServeFault) → IsFullyWritten result
-    → MayServe result (flat_map frame taken) put
+    → (put : List ℕ) (result : Result ℕ ServeFault) → AllOutputIsWritten result
+    → ServeMayReturn result (flat_map frame taken) put
     → put ≡ flat_map frame sent
 
 -- States that `serve` answers as the session does, even if the input continues. If the input of
 -- `serve` begins with the frames of the contents that a session took, the output begins with the
 -- frames of the contents that the session sent. The law excludes calls that return `Memory` or
 -- `Write`, and contents of more than `max_content_length` bytes.
-abbrev pub ConversationIsServedAsPrefix : Type 0
-ConversationIsServedAsPrefix =
+abbrev pub ServeAnswersPrefixLikeSession : Type 0
+ServeAnswersPrefixLikeSession =
     (taken sent : List (List ℕ)) (after : ServerState)
     → All (λ content. length content ≤ max_content_length) taken
     → IsConversation start taken sent after
-    → (more put : List ℕ) (result : Result ℕ ServeFault) → IsFullyWritten result
-    → MayServe result (flat_map frame taken ++ more) put
+    → (more put : List ℕ) (result : Result ℕ ServeFault) → AllOutputIsWritten result
+    → ServeMayReturn result (flat_map frame taken ++ more) put
     → (later : List ℕ) × (put ≡ flat_map frame sent ++ later)
 
 -- States that `serve` ends as the session does. Suppose that the input of `serve` is the frames of
@@ -156,12 +156,12 @@ ConversationIsServedAsPrefix =
 -- of the contents that the session sent, and no more, and returns the conversation's status. The
 -- law excludes calls that return `Memory` or `Write`, and contents of more than
 -- `max_content_length` bytes.
-abbrev pub EndedConversationIsServed : Type 0
-EndedConversationIsServed =
+abbrev pub ServeEndsLikeSession : Type 0
+ServeEndsLikeSession =
     (taken sent : List (List ℕ)) (after : ServerState) (status : ℕ)
     → All (λ content. length content ≤ max_content_length) taken
     → IsConversation start taken sent after
     → after.phase ≡ Ended status
-    → (more put : List ℕ) (result : Result ℕ ServeFault) → IsFullyWritten result
-    → MayServe result (flat_map frame taken ++ more) put
+    → (more put : List ℕ) (result : Result ℕ ServeFault) → AllOutputIsWritten result
+    → ServeMayReturn result (flat_map frame taken ++ more) put
     → (put ≡ flat_map frame sent) × (result ≡ Ok status)

@@ -1,2 +1,2 @@
 pub mod DeterminedOutput
-pub mod ServedExchanges
+pub mod ServeGuarantees

@@ -1,7 +1,7 @@
 //! Proves that the server's input determines the server's output, and that `serve` writes the
 //! frames of a conversation: each message's head and content.
-ghost use Rattle.ob0_world_determined.specs.DeterminedOutput.{FramingExists, ConversationIsServed, ConversationIsServedAsPrefix, EndedConversationIsServed, AnswerIsDetermined, ConversationIsDetermined, DiagnosesAreDetermined, OutputIsDetermined, ReplyIsDetermined, ResultIsDetermined, ResolutionIsDetermined};
-ghost use Rattle.ob0_world_determined.specs.ServedExchanges.{EveryExchangeIsServed};
+ghost use Rattle.ob0_world_determined.specs.DeterminedOutput.{FramingExists, ServeAnswersLikeSession, ServeAnswersPrefixLikeSession, ServeEndsLikeSession, AnswerIsDetermined, ConversationIsDetermined, DiagnosesAreDetermined, OutputIsDetermined, ReplyContentsAreDetermined, ResultIsDetermined, ResolutionIsDetermined};
+ghost use Rattle.ob0_world_determined.specs.ServeGuarantees.{ServeGuaranteesHoldForEveryExchange};
 
 use ob0_analysis::laws::reported_refusal_is_unique;
 use ob0_frame::laws::{
@@ -27,8 +27,8 @@ pub fn diagnoses_are_determined()
 }
 
 /// Proves that a reply (`Reply`) determines the contents that the session sends as this reply.
-pub fn reply_is_determined()
-    ensures { ReplyIsDetermined }
+pub fn reply_contents_are_determined()
+    ensures { ReplyContentsAreDetermined }
 {
     resolution_is_determined();
     diagnoses_are_determined();
@@ -39,7 +39,7 @@ pub fn reply_is_determined()
 pub fn answer_is_determined()
     ensures { AnswerIsDetermined }
 {
-    reply_is_determined();
+    reply_contents_are_determined();
 }
 
 /// Proves that a session's state and the contents that it takes in a conversation determine the
@@ -83,8 +83,8 @@ pub fn framing_exists()
 /// contents that a session took, the output is the frames of the contents that the session sent.
 /// The law excludes calls that return `Memory` or `Write`, and contents of more than
 /// `max_content_length` bytes.
-pub fn a_conversation_is_served()
-    ensures { ConversationIsServed }
+pub fn serve_answers_like_session()
+    ensures { ServeAnswersLikeSession }
 {
     conversation_is_determined();
     feeding_is_determined();
@@ -96,8 +96,8 @@ pub fn a_conversation_is_served()
 /// `serve` begins with the frames of the contents that a session took, the output begins with the
 /// frames of the contents that the session sent. The law excludes calls that return `Memory` or
 /// `Write`, and contents of more than `max_content_length` bytes.
-pub fn a_conversation_is_served_as_prefix()
-    ensures { ConversationIsServedAsPrefix }
+pub fn serve_answers_prefix_like_session()
+    ensures { ServeAnswersPrefixLikeSession }
 {
     conversation_is_determined();
     feeding_is_determined();
@@ -110,8 +110,8 @@ pub fn a_conversation_is_served_as_prefix()
 /// of the contents that the session sent, and no more, and returns the conversation's status. The
 /// law excludes calls that return `Memory` or `Write`, and contents of more than
 /// `max_content_length` bytes.
-pub fn an_ended_conversation_is_served()
-    ensures { EndedConversationIsServed }
+pub fn serve_ends_like_session()
+    ensures { ServeEndsLikeSession }
 {
     conversation_is_determined();
     feeding_is_determined();
@@ -125,12 +125,12 @@ pub fn an_ended_conversation_is_served()
 /// `max_content_length` bytes. Then `serve` writes the frames of the contents that the session
 /// sent, unless `serve` returns `Memory` or `Write`. If `serve` returns `Memory` after it has
 /// answered exactly these contents, it has written the same frames.
-pub fn every_exchange_is_served()
-    ensures { EveryExchangeIsServed }
+pub fn serve_guarantees_hold_for_every_exchange()
+    ensures { ServeGuaranteesHoldForEveryExchange }
 {
     guarantees_hold_for_every_exchange();
-    a_conversation_is_served();
-    a_conversation_is_served_as_prefix();
-    an_ended_conversation_is_served();
+    serve_answers_like_session();
+    serve_answers_prefix_like_session();
+    serve_ends_like_session();
     conversation_is_determined();
 }

@@ -10,17 +10,17 @@ use Rattle.ob0_text.specs.declared.edits.Indent.TheVariants.{Tab, Spaces}
 use Rattle.ob0_text.specs.declared.position_types.Range.{Range}
 use Rattle.ob0_text.specs.OpenDocuments.{Opened, Changed, Closed, TextChange, text_change_of}
 use Rattle.ob0_rpc.specs.Requests.{request_by_method}
-use Rattle.ob0_rpc.specs.Messages.{ReadsContent}
-use Rattle.ob0_rpc.specs.Notifications.{content_change, content_changes_of_items, change_or_unreadable, open_or_unreadable}
-use Rattle.ob0_rpc.specs.Shapes.{notification_message}
+use Rattle.ob0_rpc.specs.Messages.{IsJsonOfContent}
+use Rattle.ob0_rpc.specs.Notifications.{content_change_from_json, content_changes_of_items, change_or_unreadable, open_or_unreadable}
+use Rattle.ob0_rpc.specs.JsonShapes.{notification_message}
 use Rattle.ob0_world_rules.specs.TextEdits.{whole_text_change}
 use Rattle.ob0_world_rules.specs.Asks.{Ask, rename, inline_here, inline_all, format}
-use Rattle.ob0_world_editor.specs.Shapes.{request_message, change_object, change_value, did_change_params, did_open_params, did_close_params, params_of_ask, method_of_ask}
-use Rattle.ob0_world_editor.specs.MessagesToServer.{IsNotificationFor, IsRequestWithNumber, client_request_for}
+use Rattle.ob0_world_editor.specs.Shapes.{request_message, change_value_of_range_and_text, change_value, did_change_params, did_open_params, did_close_params, params_of_ask, method_of_ask}
+use Rattle.ob0_world_editor.specs.MessagesToServer.{IsNotificationOfEvent, IsRequestWithNumber, client_request_for_ask}
 
 -- ---- depths
 
-shallow_change : (range : Option Range) (new : List ℕ) → depth (change_object range new) ≤ 3
+shallow_change : (range : Option Range) (new : List ℕ) → depth (change_value_of_range_and_text range new) ≤ 3
 shallow_change (Some range) new = omega arith
 shallow_change None new = omega arith
 
@@ -40,7 +40,7 @@ shallow_request k uri (format (Spaces n)) = omega arith
 
 -- ---- changes are read back
 
-read_back : (range : Option Range) (new : List ℕ) → content_change (change_object range new) ≡ Some (record { range = range; text = chars new })
+read_back : (range : Option Range) (new : List ℕ) → content_change_from_json (change_value_of_range_and_text range new) ≡ Some (record { range = range; text = chars new })
 read_back (Some range) new = refl
 read_back None new = refl
 
@@ -57,8 +57,8 @@ version_read n h = rw (lt_true n (2 ^ 63) h) refl
 
 -- ---- notes
 
-pub opening_reported : (content uri : List ℕ) (version : ℕ) (text : List ℕ) → version < 2 ^ 63 → ReadsContent content (Some (notification_message (codes "textDocument/didOpen") (did_open_params uri version text)))
-    → IsNotificationFor (Opened uri (pos version) (chars text)) content
+pub opening_reported : (content uri : List ℕ) (version : ℕ) (text : List ℕ) → version < 2 ^ 63 → IsJsonOfContent content (Some (notification_message (codes "textDocument/didOpen") (did_open_params uri version text)))
+    → IsNotificationOfEvent (Opened uri (pos version) (chars text)) content
 opening_reported content uri version text h reads =
     record {
       json = notification_message (codes "textDocument/didOpen") (did_open_params uri version text);
@@ -71,7 +71,7 @@ opening_reported content uri version text h reads =
     }
 
 changed_so : (content uri : List ℕ) (version : ℕ) (values : List Data) (all : List TextChange) → version < 2 ^ 63 → content_changes_of_items (items_of values) ≡ Some all
-    → ReadsContent content (Some (notification_message (codes "textDocument/didChange") (did_change_params uri version values))) → IsNotificationFor (Changed uri (pos version) all) content
+    → IsJsonOfContent content (Some (notification_message (codes "textDocument/didChange") (did_change_params uri version values))) → IsNotificationOfEvent (Changed uri (pos version) all) content
 changed_so content uri version values all h are reads =
     record {
       json = notification_message (codes "textDocument/didChange") (did_change_params uri version values);
@@ -83,15 +83,15 @@ changed_so content uri version values all h are reads =
       fits = version_read version h;
     }
 
-pub changing_reported : (content uri : List ℕ) (version : ℕ) (cs : List Change) → version < 2 ^ 63 → ReadsContent content (Some (notification_message (codes "textDocument/didChange") (did_change_params uri version (map change_value cs))))
-    → IsNotificationFor (Changed uri (pos version) (map text_change_of cs)) content
+pub changing_reported : (content uri : List ℕ) (version : ℕ) (cs : List Change) → version < 2 ^ 63 → IsJsonOfContent content (Some (notification_message (codes "textDocument/didChange") (did_change_params uri version (map change_value cs))))
+    → IsNotificationOfEvent (Changed uri (pos version) (map text_change_of cs)) content
 changing_reported content uri version cs h reads = changed_so content uri version (map change_value cs) (map text_change_of cs) h (changes_read_back cs) reads
 
-pub rewriting_reported : (content uri : List ℕ) (version : ℕ) (text : List ℕ) → version < 2 ^ 63 → ReadsContent content (Some (notification_message (codes "textDocument/didChange") (did_change_params uri version (change_object None text ∷ []))))
-    → IsNotificationFor (Changed uri (pos version) (whole_text_change (chars text) ∷ [])) content
-rewriting_reported content uri version text h reads = changed_so content uri version (change_object None text ∷ []) (whole_text_change (chars text) ∷ []) h refl reads
+pub rewriting_reported : (content uri : List ℕ) (version : ℕ) (text : List ℕ) → version < 2 ^ 63 → IsJsonOfContent content (Some (notification_message (codes "textDocument/didChange") (did_change_params uri version (change_value_of_range_and_text None text ∷ []))))
+    → IsNotificationOfEvent (Changed uri (pos version) (whole_text_change (chars text) ∷ [])) content
+rewriting_reported content uri version text h reads = changed_so content uri version (change_value_of_range_and_text None text ∷ []) (whole_text_change (chars text) ∷ []) h refl reads
 
-pub closing_reported : (content uri : List ℕ) → ReadsContent content (Some (notification_message (codes "textDocument/didClose") (did_close_params uri))) → IsNotificationFor (Closed uri) content
+pub closing_reported : (content uri : List ℕ) → IsJsonOfContent content (Some (notification_message (codes "textDocument/didClose") (did_close_params uri))) → IsNotificationOfEvent (Closed uri) content
 closing_reported content uri reads =
     record {
       json = notification_message (codes "textDocument/didClose") (did_close_params uri);
@@ -105,11 +105,11 @@ closing_reported content uri reads =
 
 -- ---- asks
 
-pub ask_requested : (content : List ℕ) (k : ℕ) (uri : List ℕ) (ask : Ask) → ReadsContent content (Some (request_message k (method_of_ask ask) (params_of_ask uri ask))) → IsRequestWithNumber k uri ask content
+pub ask_requested : (content : List ℕ) (k : ℕ) (uri : List ℕ) (ask : Ask) → IsJsonOfContent content (Some (request_message k (method_of_ask ask) (params_of_ask uri ask))) → IsRequestWithNumber k uri ask content
 ask_requested content k uri ask reads =
     record { json = request_message k (method_of_ask ask) (params_of_ask uri ask); reads = reads; params = params_of_ask uri ask; means = refl; calls = called ask }
   where
-    called : (ask : Ask) → request_by_method (method_of_ask ask) (params_of_ask uri ask) ≡ Ok (client_request_for uri ask)
+    called : (ask : Ask) → request_by_method (method_of_ask ask) (params_of_ask uri ask) ≡ Ok (client_request_for_ask uri ask)
     called (rename position name) = refl
     called (inline_here position) = refl
     called (inline_all position) = refl

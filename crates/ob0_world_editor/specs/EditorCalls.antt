@@ -6,12 +6,12 @@ use Rattle.std.specs.FinMap as map_of
 use Rattle.std.specs.declared.alloc.Global.{Global}
 use Rattle.ob0_text.specs.OpenDocuments.{Changed}
 use Rattle.ob0_world_rules.specs.TextEdits.{Replacement, whole_text_change}
-use Rattle.ob0_world_rules.specs.ClientAndServer.{OpenDocument, SentAsk, Applied, Editor, editor_document_at, MessageToServer, notifies}
-use Rattle.ob0_world_rules.specs.EditorActs.{version_as_natural, ActResult, rewriting_result, edits_of_answer, answers_except}
-use Rattle.ob0_world_editor.specs.ModelValues.{answer_of, applied_edit_of}
-use Rattle.ob0_world_rules.specs.TextEdits.{replacements}
+use Rattle.ob0_world_rules.specs.ClientAndServer.{OpenDocument, SentAsk, Applied, Editor, editor_document_with_uri, MessageToServer, notifies}
+use Rattle.ob0_world_rules.specs.EditorActs.{version_as_natural, ActResult, result_of_changing_text, edits_of_answer_to_request, remove_answer_to_request}
+use Rattle.ob0_world_editor.specs.ModelValues.{model_answer_of, model_applied_edit_of}
+use Rattle.ob0_world_rules.specs.TextEdits.{replacements_of_edits}
 use Rattle.ob0_world_editor.specs.MessagesToServer.{IsMessageToServer}
-use Rattle.ob0_world_editor.specs.declared.applied.ApplyOutcome as applying
+use Rattle.ob0_world_editor.specs.declared.applied_edits.ApplyOutcome as applying
 use Rattle.ob0_world_editor.specs.declared.editor.ReceivedAnswer as answer
 use Rattle.ob0_world_editor.specs.declared.editor.RewrittenDocument as rewritten
 
@@ -20,7 +20,7 @@ use Rattle.ob0_world_editor.specs.declared.editor.RewrittenDocument as rewritten
 pub record CountsCanGrow (e : Editor) : Type 0 where
   pub openings : e.openings < 2 ^ 63 - 1
   pub asks : length e.requested < 2 ^ 63 - 1
-  pub versions : (uri : List ℕ) (d : OpenDocument) → editor_document_at e uri ≡ Some d → version_as_natural d.version < 2 ^ 63 - 1
+  pub versions : (uri : List ℕ) (d : OpenDocument) → editor_document_with_uri e uri ≡ Some d → version_as_natural d.version < 2 ^ 63 - 1
 
 -- returns whether there is an edit
 abbrev pub has_edits : List Replacement → Bool
@@ -52,26 +52,26 @@ abbrev pub IsApplyOutcome : ActResult → Bool → applying.ApplyOutcome → Edi
 IsApplyOutcome done held applying.TheVariants.NoSuchAnswer new = SendsAndAppliesNothing done new × (held ≡ false)
 IsApplyOutcome done held applying.TheVariants.Dropped new = SendsAndAppliesNothing done new × (held ≡ true)
 IsApplyOutcome done held (applying.TheVariants.Made applied content) new =
-    PerformsAct done (Some content) new × (done.applied ≡ applied_edit_of applied ∷ []) × (held ≡ true)
+    PerformsAct done (Some content) new × (done.applied ≡ model_applied_edit_of applied ∷ []) × (held ≡ true)
 
 -- ---- applying an answer, step by step
 
 -- States that the first answer to request `k` in the list has this index, counted from 0. So the
 -- list without the element at this index is the list without that answer
--- (`answers_except`). If there is no index (None), states that there is no such answer.
+-- (`remove_answer_to_request`). If there is no index (None), states that there is no such answer.
 abbrev pub IsIndexOfAnswer : List answer.ReceivedAnswer → ℕ → Option ℕ → Type 0
 IsIndexOfAnswer answers k (Some i) =
     (i < length answers)
-    × (edits_of_answer k (map answer_of answers)
-    ≡ option_map (λ a. replacements a.edits.items) (slice_get answers i))
-    × (answers_except k (map answer_of answers) ≡ map answer_of (remove answers i))
-IsIndexOfAnswer answers k None = edits_of_answer k (map answer_of answers) ≡ None
+    × (edits_of_answer_to_request k (map model_answer_of answers)
+    ≡ option_map (λ a. replacements_of_edits a.edits.items) (slice_get answers i))
+    × (remove_answer_to_request k (map model_answer_of answers) ≡ map model_answer_of (remove answers i))
+IsIndexOfAnswer answers k None = edits_of_answer_to_request k (map model_answer_of answers) ≡ None
 
 -- returns the editor with the document of `r` open, with its new text, its version and its opening
 -- number
 abbrev pub editor_with_new_text : Editor → rewritten.RewrittenDocument → Editor
 editor_with_new_text e r =
-    let a : Applied = applied_edit_of r.applied in
+    let a : Applied = model_applied_edit_of r.applied in
     record e {
       documents
           = map_of.insert e.documents a.uri
@@ -82,31 +82,31 @@ editor_with_new_text e r =
 abbrev pub new_text_notification : rewritten.RewrittenDocument → MessageToServer
 new_text_notification r =
     let a : Applied
-    = applied_edit_of r.applied in notifies (Changed a.uri (pos r.version) (whole_text_change a.after ∷ []))
+    = model_applied_edit_of r.applied in notifies (Changed a.uri (pos r.version) (whole_text_change a.after ∷ []))
 
 -- states that the act with the result `done` gives the document the new text in `r`, applies the
 -- edit in `r`, and sends the notification of the new text
 pub record RewritesDocument (old : Editor) (done : ActResult) (r : rewritten.RewrittenDocument) : Type 0 where
   pub text : done.editor ≡ editor_with_new_text old r
-  pub applied : done.applied ≡ applied_edit_of r.applied ∷ []
+  pub applied : done.applied ≡ model_applied_edit_of r.applied ∷ []
   pub says : done.sent ≡ new_text_notification r ∷ []
   pub few : r.version < 2 ^ 63
 
 -- States that the act gives the document the new text in `r` (`RewritesDocument`). If there is
 -- neither an act nor a new text (both are None), this is also true. If only one is None, it is
 -- false.
-abbrev pub RewritesDocumentIfAny : Editor → Option ActResult → Option rewritten.RewrittenDocument → Type 0
-RewritesDocumentIfAny e None None = ⊤
-RewritesDocumentIfAny e None (Some r) = ⊥
-RewritesDocumentIfAny e (Some done) None = ⊥
-RewritesDocumentIfAny e (Some done) (Some r) = RewritesDocument e done r
+abbrev pub RewritesDocumentUnlessBothNone : Editor → Option ActResult → Option rewritten.RewrittenDocument → Type 0
+RewritesDocumentUnlessBothNone e None None = ⊤
+RewritesDocumentUnlessBothNone e None (Some r) = ⊥
+RewritesDocumentUnlessBothNone e (Some done) None = ⊥
+RewritesDocumentUnlessBothNone e (Some done) (Some r) = RewritesDocument e done r
 
 -- returns the result of the act that gives a document this edited text, or None if there is no
 -- edited text
-abbrev pub rewriting_result_if_edited : Editor → List ℕ → OpenDocument → Option (List ℕ) → Option ActResult
-rewriting_result_if_edited e uri d text_after_edits =
+abbrev pub result_of_changing_text_if_edited : Editor → List ℕ → OpenDocument → Option (List ℕ) → Option ActResult
+result_of_changing_text_if_edited e uri d text_after_edits =
     let applied : List ℕ → Applied = λ text. record { uri = uri; before = d.text; after = text } in
-    option_map (λ text. rewriting_result e uri d text (whole_text_change text ∷ []) (applied text ∷ [])) text_after_edits
+    option_map (λ text. result_of_changing_text e uri d text (whole_text_change text ∷ []) (applied text ∷ [])) text_after_edits
 
 -- states that `new` is the editor with the document's new text, and that the content is the
 -- notification of that text
@@ -121,5 +121,5 @@ IsRewriteOutcome old r applying.TheVariants.NoSuchAnswer new = ⊥
 IsRewriteOutcome old r applying.TheVariants.Dropped new = ⊥
 IsRewriteOutcome old r (applying.TheVariants.Made applied content) new =
     (new ≡ editor_with_new_text old r)
-    × (applied_edit_of applied ≡ applied_edit_of r.applied)
+    × (model_applied_edit_of applied ≡ model_applied_edit_of r.applied)
     × IsMessageToServer new.requested (new_text_notification r) content.items

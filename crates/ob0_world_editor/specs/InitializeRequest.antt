@@ -5,7 +5,7 @@ use Rattle.serde_json.specs.Data.{Data, boolean, string, array, object, no_items
 use Rattle.ob0_text.specs.declared.position_types.Unit.{Unit}
 use Rattle.ob0_text.specs.declared.position_types.Unit.TheVariants.{Utf16, Utf8}
 use Rattle.ob0_text.specs.Units.{is_utf8}
-use Rattle.ob0_rpc.specs.declared.clients.ClientFeatures.{ClientFeatures}
+use Rattle.ob0_rpc.specs.declared.client_capabilities.ClientFeatures.{ClientFeatures}
 
 -- the capability to accept literal code actions, which contain their edits:
 -- {"codeActionLiteralSupport":{}}
@@ -55,8 +55,8 @@ initialize_message unit =
 
 -- returns the features of a client that counts positions in this unit, as the server reads them in
 -- its request `initialize`
-abbrev pub client_features_for : Unit → ClientFeatures
-client_features_for unit =
+abbrev pub client_features_for_unit : Unit → ClientFeatures
+client_features_for_unit unit =
     record {
       offers_utf8 = is_utf8 unit;
       prepares_renames = false;

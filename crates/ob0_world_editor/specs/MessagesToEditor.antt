@@ -10,7 +10,7 @@ use Rattle.ob0_text.specs.declared.position_types.Range.{Range}
 use Rattle.ob0_rpc.specs.Members.{text_member, range_member}
 use Rattle.ob0_world_rules.specs.TextEdits.{Replacement}
 use Rattle.ob0_world_rules.specs.Asks.{Ask, rename, inline_here, inline_all, format}
-use Rattle.ob0_world_rules.specs.ClientAndServer.{SentAsk, request_with_number, MessageToEditor, publishes, answers}
+use Rattle.ob0_world_rules.specs.ClientAndServer.{SentAsk, sent_ask_with_number, MessageToEditor, publishes, answers}
 use Rattle.ob0_world_editor.specs.MessagesToServer.{request_number_from_id}
 
 -- ---- publications
@@ -63,16 +63,16 @@ edits_of_items (item d ds) = option_and_then (λ e. option_map (λ es. e ∷ es)
 -- `documentChanges`, or None if there is no such member. If it isn't None, the list is in its first
 -- element, whose uri is ignored. Otherwise the list is in the member `changes`, under this uri.
 -- Returns None if there is no such list.
-abbrev pub document_edit_items : List ℕ → Data → Option Data → Option Items
-document_edit_items uri edit (Some documents) =
+abbrev pub edit_items_given_document_changes : List ℕ → Data → Option Data → Option Items
+edit_items_given_document_changes uri edit (Some documents) =
     option_and_then as_array (option_and_then (get (codes "edits")) (at 0 documents))
-document_edit_items uri edit None =
+edit_items_given_document_changes uri edit None =
     option_and_then as_array (option_and_then (get uri) (get (codes "changes") edit))
 
 -- Returns the list of edits in a WorkspaceEdit, or None if there is no such list. The uri is used
 -- only if the WorkspaceEdit has no member `documentChanges`.
 abbrev pub workspace_edit_items : List ℕ → Data → Option Items
-workspace_edit_items uri edit = document_edit_items uri edit (get (codes "documentChanges") edit)
+workspace_edit_items uri edit = edit_items_given_document_changes uri edit (get (codes "documentChanges") edit)
 
 -- Returns the first code action with this title in a JSON list, or None if no action has this
 -- title.
@@ -110,7 +110,7 @@ edits_in_answer uri ask answer =
 -- such request.
 abbrev pub answer_to_ask : List SentAsk → Data → ℕ → Option MessageToEditor
 answer_to_ask requested answer k =
-    option_map (λ a. answers k (edits_in_answer a.uri a.ask answer)) (request_with_number requested k)
+    option_map (λ a. answers k (edits_in_answer a.uri a.ask answer)) (sent_ask_with_number requested k)
 
 -- Reads a JSON value as the answer to one of the sent requests for edits (`requested`). `number_of`
 -- converts the answer's id to the number of the answered request. Returns None if the id is missing
@@ -132,20 +132,20 @@ publication_of_notification d =
 -- Returns the message to the editor that a JSON value means: a publication if the value has a
 -- `method`, otherwise an answer. `number_of` converts an answer's id to the number of the answered
 -- request. Returns None if the value is neither.
-abbrev pub message_to_editor_of : (Data → Option ℕ) → List SentAsk → Data → Option MessageToEditor
-message_to_editor_of number_of requested d =
+abbrev pub message_to_editor_of_value : (Data → Option ℕ) → List SentAsk → Data → Option MessageToEditor
+message_to_editor_of_value number_of requested d =
     if is_some (get (codes "method") d)
     then publication_of_notification d else answer_of_response number_of requested d
 
 -- Returns the message to the editor in a content, or None if there is none. `requested` lists the
 -- requests for edits that the editor has sent. `number_of` converts an answer's id to the number of
 -- the answered request.
-unfoldable pub message_to_editor_by_numbering : (Data → Option ℕ) → List SentAsk → List ℕ → Option MessageToEditor
-message_to_editor_by_numbering number_of requested content =
+unfoldable pub message_to_editor_by_id_conversion : (Data → Option ℕ) → List SentAsk → List ℕ → Option MessageToEditor
+message_to_editor_by_id_conversion number_of requested content =
     if is_utf8 content
-    then option_and_then (message_to_editor_of number_of requested) (read content) else None
+    then option_and_then (message_to_editor_of_value number_of requested) (read content) else None
 
 -- Returns the message to the editor in a content, or None if there is none. The id of each of the
 -- editor's requests for edits is the request's number.
-abbrev pub message_to_editor_in : List SentAsk → List ℕ → Option MessageToEditor
-message_to_editor_in requested content = message_to_editor_by_numbering request_number_from_id requested content
+abbrev pub message_to_editor_in_content : List SentAsk → List ℕ → Option MessageToEditor
+message_to_editor_in_content requested content = message_to_editor_by_id_conversion request_number_from_id requested content

@@ -7,23 +7,23 @@ use Rattle.ob0_world_editor.specs.declared.asks.Ask as ask
 use Rattle.ob0_world_editor.specs.declared.editor.SentAsk as requested
 use Rattle.ob0_world_editor.specs.declared.editor.ReceivedAnswer as answer
 use Rattle.ob0_world_editor.specs.declared.message_reader.ServerMessage as message
-use Rattle.ob0_world_editor.specs.declared.applied.Applied as applied
-use Rattle.ob0_world_rules.specs.TextEdits.{replacements}
+use Rattle.ob0_world_editor.specs.declared.applied_edits.Applied as applied
+use Rattle.ob0_world_rules.specs.TextEdits.{replacements_of_edits}
 use Rattle.ob0_world_rules.specs.Asks.{Ask, rename, inline_here, inline_all, format}
-use Rattle.ob0_world_rules.specs.ClientAndServer.{SentAsk, Answer, Applied, MessageToEditor, publishes, answers}
+use Rattle.ob0_world_rules.specs.ClientAndServer.{SentAsk, ReceivedAnswer, Applied, MessageToEditor, publishes, answers}
 
 -- converts a request for edits of the code's type `Ask` to the model's
-abbrev pub ask_of : ask.Ask → Ask
-ask_of (ask.TheVariants.Rename position name) = rename position (string_bytes name)
-ask_of (ask.TheVariants.InlineHere position) = inline_here position
-ask_of (ask.TheVariants.InlineAll position) = inline_all position
-ask_of (ask.TheVariants.Format indent) = format indent
+abbrev pub model_ask_of : ask.Ask → Ask
+model_ask_of (ask.TheVariants.Rename position name) = rename position (string_bytes name)
+model_ask_of (ask.TheVariants.InlineHere position) = inline_here position
+model_ask_of (ask.TheVariants.InlineAll position) = inline_all position
+model_ask_of (ask.TheVariants.Format indent) = format indent
 
 -- converts a sent request of the code's type `SentAsk` to the model's
-abbrev pub sent_ask_of : requested.SentAsk → SentAsk
-sent_ask_of a =
+abbrev pub model_sent_ask_of : requested.SentAsk → SentAsk
+model_sent_ask_of a =
     record {
-      ask = ask_of a.ask;
+      ask = model_ask_of a.ask;
       uri = string_bytes a.uri;
       text = chars (string_bytes a.text);
       opening = a.opening;
@@ -31,18 +31,18 @@ sent_ask_of a =
     }
 
 -- converts an answer of the code's type `ReceivedAnswer` to the model's
-abbrev pub answer_of : answer.ReceivedAnswer → Answer
-answer_of a = record { number = a.number; edits = replacements a.edits.items }
+abbrev pub model_answer_of : answer.ReceivedAnswer → ReceivedAnswer
+model_answer_of a = record { number = a.number; edits = replacements_of_edits a.edits.items }
 
 -- converts a message of the code's type `ServerMessage` to the model's message to the editor
-abbrev pub message_of : message.ServerMessage → MessageToEditor
-message_of (message.TheVariants.Published uri version empty) =
+abbrev pub model_message_of : message.ServerMessage → MessageToEditor
+model_message_of (message.TheVariants.Published uri version empty) =
     publishes (string_bytes uri) version empty
-message_of (message.TheVariants.Answered number edits) = answers number (replacements edits.items)
+model_message_of (message.TheVariants.Answered number edits) = answers number (replacements_of_edits edits.items)
 
 -- converts an applied edit of the code's type `Applied` to the model's
-abbrev pub applied_edit_of : applied.Applied → Applied
-applied_edit_of a =
+abbrev pub model_applied_edit_of : applied.Applied → Applied
+model_applied_edit_of a =
     record {
       uri = string_bytes a.uri;
       before = chars (string_bytes a.before);

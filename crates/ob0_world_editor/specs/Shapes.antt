@@ -9,14 +9,14 @@ use Rattle.ob0_text.specs.declared.position_types.Range.{Range}
 use Rattle.ob0_text.specs.declared.edits.Change.{Change}
 use Rattle.ob0_text.specs.declared.edits.Indent.{Indent}
 use Rattle.ob0_text.specs.declared.edits.Indent.TheVariants.{Tab, Spaces}
-use Rattle.ob0_rpc.specs.Shapes.{text, jsonrpc_version, position_value, range_value}
+use Rattle.ob0_rpc.specs.JsonShapes.{text_value, jsonrpc_version, position_value, range_value}
 use Rattle.ob0_world_rules.specs.Asks.{Ask, rename, inline_here, inline_all, format}
 
 -- returns a request with the number k as its id: {"id":k,"jsonrpc":"2.0","method":M,"params":P}
 abbrev pub request_message : ℕ → List ℕ → Data → Data
 request_message k method params =
     object (member (codes "id") (number (unsigned k)) (member (codes "jsonrpc") jsonrpc_version
-    (member (codes "method") (text method) (member (codes "params") params no_members))))
+    (member (codes "method") (text_value method) (member (codes "params") params no_members))))
 
 -- ---- notifications
 
@@ -24,9 +24,9 @@ request_message k method params =
 -- {"languageId":"oberon-0","text":t,"uri":u,"version":v}
 abbrev pub text_document_item_value : List ℕ → ℕ → List ℕ → Data
 text_document_item_value uri version contents =
-    object (member (codes "languageId") (text (codes "oberon-0"))
-    (member (codes "text") (text contents)
-    (member (codes "uri") (text uri)
+    object (member (codes "languageId") (text_value (codes "oberon-0"))
+    (member (codes "text") (text_value contents)
+    (member (codes "uri") (text_value uri)
     (member (codes "version") (number (unsigned version)) no_members))))
 
 -- returns the params of `textDocument/didOpen`: {"textDocument":{..}}
@@ -35,20 +35,20 @@ did_open_params uri version contents =
     object (member (codes "textDocument") (text_document_item_value uri version contents) no_members)
 
 -- returns a change: {"range":R,"text":t}, or {"text":t} if the whole text is replaced
-abbrev pub change_object : Option Range → List ℕ → Data
-change_object (Some range) new =
+abbrev pub change_value_of_range_and_text : Option Range → List ℕ → Data
+change_value_of_range_and_text (Some range) new =
     object (member (codes "range") (range_value range.start range.end)
-    (member (codes "text") (text new) no_members))
-change_object None new = object (member (codes "text") (text new) no_members)
+    (member (codes "text") (text_value new) no_members))
+change_value_of_range_and_text None new = object (member (codes "text") (text_value new) no_members)
 
 -- returns the JSON value of a change of the code's type `Change`
 abbrev pub change_value : Change → Data
-change_value c = change_object c.range (string_bytes c.text)
+change_value c = change_value_of_range_and_text c.range (string_bytes c.text)
 
 -- returns a document's identifier with a version: {"uri":u,"version":v}
 abbrev pub versioned_document_id_value : List ℕ → ℕ → Data
 versioned_document_id_value uri version =
-    object (member (codes "uri") (text uri)
+    object (member (codes "uri") (text_value uri)
     (member (codes "version") (number (unsigned version)) no_members))
 
 -- Returns the params of `textDocument/didChange`:
@@ -60,7 +60,7 @@ did_change_params uri version changes =
 
 -- returns a document's identifier: {"uri":u}
 abbrev pub document_id_value : List ℕ → Data
-document_id_value uri = object (member (codes "uri") (text uri) no_members)
+document_id_value uri = object (member (codes "uri") (text_value uri) no_members)
 
 -- returns the params of `textDocument/didClose`: {"textDocument":{"uri":u}}
 abbrev pub did_close_params : List ℕ → Data
@@ -71,7 +71,7 @@ did_close_params uri = object (member (codes "textDocument") (document_id_value 
 -- returns the params of a rename: {"newName":n,"position":P,"textDocument":{"uri":u}}
 abbrev pub rename_params : List ℕ → Position → List ℕ → Data
 rename_params uri position name =
-    object (member (codes "newName") (text name) (member (codes "position")
+    object (member (codes "newName") (text_value name) (member (codes "position")
     (position_value position) (member (codes "textDocument") (document_id_value uri) no_members)))
 
 -- returns the empty range at a position
@@ -97,14 +97,14 @@ formatting_options_value spaces size =
     (member (codes "tabSize") (number (unsigned size)) no_members))
 
 -- returns the JSON value of the formatting options for an indent
-abbrev pub formatting_options_for_indent : Indent → Data
-formatting_options_for_indent Tab = formatting_options_value false 1
-formatting_options_for_indent (Spaces n) = formatting_options_value true n
+abbrev pub formatting_options_value_for_indent : Indent → Data
+formatting_options_value_for_indent Tab = formatting_options_value false 1
+formatting_options_value_for_indent (Spaces n) = formatting_options_value true n
 
 -- returns the params of a formatting request: {"options":{..},"textDocument":{"uri":u}}
 abbrev pub formatting_params : List ℕ → Indent → Data
 formatting_params uri indent =
-    object (member (codes "options") (formatting_options_for_indent indent)
+    object (member (codes "options") (formatting_options_value_for_indent indent)
     (member (codes "textDocument") (document_id_value uri) no_members))
 
 -- Returns the method of the request for these edits. Both kinds of inlining request the code

@@ -9,15 +9,15 @@ use Rattle.ob0_world_editor.specs.declared.documents.OpenDocument as stored
 use Rattle.ob0_world_rules.specs.ClientAndServer.{OpenDocument, EditorDocuments}
 
 -- converts an open document of the code's type `OpenDocument` to the model's
-abbrev pub open_document_of : stored.OpenDocument → OpenDocument
-open_document_of d =
+abbrev pub model_document_of : stored.OpenDocument → OpenDocument
+model_document_of d =
     record { version = pos d.version; text = chars (string_bytes d.text); opening = d.opening }
 
 -- converts the entries of the code's map of open documents, each a uri and a document, to the
 -- model's map; the model's keys are the bytes of the uris
-abbrev pub editor_documents_of : {A : Type 0} → List (String A × stored.OpenDocument) → EditorDocuments
-editor_documents_of entries =
-    map_of.from_entries (map (λ e. (string_bytes e.0, open_document_of e.1)) entries)
+abbrev pub model_documents_of : {A : Type 0} → List (String A × stored.OpenDocument) → EditorDocuments
+model_documents_of entries =
+    map_of.from_entries (map (λ e. (string_bytes e.0, model_document_of e.1)) entries)
 
 -- the encoding of an open document as a tuple of its version, text and opening number
 abbrev pub coded_open_document : Coded OpenDocument

@@ -1,6 +1,6 @@
 //! Defines the asks: the requests for edits that an editor sends and whose answers it may apply.
 ghost use Rattle.std.specs.Prelude.{◌≡◌, IfOk};
-ghost use Rattle.ob0_world_editor.specs.ModelValues.{ask_of};
+ghost use Rattle.ob0_world_editor.specs.ModelValues.{model_ask_of};
 
 use ob0_text::{Indent, Position};
 use std::alloc::{AllocError, Global};
@@ -16,7 +16,7 @@ pub enum Ask {
 
 /// Returns a copy of this request for edits.
 pub fn copy_of_ask(alloc: Global, ask: &Ask) -> Result<Ask, AllocError>
-    ensures { IfOk result (λ copy. ask_of copy ≡ ask_of ask.now) }
+    ensures { IfOk result (λ copy. model_ask_of copy ≡ model_ask_of ask.now) }
 {
     match ask {
         Ask::Rename { position, name } => Ok(Ask::Rename {

@@ -3,7 +3,7 @@ ghost use Rattle.std.specs.Prelude.{◌≡◌, pos, IfOk, OnErr, OnOk};
 ghost use Rattle.std.specs.Option.{option_map};
 ghost use Rattle.std.specs.Str.{chars};
 ghost use Rattle.std.specs.FinMap as map_of;
-ghost use Rattle.ob0_world_editor.specs.StoredDocuments.{open_document_of};
+ghost use Rattle.ob0_world_editor.specs.StoredDocuments.{model_document_of};
 
 use std::alloc::{AllocError, Global};
 use std::collections::BTreeMap;
@@ -27,7 +27,7 @@ impl OpenDocument {
         text: &str,
         opening: u64,
     ) -> Result<OpenDocument, AllocError>
-        ensures { IfOk result (λ d. open_document_of d
+        ensures { IfOk result (λ d. model_document_of d
             ≡ record { version = pos version; text = chars text.now; opening = opening }) }
     {
         let text = String::from_str(alloc, text)?;
@@ -47,13 +47,13 @@ pub struct OpenDocuments {
 
 impl Model for OpenDocuments {
     ghost use Rattle.ob0_world_rules.specs.ClientAndServer.{EditorDocuments};
-    ghost use Rattle.ob0_world_editor.specs.StoredDocuments.{editor_documents_of, coded_editor_documents};
+    ghost use Rattle.ob0_world_editor.specs.StoredDocuments.{model_documents_of, coded_editor_documents};
 
     ghost Value = { EditorDocuments };
 
     ghost coded = { coded_editor_documents };
 
-    ghost view = { λ documents. editor_documents_of documents.by_uri.entries };
+    ghost view = { λ documents. model_documents_of documents.by_uri.entries };
 }
 
 impl OpenDocuments {
@@ -68,7 +68,7 @@ impl OpenDocuments {
 
     /// Returns the open document with this uri, or None if no document with this uri is open.
     pub fn get(&self, uri: &str) -> Option<&OpenDocument>
-        ensures { option_map (λ d. open_document_of d.now) result ≡ map_of.get self.now uri.now }
+        ensures { option_map (λ d. model_document_of d.now) result ≡ map_of.get self.now uri.now }
     {
         self.by_uri.get(uri)
     }
@@ -82,7 +82,7 @@ impl OpenDocuments {
         document: OpenDocument,
     ) -> Result<(), AllocError>
         ensures ok { OnOk result
-            (self.new ≡ map_of.insert self.old uri.now (open_document_of document)) }
+            (self.new ≡ map_of.insert self.old uri.now (model_document_of document)) }
         ensures err { OnErr result (self.new ≡ self.old) }
     {
         let uri = String::from_str(alloc, uri)?;

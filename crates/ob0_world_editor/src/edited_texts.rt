@@ -5,7 +5,7 @@ ghost use Rattle.std.specs.Option.{option_map};
 ghost use Rattle.std.specs.Str.{chars};
 ghost use Rattle.ob0_text.specs.OpenDocuments.{text_change_of, changed_text};
 ghost use Rattle.ob0_world_rules.specs.TextEdits.{text_after_edits, text_after_changes};
-ghost use Rattle.ob0_world_rules.specs.TextEdits.{replacements};
+ghost use Rattle.ob0_world_rules.specs.TextEdits.{replacements_of_edits};
 
 use ob0_text::{Change, Edit, PatchFault, TextStore, Unit, patch};
 use std::alloc::{AllocError, Global};
@@ -56,7 +56,7 @@ pub fn apply_edits<T: TextStore>(
     text: &str,
     edits: &[Edit],
 ) -> Result<Option<String>, AllocError>
-    ensures { IfOk result (λ new. text_after_edits unit (chars text.now) (replacements edits.now)
+    ensures { IfOk result (λ new. text_after_edits unit (chars text.now) (replacements_of_edits edits.now)
         ≡ option_map (λ s. chars (string_bytes s)) new) }
 {
     let store = T::from_str_in(alloc, text, unit)?;

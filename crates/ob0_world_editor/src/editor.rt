@@ -3,8 +3,8 @@
 //!
 //! If a call returns an error, the editor is unchanged. To ensure this, a call first makes all
 //! contents and copies. The last step that can fail is an insertion into the map of documents or
-//! into a list. Other fields are changed only after that step. The exception is `apply`,
-//! which first removes the answer. So after an error in `apply` the editor has lost the
+//! into a list. Other fields are changed only after that step. The exception is `apply_answer`,
+//! which first removes the answer. So after an error in `apply_answer` the editor has lost the
 //! answer.
 //!
 //! A document's text is stored as a `String`. A text store is made only while changes or edits are
@@ -14,20 +14,20 @@ ghost use Rattle.std.specs.Str.{chars};
 ghost use Rattle.ob0_text.specs.OpenDocuments.{text_change_of};
 ghost use Rattle.ob0_world_rules.specs.ClientAndServer.{answers, new_editor};
 ghost use Rattle.ob0_world_rules.specs.EditorActs as acts;
-ghost use Rattle.ob0_world_rules.specs.EditorActs.{change_document, close_document, ask_about, apply, applying_result, act_result, edits_of_answer, editor_after_reading, editor_without_answer};
-ghost use Rattle.ob0_world_editor.specs.ModelValues.{ask_of, message_of, sent_ask_of};
-ghost use Rattle.ob0_world_editor.specs.StoredDocuments.{open_document_of};
-ghost use Rattle.ob0_world_rules.specs.TextEdits.{text_after_edits, replacements};
-ghost use Rattle.ob0_world_editor.specs.EditorCalls.{CountsCanGrow, PerformsAct, IsApplyOutcome, has_edits, rewriting_result_if_edited, RewritesDocumentIfAny, IsRewriteOutcome, StoresNewText, IsIndexOfAnswer};
-ghost use Rattle.ob0_world_editor.specs.MessagesToEditor.{message_to_editor_in};
+ghost use Rattle.ob0_world_rules.specs.EditorActs.{change_document, close_document, request_edits, apply, result_of_applying_answer, act_result, edits_of_answer_to_request, editor_after_message, editor_without_answer};
+ghost use Rattle.ob0_world_editor.specs.ModelValues.{model_ask_of, model_message_of, model_sent_ask_of};
+ghost use Rattle.ob0_world_editor.specs.StoredDocuments.{model_document_of};
+ghost use Rattle.ob0_world_rules.specs.TextEdits.{text_after_edits, replacements_of_edits};
+ghost use Rattle.ob0_world_editor.specs.EditorCalls.{CountsCanGrow, PerformsAct, IsApplyOutcome, has_edits, result_of_changing_text_if_edited, RewritesDocumentUnlessBothNone, IsRewriteOutcome, StoresNewText, IsIndexOfAnswer};
+ghost use Rattle.ob0_world_editor.specs.MessagesToEditor.{message_to_editor_in_content};
 
-use crate::applied::{Applied, ApplyOutcome, applied_edit};
+use crate::applied_edits::{Applied, ApplyOutcome, applied_edit};
 use crate::asks::{Ask, copy_of_ask};
 use crate::documents::{OpenDocument, OpenDocuments};
 use crate::edited_texts::{apply_changes, apply_edits};
-use crate::message_reader::{ServerMessage, ask_with_number, read_message};
+use crate::message_reader::{ServerMessage, read_message, sent_ask_with_number};
 use crate::message_writer::{
-    did_change_notification, did_close_notification, did_open_notification, request,
+    did_change_notification, did_close_notification, did_open_notification, request_for_edits,
     whole_text_notification,
 };
 use ob0_text::{Change, Edit, Unit, Whole};
@@ -78,7 +78,7 @@ impl Model for Editor {
     ghost use Rattle.std.specs.Prelude.{map};
     ghost use Rattle.std.specs.Coded.{codes};
     ghost use Rattle.ob0_world_rules.specs.ClientAndServer.{Editor};
-    ghost use Rattle.ob0_world_editor.specs.ModelValues.{sent_ask_of, answer_of};
+    ghost use Rattle.ob0_world_editor.specs.ModelValues.{model_sent_ask_of, model_answer_of};
     ghost use Rattle.ob0_world_editor.specs.StoredDocuments.{coded_editor_documents};
 
     ghost Value = { Editor };
@@ -89,8 +89,8 @@ impl Model for Editor {
       unit = e.unit;
       documents = e.documents;
       openings = e.openings;
-      requested = map sent_ask_of e.requested.items;
-      answers = map answer_of e.answers.items;
+      requested = map model_sent_ask_of e.requested.items;
+      answers = map model_answer_of e.answers.items;
     } };
 }
 
@@ -173,15 +173,15 @@ impl Editor {
     pub fn ask(&mut self, uri: &str, ask: &Ask) -> Result<Option<Vec<u8>>, AllocError>
         requires { CountsCanGrow self.old }
         ensures ok { IfOk result (λ content. PerformsAct
-            (act_result self.old (ask_about uri.now (ask_of ask.now))) content self.new) }
+            (act_result self.old (request_edits uri.now (model_ask_of ask.now))) content self.new) }
         ensures err { OnErr result (self.new ≡ self.old) }
     {
         let Some(open) = self.documents.get(uri) else {
             return Ok(None);
         };
         let number = self.requested.len() as u64 + 1;
-        let content = request(self.alloc, number, uri, ask)?;
-        let sent = sent_ask(self.alloc, ask, uri, open)?;
+        let content = request_for_edits(self.alloc, number, uri, ask)?;
+        let sent = sent_ask_for_document(self.alloc, ask, uri, open)?;
         self.requested.push(sent)?;
         Ok(Some(content))
     }
@@ -190,7 +190,7 @@ impl Editor {
     /// neither a publication nor an answer to one of the editor's requests for edits.
     pub fn read(&self, content: &[u8]) -> Result<Option<ServerMessage>, AllocError>
         ensures { IfOk result
-            (λ found. option_map message_of found ≡ message_to_editor_in self.now.requested content.now) }
+            (λ found. option_map model_message_of found ≡ message_to_editor_in_content self.now.requested content.now) }
     {
         read_message(self.alloc, self.requested.as_slice(), content)
     }
@@ -199,8 +199,8 @@ impl Editor {
     /// the answer has edits. If an allocation fails, the editor is unchanged.
     pub fn keep_answer(&mut self, number: u64, edits: Vec<Edit>) -> Result<bool, AllocError>
         ensures kept { OnOk result
-            (self.new ≡ editor_after_reading self.old (answers number (replacements edits.items))) }
-        ensures some { IfOk result (λ kept. kept ≡ has_edits (replacements edits.items)) }
+            (self.new ≡ editor_after_message self.old (answers number (replacements_of_edits edits.items))) }
+        ensures some { IfOk result (λ kept. kept ≡ has_edits (replacements_of_edits edits.items)) }
         ensures err { OnErr result (self.new ≡ self.old) }
     {
         if edits.is_empty() {
@@ -214,10 +214,10 @@ impl Editor {
     /// of the notification. No edit is made in three cases: the editor has no such answer, the
     /// document has been changed, closed or reopened since the request, or two edits share a
     /// character. The answer is always removed, even if an allocation fails.
-    pub fn apply(&mut self, k: u64) -> Result<ApplyOutcome, AllocError>
+    pub fn apply_answer(&mut self, k: u64) -> Result<ApplyOutcome, AllocError>
         requires { CountsCanGrow self.old }
         ensures ok { IfOk result (λ applying. IsApplyOutcome (act_result self.old (apply k))
-            (is_some (edits_of_answer k self.old.answers)) applying self.new) }
+            (is_some (edits_of_answer_to_request k self.old.answers)) applying self.new) }
         ensures err { OnErr result (self.new ≡ editor_without_answer self.old k) }
     {
         let Some(edits) = self.take_answer(k) else {
@@ -232,16 +232,16 @@ impl Editor {
     }
 
     /// Discards the answer to request `k`, and returns whether the editor had this answer.
-    pub fn discard(&mut self, k: u64) -> bool
-        ensures held { result ≡ is_some (edits_of_answer k self.old.answers) }
+    pub fn discard_answer(&mut self, k: u64) -> bool
+        ensures held { result ≡ is_some (edits_of_answer_to_request k self.old.answers) }
         ensures after { self.new ≡ editor_without_answer self.old k }
     {
         self.take_answer(k).is_some()
     }
 
     fn take_answer(&mut self, k: u64) -> Option<Vec<Edit>>
-        ensures edits { option_map (λ v. replacements v.items) result
-            ≡ edits_of_answer k self.old.answers }
+        ensures edits { option_map (λ v. replacements_of_edits v.items) result
+            ≡ edits_of_answer_to_request k self.old.answers }
         ensures after { self.new ≡ editor_without_answer self.old k }
     {
         let place = index_of_answer(self.answers.as_slice(), k)?;
@@ -259,9 +259,9 @@ impl Editor {
     ) -> Result<Option<RewrittenDocument>, AllocError>
         requires { CountsCanGrow self.now }
         ensures { IfOk result (λ rewritten.
-            RewritesDocumentIfAny self.now (applying_result self.now k (replacements edits.now)) rewritten) }
+            RewritesDocumentUnlessBothNone self.now (result_of_applying_answer self.now k (replacements_of_edits edits.now)) rewritten) }
     {
-        let Some(requested) = ask_with_number(self.requested.as_slice(), k) else {
+        let Some(requested) = sent_ask_with_number(self.requested.as_slice(), k) else {
             return Ok(None);
         };
         let Some(document) = self.documents.get(requested.uri.as_str()) else {
@@ -281,10 +281,10 @@ impl Editor {
         edits: &[Edit],
     ) -> Result<Option<RewrittenDocument>, AllocError>
         requires { document.now.version < 2 ^ 63 - 1 }
-        ensures { IfOk result (λ rewritten. RewritesDocumentIfAny self.now
-            (rewriting_result_if_edited self.now uri.now (open_document_of document.now)
+        ensures { IfOk result (λ rewritten. RewritesDocumentUnlessBothNone self.now
+            (result_of_changing_text_if_edited self.now uri.now (model_document_of document.now)
             (text_after_edits self.now.unit (chars (string_bytes document.now.text))
-            (replacements edits.now)))
+            (replacements_of_edits edits.now)))
             rewritten) }
     {
         let before = document.text.as_str();
@@ -336,14 +336,14 @@ impl Editor {
 
 /// Returns a sent request for edits, with copies of the request and the uri, and with the
 /// document's present text, opening number and version.
-fn sent_ask(
+fn sent_ask_for_document(
     alloc: Global,
     ask: &Ask,
     uri: &str,
     document: &OpenDocument,
 ) -> Result<SentAsk, AllocError>
-    ensures { IfOk result (λ sent. sent_ask_of sent ≡ record {
-      ask = ask_of ask.now;
+    ensures { IfOk result (λ sent. model_sent_ask_of sent ≡ record {
+      ask = model_ask_of ask.now;
       uri = uri.now;
       text = chars (string_bytes document.now.text);
       opening = document.now.opening;

@@ -1,10 +1,10 @@
 //! Writes the first message of an editor: `initialize`.
 ghost use Rattle.std.specs.Prelude.{◌≡◌, [], ◌∷◌, ◌++◌, Some, IfOk, OnOk};
 ghost use Rattle.serde_json.specs.Data.{no_members, object};
-ghost use Rattle.ob0_rpc.specs.Messages.{ReadsContent};
+ghost use Rattle.ob0_rpc.specs.Messages.{IsJsonOfContent};
 ghost use Rattle.ob0_world_editor.specs.InitializeRequest.{client_capability_members, initialize_message};
 
-use crate::objects::{write_three_members, write_two_members};
+use crate::json_objects::{write_three_members, write_two_members};
 use crate::params::Request;
 use ob0_rpc::{OneMemberObject, WriteJson, content_of};
 use ob0_text::Unit;
@@ -15,7 +15,7 @@ use std::alloc::{AllocError, Global};
 /// accepts edits that mention their documents' versions. If the unit is UTF-8, the client also
 /// offers to count positions in UTF-8.
 pub fn initialize(alloc: Global, unit: Unit) -> Result<Vec<u8>, AllocError>
-    ensures { IfOk result (λ content. ReadsContent content.items (Some (initialize_message unit))) }
+    ensures { IfOk result (λ content. IsJsonOfContent content.items (Some (initialize_message unit))) }
 {
     let capabilities = ClientCapabilities { unit };
     let params = &OneMemberObject {

@@ -2,18 +2,18 @@
 //! messages that it reads.
 #![tactic(auto)]
 
-mod applied;
+mod applied_edits;
 mod asks;
 mod documents;
 mod edited_texts;
 mod editor;
 mod initialize_request;
+mod json_objects;
 mod message_reader;
 mod message_writer;
-mod objects;
 mod params;
 
-pub use applied::{Applied, ApplyOutcome};
+pub use applied_edits::{Applied, ApplyOutcome};
 pub use asks::Ask;
 pub use editor::Editor;
 pub use initialize_request::initialize;

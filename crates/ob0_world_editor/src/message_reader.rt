@@ -3,11 +3,11 @@ ghost use Rattle.std.specs.Prelude.{◌≡◌, IfOk, codes, option_map, option_a
 ghost use Rattle.serde_json.specs.Find.{get, as_number, as_i64, as_array};
 ghost use Rattle.serde_json.specs.View.{view, items_view};
 ghost use Rattle.ob0_rpc.specs.Members.{text_member};
-ghost use Rattle.ob0_world_editor.specs.ModelValues.{message_of, ask_of, sent_ask_of};
-ghost use Rattle.ob0_world_rules.specs.TextEdits.{replacement_of, replacements};
+ghost use Rattle.ob0_world_editor.specs.ModelValues.{model_message_of, model_ask_of, model_sent_ask_of};
+ghost use Rattle.ob0_world_rules.specs.TextEdits.{replacement_of_edit, replacements_of_edits};
 ghost use Rattle.ob0_world_editor.specs.MessagesToServer.{request_number_from_id};
-ghost use Rattle.ob0_world_editor.specs.MessagesToEditor.{message_to_editor_in, message_to_editor_of, publication_of_params, answer_of_response, has_no_items, edit_of_value, edits_of_items, workspace_edit_items, equals_optional_text, first_action_with_title, action_edit_items, edit_items_in_result as items_of_answer, edits_in_answer};
-ghost use Rattle.ob0_world_rules.specs.ClientAndServer.{request_with_number};
+ghost use Rattle.ob0_world_editor.specs.MessagesToEditor.{message_to_editor_in_content, message_to_editor_of_value, publication_of_params, answer_of_response, has_no_items, edit_of_value, edits_of_items, workspace_edit_items, equals_optional_text, first_action_with_title, action_edit_items, edit_items_in_result as items_of_answer, edits_in_answer};
+ghost use Rattle.ob0_world_rules.specs.ClientAndServer.{sent_ask_with_number};
 
 use crate::asks::Ask;
 use crate::editor::SentAsk;
@@ -41,8 +41,8 @@ pub fn read_message(
     content: &[u8],
 ) -> Result<Option<ServerMessage>, AllocError>
     ensures { IfOk result
-        (λ found. option_map message_of found
-        ≡ message_to_editor_in (map sent_ask_of requested.now) content.now) }
+        (λ found. option_map model_message_of found
+        ≡ message_to_editor_in_content (map model_sent_ask_of requested.now) content.now) }
 {
     match Value::from_slice(alloc, content) {
         Ok(message) => read_message_from_value(alloc, requested, &message),
@@ -59,8 +59,8 @@ fn read_message_from_value(
     requested: &[SentAsk],
     message: &Value,
 ) -> Result<Option<ServerMessage>, AllocError>
-    ensures { IfOk result (λ found. option_map message_of found
-        ≡ message_to_editor_of request_number_from_id (map sent_ask_of requested.now) (view message.now)) }
+    ensures { IfOk result (λ found. option_map model_message_of found
+        ≡ message_to_editor_of_value request_number_from_id (map model_sent_ask_of requested.now) (view message.now)) }
 {
     if message.get("method").is_none() {
         return read_answer(alloc, requested, message);
@@ -78,7 +78,7 @@ fn read_message_from_value(
 
 fn read_publication(alloc: Global, params: &Value) -> Result<Option<ServerMessage>, AllocError>
     ensures { IfOk result
-        (λ found. option_map message_of found ≡ publication_of_params (view params.now)) }
+        (λ found. option_map model_message_of found ≡ publication_of_params (view params.now)) }
 {
     let Some(uri) = text_of_member(params, "uri") else {
         return Ok(None);
@@ -126,13 +126,13 @@ fn read_answer(
     requested: &[SentAsk],
     answer: &Value,
 ) -> Result<Option<ServerMessage>, AllocError>
-    ensures { IfOk result (λ found. option_map message_of found
-        ≡ answer_of_response request_number_from_id (map sent_ask_of requested.now) (view answer.now)) }
+    ensures { IfOk result (λ found. option_map model_message_of found
+        ≡ answer_of_response request_number_from_id (map model_sent_ask_of requested.now) (view answer.now)) }
 {
     let Some(number) = answer_number(answer) else {
         return Ok(None);
     };
-    let Some(requested) = ask_with_number(requested, number) else {
+    let Some(requested) = sent_ask_with_number(requested, number) else {
         return Ok(None);
     };
     let edits = read_answer_edits(alloc, requested.uri.as_str(), &requested.ask, answer)?;
@@ -147,9 +147,9 @@ fn answer_number(answer: &Value) -> Option<u64>
 
 /// Returns the sent request for edits with this number, counted from 1, or None if there is no such
 /// request.
-pub fn ask_with_number(requested: &[SentAsk], number: u64) -> Option<&SentAsk>
-    ensures { option_map (λ a. sent_ask_of a.now) result
-        ≡ request_with_number (map sent_ask_of requested.now) number }
+pub fn sent_ask_with_number(requested: &[SentAsk], number: u64) -> Option<&SentAsk>
+    ensures { option_map (λ a. model_sent_ask_of a.now) result
+        ≡ sent_ask_with_number (map model_sent_ask_of requested.now) number }
 {
     if number == 0 {
         return None;
@@ -171,8 +171,8 @@ fn read_answer_edits(
     answer: &Value,
 ) -> Result<Vec<Edit>, AllocError>
     ensures { IfOk result
-        (λ edits. replacements edits.items
-        ≡ edits_in_answer uri.now (ask_of ask.now) (view answer.now)) }
+        (λ edits. replacements_of_edits edits.items
+        ≡ edits_in_answer uri.now (model_ask_of ask.now) (view answer.now)) }
 {
     let Some(values) = answer_edit_values(uri, ask, answer) else {
         return Ok(Vec::new(alloc));
@@ -185,7 +185,7 @@ fn read_answer_edits(
 
 fn answer_edit_values<'v>(uri: &str, ask: &Ask, answer: &'v Value) -> Option<&'v Vec<Value>>
     ensures { option_map (λ v. items_view v.now.items) result
-        ≡ option_and_then (items_of_answer uri.now (ask_of ask.now))
+        ≡ option_and_then (items_of_answer uri.now (model_ask_of ask.now))
         (get (codes "result") (view answer.now)) }
 {
     let result = answer.get("result")?;
@@ -254,7 +254,7 @@ fn has_string_member(value: &Value, name: &str, text: &str) -> bool
 /// Returns the edits that a list of JSON values means, in order. Returns None if one of the values
 /// can't be read as an edit.
 fn read_edit_list(alloc: Global, values: &[Value]) -> Result<Option<Vec<Edit>>, AllocError>
-    ensures { IfOk result (λ found. option_map (λ edits. replacements edits.items) found
+    ensures { IfOk result (λ found. option_map (λ edits. replacements_of_edits edits.items) found
         ≡ edits_of_items (items_view values.now)) }
 {
     let mut edits = Vec::new(alloc);
@@ -268,7 +268,7 @@ fn read_edit_list(alloc: Global, values: &[Value]) -> Result<Option<Vec<Edit>>, 
 }
 
 fn read_edit(alloc: Global, value: &Value) -> Result<Option<Edit>, AllocError>
-    ensures { IfOk result (λ found. option_map replacement_of found ≡ edit_of_value (view value.now)) }
+    ensures { IfOk result (λ found. option_map replacement_of_edit found ≡ edit_of_value (view value.now)) }
 {
     let Some(range) = range_of_member(value, "range") else {
         return Ok(None);

@@ -5,8 +5,8 @@ ghost use Rattle.serde_json.specs.Data.{depth};
 ghost use Rattle.ob0_text.specs.OpenDocuments.{Opened, Changed, Closed, text_change_of};
 ghost use Rattle.ob0_rpc.specs.WrittenMessages.{Writes};
 ghost use Rattle.ob0_world_rules.specs.TextEdits.{whole_text_change};
-ghost use Rattle.ob0_world_editor.specs.ModelValues.{ask_of};
-ghost use Rattle.ob0_world_editor.specs.MessagesToServer.{IsNotificationFor, IsRequestWithNumber};
+ghost use Rattle.ob0_world_editor.specs.ModelValues.{model_ask_of};
+ghost use Rattle.ob0_world_editor.specs.MessagesToServer.{IsNotificationOfEvent, IsRequestWithNumber};
 ghost use Rattle.ob0_world_editor.specs.Shapes.{request_message};
 
 use crate::asks::Ask;
@@ -28,7 +28,7 @@ pub fn did_open_notification(
 ) -> Result<Vec<u8>, AllocError>
     requires { version < 2 ^ 63 }
     ensures { IfOk result
-        (λ content. IsNotificationFor (Opened uri.now (pos version) (chars text.now)) content.items) }
+        (λ content. IsNotificationOfEvent (Opened uri.now (pos version) (chars text.now)) content.items) }
 {
     let value = TextDocumentItem { uri, version, text };
     let key = "textDocument";
@@ -47,7 +47,7 @@ pub fn did_change_notification(
     changes: &[Change],
 ) -> Result<Vec<u8>, AllocError>
     requires { version < 2 ^ 63 }
-    ensures { IfOk result (λ content. IsNotificationFor
+    ensures { IfOk result (λ content. IsNotificationOfEvent
         (Changed uri.now (pos version) (map text_change_of changes.now)) content.items) }
 {
     let changes = ContentChangeList { changes };
@@ -68,7 +68,7 @@ pub fn whole_text_notification(
     text: &str,
 ) -> Result<Vec<u8>, AllocError>
     requires { version < 2 ^ 63 }
-    ensures { IfOk result (λ content. IsNotificationFor
+    ensures { IfOk result (λ content. IsNotificationOfEvent
         (Changed uri.now (pos version) (whole_text_change (chars text.now) ∷ [])) content.items) }
 {
     let whole = [ContentChange { range: None, text }];
@@ -83,7 +83,7 @@ pub fn whole_text_notification(
 
 /// Returns the content of the notification that a document was closed.
 pub fn did_close_notification(alloc: Global, uri: &str) -> Result<Vec<u8>, AllocError>
-    ensures { IfOk result (λ content. IsNotificationFor (Closed uri.now) content.items) }
+    ensures { IfOk result (λ content. IsNotificationOfEvent (Closed uri.now) content.items) }
 {
     let value = DocumentId { uri };
     let key = "textDocument";
@@ -96,8 +96,13 @@ pub fn did_close_notification(alloc: Global, uri: &str) -> Result<Vec<u8>, Alloc
 
 /// Returns the content of the request for these edits of a document, with this number as its id.
 /// Both kinds of inlining request the code actions at the position in `ask`.
-pub fn request(alloc: Global, number: u64, uri: &str, ask: &Ask) -> Result<Vec<u8>, AllocError>
-    ensures { IfOk result (λ content. IsRequestWithNumber number uri.now (ask_of ask.now) content.items) }
+pub fn request_for_edits(
+    alloc: Global,
+    number: u64,
+    uri: &str,
+    ask: &Ask,
+) -> Result<Vec<u8>, AllocError>
+    ensures { IfOk result (λ content. IsRequestWithNumber number uri.now (model_ask_of ask.now) content.items) }
 {
     let document = DocumentId { uri };
     match ask {

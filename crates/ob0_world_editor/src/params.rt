@@ -3,11 +3,11 @@
 ghost use Rattle.std.specs.Prelude.{◌≡◌, false, Some, None, OnOk, codes, map};
 ghost use Rattle.serde_json.specs.Data.{array, member, no_members, object};
 ghost use Rattle.serde_json.specs.View.{items_of};
-ghost use Rattle.ob0_rpc.specs.Appending.{AppendsEachValue};
-ghost use Rattle.ob0_rpc.specs.Shapes.{jsonrpc_version, text as text_data};
-ghost use Rattle.ob0_world_editor.specs.Shapes.{code_action_params, change_object, change_value, document_id_value, text_document_item_value, formatting_options_value, formatting_options_for_indent, rename_params, versioned_document_id_value};
+ghost use Rattle.ob0_rpc.specs.AppendedJson.{AppendsEachValue};
+ghost use Rattle.ob0_rpc.specs.JsonShapes.{jsonrpc_version, text_value as text_data};
+ghost use Rattle.ob0_world_editor.specs.Shapes.{code_action_params, change_value_of_range_and_text, change_value, document_id_value, text_document_item_value, formatting_options_value, formatting_options_value_for_indent, rename_params, versioned_document_id_value};
 
-use crate::objects::{write_three_members, write_two_members};
+use crate::json_objects::{write_three_members, write_two_members};
 use ob0_rpc::{
     OneMemberObject, WriteJson, begin_list, end_list, end_object, write_first_member,
     write_list_item, write_next_member,
@@ -96,7 +96,7 @@ pub struct ContentChange<'a> {
 }
 
 impl<'a> WriteJson for ContentChange<'a> {
-    ghost value = { λ c. change_object c.range c.text.now };
+    ghost value = { λ c. change_value_of_range_and_text c.range c.text.now };
 
     fn write(&self, out: &mut Vec<u8>) -> Result<(), AllocError> {
         match self.range {
@@ -244,7 +244,7 @@ impl WriteJson for FormattingOptions {
 impl FormattingOptions {
     /// Returns the formatting options for an indent.
     pub fn for_indent(indent: Indent) -> FormattingOptions
-        ensures { formatting_options_value result.insert_spaces result.tab_size ≡ formatting_options_for_indent indent }
+        ensures { formatting_options_value result.insert_spaces result.tab_size ≡ formatting_options_value_for_indent indent }
     {
         match indent {
             Indent::Tab => FormattingOptions {

@@ -4,26 +4,26 @@ use Rattle.std.proofs.Common.{◌≡◌, ◌∙◌, ℕ, List, sym, ap, inl, inr
 use Rattle.ob0_text.specs.declared.edits.Edit.{Edit}
 use Rattle.ob0_text.specs.declared.position_types.Position.{Position}
 use Rattle.ob0_text.specs.declared.position_types.Unit.{Unit}
-use Rattle.ob0_edits.specs.declared.inlinings.Inlining.{Inlining}
-use Rattle.ob0_edits.specs.declared.inlinings.Inlining.TheVariants.{OneUse, Everywhere}
+use Rattle.ob0_edits.specs.declared.inline_question.InliningKind.{InliningKind}
+use Rattle.ob0_edits.specs.declared.inline_question.InliningKind.TheVariants.{OneUse, Everywhere}
 use Rattle.ob0_edits.specs.InliningEdits.{IsInliningRefusedInText}
-use Rattle.ob0_world_rules.specs.TextEdits.{replacements}
+use Rattle.ob0_world_rules.specs.TextEdits.{replacements_of_edits}
 use Rattle.ob0_world_rules.specs.Asks.{Ask, rename, inline_here, inline_all, format, clamped_indent}
-use Rattle.ob0_world_rules.specs.Answers.{position_offset, InlinesAt, AreRequestedEdits, RefusesAsk}
+use Rattle.ob0_world_rules.specs.Answers.{position_offset, InlinesConstantAtPosition, AreRequestedEdits, RefusesAsk}
 use Rattle.ob0_world_rules.specs.Laws.{AnswersAreUnique}
 use Rattle.ob0_world_rules.proofs.KeptRuns.{answer_edits_preserve_run}
 use Rattle.ob0_world_rules.proofs.OneLayout.{lays_out_one, lays_out_or_long}
 use Rattle.ob0_world_rules.proofs.OneRenaming.{renames_one, renames_or_refused}
 use Rattle.ob0_world_rules.proofs.OneInlining.{inlines_one, inlines_or_refused}
 
-inlines_at_one : (how : Inlining) (unit : Unit) (text : List ℕ) (position : Position) (xs ys : List Edit) → InlinesAt how unit text position xs → InlinesAt how unit text position ys → replacements xs ≡ replacements ys
+inlines_at_one : (how : InliningKind) (unit : Unit) (text : List ℕ) (position : Position) (xs ys : List Edit) → InlinesConstantAtPosition how unit text position xs → InlinesConstantAtPosition how unit text position ys → replacements_of_edits xs ≡ replacements_of_edits ys
 inlines_at_one how unit text position xs ys (found, h, is) (also, k, too) =
-    ap replacements is ∙ (inlines_one unit text (position_offset unit text position) found how also h k ∙ sym (ap replacements too))
+    ap replacements_of_edits is ∙ (inlines_one unit text (position_offset unit text position) found how also h k ∙ sym (ap replacements_of_edits too))
 
-inlines_at_or_refused : (how : Inlining) (unit : Unit) (text : List ℕ) (position : Position) (xs : List Edit) → InlinesAt how unit text position xs → IsInliningRefusedInText how unit text (position_offset unit text position) → ⊥
+inlines_at_or_refused : (how : InliningKind) (unit : Unit) (text : List ℕ) (position : Position) (xs : List Edit) → InlinesConstantAtPosition how unit text position xs → IsInliningRefusedInText how unit text (position_offset unit text position) → ⊥
 inlines_at_or_refused how unit text position xs (found, h, is) k = inlines_or_refused unit text (position_offset unit text position) found how h k
 
-hands_out_one : (unit : Unit) (text : List ℕ) (ask : Ask) (xs ys : List Edit) → AreRequestedEdits unit text ask xs → AreRequestedEdits unit text ask ys → replacements xs ≡ replacements ys
+hands_out_one : (unit : Unit) (text : List ℕ) (ask : Ask) (xs ys : List Edit) → AreRequestedEdits unit text ask xs → AreRequestedEdits unit text ask ys → replacements_of_edits xs ≡ replacements_of_edits ys
 hands_out_one unit text (rename position name) xs ys h k = renames_one unit text position name xs ys h k
 hands_out_one unit text (inline_here position) xs ys h k = inlines_at_one OneUse unit text position xs ys h k
 hands_out_one unit text (inline_all position) xs ys h k = inlines_at_one Everywhere unit text position xs ys h k

@@ -2,16 +2,16 @@
 use Rattle.std.proofs.Common.{◌≡◌, ℕ, zero, suc, List, [], ◌∷◌, ◌++◌, length, refl}
 use Rattle.std.specs.Prelude.{Some, slice_get}
 use Rattle.std.proofs.lemmas.Option.{none-some}
-use Rattle.ob0_world_rules.specs.ClientAndServer.{SentAsk, request_with_number}
+use Rattle.ob0_world_rules.specs.ClientAndServer.{SentAsk, sent_ask_with_number}
 
 -- holds if each request of the first list has the same number in the second list
 abbrev pub Later : List SentAsk → List SentAsk → Type 0
-Later asks now = (k : ℕ) (a : SentAsk) → request_with_number asks k ≡ Some a → request_with_number now k ≡ Some a
+Later asks now = (k : ℕ) (a : SentAsk) → sent_ask_with_number asks k ≡ Some a → sent_ask_with_number now k ≡ Some a
 
 -- states that P holds of the text that request k was about
 pub record Known (asks : List SentAsk) (k : ℕ) (P : List ℕ → Type 0) : Type 0 where
   pub requested : SentAsk
-  pub is : request_with_number asks k ≡ Some requested
+  pub is : sent_ask_with_number asks k ≡ Some requested
   pub holds : P requested.text
 
 pub still_known : (asks now : List SentAsk) (k : ℕ) (P : List ℕ → Type 0) → Later asks now → Known asks k P → Known now k P

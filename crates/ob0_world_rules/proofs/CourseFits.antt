@@ -8,11 +8,11 @@ use Rattle.ob0_text.specs.declared.position_types.Unit.{Unit}
 use Rattle.ob0_text.specs.OpenDocuments.{OpenDocuments, Document, InStep, OutOfStep, DocumentEvent, Opened, Changed, Lost, Closed, document_at, documents_after_event}
 use Rattle.ob0_world_rules.specs.TextEdits.{Replacement, text_after_changes}
 use Rattle.ob0_world_rules.specs.Asks.{Ask}
-use Rattle.ob0_world_rules.specs.Answers.{IsAnswerForDocument, IsEmptyExactlyIfWellTyped}
-use Rattle.ob0_world_rules.specs.ClientAndServer.{OpenDocument, Editor, editor_document_at, MessageToServer, notifies, requests, MessageToEditor, publishes, answers, PublicationWithText, ClientAndServer, start, documents_after_message}
-use Rattle.ob0_world_rules.specs.EditorActs.{Act, open_document, change_document, close_document, ask_about, apply, discard, ActResult, result_without_messages, opening_result, rewriting_result, closing_result, asking_result, edits_of_answer, editor_without_answer, applying_result, act_result}
+use Rattle.ob0_world_rules.specs.Answers.{IsAnswerForDocument, NoDiagnosticsExactlyIfWellTyped}
+use Rattle.ob0_world_rules.specs.ClientAndServer.{OpenDocument, Editor, editor_document_with_uri, MessageToServer, notifies, requests, MessageToEditor, publishes, answers, PublicationWithText, ClientAndServer, start, documents_after_message}
+use Rattle.ob0_world_rules.specs.EditorActs.{EditorAct, open_document, change_document, close_document, request_edits, apply, discard, ActResult, result_without_messages, result_of_opening_document, result_of_changing_text, result_of_closing_document, result_of_sending_ask, edits_of_answer_to_request, editor_without_answer, result_of_applying_answer, act_result}
 use Rattle.ob0_world_rules.specs.ServerReplies.{SendsDiagnostics, RepliesToMessage}
-use Rattle.ob0_world_rules.specs.Happens.{Event, editor_acts, serve, take_message, state_after_act, state_after_editor_takes_message, ServerTakesFirstMessage, Happens, IsCourse}
+use Rattle.ob0_world_rules.specs.Events.{Event, editor_acts, serve, take_message, state_after_act, state_after_editor_takes_message, ServerTakesFirstMessage, EventLeadsTo, IsCourse}
 use Rattle.ob0_world_rules.specs.Laws.{AlwaysHasAnswer, HasAnswerIfAsk, CourseExistsIfAsksHaveAnswers}
 use Rattle.ob0_world_rules.proofs.PerformsAct.{applied_so}
 
@@ -30,33 +30,33 @@ note_sent : (note : DocumentEvent) → All CanBeReplied (notifies note ∷ [])
 note_sent note = All-push CanBeReplied [] (notifies note) none_sent tt
 
 -- Each message that an act sends can be replied to if the act's ask has answers.
-act_sends : (e : Editor) (act : Act) → HasAnswerIfAsk (editor_acts act) → All CanBeReplied (act_result e act).sent
-act_sends e (open_document uri text) h = go (is_some (editor_document_at e uri))
+act_sends : (e : Editor) (act : EditorAct) → HasAnswerIfAsk (editor_acts act) → All CanBeReplied (act_result e act).sent
+act_sends e (open_document uri text) h = go (is_some (editor_document_with_uri e uri))
   where
-    go : (b : Bool) → All CanBeReplied (cond b (result_without_messages e) (opening_result e uri text)).sent
+    go : (b : Bool) → All CanBeReplied (cond b (result_without_messages e) (result_of_opening_document e uri text)).sent
     go true = none_sent
     go false = note_sent _
-act_sends e (change_document uri how) h = go (editor_document_at e uri)
+act_sends e (change_document uri how) h = go (editor_document_with_uri e uri)
   where
-    of_text : (d : OpenDocument) (o : Option (List ℕ)) → All CanBeReplied (unwrap_or (option_and_then (λ text. Some (rewriting_result e uri d text how [])) o) (result_without_messages e)).sent
+    of_text : (d : OpenDocument) (o : Option (List ℕ)) → All CanBeReplied (unwrap_or (option_and_then (λ text. Some (result_of_changing_text e uri d text how [])) o) (result_without_messages e)).sent
     of_text d None = none_sent
     of_text d (Some text) = note_sent _
 
-    go : (o : Option OpenDocument) → All CanBeReplied (unwrap_or (option_and_then (λ d. option_and_then (λ text. Some (rewriting_result e uri d text how [])) (text_after_changes e.unit (Some d.text) how)) o) (result_without_messages e)).sent
+    go : (o : Option OpenDocument) → All CanBeReplied (unwrap_or (option_and_then (λ d. option_and_then (λ text. Some (result_of_changing_text e uri d text how [])) (text_after_changes e.unit (Some d.text) how)) o) (result_without_messages e)).sent
     go None = none_sent
     go (Some d) = of_text d (text_after_changes e.unit (Some d.text) how)
-act_sends e (close_document uri) h = go (is_some (editor_document_at e uri))
+act_sends e (close_document uri) h = go (is_some (editor_document_with_uri e uri))
   where
-    go : (b : Bool) → All CanBeReplied (cond b (closing_result e uri) (result_without_messages e)).sent
+    go : (b : Bool) → All CanBeReplied (cond b (result_of_closing_document e uri) (result_without_messages e)).sent
     go true = note_sent _
     go false = none_sent
-act_sends e (ask_about uri ask) h = go (editor_document_at e uri)
+act_sends e (request_edits uri ask) h = go (editor_document_with_uri e uri)
   where
-    go : (o : Option OpenDocument) → All CanBeReplied (unwrap_or (option_and_then (λ d. Some (asking_result e uri ask d)) o) (result_without_messages e)).sent
+    go : (o : Option OpenDocument) → All CanBeReplied (unwrap_or (option_and_then (λ d. Some (result_of_sending_ask e uri ask d)) o) (result_without_messages e)).sent
     go None = none_sent
     go (Some d) = All-push CanBeReplied [] _ none_sent h
 act_sends e (apply k) h =
-    go (option_and_then (applying_result (editor_without_answer e k) k) (edits_of_answer k e.answers))
+    go (option_and_then (result_of_applying_answer (editor_without_answer e k) k) (edits_of_answer_to_request k e.answers))
     (λ done is. subst (λ (x : ActResult). All CanBeReplied x.sent) (sym (applied_so e k done is).is) (note_sent _))
   where
     go : (o : Option ActResult) → ((done : ActResult) → o ≡ Some done → All CanBeReplied done.sent) → All CanBeReplied (unwrap_or o (result_without_messages (editor_without_answer e k))).sent
@@ -73,7 +73,7 @@ publish_fits uri (Some (InStep version text)) none =
     differ : false ≡ true → ⊥
     differ no' = cc
 
-    replies : (empty : Bool) → IsEmptyExactlyIfWellTyped text empty → ⊥
+    replies : (empty : Bool) → NoDiagnosticsExactlyIfWellTyped text empty → ⊥
     replies empty right = none (publishes uri (Some version) empty ∷ []) (record { uri = uri; version = version; text = text; no_diagnostics = empty } ∷ []) (empty, right, refl, refl)
 publish_fits uri (Some OutOfStep) none = none [] [] (refl, refl)
 publish_fits uri None none = none [] [] (refl, refl)
@@ -106,7 +106,7 @@ taken : (w : ClientAndServer) (queue : List MessageToEditor) → All CanBeReplie
 taken w [] waiting = waiting
 taken w (m ∷ rest) waiting = waiting
 
-event_fits : (e : Event) (w : ClientAndServer) → HasAnswerIfAsk e → All CanBeReplied w.to_server → ((new : ClientAndServer) → Happens w e new → All CanBeReplied new.to_server → ⊥) → ⊥
+event_fits : (e : Event) (w : ClientAndServer) → HasAnswerIfAsk e → All CanBeReplied w.to_server → ((new : ClientAndServer) → EventLeadsTo w e new → All CanBeReplied new.to_server → ⊥) → ⊥
 event_fits (editor_acts act) w h waiting none =
     none (state_after_act w (act_result w.editor act)) refl (All-append CanBeReplied w.to_server (act_result w.editor act).sent waiting (act_sends w.editor act h))
 event_fits serve w h waiting none = serve_fits w w.to_server refl waiting none

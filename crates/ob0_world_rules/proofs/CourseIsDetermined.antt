@@ -10,7 +10,7 @@ use Rattle.ob0_world_rules.specs.Asks.{Ask}
 use Rattle.ob0_world_rules.specs.Answers.{IsAnswerForDocument}
 use Rattle.ob0_world_rules.specs.ClientAndServer.{MessageToServer, notifies, requests, MessageToEditor, publishes, answers, PublicationWithText, ClientAndServer, documents_after_message}
 use Rattle.ob0_world_rules.specs.ServerReplies.{SendsDiagnostics, RepliesToNotification, RepliesToMessage}
-use Rattle.ob0_world_rules.specs.Happens.{Event, editor_acts, serve, take_message, ServerTakesFirstMessage, Happens, IsCourse}
+use Rattle.ob0_world_rules.specs.Events.{Event, editor_acts, serve, take_message, ServerTakesFirstMessage, EventLeadsTo, IsCourse}
 use Rattle.ob0_world_rules.proofs.AnswerIsDetermined.{answers_are_unique}
 
 same_truth : (a b : Bool) (P : Type 0) → IsTrue a ↔ P → IsTrue b ↔ P → a ≡ b
@@ -52,7 +52,7 @@ serves_one w (m ∷ rest) new other (said, made, replies, is) (also, more, repli
     let both : (said ≡ also) × (made ≡ more) = sends_one w.held m said also made more replies replies_too in
     is ∙ (λ i. record w { to_server = rest; held = documents_after_message w.held m; to_editor = w.to_editor ++ both.0 i; made = w.made ++ both.1 i }) ∙ sym is_too
 
-pub state_after_event_is_determined : (w : ClientAndServer) (event : Event) (new other : ClientAndServer) → Happens w event new → Happens w event other → new ≡ other
+pub state_after_event_is_determined : (w : ClientAndServer) (event : Event) (new other : ClientAndServer) → EventLeadsTo w event new → EventLeadsTo w event other → new ≡ other
 state_after_event_is_determined w (editor_acts act) new other h k = h ∙ sym k
 state_after_event_is_determined w serve new other h k = serves_one w w.to_server new other h k
 state_after_event_is_determined w take_message new other h k = h ∙ sym k
@@ -64,6 +64,6 @@ course_is_determined w (event ∷ events) end other (between, happens, course) (
     course_is_determined middle events end other (subst (λ x. IsCourse x events end) same course) course_too
 
 -- A course with one more event at its end is a course.
-pub course_push : (w : ClientAndServer) (events : List Event) (between : ClientAndServer) (e : Event) (new : ClientAndServer) → IsCourse w events between → Happens between e new → IsCourse w (events ++ e ∷ []) new
-course_push w [] between e new run happens = (new, subst (λ x. Happens x e new) run happens, refl)
+pub course_push : (w : ClientAndServer) (events : List Event) (between : ClientAndServer) (e : Event) (new : ClientAndServer) → IsCourse w events between → EventLeadsTo between e new → IsCourse w (events ++ e ∷ []) new
+course_push w [] between e new run happens = (new, subst (λ x. EventLeadsTo x e new) run happens, refl)
 course_push w (x ∷ events) between e new (mid, first, rest) happens = (mid, first, course_push mid events between e new rest happens)

@@ -1,10 +1,10 @@
--- Proves that the code's edits, read as replacements, make the text that they patch.
+-- Proves that the code's edits, read as values of the type Replacement, make the text that they patch.
 use Rattle.std.proofs.Common.{ap}
 use mathlib.Core.List.{map-map}
 use Rattle.ob0_text.specs.Units.{width_of}
 use Rattle.ob0_text.specs.Patches.{cut_of_range, text_patched_by_cuts}
-use Rattle.ob0_world_rules.specs.TextEdits.{replacement_of, text_after_edits, EditedTextDefinitionsAgree}
+use Rattle.ob0_world_rules.specs.TextEdits.{replacement_of_edit, text_after_edits, EditedTextDefinitionsAgree}
 
 pub edited_as_patched : EditedTextDefinitionsAgree
 unfolding text_after_edits
-edited_as_patched unit text edits = ap (text_patched_by_cuts text) (map-map (λ e. cut_of_range (width_of unit) text e.range e.text) replacement_of edits)
+edited_as_patched unit text edits = ap (text_patched_by_cuts text) (map-map (λ e. cut_of_range (width_of unit) text e.range e.text) replacement_of_edit edits)

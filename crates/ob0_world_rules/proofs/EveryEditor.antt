@@ -10,15 +10,15 @@ use Rattle.ob0_text.specs.declared.position_types.Unit.{Unit}
 use Rattle.ob0_text.specs.OpenDocuments.{OpenDocuments, Opened, Changed, Closed, document_at}
 use Rattle.ob0_world_rules.specs.WellTypedTexts.{WellTypedText, SameRun}
 use Rattle.ob0_world_rules.specs.TextEdits.{text_after_edits}
-use Rattle.ob0_world_rules.specs.ClientAndServer.{OpenDocument, SentAsk, Editor, editor_document_at, MessageToServer, notifies, requests, MessageToEditor, Applied, ClientAndServer, documents_after_message}
-use Rattle.ob0_world_rules.specs.EditorActs.{ActResult, result_without_messages, closing_result, asking_result, editor_without_answer}
-use Rattle.ob0_world_rules.specs.Happens.{state_after_act, ServerTakesFirstMessage}
-use Rattle.ob0_world_rules.specs.MirroredDocuments.{documents_after_queue, in_step_document}
+use Rattle.ob0_world_rules.specs.ClientAndServer.{OpenDocument, SentAsk, Editor, editor_document_with_uri, MessageToServer, notifies, requests, MessageToEditor, Applied, ClientAndServer, documents_after_message}
+use Rattle.ob0_world_rules.specs.EditorActs.{ActResult, result_without_messages, result_of_closing_document, result_of_sending_ask, editor_without_answer}
+use Rattle.ob0_world_rules.specs.Events.{state_after_act, ServerTakesFirstMessage}
+use Rattle.ob0_world_rules.specs.MirroredDocuments.{documents_after_waiting_messages, in_step_document}
 use Rattle.ob0_world_rules.specs.Headline.{PreservesRun}
 use Rattle.ob0_world_rules.specs.Laws.{EditsPreserveRun}
-use Rattle.ob0_world_rules.specs.PublicationsInOrder.{AnnouncedDocument, AreMadeForDocumentsInOrder, uris_and_versions_announced_by, uri_and_version_of}
-use Rattle.ob0_world_rules.specs.EditorMoves.{Revision, Move, editor_opens, editor_revises, editor_closes, editor_asks, editor_applies, editor_discards, revised_document, editor_with_document, RevisesDocument, notifications_of_revisions, AppliesAnswer, opening_result_for_document, IsAllowedMove}
-use Rattle.ob0_world_rules.specs.EveryEditor.{EditorAndServer, initial_editor_and_server, modeled_messages, notifications_among, model_state_of, ExchangeTurn, editor_moves, editor_sends_unmodeled_message, server_takes_message, editor_takes_message, state_after_move, ServerTakesNextMessage, state_after_editor_takes_next_message, MayHappen, MayLeadTo, GuaranteesHoldForEditorAndServer, GuaranteesHoldForEveryEditor}
+use Rattle.ob0_world_rules.specs.PublicationsAreInOrder.{AnnouncedDocument, AreMadeForDocumentsInOrder, uri_and_version_announced_by_message, uri_and_version_of}
+use Rattle.ob0_world_rules.specs.EditorMoves.{Revision, EditorMove, editor_opens, editor_revises, editor_closes, editor_asks, editor_applies, editor_discards, revised_document, editor_with_document, RevisesDocument, notifications_of_revisions, AppliesAnswer, result_of_opening_given_document, IsAllowedMove}
+use Rattle.ob0_world_rules.specs.EveryEditor.{EditorAndServer, initial_editor_and_server, modeled_messages, notifications_in_queue, model_state_of, ExchangeTurn, editor_moves, editor_sends_unmodeled_message, server_takes_message, editor_takes_message, state_after_move, ServerTakesNextMessage, state_after_editor_takes_next_message, TurnMayLeadTo, IsCourseOfTurns, GuaranteesHoldForEditorAndServer, GuaranteesHoldForEveryEditor}
 use Rattle.ob0_world_rules.proofs.UriLaws.{get_put, uri_itself}
 use Rattle.ob0_world_rules.proofs.Asked.{Known}
 use Rattle.ob0_world_rules.proofs.Keeping.{AnswerFits, Kept, acts_kept, revise_kept, held_known}
@@ -78,13 +78,13 @@ module _ (unit : Unit) where
 
   -- A move that sends one message keeps the invariant.
   one_sent : (w : EditorAndServer) (e : Editor) (m : MessageToServer) (announced : List AnnouncedDocument) (applied : List Applied) → Good w → Kept unit (state_after_act (model_state_of w) (record { editor = e; sent = m ∷ []; applied = applied }))
-      → ((held : OpenDocuments) → ((uri : List ℕ) → document_at (documents_after_message held m) uri ≡ option_map in_step_document (editor_document_at e uri)) → Awaits held m announced)
-      → map uri_and_version_of announced ≡ uris_and_versions_announced_by m
+      → ((held : OpenDocuments) → ((uri : List ℕ) → document_at (documents_after_message held m) uri ≡ option_map in_step_document (editor_document_with_uri e uri)) → Awaits held m announced)
+      → map uri_and_version_of announced ≡ uri_and_version_announced_by_message m
       → Good (state_after_move w (record { editor = e; sent = m ∷ []; applied = applied }) announced)
   one_sent w e m announced applied good kept awaits names =
       let done : ActResult = record { editor = e; sent = m ∷ []; applied = applied } in
-      let before : OpenDocuments = documents_after_queue (model_state_of w) in
-      let mirror : (uri : List ℕ) → document_at (documents_after_message before m) uri ≡ option_map in_step_document (editor_document_at e uri) =
+      let before : OpenDocuments = documents_after_waiting_messages (model_state_of w) in
+      let mirror : (uri : List ℕ) → document_at (documents_after_message before m) uri ≡ option_map in_step_document (editor_document_with_uri e uri) =
       λ uri. sym (ap (λ held. document_at held uri) (fold_push documents_after_message w.held (modeled_messages w.to_server) m)) ∙ kept.mirror uri in
       record {
         kept = subst (Kept unit) (moved_so w done announced) kept;
@@ -100,11 +100,11 @@ module _ (unit : Unit) where
   -- ---- the editor's moves
 
   -- A document is found under the uri under which it was inserted.
-  put_there : (held : OpenDocuments) (e : Editor) (uri : List ℕ) (d : OpenDocument) (m : MessageToServer) → ((q : List ℕ) → document_at (documents_after_message held m) q ≡ option_map in_step_document (editor_document_at (editor_with_document e uri d) q)) → document_at (documents_after_message held m) uri ≡ Some (in_step_document d)
+  put_there : (held : OpenDocuments) (e : Editor) (uri : List ℕ) (d : OpenDocument) (m : MessageToServer) → ((q : List ℕ) → document_at (documents_after_message held m) q ≡ option_map in_step_document (editor_document_with_uri (editor_with_document e uri d) q)) → document_at (documents_after_message held m) uri ≡ Some (in_step_document d)
   put_there held e uri d m mirror = mirror uri ∙ ap (option_map in_step_document) (get_put e.documents uri d uri ∙ ap (λ b. cond b (Some d) (map_of.get e.documents uri)) (uri_itself uri))
 
   open_good : (w : EditorAndServer) (uri text : List ℕ) (version : ℤ) → Good w
-      → Good (state_after_move w (opening_result_for_document (record { version = version; text = text; opening = w.editor.openings + 1 }) w.editor uri) (record { uri = uri; document = record { version = version; text = text; opening = w.editor.openings + 1 } } ∷ []))
+      → Good (state_after_move w (result_of_opening_given_document (record { version = version; text = text; opening = w.editor.openings + 1 }) w.editor uri) (record { uri = uri; document = record { version = version; text = text; opening = w.editor.openings + 1 } } ∷ []))
   open_good w uri text version good =
       let d : OpenDocument = record { version = version; text = text; opening = w.editor.openings + 1 } in
       let m : MessageToServer = notifies (Opened uri version text) in
@@ -164,20 +164,20 @@ module _ (unit : Unit) where
       subst (λ x. Good (state_after_move w x announced)) (sym a.is)
       (revisions_good revisions without a.requested.uri a.new announced (applied ∷ []) so a.revises (All-push PreservesRun [] applied (All-nil PreservesRun) keeps))
 
-  move_good : (w : EditorAndServer) (move : Move) (done : ActResult) (announced : List AnnouncedDocument) → Good w → IsAllowedMove w.editor move done announced → Good (state_after_move w done announced)
+  move_good : (w : EditorAndServer) (move : EditorMove) (done : ActResult) (announced : List AnnouncedDocument) → Good w → IsAllowedMove w.editor move done announced → Good (state_after_move w done announced)
   move_good w (editor_opens uri version text) done announced good (is, are) =
       subst (λ x. Good (state_after_move w x announced)) (sym is)
-      (subst (λ ts. Good (state_after_move w (opening_result_for_document (record { version = version; text = text; opening = w.editor.openings + 1 }) w.editor uri) ts)) (sym are) (open_good w uri text version good))
+      (subst (λ ts. Good (state_after_move w (result_of_opening_given_document (record { version = version; text = text; opening = w.editor.openings + 1 }) w.editor uri) ts)) (sym are) (open_good w uri text version good))
   move_good w (editor_revises uri revisions) done announced good (new, revises, is) =
       subst (λ x. Good (state_after_move w x announced)) (sym is) (revisions_good revisions w uri new announced [] good revises (All-nil PreservesRun))
   move_good w (editor_closes uri) done announced good (is, are) =
       subst (λ x. Good (state_after_move w x announced)) (sym is)
-      (subst (λ ts. Good (state_after_move w (closing_result w.editor uri) ts)) (sym are)
-      (one_sent w (closing_result w.editor uri).editor (notifies (Closed uri)) [] [] good (close_kept unit (model_state_of w) uri good.kept) (λ held mirror. refl) refl))
+      (subst (λ ts. Good (state_after_move w (result_of_closing_document w.editor uri) ts)) (sym are)
+      (one_sent w (result_of_closing_document w.editor uri).editor (notifies (Closed uri)) [] [] good (close_kept unit (model_state_of w) uri good.kept) (λ held mirror. refl) refl))
   move_good w (editor_asks uri ask) done announced good (d, at, is, are) =
       subst (λ x. Good (state_after_move w x announced)) (sym is)
-      (subst (λ ts. Good (state_after_move w (asking_result w.editor uri ask d) ts)) (sym are)
-      (one_sent w (asking_result w.editor uri ask d).editor (requests (suc (length w.editor.requested)) uri ask) [] [] good (ask_kept unit (model_state_of w) uri ask d at good.kept) (λ held mirror. refl) refl))
+      (subst (λ ts. Good (state_after_move w (result_of_sending_ask w.editor uri ask d) ts)) (sym are)
+      (one_sent w (result_of_sending_ask w.editor uri ask d).editor (requests (suc (length w.editor.requested)) uri ask) [] [] good (ask_kept unit (model_state_of w) uri ask d at good.kept) (λ held mirror. refl) refl))
   move_good w (editor_applies k revisions) done announced good may = apply_good w k revisions done announced good may
   move_good w (editor_discards k) done announced good (is, are) =
       subst (λ x. Good (state_after_move w x announced)) (sym is)
@@ -252,13 +252,13 @@ module _ (unit : Unit) where
 
   -- ---- all turns
 
-  turn_good : (w : EditorAndServer) (turn : ExchangeTurn) (new : EditorAndServer) → Good w → MayHappen w turn new → Good new
+  turn_good : (w : EditorAndServer) (turn : ExchangeTurn) (new : EditorAndServer) → Good w → TurnMayLeadTo w turn new → Good new
   turn_good w (editor_moves move) new good (done, announced, may, is) = subst Good (sym is) (move_good w move done announced good may)
   turn_good w editor_sends_unmodeled_message new good is = subst Good (sym is) (says_good w good)
   turn_good w server_takes_message new good takes = serve_good w w.to_server new refl good takes
   turn_good w editor_takes_message new good is = subst Good (sym is) (take_good w w.to_editor refl good)
 
-  turns_good : (turns : List ExchangeTurn) (w new : EditorAndServer) → Good w → MayLeadTo w turns new → Good new
+  turns_good : (turns : List ExchangeTurn) (w new : EditorAndServer) → Good w → IsCourseOfTurns w turns new → Good new
   turns_good [] w new good is = subst Good (sym is) good
   turns_good (turn ∷ turns) w new good (between, happens, lead) = turns_good turns between new (turn_good w turn between good happens) lead
 
@@ -277,7 +277,7 @@ module _ (unit : Unit) where
   holds_with : (w : EditorAndServer) → Good w → GuaranteesHoldForEditorAndServer w
   holds_with w good =
       record {
-        holds = record { applied = good.kept.applied; made = good.kept.made; latest_are_up_to_date = λ nothing_waits. up_to_date unit (model_state_of w) (good.kept, good.latest) (ap notifications_among nothing_waits) };
+        holds = record { applied = good.kept.applied; made = good.kept.made; latest_are_up_to_date = λ nothing_waits. up_to_date unit (model_state_of w) (good.kept, good.latest) (ap notifications_in_queue nothing_waits) };
         latest = up_to_date unit (model_state_of w) (good.kept, good.latest);
         mirrors = good.kept.mirror;
         published = good.published;

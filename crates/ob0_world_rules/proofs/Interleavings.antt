@@ -9,18 +9,18 @@ use Rattle.std.proofs.lemmas.Option.{same_Some, none-some}
 use Rattle.std.proofs.lemmas.List.{append-nil}
 use Rattle.std.proofs.lemmas.List.Elements.{All-nil, All-head, All-tail, All-push, All-append, All-cons}
 use Rattle.ob0_text.specs.declared.position_types.Unit.{Unit}
-use Rattle.ob0_text.specs.OpenDocuments.{OpenDocuments, Document, InStep, OutOfStep, DocumentEvent, Opened, Changed, Lost, Closed, with_updated_document, documents_after_event, changed_document, document_at}
+use Rattle.ob0_text.specs.OpenDocuments.{OpenDocuments, Document, InStep, OutOfStep, DocumentEvent, Opened, Changed, Lost, Closed, update_document_if_open, documents_after_event, changed_document, document_at}
 use Rattle.ob0_text.proofs.EntryLaws.{updated-some, updated-none}
 use Rattle.ob0_world_rules.specs.TextEdits.{Replacement}
 use Rattle.ob0_world_rules.specs.Asks.{Ask}
 use Rattle.ob0_world_rules.specs.Answers.{IsAnswerForDocument}
-use Rattle.ob0_world_rules.specs.ClientAndServer.{OpenDocument, SentAsk, Answer, editor_document_at, MessageToServer, notifies, requests, MessageToEditor, publishes, answers, PublicationWithText, ClientAndServer, start, documents_after_message}
-use Rattle.ob0_world_rules.specs.EditorActs.{result_without_messages, closing_result, asking_result, answers_except, editor_without_answer}
+use Rattle.ob0_world_rules.specs.ClientAndServer.{OpenDocument, SentAsk, ReceivedAnswer, editor_document_with_uri, MessageToServer, notifies, requests, MessageToEditor, publishes, answers, PublicationWithText, ClientAndServer, start, documents_after_message}
+use Rattle.ob0_world_rules.specs.EditorActs.{result_without_messages, result_of_closing_document, result_of_sending_ask, remove_answer_to_request, editor_without_answer}
 use Rattle.ob0_world_rules.specs.ServerReplies.{SendsDiagnostics, RepliesToNotification, RepliesToMessage}
-use Rattle.ob0_world_rules.specs.Happens.{state_after_act, state_after_editor_takes_message, ServerTakesFirstMessage}
-use Rattle.ob0_world_rules.specs.EditorMoves.{opening_result_for_document}
-use Rattle.ob0_world_rules.specs.EveryEditor.{notifications_among}
-use Rattle.ob0_world_rules.specs.MirroredDocuments.{documents_after_queue, in_step_document}
+use Rattle.ob0_world_rules.specs.Events.{state_after_act, state_after_editor_takes_message, ServerTakesFirstMessage}
+use Rattle.ob0_world_rules.specs.EditorMoves.{result_of_opening_given_document}
+use Rattle.ob0_world_rules.specs.EveryEditor.{notifications_in_queue}
+use Rattle.ob0_world_rules.specs.MirroredDocuments.{documents_after_waiting_messages, in_step_document}
 use Rattle.ob0_world_rules.specs.Headline.{PreservesRun, IsCorrectPublication, last_publication, PublicationsAreUpToDate}
 use Rattle.ob0_world_rules.specs.Laws.{EditsPreserveRun}
 use Rattle.ob0_world_rules.proofs.UriLaws.{get_put, get_removed, same_uri, uri_itself}
@@ -30,7 +30,7 @@ use Rattle.ob0_world_rules.proofs.KeptRuns.{answer_keeps}
 use Rattle.ob0_world_rules.proofs.Keeping.{Fits, AnswerFits, HeldFits, HasText, AsksSee, Kept, message_unit, acts_kept, put_mirrors, remove_mirrors, answers_kept}
 
 -- Messages without a notification don't change the server's documents.
-quiet_stays : (held : OpenDocuments) (q : List MessageToServer) → notifications_among q ≡ [] → fold documents_after_message held q ≡ held
+quiet_stays : (held : OpenDocuments) (q : List MessageToServer) → notifications_in_queue q ≡ [] → fold documents_after_message held q ≡ held
 quiet_stays held [] quiet = refl
 quiet_stays held (notifies note ∷ q) quiet = absurd (cc)
 quiet_stays held (requests k uri ask ∷ q) quiet = quiet_stays held q quiet
@@ -38,25 +38,25 @@ quiet_stays held (requests k uri ask ∷ q) quiet = quiet_stays held q quiet
 -- ---- the editor's events
 
 module _ (unit : Unit) where
-  pub opened_kept : (w : ClientAndServer) (uri text : List ℕ) (version : ℤ) → Kept unit w → Kept unit (state_after_act w (opening_result_for_document (record { version = version; text = text; opening = w.editor.openings + 1 }) w.editor uri))
+  pub opened_kept : (w : ClientAndServer) (uri text : List ℕ) (version : ℤ) → Kept unit w → Kept unit (state_after_act w (result_of_opening_given_document (record { version = version; text = text; opening = w.editor.openings + 1 }) w.editor uri))
   opened_kept w uri text version kept =
       let d : OpenDocument = record { version = version; text = text; opening = w.editor.openings + 1 } in
-      acts_kept unit w (opening_result_for_document d w.editor uri) kept (λ k a is. is) refl refl (put_mirrors w uri d kept.mirror) tt (All-nil PreservesRun)
+      acts_kept unit w (result_of_opening_given_document d w.editor uri) kept (λ k a is. is) refl refl (put_mirrors w uri d kept.mirror) tt (All-nil PreservesRun)
 
-  pub close_kept : (w : ClientAndServer) (uri : List ℕ) → Kept unit w → Kept unit (state_after_act w (closing_result w.editor uri))
+  pub close_kept : (w : ClientAndServer) (uri : List ℕ) → Kept unit w → Kept unit (state_after_act w (result_of_closing_document w.editor uri))
   close_kept w uri kept =
-      acts_kept unit w (closing_result w.editor uri) kept (λ k a is. is) refl refl (remove_mirrors w uri kept.mirror) tt (All-nil PreservesRun)
+      acts_kept unit w (result_of_closing_document w.editor uri) kept (λ k a is. is) refl refl (remove_mirrors w uri kept.mirror) tt (All-nil PreservesRun)
 
-  pub ask_kept : (w : ClientAndServer) (uri : List ℕ) (ask : Ask) (d : OpenDocument) → editor_document_at w.editor uri ≡ Some d → Kept unit w → Kept unit (state_after_act w (asking_result w.editor uri ask d))
+  pub ask_kept : (w : ClientAndServer) (uri : List ℕ) (ask : Ask) (d : OpenDocument) → editor_document_with_uri w.editor uri ≡ Some d → Kept unit w → Kept unit (state_after_act w (result_of_sending_ask w.editor uri ask d))
   ask_kept w uri ask d is kept =
       let a : SentAsk = record { ask = ask; uri = uri; text = d.text; opening = d.opening; version = d.version } in
-      let known : Known (w.editor.requested ++ a ∷ []) (suc (length w.editor.requested)) (HasText (documents_after_queue w) uri) =
+      let known : Known (w.editor.requested ++ a ∷ []) (suc (length w.editor.requested)) (HasText (documents_after_waiting_messages w) uri) =
       record {
         requested = a;
         is = slice_get_last w.editor.requested a;
         holds = (d.version, kept.mirror uri ∙ ap (option_map in_step_document) is);
       } in
-      acts_kept unit w (asking_result w.editor uri ask d) kept (numbered_push w.editor.requested (a ∷ [])) refl refl kept.mirror (known, tt) (All-nil PreservesRun)
+      acts_kept unit w (result_of_sending_ask w.editor uri ask d) kept (numbered_push w.editor.requested (a ∷ [])) refl refl kept.mirror (known, tt) (All-nil PreservesRun)
 
   -- An act that sends nothing and changes nothing keeps the invariant.
   pub still_kept : (w : ClientAndServer) → Kept unit w → Kept unit (state_after_act w (result_without_messages w.editor))
@@ -82,7 +82,7 @@ module _ (unit : Unit) where
   take_kept w (answers k [] ∷ rest) kept fit = rest_kept w rest kept (All-tail (AnswerFits unit w.editor.requested) (answers k []) rest fit)
   take_kept w (answers k (edit ∷ edits) ∷ rest) kept fit =
       let asked : List SentAsk = w.editor.requested in
-      let a : Answer = record { number = k; edits = edit ∷ edits } in
+      let a : ReceivedAnswer = record { number = k; edits = edit ∷ edits } in
       let known : Known asked k (Fits unit (edit ∷ edits)) = All-head (AnswerFits unit asked) (answers k (edit ∷ edits)) rest fit in
       answers_kept unit w (w.editor.answers ++ a ∷ []) rest kept
       (All-push (HeldFits unit asked) w.editor.answers a kept.answers_held (editing_result asked k edit edits known))
@@ -90,17 +90,17 @@ module _ (unit : Unit) where
 
   -- ---- applying
 
-  All-answers_except : (P : Answer → Type 0) (k : ℕ) (list : List Answer) → All P list → All P (answers_except k list)
-  All-answers_except P k [] all = all
-  All-answers_except P k (a ∷ rest) all = go (a.number == k) (All-answers_except P k rest (All-tail P a rest all))
+  All-remove_answer_to_request : (P : ReceivedAnswer → Type 0) (k : ℕ) (list : List ReceivedAnswer) → All P list → All P (remove_answer_to_request k list)
+  All-remove_answer_to_request P k [] all = all
+  All-remove_answer_to_request P k (a ∷ rest) all = go (a.number == k) (All-remove_answer_to_request P k rest (All-tail P a rest all))
     where
-      go : (b : Bool) → All P (answers_except k rest) → All P (cond b rest (a ∷ answers_except k rest))
+      go : (b : Bool) → All P (remove_answer_to_request k rest) → All P (cond b rest (a ∷ remove_answer_to_request k rest))
       go true later = All-tail P a rest all
-      go false later = All-cons P a (answers_except k rest) (All-head P a rest all) later
+      go false later = All-cons P a (remove_answer_to_request k rest) (All-head P a rest all) later
 
   pub without_kept : (w : ClientAndServer) (k : ℕ) → Kept unit w → Kept unit (record w { editor = editor_without_answer w.editor k })
   without_kept w k kept =
-      answers_kept unit w (answers_except k w.editor.answers) w.to_editor kept (All-answers_except (HeldFits unit w.editor.requested) k w.editor.answers kept.answers_held) kept.answered
+      answers_kept unit w (remove_answer_to_request k w.editor.answers) w.to_editor kept (All-remove_answer_to_request (HeldFits unit w.editor.requested) k w.editor.answers kept.answers_held) kept.answered
 
   -- ---- the server's events
 
@@ -179,10 +179,10 @@ module _ (unit : Unit) where
       go true is h = absurd (apart q uri differ is)
       go false is h = now q version text h
 
-  update_others : (held : OpenDocuments) (uri : List ℕ) (f : Document → Document) (made : List PublicationWithText) → AreLatest held made → Others (record { unit = held.unit; by_uri = with_updated_document held.by_uri uri f }) uri made
+  update_others : (held : OpenDocuments) (uri : List ℕ) (f : Document → Document) (made : List PublicationWithText) → AreLatest held made → Others (record { unit = held.unit; by_uri = update_document_if_open held.by_uri uri f }) uri made
   update_others held uri f made now = go (document_at held uri) refl
     where
-      go : (o : Option Document) → document_at held uri ≡ o → Others (record { unit = held.unit; by_uri = with_updated_document held.by_uri uri f }) uri made
+      go : (o : Option Document) → document_at held uri ≡ o → Others (record { unit = held.unit; by_uri = update_document_if_open held.by_uri uri f }) uri made
       go None is = subst (λ m. Others (record { unit = held.unit; by_uri = m }) uri made) (sym (updated-none held.by_uri uri f is)) (λ q version text differ at. now q version text at)
       go (Some d) is = subst (λ m. Others (record { unit = held.unit; by_uri = m }) uri made) (sym (updated-some held.by_uri uri f d is)) (put_others held uri (f d) made now)
 
@@ -264,7 +264,7 @@ module _ (unit : Unit) where
         record {
           counts = kept.counts;
           holds = message_unit w.held m ∙ kept.holds;
-          mirror = subst (λ q. (uri : List ℕ) → document_at (fold documents_after_message w.held q) uri ≡ option_map in_step_document (editor_document_at w.editor uri)) is kept.mirror;
+          mirror = subst (λ q. (uri : List ℕ) → document_at (fold documents_after_message w.held q) uri ≡ option_map in_step_document (editor_document_with_uri w.editor uri)) is kept.mirror;
           requested = see.1;
           answered = All-append (AnswerFits unit asked) w.to_editor said kept.answered sound.fit;
           answers_held = kept.answers_held;
@@ -299,7 +299,7 @@ module _ (unit : Unit) where
     λ uri version text at. nothing_at uri (InStep version text) (IsMadeFor version text None) at,
   )
 
-  pub up_to_date : (w : ClientAndServer) → Both w → notifications_among w.to_server ≡ [] → PublicationsAreUpToDate w.editor w.made
+  pub up_to_date : (w : ClientAndServer) → Both w → notifications_in_queue w.to_server ≡ [] → PublicationsAreUpToDate w.editor w.made
   up_to_date w (kept, now) quiet uri d at =
       let held : document_at w.held uri ≡ Some (in_step_document d) = subst (λ held. document_at held uri ≡ Some (in_step_document d)) (quiet_stays w.held w.to_server quiet) (kept.mirror uri ∙ ap (option_map in_step_document) at) in
       now uri d.version d.text held

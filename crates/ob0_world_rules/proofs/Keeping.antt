@@ -11,10 +11,10 @@ use Rattle.ob0_text.specs.declared.position_types.Unit.{Unit}
 use Rattle.ob0_text.specs.OpenDocuments.{OpenDocuments, InStep, document_with_text, DocumentEvent, Opened, Changed, Lost, Closed, TextChange, documents_after_event, changed_document, document_at}
 use Rattle.ob0_text.proofs.EntryLaws.{updated-some}
 use Rattle.ob0_world_rules.specs.TextEdits.{Replacement, text_after_changes}
-use Rattle.ob0_world_rules.specs.ClientAndServer.{OpenDocument, SentAsk, Answer, editor_document_at, MessageToServer, notifies, requests, MessageToEditor, publishes, answers, Applied, ClientAndServer, documents_after_message}
-use Rattle.ob0_world_rules.specs.EditorActs.{ActResult, edits_of_answer}
-use Rattle.ob0_world_rules.specs.Happens.{state_after_act}
-use Rattle.ob0_world_rules.specs.MirroredDocuments.{documents_after_queue, in_step_document, ServerWillMirrorEditor}
+use Rattle.ob0_world_rules.specs.ClientAndServer.{OpenDocument, SentAsk, ReceivedAnswer, editor_document_with_uri, MessageToServer, notifies, requests, MessageToEditor, publishes, answers, Applied, ClientAndServer, documents_after_message}
+use Rattle.ob0_world_rules.specs.EditorActs.{ActResult, edits_of_answer_to_request}
+use Rattle.ob0_world_rules.specs.Events.{state_after_act}
+use Rattle.ob0_world_rules.specs.MirroredDocuments.{documents_after_waiting_messages, in_step_document, ServerWillMirrorEditor}
 use Rattle.ob0_world_rules.specs.Headline.{PreservesRun, IsCorrectPublication}
 use Rattle.ob0_world_rules.specs.Laws.{EditsPreserveRun}
 use Rattle.ob0_world_rules.proofs.UriLaws.{get_put, get_removed, mapped_choice}
@@ -30,7 +30,7 @@ AnswerFits unit asked (publishes uri version empty) = ⊤
 AnswerFits unit asked (answers k edits) = Known asked k (Fits unit edits)
 
 -- holds if an answer that the editor has keeps the run of the text of its request
-abbrev pub HeldFits : Unit → List SentAsk → Answer → Type 0
+abbrev pub HeldFits : Unit → List SentAsk → ReceivedAnswer → Type 0
 HeldFits unit asked a = Known asked a.number (λ text. EditsPreserveRun unit text a.edits)
 
 -- holds if the document is open and in step in the server with this text
@@ -80,7 +80,7 @@ module _ (unit : Unit) (asked now : List SentAsk) (later : Later asked now) wher
   answers_later : (ms : List MessageToEditor) → All (AnswerFits unit asked) ms → All (AnswerFits unit now) ms
   answers_later ms h = All-weaker (AnswerFits unit asked) (AnswerFits unit now) answer_later ms h
 
-  held_later : (list : List Answer) → All (HeldFits unit asked) list → All (HeldFits unit now) list
+  held_later : (list : List ReceivedAnswer) → All (HeldFits unit asked) list → All (HeldFits unit now) list
   held_later list h = All-weaker (HeldFits unit asked) (HeldFits unit now) (λ a known. still_known asked now a.number (λ text. EditsPreserveRun unit text a.edits) later known) list h
 
 asks_later : (asked now : List SentAsk) → Later asked now → (held : OpenDocuments) (q : List MessageToServer) → AsksSee asked held q → AsksSee now held q
@@ -96,7 +96,7 @@ asks_append asked held (requests n uri ask ∷ rest) more h k = (h.0, asks_appen
 -- ---- the editor acts
 
 pub acts_kept : (unit : Unit) (w : ClientAndServer) (done : ActResult) → Kept unit w → Later w.editor.requested done.editor.requested → done.editor.unit ≡ w.editor.unit → done.editor.answers ≡ w.editor.answers
-    → ((uri : List ℕ) → document_at (fold documents_after_message (documents_after_queue w) done.sent) uri ≡ option_map in_step_document (editor_document_at done.editor uri)) → AsksSee done.editor.requested (documents_after_queue w) done.sent → All PreservesRun done.applied → Kept unit (state_after_act w done)
+    → ((uri : List ℕ) → document_at (fold documents_after_message (documents_after_waiting_messages w) done.sent) uri ≡ option_map in_step_document (editor_document_with_uri done.editor uri)) → AsksSee done.editor.requested (documents_after_waiting_messages w) done.sent → All PreservesRun done.applied → Kept unit (state_after_act w done)
 acts_kept unit w done kept later same_unit same mirror see keeps =
     let asked : List SentAsk = w.editor.requested in
     let now : List SentAsk = done.editor.requested in
@@ -113,35 +113,35 @@ acts_kept unit w done kept later same_unit same mirror see keeps =
 
 -- Inserting a document at client and server keeps the mirror.
 put_mirror : (w : ClientAndServer) (uri : List ℕ) (d : OpenDocument) → ServerWillMirrorEditor w → (q : List ℕ)
-    → map_of.get (map_of.insert (documents_after_queue w).by_uri uri (in_step_document d)) q ≡ option_map in_step_document (map_of.get (map_of.insert w.editor.documents uri d) q)
+    → map_of.get (map_of.insert (documents_after_waiting_messages w).by_uri uri (in_step_document d)) q ≡ option_map in_step_document (map_of.get (map_of.insert w.editor.documents uri d) q)
 put_mirror w uri d mirror q =
-    get_put (documents_after_queue w).by_uri uri (in_step_document d) q ∙ ap (cond (bytes_eq q uri) (Some (in_step_document d))) (mirror q)
+    get_put (documents_after_waiting_messages w).by_uri uri (in_step_document d) q ∙ ap (cond (bytes_eq q uri) (Some (in_step_document d))) (mirror q)
     ∙ sym (mapped_choice in_step_document (bytes_eq q uri) (Some d) (map_of.get w.editor.documents q))
     ∙ ap (option_map in_step_document) (sym (get_put w.editor.documents uri d q))
 
 pub put_mirrors : (w : ClientAndServer) (uri : List ℕ) (d : OpenDocument) → ServerWillMirrorEditor w → (q : List ℕ)
-    → map_of.get (map_of.insert (documents_after_queue w).by_uri uri (in_step_document d)) q ≡ option_map in_step_document (map_of.get (map_of.insert w.editor.documents uri d) q)
+    → map_of.get (map_of.insert (documents_after_waiting_messages w).by_uri uri (in_step_document d)) q ≡ option_map in_step_document (map_of.get (map_of.insert w.editor.documents uri d) q)
 put_mirrors w uri d mirror q = put_mirror w uri d mirror q
 
 pub remove_mirrors : (w : ClientAndServer) (uri : List ℕ) → ServerWillMirrorEditor w → (q : List ℕ)
-    → map_of.get (map_of.remove (documents_after_queue w).by_uri uri) q ≡ option_map in_step_document (map_of.get (map_of.remove w.editor.documents uri) q)
+    → map_of.get (map_of.remove (documents_after_waiting_messages w).by_uri uri) q ≡ option_map in_step_document (map_of.get (map_of.remove w.editor.documents uri) q)
 remove_mirrors w uri mirror q =
-    get_removed (documents_after_queue w).by_uri uri q ∙ ap (cond (bytes_eq q uri) None) (mirror q)
+    get_removed (documents_after_waiting_messages w).by_uri uri q ∙ ap (cond (bytes_eq q uri) None) (mirror q)
     ∙ sym (mapped_choice in_step_document (bytes_eq q uri) None (map_of.get w.editor.documents q))
     ∙ ap (option_map in_step_document) (sym (get_removed w.editor.documents uri q))
 
 -- Changing a document's text at client and server keeps the mirror.
-change_mirrors : (w : ClientAndServer) (uri : List ℕ) (d new : OpenDocument) (how : List TextChange) → ServerWillMirrorEditor w → (documents_after_queue w).unit ≡ w.editor.unit → editor_document_at w.editor uri ≡ Some d
+change_mirrors : (w : ClientAndServer) (uri : List ℕ) (d new : OpenDocument) (how : List TextChange) → ServerWillMirrorEditor w → (documents_after_waiting_messages w).unit ≡ w.editor.unit → editor_document_with_uri w.editor uri ≡ Some d
     → text_after_changes w.editor.unit (Some d.text) how ≡ Some new.text → (q : List ℕ)
-    → document_at (documents_after_event (documents_after_queue w) (Changed uri new.version how)) q ≡ option_map in_step_document (map_of.get (map_of.insert w.editor.documents uri new) q)
+    → document_at (documents_after_event (documents_after_waiting_messages w) (Changed uri new.version how)) q ≡ option_map in_step_document (map_of.get (map_of.insert w.editor.documents uri new) q)
 change_mirrors w uri d new how mirror same_unit was_open is q =
-    let held : document_at (documents_after_queue w) uri ≡ Some (in_step_document d) = mirror uri ∙ ap (option_map in_step_document) was_open in
-    ap (λ m. map_of.get m q) (updated-some (documents_after_queue w).by_uri uri (changed_document (documents_after_queue w).unit new.version how) (in_step_document d) held)
-    ∙ ap (λ text. map_of.get (map_of.insert (documents_after_queue w).by_uri uri (document_with_text new.version text)) q) (ap (λ u. text_after_changes u (Some d.text) how) same_unit ∙ is)
+    let held : document_at (documents_after_waiting_messages w) uri ≡ Some (in_step_document d) = mirror uri ∙ ap (option_map in_step_document) was_open in
+    ap (λ m. map_of.get m q) (updated-some (documents_after_waiting_messages w).by_uri uri (changed_document (documents_after_waiting_messages w).unit new.version how) (in_step_document d) held)
+    ∙ ap (λ text. map_of.get (map_of.insert (documents_after_waiting_messages w).by_uri uri (document_with_text new.version text)) q) (ap (λ u. text_after_changes u (Some d.text) how) same_unit ∙ is)
     ∙ put_mirror w uri new mirror q
 
 -- Giving an open document another version and text keeps the invariant if the server is sent the changes.
-pub revise_kept : (unit : Unit) (w : ClientAndServer) (uri : List ℕ) (d new : OpenDocument) (how : List TextChange) (applied : List Applied) → Kept unit w → editor_document_at w.editor uri ≡ Some d
+pub revise_kept : (unit : Unit) (w : ClientAndServer) (uri : List ℕ) (d new : OpenDocument) (how : List TextChange) (applied : List Applied) → Kept unit w → editor_document_with_uri w.editor uri ≡ Some d
     → text_after_changes w.editor.unit (Some d.text) how ≡ Some new.text → All PreservesRun applied
     → Kept unit (state_after_act w (record { editor = record w.editor { documents = map_of.insert w.editor.documents uri new }; sent = notifies (Changed uri new.version how) ∷ []; applied = applied }))
 revise_kept unit w uri d new how applied kept was_open is keeps =
@@ -151,7 +151,7 @@ revise_kept unit w uri d new how applied kept was_open is keeps =
 -- ---- answers in the editor
 
 -- Replacing the editor's answers and its queue keeps the invariant if the new answers and the new queue fit.
-pub answers_kept : (unit : Unit) (w : ClientAndServer) (list : List Answer) (queue : List MessageToEditor) → Kept unit w → All (HeldFits unit w.editor.requested) list → All (AnswerFits unit w.editor.requested) queue
+pub answers_kept : (unit : Unit) (w : ClientAndServer) (list : List ReceivedAnswer) (queue : List MessageToEditor) → Kept unit w → All (HeldFits unit w.editor.requested) list → All (AnswerFits unit w.editor.requested) queue
     → Kept unit (record w { editor = record w.editor { answers = list }; to_editor = queue })
 answers_kept unit w list queue kept held fit =
     record {
@@ -165,12 +165,12 @@ answers_kept unit w list queue kept held fit =
       made = kept.made;
     }
 
-pub held_known : (unit : Unit) (asked : List SentAsk) (k : ℕ) (list : List Answer) (edits : List Replacement) → edits_of_answer k list ≡ Some edits → All (HeldFits unit asked) list → Known asked k (λ text. EditsPreserveRun unit text edits)
+pub held_known : (unit : Unit) (asked : List SentAsk) (k : ℕ) (list : List ReceivedAnswer) (edits : List Replacement) → edits_of_answer_to_request k list ≡ Some edits → All (HeldFits unit asked) list → Known asked k (λ text. EditsPreserveRun unit text edits)
 held_known unit asked k [] edits h all = absurd (none-some edits h)
 held_known unit asked k (a ∷ rest) edits h all =
     go (a.number == k) refl h (λ later. held_known unit asked k rest edits later (All-tail (HeldFits unit asked) a rest all))
   where
-    go : (b : Bool) → a.number == k ≡ b → cond b (Some a.edits) (edits_of_answer k rest) ≡ Some edits → (edits_of_answer k rest ≡ Some edits → Known asked k (λ text. EditsPreserveRun unit text edits)) → Known asked k (λ text. EditsPreserveRun unit text edits)
+    go : (b : Bool) → a.number == k ≡ b → cond b (Some a.edits) (edits_of_answer_to_request k rest) ≡ Some edits → (edits_of_answer_to_request k rest ≡ Some edits → Known asked k (λ text. EditsPreserveRun unit text edits)) → Known asked k (λ text. EditsPreserveRun unit text edits)
     go true is h next =
         subst (λ n. Known asked n (λ text. EditsPreserveRun unit text edits)) (eqb-true a.number k is)
         (subst (λ es. Known asked a.number (λ text. EditsPreserveRun unit text es)) (same_Some a.edits edits h) (All-head (HeldFits unit asked) a rest all))

@@ -7,7 +7,7 @@ use Rattle.ob0_text.specs.Units.{width_of}
 use Rattle.ob0_text.specs.Patches.{patched_text}
 use Rattle.ob0_edits.specs.SameRuns.{RunsAsBefore}
 use Rattle.ob0_edits.specs.Texts.{utf8}
-use Rattle.ob0_world_rules.specs.TextEdits.{Replacement, replacements}
+use Rattle.ob0_world_rules.specs.TextEdits.{Replacement, replacements_of_edits}
 use Rattle.ob0_world_rules.proofs.EditedTexts.{edited_as_patched}
 use Rattle.ob0_world_rules.specs.Asks.{Ask, rename, inline_here, inline_all, format}
 use Rattle.ob0_world_rules.specs.Answers.{AreRequestedEdits, IsAnswerForText}
@@ -16,7 +16,7 @@ use Rattle.ob0_world_rules.proofs.ModuleTexts.{well_typed_text}
 use Rattle.ob0_world_rules.proofs.Trees.{same_run}
 
 -- Edits preserve the run if the text that they make runs as before.
-runs_kept : (unit : Unit) (text after : List ℕ) (edits : List Edit) → patched_text (width_of unit) text edits ≡ Some after → RunsAsBefore (utf8 text) (utf8 after) → EditsPreserveRun unit text (replacements edits)
+runs_kept : (unit : Unit) (text after : List ℕ) (edits : List Edit) → patched_text (width_of unit) text edits ≡ Some after → RunsAsBefore (utf8 text) (utf8 after) → EditsPreserveRun unit text (replacements_of_edits edits)
 runs_kept unit text after edits made runs =
     record {
       before_is_well_typed = well_typed_text text runs.old;
@@ -26,10 +26,10 @@ runs_kept unit text after edits made runs =
       same = same_run text after runs;
     }
 
-pub answer_edits_preserve_run : (unit : Unit) (text : List ℕ) (ask : Ask) (edits : List Edit) → AreRequestedEdits unit text ask edits → EditsPreserveRun unit text (replacements edits)
+pub answer_edits_preserve_run : (unit : Unit) (text : List ℕ) (ask : Ask) (edits : List Edit) → AreRequestedEdits unit text ask edits → EditsPreserveRun unit text (replacements_of_edits edits)
 answer_edits_preserve_run unit text (rename position name) edits found = runs_kept unit text found.after edits found.made found.runs
-answer_edits_preserve_run unit text (inline_here position) edits (list, found, is) = subst (λ es. EditsPreserveRun unit text (replacements es)) (sym is) (runs_kept unit text found.after list.items found.made found.runs)
-answer_edits_preserve_run unit text (inline_all position) edits (list, found, is) = subst (λ es. EditsPreserveRun unit text (replacements es)) (sym is) (runs_kept unit text found.after list.items found.made found.runs)
+answer_edits_preserve_run unit text (inline_here position) edits (list, found, is) = subst (λ es. EditsPreserveRun unit text (replacements_of_edits es)) (sym is) (runs_kept unit text found.after list.items found.made found.runs)
+answer_edits_preserve_run unit text (inline_all position) edits (list, found, is) = subst (λ es. EditsPreserveRun unit text (replacements_of_edits es)) (sym is) (runs_kept unit text found.after list.items found.made found.runs)
 answer_edits_preserve_run unit text (format indent) edits found = runs_kept unit text found.after edits found.made found.runs
 
 -- An answer about a text has no edits, or edits that preserve its run.

@@ -6,8 +6,8 @@ use Rattle.std.specs.Str.{IsUtf8}
 use Rattle.std.proofs.lemmas.List.{map-append}
 use Rattle.ob0_scan.specs.declared.lexeme.LexemeKind.{LexemeKind}
 use Rattle.ob0_scan.specs.declared.lexeme.LexemeKind.TheVariants as lexeme
-use Rattle.ob0_scan.specs.Lexed.{Lexeme, LexesInto}
-use Rattle.ob0_scan.specs.TextWithTokens.{TextWithTokens, IsScan, words_of_lexeme, words_of_lexemes, tokens_of_lexemes_from, comments_of_lexemes_from, max_text_length}
+use Rattle.ob0_scan.specs.TextLexemes.{Lexeme, LexesInto}
+use Rattle.ob0_scan.specs.TextWithTokens.{TextWithTokens, IsScan, words_of_one_lexeme, words_of_lexemes, tokens_of_lexemes_from, comments_of_lexemes_from, max_text_length}
 use Rattle.ob0_tree.specs.Tree.{Tree, module_text}
 use Rattle.ob0_language_names.specs.Names.{Name}
 use Rattle.ob0_layout.proofs.Named.{named_lexeme, text_words}
@@ -16,14 +16,14 @@ use Rattle.ob0_edits.specs.Texts.{utf8}
 use Rattle.ob0_world_rules.specs.WellTypedTexts.{terminals_of_lexeme, IsModuleText, WellTypedText}
 use Rattle.ob0_world_rules.specs.Laws.{ModuleTextDefinitionsAgree}
 
-spelled_one : (l : Lexeme) (kind : LexemeKind) → map named_lexeme (words_of_lexeme l kind) ≡ terminals_of_lexeme kind l.text
-spelled_one l lexeme.Space = refl
+spelled_one : (l : Lexeme) (kind : LexemeKind) → map named_lexeme (words_of_one_lexeme l kind) ≡ terminals_of_lexeme kind l.text
+spelled_one l lexeme.WhiteSpace = refl
 spelled_one l lexeme.Comment = refl
 spelled_one l (lexeme.Token kind) = refl
 
 spelled_so : (lexemes : List Lexeme) → map named_lexeme (words_of_lexemes lexemes) ≡ flat_map (λ l. terminals_of_lexeme l.kind l.text) lexemes
 spelled_so [] = refl
-spelled_so (l ∷ lexemes) = map-append named_lexeme (words_of_lexeme l l.kind) (words_of_lexemes lexemes) ∙ (λ i. spelled_one l l.kind i ++ spelled_so lexemes i)
+spelled_so (l ∷ lexemes) = map-append named_lexeme (words_of_one_lexeme l l.kind) (words_of_lexemes lexemes) ∙ (λ i. spelled_one l l.kind i ++ spelled_so lexemes i)
 
 pub module_text_of : (tree : Tree Name module_text) (bytes : List ℕ) → IsTextOfTree tree bytes → IsModuleText tree bytes
 module_text_of tree bytes h =

@@ -6,19 +6,19 @@ use Rattle.std.proofs.Common.{◌≡◌, ◌≢◌, ◌∙◌, ℕ, suc, ◌+◌
 use Rattle.std.proofs.Math.ListN.{length-set}
 use Rattle.std.proofs.lemmas.List.{get_or-replicate, length-replicate}
 use Rattle.ob0_tree.specs.declared.tree.Role.TheVariants as role
-use Rattle.ob0_tree.specs.Lexeme.{Terminal, Name, Number, WordOrSymbol, EndOfText, mapped_terminal}
+use Rattle.ob0_tree.specs.Terminals.{Terminal, Name, Number, WordOrSymbol, EndOfText, mapped_terminal}
 use Rattle.ob0_tree.specs.IdentifierIndexes.{AreAscendingWithin, identifier_names}
 use Rattle.ob0_tree.specs.ParsedModule.{tree_of}
-use Rattle.ob0_tree.specs.Places.{token_text_at, token_value_at}
+use Rattle.ob0_tree.specs.TokenIndexLeaves.{token_text_at, token_value_at}
 use Rattle.ob0_tree.specs.Tree.{Sort, Tree, mapped_tree, spell}
 use Rattle.ob0_tree.proofs.Leaves.{ascending_bounds, leaves_ascend, leaves_spelled, lexeme_names}
 use Rattle.ob0_tree.proofs.Mapped.{spell_mapped}
 use Rattle.ob0_language_names.specs.Names as written
 use Rattle.ob0_scope_table.specs.Resolution.{Resolution, ordinal_in}
 use Rattle.ob0_types.specs.CheckedModules.{IsWellTyped}
-use Rattle.ob0_language_fields.specs.Fields.{rename_fields_in_module}
+use Rattle.ob0_language_fields.specs.RenamedFields.{rename_fields_in_module}
 use Rattle.ob0_types_fields.specs.OwnerTables.{IsOwnerTable, renaming_by_record}
-use Rattle.ob0_types_fields.specs.Identifiers.{field_identifiers}
+use Rattle.ob0_types_fields.specs.FieldIdentifiers.{field_identifiers}
 use Rattle.ob0_types_fields.specs.IdentifierOwners.{AgreesWithOwnerList, fields_with_owners, identifier_owners_in_resolution, table_with_owners}
 use Rattle.ob0_types_fields.proofs.OwnedModules.{agreeing_table_is_owner_table-holds}
 use Rattle.ob0_types_fields.proofs.OwnedTokens.{module-tokens, tokens}
@@ -77,8 +77,8 @@ names_relabelled f g (EndOfText ∷ xs) = names_relabelled f g xs
 
 pub leaves_mapped : {N M : Type 0} {s : Sort} (f : N → M) (g : ℕ → ℕ) (t : Tree N s) → identifier_names (mapped_tree f g t) ≡ map f (identifier_names t)
 leaves_mapped f g t =
-    leaves_spelled role.Declaring (mapped_tree f g t)
-    ∙ (ap lexeme_names (spell_mapped f g t) ∙ (names_relabelled f g (spell t) ∙ ap (map f) (sym (leaves_spelled role.Declaring t))))
+    leaves_spelled role.DeclaringName (mapped_tree f g t)
+    ∙ (ap lexeme_names (spell_mapped f g t) ∙ (names_relabelled f g (spell t) ∙ ap (map f) (sym (leaves_spelled role.DeclaringName t))))
 
 -- returns a field's name, marked by the ordinal of its record
 abbrev marked_by : ℕ → written.Name → written.Name

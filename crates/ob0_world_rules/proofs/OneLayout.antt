@@ -1,7 +1,7 @@
 -- Proves that a text is formatted in at most one way: two lists of edits are equal, and there are none if the result is
 -- too long.
 use Rattle.std.proofs.Common.{◌≡◌, ◌∙◌, ℕ, ◌≤◌, List, map, length, sym, arith, subst}
-use Rattle.ob0_scan.specs.Lexed.{LexesInto}
+use Rattle.ob0_scan.specs.TextLexemes.{LexesInto}
 use Rattle.ob0_scan.specs.TextWithTokens.{max_text_length}
 use Rattle.ob0_scan.proofs.Cuts.{cut_into_lexemes_is_unique}
 use Rattle.ob0_scan.proofs.Spans.{scan_is_unique}
@@ -19,7 +19,7 @@ use Rattle.ob0_layout.specs.LineRoles.{line_roles}
 use Rattle.ob0_edits.specs.ReportedErrors.{IsTextOfTree, IsWellTypedModule}
 use Rattle.ob0_edits.specs.Texts.{utf8}
 use Rattle.ob0_edits.specs.FormattingEdits.{FormatsText, FormattedTextIsTooLong, edits_of_changed_gaps, formatted_text_of_module}
-use Rattle.ob0_world_rules.specs.TextEdits.{replacements}
+use Rattle.ob0_world_rules.specs.TextEdits.{replacements_of_edits}
 use Rattle.ob0_world_rules.proofs.OneModule.{same_parts}
 use Rattle.ob0_world_rules.proofs.Trees.{same_tree}
 
@@ -46,7 +46,7 @@ module _ (text : List ℕ) (m n : IsWellTypedModule (utf8 text)) where
 pub lays_out_said : (unit : Unit) (indent : Indent) (text : List ℕ) (xs ys : List Edit) → FormatsText unit indent text xs → FormatsText unit indent text ys → map range_and_text xs ≡ map range_and_text ys
 lays_out_said unit indent text xs ys h k = h.changes ∙ (one_change text h.before k.before unit indent ∙ sym k.changes)
 
-pub lays_out_one : (unit : Unit) (indent : Indent) (text : List ℕ) (xs ys : List Edit) → FormatsText unit indent text xs → FormatsText unit indent text ys → replacements xs ≡ replacements ys
+pub lays_out_one : (unit : Unit) (indent : Indent) (text : List ℕ) (xs ys : List Edit) → FormatsText unit indent text xs → FormatsText unit indent text ys → replacements_of_edits xs ≡ replacements_of_edits ys
 lays_out_one unit indent text xs ys h k = same_parts xs ys (lays_out_said unit indent text xs ys h k)
 
 -- A text that has a module is no longer than `max_text_length`.

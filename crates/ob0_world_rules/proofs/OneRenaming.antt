@@ -15,40 +15,40 @@ use Rattle.ob0_text.specs.Texts.{offset_of}
 use Rattle.ob0_text.specs.Units.{width_of}
 use Rattle.ob0_tree.specs.declared.tree.Role.TheVariants as role
 use Rattle.ob0_tree.specs.ParsedModule.{named_tree_of}
-use Rattle.ob0_tree.specs.Places.{tree_with_names, token_text_at}
+use Rattle.ob0_tree.specs.TokenIndexLeaves.{tree_with_names, token_text_at}
 use Rattle.ob0_tree.specs.Tree.{Tree, identifiers, module_text, occurrences}
 use Rattle.ob0_edits_tokens.specs.Replacements.{replacement_at_token, range_and_text, text_after_replacement}
 use Rattle.ob0_language_names.specs.Names.{Name, same_name}
 use Rattle.ob0_language_names.specs.Occurrences.{NameConflict, IsFreeName, at_declaration, at_occurrence, first_name_conflict}
 use Rattle.ob0_language_names.specs.BlockParts.{module_block}
-use Rattle.ob0_scope_table.specs.Resolution.{Resolution, declaring_names, span_at, declaration_token}
+use Rattle.ob0_scope_table.specs.Resolution.{Resolution, declaring_names, token_span, declaration_token}
 use Rattle.ob0_scope.proofs.FirstCaptures.{name_is_free_iff_no_conflict-holds}
-use Rattle.ob0_scope.specs.Renames.{namesake}
-use Rattle.ob0_scope.specs.NamesAtPlaces.{is_bound_to}
+use Rattle.ob0_scope.specs.Renames.{namesake_ordinal}
+use Rattle.ob0_scope.specs.NamesAtPlaces.{identifier_is_bound_to_declaration}
 use Rattle.ob0_edits_tokens.specs.Ranges.{range_of}
-use Rattle.ob0_language_fields.specs.Renaming.{is_duplicate_field_name}
-use Rattle.ob0_types_fields.specs.Identifiers.{fields_declared_in_block, field_identifiers, field_at_offset, first_token, tokens_of_field}
+use Rattle.ob0_language_fields.specs.SingleFieldRenaming.{is_duplicate_field_name}
+use Rattle.ob0_types_fields.specs.FieldIdentifiers.{fields_declared_in_block, field_identifiers, field_at_offset, first_token, tokens_of_field}
 use Rattle.ob0_edits.specs.AnalysisAnswers.{IsResolvedWellTypedModule}
 use Rattle.ob0_edits.specs.Texts.{utf8}
-use Rattle.ob0_rename.specs.Renaming.{Renaming, RenameTarget, declaration, record_field, field_tokens_to_rename, renaming_target, target_of_name_or_field, nothing, occurrence_range, conflicting_field_range, conflicting_declaration_range, predeclared, renaming_of, text_after_renaming, tokens_to_rename}
+use Rattle.ob0_rename.specs.Renaming.{Renaming, RenameTarget, declaration, record_field, field_tokens_to_rename, renaming_target, target_of_name_or_field, nothing, occurrence_range, conflicting_field_range, conflicting_declaration_range, predeclared, renaming_at_place, text_after_renaming, tokens_to_rename}
 use Rattle.ob0_rename.specs.Answers.{AreRenameEdits, IsRenameRefusal, IsFirstRefusalForDeclaration, IsFirstRefusalForField, IsFirstRefusalForTarget, RenamesDeclaration, RenamesField, WritesNewName}
 use Rattle.ob0_edits.specs.Renamings.{IsRenameRefusedInText, RenamesInText}
-use Rattle.ob0_world_rules.specs.TextEdits.{replacements}
+use Rattle.ob0_world_rules.specs.TextEdits.{replacements_of_edits}
 use Rattle.ob0_world_rules.proofs.OneModule.{Same, same_module, one_named_tree, one_name, identifiers_of, same_parts}
 use Rattle.ob0_world_rules.proofs.OneFields.{one_list_of_fields}
 
 -- holds if the declaration of d has this new name at its declaring token, by the tokens and the tree over them
 abbrev is_declared_in : TextWithTokens → Tree ℕ module_text → ℕ → Name → Bool
-is_declared_in s t d new = elim (declaration_token (declaring_names (identifiers role.Declaring t)) d) [ Some token ↦ same_name (token_text_at s token) new | None ↦ false ]
+is_declared_in s t d new = elim (declaration_token (declaring_names (identifiers role.DeclaringName t)) d) [ Some token ↦ same_name (token_text_at s token) new | None ↦ false ]
 
 abbrev tokens_in : TextWithTokens → Tree ℕ module_text → ℕ → Name → List ℕ
-tokens_in s t d new = if is_declared_in s t d new then [] else map (λ x. x.0.1) (filter (is_bound_to true d) (identifiers_of s t))
+tokens_in s t d new = if is_declared_in s t d new then [] else map (λ x. x.0.1) (filter (identifier_is_bound_to_declaration true d) (identifiers_of s t))
 
 -- ---- the refusals, by their reasons
 
 module _ (unit : Unit) (text : List ℕ) (place : Position) (new : Name) (names : Resolution) where
   abbrev of_names : Renaming
-  of_names = renaming_of unit text names place new
+  of_names = renaming_at_place unit text names place new
 
   abbrev here : Tree Name module_text
   here = named_tree_of names.module_read
@@ -110,10 +110,10 @@ module _ (unit : Unit) (text : List ℕ) (place : Position) (new : Name) (names 
 
 module _ (unit : Unit) (text : List ℕ) (place : Position) (new : Name) (names others : Resolution) (read : IsResolvedWellTypedModule (utf8 text) names) (again : IsResolvedWellTypedModule (utf8 text) others) where
   abbrev r : Renaming
-  r = renaming_of unit text names place new
+  r = renaming_at_place unit text names place new
 
   abbrev q : Renaming
-  q = renaming_of unit text others place new
+  q = renaming_at_place unit text others place new
 
   e : Same names.module_read others.module_read
   e = same_module (utf8 text) names.module_read others.module_read read.scan read.well_typed.resolved.parsed again.scan again.well_typed.resolved.parsed
@@ -230,15 +230,15 @@ module _ (unit : Unit) (text : List ℕ) (place : Position) (new : Name) (names 
 
   same_other : (d : ℕ) → conflicting_declaration_range r d ≡ conflicting_declaration_range q d
   same_other d = λ i.
-      option_map (λ token. range_of (width_of unit) text (span_at (e.source i) token))
-      (option_and_then (declaration_token (declaring_names (identifiers role.Declaring (e.tree i)))) (namesake (tree_with_names (e.source i) (e.tree i)) d new))
+      option_map (λ token. range_of (width_of unit) text (token_span (e.source i) token))
+      (option_and_then (declaration_token (declaring_names (identifiers role.DeclaringName (e.tree i)))) (namesake_ordinal (tree_with_names (e.source i) (e.tree i)) d new))
 
   same_occurrence : (k : ℕ) → occurrence_range r k ≡ occurrence_range q k
-  same_occurrence k = λ i. option_map (λ token. range_of (width_of unit) text (span_at (e.source i) token)) (slice_get (occurrences (e.tree i)) k)
+  same_occurrence k = λ i. option_map (λ token. range_of (width_of unit) text (token_span (e.source i) token)) (slice_get (occurrences (e.tree i)) k)
 
   same_other_field : (k : ℕ) → conflicting_field_range r k ≡ conflicting_field_range q k
   same_other_field k = λ i.
-      option_map (λ token. range_of (width_of unit) text (span_at (e.source i) token)) (first_token (tokens_of_field (e.source i) k new (fields_declared_in_block 0 (module_block (e.tree i)))))
+      option_map (λ token. range_of (width_of unit) text (token_span (e.source i) token)) (first_token (tokens_of_field (e.source i) k new (fields_declared_in_block 0 (module_block (e.tree i)))))
 
   same_captured : (d : ℕ) → first_name_conflict (named_tree_of names.module_read) d new ≡ first_name_conflict (named_tree_of others.module_read) d new
   same_captured d = ap (λ t. first_name_conflict t d new) tree_is_unique
@@ -341,7 +341,7 @@ module _ (unit : Unit) (text : List ℕ) (place : Position) (new : Name) (names 
 pub renames_parts : (unit : Unit) (text : List ℕ) (place : Position) (new : Name) (es fs : List Edit) → RenamesInText unit text place new es → RenamesInText unit text place new fs → map range_and_text es ≡ map range_and_text fs
 renames_parts unit text place new es fs h k = edits_one unit text place new h.names k.names h.read k.read es fs h.are_edits k.are_edits
 
-pub renames_one : (unit : Unit) (text : List ℕ) (place : Position) (new : Name) (es fs : List Edit) → RenamesInText unit text place new es → RenamesInText unit text place new fs → replacements es ≡ replacements fs
+pub renames_one : (unit : Unit) (text : List ℕ) (place : Position) (new : Name) (es fs : List Edit) → RenamesInText unit text place new es → RenamesInText unit text place new fs → replacements_of_edits es ≡ replacements_of_edits fs
 renames_one unit text place new es fs h k = same_parts es fs (renames_parts unit text place new es fs h k)
 
 pub renames_or_refused : (unit : Unit) (text : List ℕ) (place : Position) (new : Name) (es : List Edit) (why : EditRefusal) → RenamesInText unit text place new es → IsRenameRefusedInText unit text place new why → ⊥

@@ -7,9 +7,9 @@ use Rattle.std.proofs.lemmas.List.{map-append}
 use Rattle.ob0_text.specs.OpenDocuments.{OpenDocuments, Opened, Changed, Lost, Closed, documents_after_event, document_at}
 use Rattle.ob0_world_rules.specs.ClientAndServer.{OpenDocument, MessageToServer, notifies, requests, MessageToEditor, PublicationWithText, ClientAndServer, documents_after_message}
 use Rattle.ob0_world_rules.specs.ServerReplies.{SendsDiagnostics, RepliesToMessage}
-use Rattle.ob0_world_rules.specs.Happens.{ServerTakesFirstMessage}
+use Rattle.ob0_world_rules.specs.Events.{ServerTakesFirstMessage}
 use Rattle.ob0_world_rules.specs.MirroredDocuments.{in_step_document}
-use Rattle.ob0_world_rules.specs.PublicationsInOrder.{AnnouncedDocument, announced_document_if_open, uris_and_versions_announced_by, uris_and_versions_announced_in, uri_and_version_of, AreMadeForDocumentsInOrder}
+use Rattle.ob0_world_rules.specs.PublicationsAreInOrder.{AnnouncedDocument, announced_document_if_open, uri_and_version_announced_by_message, uris_and_versions_announced_in_queue, uri_and_version_of, AreMadeForDocumentsInOrder}
 
 -- ---- the documents that wait for the server
 
@@ -28,17 +28,17 @@ Awaits held (requests number uri ask) now = now ≡ []
 abbrev pub Pending : OpenDocuments → List MessageToServer → List AnnouncedDocument → Type 0
 Pending held [] waiting = waiting ≡ []
 Pending held (m ∷ queue) waiting =
-    (now : List AnnouncedDocument) × (later : List AnnouncedDocument) × (waiting ≡ now ++ later) × (Awaits held m now × (map uri_and_version_of now ≡ uris_and_versions_announced_by m)) × Pending (documents_after_message held m) queue later
+    (now : List AnnouncedDocument) × (later : List AnnouncedDocument) × (waiting ≡ now ++ later) × (Awaits held m now × (map uri_and_version_of now ≡ uri_and_version_announced_by_message m)) × Pending (documents_after_message held m) queue later
 
-pub pending_push : (held : OpenDocuments) (queue : List MessageToServer) (m : MessageToServer) (waiting now : List AnnouncedDocument) → Pending held queue waiting → Awaits (fold documents_after_message held queue) m now × (map uri_and_version_of now ≡ uris_and_versions_announced_by m) → Pending held (queue ++ m ∷ []) (waiting ++ now)
+pub pending_push : (held : OpenDocuments) (queue : List MessageToServer) (m : MessageToServer) (waiting now : List AnnouncedDocument) → Pending held queue waiting → Awaits (fold documents_after_message held queue) m now × (map uri_and_version_of now ≡ uri_and_version_announced_by_message m) → Pending held (queue ++ m ∷ []) (waiting ++ now)
 pending_push held [] m waiting now is awaits = (now, [], ap (λ ts. ts ++ now) is ∙ sym (append-nil now), awaits, refl)
 pending_push held (x ∷ queue) m waiting now (first, later, is, so, rest) awaits =
     (first, later ++ now, ap (λ ts. ts ++ now) is ∙ append_assoc first later now, so, pending_push (documents_after_message held x) queue m later now rest awaits)
 
-pub pending_named : (held : OpenDocuments) (queue : List MessageToServer) (waiting : List AnnouncedDocument) → Pending held queue waiting → map uri_and_version_of waiting ≡ uris_and_versions_announced_in queue
+pub pending_named : (held : OpenDocuments) (queue : List MessageToServer) (waiting : List AnnouncedDocument) → Pending held queue waiting → map uri_and_version_of waiting ≡ uris_and_versions_announced_in_queue queue
 pending_named held [] waiting is = ap (map uri_and_version_of) is
 pending_named held (m ∷ queue) waiting (now, later, is, so, rest) =
-    ap (map uri_and_version_of) is ∙ map-append uri_and_version_of now later ∙ ap (λ ns. ns ++ map uri_and_version_of later) so.1 ∙ ap (λ ns. uris_and_versions_announced_by m ++ ns) (pending_named (documents_after_message held m) queue later rest)
+    ap (map uri_and_version_of) is ∙ map-append uri_and_version_of now later ∙ ap (λ ns. ns ++ map uri_and_version_of later) so.1 ∙ ap (λ ns. uri_and_version_announced_by_message m ++ ns) (pending_named (documents_after_message held m) queue later rest)
 
 -- ---- publications when the server takes a message
 

@@ -11,20 +11,20 @@ use Rattle.std.proofs.lemmas.Option.{cond_some, same_Some, none-some}
 use Rattle.std.proofs.lemmas.List.Elements.{All-nil, All-head, All-tail, All-weaker, All-push}
 use Rattle.ob0_text.specs.declared.position_types.Unit.{Unit}
 use Rattle.ob0_text.specs.OpenDocuments.{TextChange}
-use Rattle.ob0_world_rules.specs.ClientAndServer.{OpenDocument, EditorDocuments, SentAsk, Answer, Editor, new_editor, request_with_number, editor_document_at, Applied}
+use Rattle.ob0_world_rules.specs.ClientAndServer.{OpenDocument, EditorDocuments, SentAsk, ReceivedAnswer, Editor, new_editor, sent_ask_with_number, editor_document_with_uri, Applied}
 use Rattle.ob0_world_rules.specs.Asks.{Ask}
-use Rattle.ob0_world_rules.specs.EditorActs.{version_as_natural, next_version, is_same_version, opening_result, rewriting_result, closing_result, asking_result, document_if_unchanged_since}
+use Rattle.ob0_world_rules.specs.EditorActs.{version_as_natural, next_version, is_same_version, result_of_opening_document, result_of_changing_text, result_of_closing_document, result_of_sending_ask, document_if_unchanged_since_ask}
 use Rattle.ob0_world_rules.proofs.UriLaws.{get_put, get_removed, same_uri}
 
 -- states that a request was made earlier: its opening's number isn't fresh, and in that opening versions have only
 -- risen
 record Past (e : Editor) (a : SentAsk) : Type 0 where
   known : a.opening ≤ e.openings
-  risen : (d : OpenDocument) → editor_document_at e a.uri ≡ Some d → d.opening ≡ a.opening → version_as_natural a.version ≤ version_as_natural d.version
+  risen : (d : OpenDocument) → editor_document_with_uri e a.uri ≡ Some d → d.opening ≡ a.opening → version_as_natural a.version ≤ version_as_natural d.version
 
 -- states that the document of the request is d, with the same opening and the same version
 pub record Same (e : Editor) (a : SentAsk) (d : OpenDocument) : Type 0 where
-  pub at : editor_document_at e a.uri ≡ Some d
+  pub at : editor_document_with_uri e a.uri ≡ Some d
   pub opening : d.opening ≡ a.opening
   pub version : d.version ≡ a.version
 
@@ -35,10 +35,10 @@ same_versions (pos n) (negsuc m) is = absurd (cc)
 same_versions (negsuc n) (pos m) is = absurd (cc)
 same_versions (negsuc n) (negsuc m) is = ap negsuc (eqb-true n m is)
 
-pub same_from : (e : Editor) (a : SentAsk) (d : OpenDocument) → option_and_then (document_if_unchanged_since a) (editor_document_at e a.uri) ≡ Some d → Same e a d
-same_from e a d h = go (editor_document_at e a.uri) refl h
+pub same_from : (e : Editor) (a : SentAsk) (d : OpenDocument) → option_and_then (document_if_unchanged_since_ask a) (editor_document_with_uri e a.uri) ≡ Some d → Same e a d
+same_from e a d h = go (editor_document_with_uri e a.uri) refl h
   where
-    go : (o : Option OpenDocument) → editor_document_at e a.uri ≡ o → option_and_then (document_if_unchanged_since a) o ≡ Some d → Same e a d
+    go : (o : Option OpenDocument) → editor_document_with_uri e a.uri ≡ o → option_and_then (document_if_unchanged_since_ask a) o ≡ Some d → Same e a d
     go None is h = absurd (none-some d h)
     go (Some x) is h =
         let both : (x.opening == a.opening && is_same_version x.version a.version ≡ true) × (x ≡ d) = cond_some _ x d h in
@@ -74,7 +74,7 @@ left docs uri q d h = go (bytes_eq q uri) (sym (get_removed docs uri q) ∙ h)
     go false h = h
 
 -- Changing the editor's requests or answers doesn't change the document of any request.
-later_documents : (e : Editor) (list : List SentAsk) (kept : List Answer) → Later e (record e { requested = list; answers = kept })
+later_documents : (e : Editor) (list : List SentAsk) (kept : List ReceivedAnswer) → Later e (record e { requested = list; answers = kept })
 later_documents e list kept =
     record {
       past = λ a past. record { known = past.known; risen = past.risen };
@@ -99,7 +99,7 @@ later_open e uri new fresh =
         omega arith
 
 -- Revising a document doesn't give an earlier request its document back, since the version rises.
-later_revise : (e : Editor) (uri : List ℕ) (d new : OpenDocument) → new.opening ≡ d.opening → version_as_natural d.version < version_as_natural new.version → editor_document_at e uri ≡ Some d → Later e (record e { documents = map_of.insert e.documents uri new })
+later_revise : (e : Editor) (uri : List ℕ) (d new : OpenDocument) → new.opening ≡ d.opening → version_as_natural d.version < version_as_natural new.version → editor_document_with_uri e uri ≡ Some d → Later e (record e { documents = map_of.insert e.documents uri new })
 later_revise e uri d new same_opening rises was_open =
     record {
       past = λ a past. record {
@@ -117,7 +117,7 @@ later_revise e uri d new same_opening rises was_open =
     }
   where
     risen_before : (a : SentAsk) → Past e a → (x : OpenDocument) → a.uri ≡ uri → new ≡ x → x.opening ≡ a.opening → version_as_natural a.version ≤ version_as_natural d.version
-    risen_before a past x same is opening = past.risen d (ap (editor_document_at e) same ∙ was_open) (sym same_opening ∙ ap (λ y. y.opening) is ∙ opening)
+    risen_before a past x same is opening = past.risen d (ap (editor_document_with_uri e) same ∙ was_open) (sym same_opening ∙ ap (λ y. y.opening) is ∙ opening)
 
 later_close : (e : Editor) (uri : List ℕ) → Later e (record e { documents = map_of.remove e.documents uri })
 later_close e uri =
@@ -134,7 +134,7 @@ record IsKnown (e : Editor) (a : SentAsk) : Type 0 where
   same_text : (d : OpenDocument) → Same e a d → d.text ≡ a.text
 
 pub record Knows (e : Editor) : Type 0 where
-  openings : (uri : List ℕ) (d : OpenDocument) → editor_document_at e uri ≡ Some d → d.opening ≤ e.openings
+  openings : (uri : List ℕ) (d : OpenDocument) → editor_document_with_uri e uri ≡ Some d → d.opening ≤ e.openings
   asks : All (IsKnown e) e.requested
 
 later_asks : (e e' : Editor) → Later e e' → (list : List SentAsk) → All (IsKnown e) list → All (IsKnown e') list
@@ -147,47 +147,47 @@ known_numbered e (x ∷ list) zero a all h = subst (IsKnown e) (same_Some x a h)
 known_numbered e (x ∷ list) (suc k) a all h = known_numbered e list k a (All-tail (IsKnown e) x list all) h
 
 -- A document with the opening and the version of request k has the text of that request.
-pub same_text : (e : Editor) (k : ℕ) (a : SentAsk) (d : OpenDocument) → Knows e → request_with_number e.requested k ≡ Some a → Same e a d → d.text ≡ a.text
+pub same_text : (e : Editor) (k : ℕ) (a : SentAsk) (d : OpenDocument) → Knows e → sent_ask_with_number e.requested k ≡ Some a → Same e a d → d.text ≡ a.text
 same_text e zero a d knows h same = absurd (none-some a h)
 same_text e (suc k) a d knows h same = (known_numbered e e.requested k a knows.asks h).same_text d same
 
 pub knows_first : (unit : Unit) → Knows (new_editor unit)
 knows_first unit = record { openings = λ uri d at. absurd (none-some d (sym (map_of.get-empty (slice_cmp nat_cmp) uri) ∙ at)); asks = All-nil (IsKnown (new_editor unit)) }
 
-pub knows_other : (e : Editor) (list : List Answer) → Knows e → Knows (record e { answers = list })
+pub knows_other : (e : Editor) (list : List ReceivedAnswer) → Knows e → Knows (record e { answers = list })
 knows_other e list knows = record { openings = knows.openings; asks = later_asks e (record e { answers = list }) (later_documents e e.requested list) e.requested knows.asks }
 
-pub knows_open : (e : Editor) (uri text : List ℕ) → Knows e → Knows (opening_result e uri text).editor
+pub knows_open : (e : Editor) (uri text : List ℕ) → Knows e → Knows (result_of_opening_document e uri text).editor
 knows_open e uri text knows =
     let d : OpenDocument = record { version = pos 1; text = text; opening = e.openings + 1 } in
     record {
       openings = λ q x at. found e.documents uri q d x (x.opening ≤ e.openings + 1) at
           (λ same is. subst (λ y. y.opening ≤ e.openings + 1) is (omega arith))
           (λ was. let known : x.opening ≤ e.openings = knows.openings q x was in omega arith);
-      asks = later_asks e (opening_result e uri text).editor (later_open e uri d refl) e.requested knows.asks;
+      asks = later_asks e (result_of_opening_document e uri text).editor (later_open e uri d refl) e.requested knows.asks;
     }
 
-pub knows_rewrite : (e : Editor) (uri : List ℕ) (d : OpenDocument) (text : List ℕ) (how : List TextChange) (applied : List Applied) → editor_document_at e uri ≡ Some d → Knows e → Knows (rewriting_result e uri d text how applied).editor
+pub knows_rewrite : (e : Editor) (uri : List ℕ) (d : OpenDocument) (text : List ℕ) (how : List TextChange) (applied : List Applied) → editor_document_with_uri e uri ≡ Some d → Knows e → Knows (result_of_changing_text e uri d text how applied).editor
 knows_rewrite e uri d text how applied was_open knows =
     let new : OpenDocument = record d { version = next_version d.version; text = text } in
     record {
       openings = λ q x at. found e.documents uri q new x (x.opening ≤ e.openings) at
           (λ same is. subst (λ y. y.opening ≤ e.openings) is (knows.openings uri d was_open))
           (λ was. knows.openings q x was);
-      asks = later_asks e (rewriting_result e uri d text how applied).editor (later_revise e uri d new refl (omega arith) was_open) e.requested knows.asks;
+      asks = later_asks e (result_of_changing_text e uri d text how applied).editor (later_revise e uri d new refl (omega arith) was_open) e.requested knows.asks;
     }
 
-pub knows_close : (e : Editor) (uri : List ℕ) → Knows e → Knows (closing_result e uri).editor
+pub knows_close : (e : Editor) (uri : List ℕ) → Knows e → Knows (result_of_closing_document e uri).editor
 knows_close e uri knows =
     record {
       openings = λ q x at. knows.openings q x (left e.documents uri q x at);
-      asks = later_asks e (closing_result e uri).editor (later_close e uri) e.requested knows.asks;
+      asks = later_asks e (result_of_closing_document e uri).editor (later_close e uri) e.requested knows.asks;
     }
 
-pub knows_ask : (e : Editor) (uri : List ℕ) (ask : Ask) (d : OpenDocument) → editor_document_at e uri ≡ Some d → Knows e → Knows (asking_result e uri ask d).editor
+pub knows_ask : (e : Editor) (uri : List ℕ) (ask : Ask) (d : OpenDocument) → editor_document_with_uri e uri ≡ Some d → Knows e → Knows (result_of_sending_ask e uri ask d).editor
 knows_ask e uri ask d was_open knows =
     let a : SentAsk = record { ask = ask; uri = uri; text = d.text; opening = d.opening; version = d.version } in
-    let new : Editor = (asking_result e uri ask d).editor in
+    let new : Editor = (result_of_sending_ask e uri ask d).editor in
     record {
       openings = knows.openings;
       asks = All-push (IsKnown new) e.requested a (later_asks e new (later_documents e (e.requested ++ a ∷ []) e.answers) e.requested knows.asks)

@@ -13,10 +13,10 @@ use Rattle.ob0_text.specs.Units.{width_of}
 use Rattle.ob0_edits.specs.Renamings.{RenamesInText, IsRenameRefusedInText}
 use Rattle.ob0_edits.specs.InliningEdits.{InlinesInText, IsInliningRefusedInText}
 use Rattle.ob0_edits.specs.FormattingEdits.{FormatsText, FormattedTextIsTooLong}
-pub use Rattle.ob0_edits.specs.declared.inlinings.Inlining.{Inlining}
-pub use Rattle.ob0_edits.specs.declared.inlinings.Inlining.TheVariants.{OneUse, Everywhere}
+pub use Rattle.ob0_edits.specs.declared.inline_question.InliningKind.{InliningKind}
+pub use Rattle.ob0_edits.specs.declared.inline_question.InliningKind.TheVariants.{OneUse, Everywhere}
 use Rattle.ob0_world_rules.specs.WellTypedTexts.{WellTypedText}
-use Rattle.ob0_world_rules.specs.TextEdits.{Replacement, replacements}
+use Rattle.ob0_world_rules.specs.TextEdits.{Replacement, replacements_of_edits}
 use Rattle.ob0_world_rules.specs.Asks.{Ask, rename, inline_here, inline_all, format, clamped_indent}
 
 -- returns the byte offset of a position in this text, counted from 0
@@ -25,8 +25,8 @@ position_offset unit text position = offset_of (width_of unit) text position
 
 -- States that these edits inline the constant whose name is at this position. `how` says whether
 -- they replace only the use at this position, or all uses.
-abbrev pub InlinesAt : Inlining → Unit → List ℕ → Position → List Edit → Type 0
-InlinesAt how unit text position edits =
+abbrev pub InlinesConstantAtPosition : InliningKind → Unit → List ℕ → Position → List Edit → Type 0
+InlinesConstantAtPosition how unit text position edits =
     (found : Vec Edit Global)
     × InlinesInText how unit text (position_offset unit text position) found
     × (edits ≡ found.items)
@@ -35,8 +35,8 @@ InlinesAt how unit text position edits =
 -- or field, inline a constant at one use or everywhere, or format the text.
 abbrev pub AreRequestedEdits : Unit → List ℕ → Ask → List Edit → Type 0
 AreRequestedEdits unit text (rename position name) edits = RenamesInText unit text position name edits
-AreRequestedEdits unit text (inline_here position) edits = InlinesAt OneUse unit text position edits
-AreRequestedEdits unit text (inline_all position) edits = InlinesAt Everywhere unit text position edits
+AreRequestedEdits unit text (inline_here position) edits = InlinesConstantAtPosition OneUse unit text position edits
+AreRequestedEdits unit text (inline_all position) edits = InlinesConstantAtPosition Everywhere unit text position edits
 AreRequestedEdits unit text (format indent) edits = FormatsText unit (clamped_indent indent) text edits
 
 -- states that the server refuses this request for edits: the new name or the inlining isn't
@@ -54,7 +54,7 @@ RefusesAsk unit text (format indent) = FormattedTextIsTooLong (clamped_indent in
 -- requested edits, or none if the request is refused or the text isn't a well-typed module.
 abbrev pub IsAnswerForText : Unit → List ℕ → Ask → List Replacement → Type 0
 IsAnswerForText unit text ask given =
-    ((edits : List Edit) × AreRequestedEdits unit text ask edits × (given ≡ replacements edits))
+    ((edits : List Edit) × AreRequestedEdits unit text ask edits × (given ≡ replacements_of_edits edits))
     ⊎ ((RefusesAsk unit text ask ⊎ ¬ WellTypedText text) × (given ≡ []))
 
 -- States that the edits `given` answer this request for edits (`ask`) of the document. If the
@@ -65,5 +65,5 @@ IsAnswerForDocument unit (Some OutOfStep) ask given = given ≡ []
 IsAnswerForDocument unit None ask given = given ≡ []
 
 -- States that a list of diagnostics is empty (`empty`) exactly if the text is a well-typed module.
-abbrev pub IsEmptyExactlyIfWellTyped : List ℕ → Bool → Type 0
-IsEmptyExactlyIfWellTyped text empty = IsTrue empty ↔ WellTypedText text
+abbrev pub NoDiagnosticsExactlyIfWellTyped : List ℕ → Bool → Type 0
+NoDiagnosticsExactlyIfWellTyped text empty = IsTrue empty ↔ WellTypedText text

@@ -33,7 +33,7 @@ pub record SentAsk : Type 0 where
 
 -- an answer that the editor has received and not yet used: the number of its ask (request for
 -- edits), and the edits
-pub record Answer : Type 0 where
+pub record ReceivedAnswer : Type 0 where
   pub number : ℕ
   pub edits : List Replacement
 
@@ -47,7 +47,7 @@ pub record Editor : Type 0 where
   pub openings : ℕ
   -- the requests for edits that were sent, in order; the first has number 1
   pub requested : List SentAsk
-  pub answers : List Answer
+  pub answers : List ReceivedAnswer
 
 -- returns an editor without open documents
 abbrev pub new_editor : Unit → Editor
@@ -56,13 +56,13 @@ new_editor unit =
 
 -- returns the sent request for edits with this number, counted from 1, or None if there is no such
 -- request
-abbrev pub request_with_number : List SentAsk → ℕ → Option SentAsk
-request_with_number requested zero = None
-request_with_number requested (suc k) = slice_get requested k
+abbrev pub sent_ask_with_number : List SentAsk → ℕ → Option SentAsk
+sent_ask_with_number requested zero = None
+sent_ask_with_number requested (suc k) = slice_get requested k
 
 -- returns the open document with this uri, or None if no document with this uri is open
-abbrev pub editor_document_at : Editor → List ℕ → Option OpenDocument
-editor_document_at e uri = map_of.get e.documents uri
+abbrev pub editor_document_with_uri : Editor → List ℕ → Option OpenDocument
+editor_document_with_uri e uri = map_of.get e.documents uri
 
 -- ---- the messages in the queues
 

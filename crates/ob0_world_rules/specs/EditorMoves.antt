@@ -5,9 +5,9 @@ use Rattle.std.specs.FinMap as map_of
 use Rattle.ob0_text.specs.OpenDocuments.{TextChange, Opened, Changed}
 use Rattle.ob0_world_rules.specs.TextEdits.{Replacement, text_after_edits, text_after_changes}
 use Rattle.ob0_world_rules.specs.Asks.{Ask}
-use Rattle.ob0_world_rules.specs.ClientAndServer.{OpenDocument, SentAsk, Editor, request_with_number, editor_document_at, MessageToServer, notifies}
-use Rattle.ob0_world_rules.specs.EditorActs.{ActResult, result_without_messages, result_with_message, closing_result, asking_result, edits_of_answer, editor_without_answer}
-use Rattle.ob0_world_rules.specs.PublicationsInOrder.{AnnouncedDocument}
+use Rattle.ob0_world_rules.specs.ClientAndServer.{OpenDocument, SentAsk, Editor, sent_ask_with_number, editor_document_with_uri, MessageToServer, notifies}
+use Rattle.ob0_world_rules.specs.EditorActs.{ActResult, result_without_messages, result_with_message, result_of_closing_document, result_of_sending_ask, edits_of_answer_to_request, editor_without_answer}
+use Rattle.ob0_world_rules.specs.PublicationsAreInOrder.{AnnouncedDocument}
 
 -- a revision of a document: its next version and text, and the changes that are sent to the server
 pub record Revision : Type 0 where
@@ -15,19 +15,19 @@ pub record Revision : Type 0 where
   pub text : List ℕ
   pub sent_changes : List TextChange
 
--- A move of an editor. It differs from an act of the model's editor (`Act`) in two ways: a
+-- A move of an editor. It differs from an act of the model's editor (`EditorAct`) in two ways: a
 -- document may get any version, and changes are given as a list of revisions.
-pub data Move : Type 0 where
+pub data EditorMove : Type 0 where
   -- the uri, the version and the text
-  editor_opens : List ℕ → ℤ → List ℕ → Move
+  editor_opens : List ℕ → ℤ → List ℕ → EditorMove
   -- the user's changes of an open document; each revision is sent as one notification
-  editor_revises : List ℕ → List Revision → Move
-  editor_closes : List ℕ → Move
-  editor_asks : List ℕ → Ask → Move
+  editor_revises : List ℕ → List Revision → EditorMove
+  editor_closes : List ℕ → EditorMove
+  editor_asks : List ℕ → Ask → EditorMove
   -- `editor_applies` makes the edits of the answer to the request with this number, and sends them
   -- as revisions; `editor_discards` discards the answer
-  editor_applies : ℕ → List Revision → Move
-  editor_discards : ℕ → Move
+  editor_applies : ℕ → List Revision → EditorMove
+  editor_discards : ℕ → EditorMove
 
 -- ---- revisions
 
@@ -48,7 +48,7 @@ RevisesDocument e uri [] new announced = (new ≡ e) × (announced ≡ [])
 RevisesDocument e uri (r ∷ more) new announced =
     (d : OpenDocument)
     × (later : List AnnouncedDocument)
-    × (editor_document_at e uri ≡ Some d)
+    × (editor_document_with_uri e uri ≡ Some d)
     × (text_after_changes e.unit (Some d.text) r.sent_changes ≡ Some r.text)
     × RevisesDocument (editor_with_document e uri (revised_document d r)) uri more new later
     × (announced ≡ record { uri = uri; document = revised_document d r } ∷ later)
@@ -71,11 +71,11 @@ changes_of_revisions (r ∷ more) = r.sent_changes ++ changes_of_revisions more
 pub record AppliesAnswer (e : Editor) (k : ℕ) (revisions : List Revision) (done : ActResult)
     (announced : List AnnouncedDocument) : Type 0 where
   pub edits : List Replacement
-  pub answered : edits_of_answer k e.answers ≡ Some edits
+  pub answered : edits_of_answer_to_request k e.answers ≡ Some edits
   pub requested : SentAsk
-  pub numbered : request_with_number e.requested k ≡ Some requested
+  pub numbered : sent_ask_with_number e.requested k ≡ Some requested
   pub document : OpenDocument
-  pub is_open : editor_document_at e requested.uri ≡ Some document
+  pub is_open : editor_document_with_uri e requested.uri ≡ Some document
   pub same_text : document.text ≡ requested.text
   pub text : List ℕ
   pub makes : text_after_edits e.unit document.text edits ≡ Some text
@@ -96,24 +96,24 @@ pub record AppliesAnswer (e : Editor) (k : ℕ) (revisions : List Revision) (don
 
 -- returns the result of opening the document `d`, with its version, text and opening number, under
 -- this uri; a document that is already open may be opened again
-abbrev pub opening_result_for_document : OpenDocument → Editor → List ℕ → ActResult
-opening_result_for_document d e uri =
+abbrev pub result_of_opening_given_document : OpenDocument → Editor → List ℕ → ActResult
+result_of_opening_given_document d e uri =
     result_with_message (record (editor_with_document e uri d) { openings = d.opening })
     (notifies (Opened uri d.version d.text)) []
 
 -- States that a move may have this result and announce these documents to the server. Only an open
 -- document can be revised or asked about.
-abbrev pub IsAllowedMove : Editor → Move → ActResult → List AnnouncedDocument → Type 0
+abbrev pub IsAllowedMove : Editor → EditorMove → ActResult → List AnnouncedDocument → Type 0
 IsAllowedMove e (editor_opens uri version text) done announced =
     let d : OpenDocument = record { version = version; text = text; opening = e.openings + 1 } in
-    (done ≡ opening_result_for_document d e uri)
+    (done ≡ result_of_opening_given_document d e uri)
     × (announced ≡ record { uri = uri; document = d } ∷ [])
 IsAllowedMove e (editor_revises uri revisions) done announced =
     (new : Editor)
     × RevisesDocument e uri revisions new announced
     × (done ≡ record { editor = new; sent = notifications_of_revisions uri revisions; applied = [] })
-IsAllowedMove e (editor_closes uri) done announced = (done ≡ closing_result e uri) × (announced ≡ [])
+IsAllowedMove e (editor_closes uri) done announced = (done ≡ result_of_closing_document e uri) × (announced ≡ [])
 IsAllowedMove e (editor_asks uri ask) done announced =
-    (d : OpenDocument) × (editor_document_at e uri ≡ Some d) × (done ≡ asking_result e uri ask d) × (announced ≡ [])
+    (d : OpenDocument) × (editor_document_with_uri e uri ≡ Some d) × (done ≡ result_of_sending_ask e uri ask d) × (announced ≡ [])
 IsAllowedMove e (editor_applies k revisions) done announced = AppliesAnswer e k revisions done announced
 IsAllowedMove e (editor_discards k) done announced = (done ≡ result_without_messages (editor_without_answer e k)) × (announced ≡ [])

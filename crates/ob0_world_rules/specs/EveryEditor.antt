@@ -5,13 +5,13 @@ use Rattle.std.specs.Prelude.{◌≡◌, List, [], ◌∷◌, ◌++◌, map, Opt
 use Rattle.ob0_text.specs.declared.position_types.Unit.{Unit}
 use Rattle.ob0_text.specs.OpenDocuments.{OpenDocuments, no_open_documents}
 use Rattle.ob0_world_rules.specs.ClientAndServer.{Editor, new_editor, MessageToServer, notifies, requests, MessageToEditor, Applied, PublicationWithText, ClientAndServer, start, documents_after_message}
-use Rattle.ob0_world_rules.specs.EditorActs.{ActResult, editor_after_reading}
+use Rattle.ob0_world_rules.specs.EditorActs.{ActResult, editor_after_message}
 use Rattle.ob0_world_rules.specs.ServerReplies.{RepliesToMessage}
-use Rattle.ob0_world_rules.specs.Happens.{Event, IsCourse}
+use Rattle.ob0_world_rules.specs.Events.{Event, IsCourse}
 use Rattle.ob0_world_rules.specs.Headline.{GuaranteesHold, PublicationsAreUpToDate}
 use Rattle.ob0_world_rules.specs.MirroredDocuments.{ServerWillMirrorEditor}
-use Rattle.ob0_world_rules.specs.PublicationsInOrder.{AnnouncedDocument, AreMadeForDocumentsInOrder, uris_and_versions_announced_in, uri_and_version_of}
-use Rattle.ob0_world_rules.specs.EditorMoves.{Move, IsAllowedMove}
+use Rattle.ob0_world_rules.specs.PublicationsAreInOrder.{AnnouncedDocument, AreMadeForDocumentsInOrder, uris_and_versions_announced_in_queue, uri_and_version_of}
+use Rattle.ob0_world_rules.specs.EditorMoves.{EditorMove, IsAllowedMove}
 
 -- ---- an editor and the server
 
@@ -49,10 +49,10 @@ modeled_messages (None ∷ queue) = modeled_messages queue
 modeled_messages (Some message ∷ queue) = message ∷ modeled_messages queue
 
 -- returns the notifications about documents in a queue, in order, without the requests for edits
-abbrev pub notifications_among : List MessageToServer → List MessageToServer
-notifications_among [] = []
-notifications_among (notifies note ∷ queue) = notifies note ∷ notifications_among queue
-notifications_among (requests k uri ask ∷ queue) = notifications_among queue
+abbrev pub notifications_in_queue : List MessageToServer → List MessageToServer
+notifications_in_queue [] = []
+notifications_in_queue (notifies note ∷ queue) = notifies note ∷ notifications_in_queue queue
+notifications_in_queue (requests k uri ask ∷ queue) = notifications_in_queue queue
 
 -- returns the state as a `ClientAndServer`, without the messages outside the model and the
 -- announced documents
@@ -73,7 +73,7 @@ model_state_of w =
 -- takes a message
 pub data ExchangeTurn : Type 0 where
   -- the editor makes a move
-  editor_moves : Move → ExchangeTurn
+  editor_moves : EditorMove → ExchangeTurn
   -- the editor sends a message outside the model (`None`)
   editor_sends_unmodeled_message : ExchangeTurn
   -- the server takes the first message that waits for it, and sends its replies
@@ -118,24 +118,24 @@ abbrev pub state_after_editor_takes_next_message : EditorAndServer → List (Opt
 state_after_editor_takes_next_message w [] = w
 state_after_editor_takes_next_message w (None ∷ rest) = record w { to_editor = rest }
 state_after_editor_takes_next_message w (Some message ∷ rest) =
-    record w { editor = editor_after_reading w.editor message; to_editor = rest }
+    record w { editor = editor_after_message w.editor message; to_editor = rest }
 
 -- states that this turn can lead from `w` to `new`
-abbrev pub MayHappen : EditorAndServer → ExchangeTurn → EditorAndServer → Type 0
-MayHappen w (editor_moves move) new =
+abbrev pub TurnMayLeadTo : EditorAndServer → ExchangeTurn → EditorAndServer → Type 0
+TurnMayLeadTo w (editor_moves move) new =
     (done : ActResult)
     × (announced : List AnnouncedDocument)
     × IsAllowedMove w.editor move done announced
     × (new ≡ state_after_move w done announced)
-MayHappen w editor_sends_unmodeled_message new = new ≡ record w { to_server = w.to_server ++ None ∷ [] }
-MayHappen w server_takes_message new = ServerTakesNextMessage w w.to_server new
-MayHappen w editor_takes_message new = new ≡ state_after_editor_takes_next_message w w.to_editor
+TurnMayLeadTo w editor_sends_unmodeled_message new = new ≡ record w { to_server = w.to_server ++ None ∷ [] }
+TurnMayLeadTo w server_takes_message new = ServerTakesNextMessage w w.to_server new
+TurnMayLeadTo w editor_takes_message new = new ≡ state_after_editor_takes_next_message w w.to_editor
 
 -- states that these turns, one after another, can lead from `w` to `new`
-abbrev pub MayLeadTo : EditorAndServer → List ExchangeTurn → EditorAndServer → Type 0
-MayLeadTo w [] new = new ≡ w
-MayLeadTo w (turn ∷ turns) new =
-    (between : EditorAndServer) × MayHappen w turn between × MayLeadTo between turns new
+abbrev pub IsCourseOfTurns : EditorAndServer → List ExchangeTurn → EditorAndServer → Type 0
+IsCourseOfTurns w [] new = new ≡ w
+IsCourseOfTurns w (turn ∷ turns) new =
+    (between : EditorAndServer) × TurnMayLeadTo w turn between × IsCourseOfTurns between turns new
 
 -- ---- the laws
 
@@ -148,7 +148,7 @@ pub record GuaranteesHoldForEditorAndServer (w : EditorAndServer) : Type 0 where
   pub holds : GuaranteesHold (model_state_of w)
   -- if no notification waits for the server, the latest diagnostics are for the present text, even
   -- if asks and messages outside the model still wait
-  pub latest : notifications_among (modeled_messages w.to_server) ≡ [] → PublicationsAreUpToDate w.editor w.made
+  pub latest : notifications_in_queue (modeled_messages w.to_server) ≡ [] → PublicationsAreUpToDate w.editor w.made
   -- once the server has taken the waiting messages, it has the editor's documents
   pub mirrors : ServerWillMirrorEditor (model_state_of w)
   -- The publications are for the first documents that the editor announced (`published`), one for
@@ -158,14 +158,14 @@ pub record GuaranteesHoldForEditorAndServer (w : EditorAndServer) : Type 0 where
   pub waiting : List AnnouncedDocument
   pub all : w.announced ≡ published ++ waiting
   pub are_made_for_documents : AreMadeForDocumentsInOrder w.made published
-  pub unpublished_are_queued : map uri_and_version_of waiting ≡ uris_and_versions_announced_in (modeled_messages w.to_server)
+  pub unpublished_are_queued : map uri_and_version_of waiting ≡ uris_and_versions_announced_in_queue (modeled_messages w.to_server)
 
 -- states that the guarantees hold for every editor that keeps ob0's rules, in every interleaving of
 -- the turns
 abbrev pub GuaranteesHoldForEveryEditor : Type 0
 GuaranteesHoldForEveryEditor =
     (unit : Unit) (turns : List ExchangeTurn) (w : EditorAndServer)
-    → MayLeadTo (initial_editor_and_server unit) turns w
+    → IsCourseOfTurns (initial_editor_and_server unit) turns w
     → GuaranteesHoldForEditorAndServer w
 
 -- States that the model's editor keeps ob0's rules: for each state to which a list of its events
@@ -176,5 +176,5 @@ ModelEditorKeepsRules =
     → IsCourse (start unit) events end
     → (turns : List ExchangeTurn)
     × (w : EditorAndServer)
-    × MayLeadTo (initial_editor_and_server unit) turns w
+    × IsCourseOfTurns (initial_editor_and_server unit) turns w
     × (model_state_of w ≡ end)

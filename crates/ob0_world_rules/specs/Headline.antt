@@ -4,10 +4,10 @@ use Rattle.std.specs.Prelude.{◌≡◌, ℕ, List, [], All, Option, Some, None,
 use Rattle.std.specs.Str.{bytes_eq}
 use Rattle.ob0_text.specs.declared.position_types.Unit.{Unit}
 use Rattle.ob0_world_rules.specs.WellTypedTexts.{WellTypedText, SameRun}
-use Rattle.ob0_world_rules.specs.Answers.{IsEmptyExactlyIfWellTyped}
-use Rattle.ob0_world_rules.specs.ClientAndServer.{OpenDocument, Editor, editor_document_at, Applied, PublicationWithText, ClientAndServer, start}
-use Rattle.ob0_world_rules.specs.Happens.{Event, IsCourse}
-use Rattle.ob0_world_rules.specs.PublicationsInOrder.{PublicationsFollowAnnouncements}
+use Rattle.ob0_world_rules.specs.Answers.{NoDiagnosticsExactlyIfWellTyped}
+use Rattle.ob0_world_rules.specs.ClientAndServer.{OpenDocument, Editor, editor_document_with_uri, Applied, PublicationWithText, ClientAndServer, start}
+use Rattle.ob0_world_rules.specs.Events.{Event, IsCourse}
+use Rattle.ob0_world_rules.specs.PublicationsAreInOrder.{PublicationsFollowAnnouncements}
 
 -- ---- an applied edit
 
@@ -23,7 +23,7 @@ pub record PreservesRun (a : Applied) : Type 0 where
 -- states that the list of diagnostics is empty exactly if the text that it was made for is a
 -- well-typed module
 abbrev pub IsCorrectPublication : PublicationWithText → Type 0
-IsCorrectPublication m = IsEmptyExactlyIfWellTyped m.text m.no_diagnostics
+IsCorrectPublication m = NoDiagnosticsExactlyIfWellTyped m.text m.no_diagnostics
 
 -- returns the last publication with a version for the document with this uri, or None if there is
 -- none
@@ -36,7 +36,7 @@ last_publication uri made =
 abbrev pub PublicationsAreUpToDate : Editor → List PublicationWithText → Type 0
 PublicationsAreUpToDate e made =
     (uri : List ℕ) (d : OpenDocument)
-    → editor_document_at e uri ≡ Some d
+    → editor_document_with_uri e uri ≡ Some d
     → MatchOption (last_publication uri made) ⊥
     (λ m. (m.version ≡ d.version) × (m.text ≡ d.text))
 
@@ -56,7 +56,7 @@ pub record GuaranteesHold (w : ClientAndServer) : Type 0 where
 -- States that a list of events leads from the initial state (`start`) to exactly one state. That
 -- state has these applied edits and these publications, in this order. The guarantees
 -- (`GuaranteesHold`) hold in that state.
-pub record Headline (unit : Unit) (events : List Event) (applied : List Applied)
+pub record GuaranteesHoldForEvents (unit : Unit) (events : List Event) (applied : List Applied)
     (made : List PublicationWithText) : Type 0 where
   pub end : ClientAndServer
   -- the events lead to this end, and to no other

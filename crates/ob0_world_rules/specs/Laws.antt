@@ -7,12 +7,12 @@ use Rattle.ob0_tree.specs.Tree.{Tree, module_text}
 use Rattle.ob0_language_names.specs.Names.{Name}
 use Rattle.ob0_edits.specs.ReportedErrors.{IsTextOfTree}
 use Rattle.ob0_world_rules.specs.WellTypedTexts.{IsModuleText, WellTypedText, SameRun}
-use Rattle.ob0_world_rules.specs.TextEdits.{Replacement, replacements, text_after_edits}
+use Rattle.ob0_world_rules.specs.TextEdits.{Replacement, replacements_of_edits, text_after_edits}
 use Rattle.ob0_world_rules.specs.Asks.{Ask}
 use Rattle.ob0_world_rules.specs.Answers.{AreRequestedEdits, IsAnswerForText}
 use Rattle.ob0_world_rules.specs.ClientAndServer.{ClientAndServer, start}
-use Rattle.ob0_world_rules.specs.EditorActs.{open_document, change_document, close_document, ask_about, apply, discard}
-use Rattle.ob0_world_rules.specs.Happens.{Event, editor_acts, serve, take_message, IsCourse, Happens}
+use Rattle.ob0_world_rules.specs.EditorActs.{open_document, change_document, close_document, request_edits, apply, discard}
+use Rattle.ob0_world_rules.specs.Events.{Event, editor_acts, serve, take_message, IsCourse, EventLeadsTo}
 use Rattle.ob0_world_rules.specs.Headline.{GuaranteesHold}
 use Rattle.ob0_world_rules.specs.MirroredDocuments.{ServerWillMirrorEditor}
 
@@ -42,7 +42,7 @@ abbrev pub AnswerEditsPreserveRun : Type 0
 AnswerEditsPreserveRun =
     (unit : Unit) (text : List ℕ) (ask : Ask) (edits : List Edit)
     → AreRequestedEdits unit text ask edits
-    → EditsPreserveRun unit text (replacements edits)
+    → EditsPreserveRun unit text (replacements_of_edits edits)
 
 -- states that two answers to the same request for edits of the same text are equal
 abbrev pub AnswersAreUnique : Type 0
@@ -58,8 +58,8 @@ AnswersAreUnique =
 abbrev pub StateAfterEventIsDetermined : Type 0
 StateAfterEventIsDetermined =
     (w : ClientAndServer) (event : Event) (new other : ClientAndServer)
-    → Happens w event new
-    → Happens w event other
+    → EventLeadsTo w event new
+    → EventLeadsTo w event other
     → new ≡ other
 
 -- States that a list of events leads from a state to at most one state. A state consists of the
@@ -84,7 +84,7 @@ abbrev pub HasAnswerIfAsk : Event → Type 0
 HasAnswerIfAsk (editor_acts (open_document uri text)) = ⊤
 HasAnswerIfAsk (editor_acts (change_document uri how)) = ⊤
 HasAnswerIfAsk (editor_acts (close_document uri)) = ⊤
-HasAnswerIfAsk (editor_acts (ask_about uri ask)) = AlwaysHasAnswer ask
+HasAnswerIfAsk (editor_acts (request_edits uri ask)) = AlwaysHasAnswer ask
 HasAnswerIfAsk (editor_acts (apply k)) = ⊤
 HasAnswerIfAsk (editor_acts (discard k)) = ⊤
 HasAnswerIfAsk serve = ⊤

@@ -1,10 +1,10 @@
 pub mod WellTypedTexts
 pub mod Answers
 pub mod ServerReplies
-pub mod Happens
+pub mod Events
 pub mod Headline
 pub mod Laws
-pub mod PublicationsInOrder
+pub mod PublicationsAreInOrder
 pub mod TextEdits
 pub mod Asks
 pub mod ClientAndServer

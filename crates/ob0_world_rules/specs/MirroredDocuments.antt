@@ -3,11 +3,11 @@
 -- Rule: none; a law of the model of client and server.
 use Rattle.std.specs.Prelude.{◌≡◌, ℕ, List, option_map, fold}
 use Rattle.ob0_text.specs.OpenDocuments.{OpenDocuments, Document, InStep, document_at}
-use Rattle.ob0_world_rules.specs.ClientAndServer.{OpenDocument, editor_document_at, ClientAndServer, documents_after_message}
+use Rattle.ob0_world_rules.specs.ClientAndServer.{OpenDocument, editor_document_with_uri, ClientAndServer, documents_after_message}
 
 -- returns the server's documents once the server has taken the messages that wait for it
-abbrev pub documents_after_queue : ClientAndServer → OpenDocuments
-documents_after_queue w = fold documents_after_message w.held w.to_server
+abbrev pub documents_after_waiting_messages : ClientAndServer → OpenDocuments
+documents_after_waiting_messages w = fold documents_after_message w.held w.to_server
 
 -- returns the document that the server should have for an open document of the editor: in step,
 -- with the same version and text
@@ -18,4 +18,4 @@ in_step_document d = InStep d.version d.text
 -- for it.
 abbrev pub ServerWillMirrorEditor : ClientAndServer → Type 0
 ServerWillMirrorEditor w =
-    (uri : List ℕ) → document_at (documents_after_queue w) uri ≡ option_map in_step_document (editor_document_at w.editor uri)
+    (uri : List ℕ) → document_at (documents_after_waiting_messages w) uri ≡ option_map in_step_document (editor_document_with_uri w.editor uri)

@@ -3,7 +3,7 @@
 use Rattle.std.specs.Prelude.{◌≡◌, ℕ, List, [], ◌∷◌, Bool, true, Option, Some, None, is_some, if◌then◌else◌}
 use Rattle.ob0_text.specs.OpenDocuments.{OpenDocuments, Document, InStep, OutOfStep, DocumentEvent, Opened, Changed, Lost, Closed, document_at, documents_after_event}
 use Rattle.ob0_world_rules.specs.TextEdits.{Replacement}
-use Rattle.ob0_world_rules.specs.Answers.{IsAnswerForDocument, IsEmptyExactlyIfWellTyped}
+use Rattle.ob0_world_rules.specs.Answers.{IsAnswerForDocument, NoDiagnosticsExactlyIfWellTyped}
 use Rattle.ob0_world_rules.specs.ClientAndServer.{MessageToServer, notifies, requests, MessageToEditor, publishes, answers, PublicationWithText}
 
 -- States that the server sends the diagnostics of a document in step, with its version. If the
@@ -11,7 +11,7 @@ use Rattle.ob0_world_rules.specs.ClientAndServer.{MessageToServer, notifies, req
 -- has the same publication, with the text for which the diagnostics were made.
 abbrev pub SendsDiagnostics : List ℕ → Option Document → List MessageToEditor → List PublicationWithText → Type 0
 SendsDiagnostics uri (Some (InStep version text)) sent made =
-    (empty : Bool) × IsEmptyExactlyIfWellTyped text empty × (sent ≡ publishes uri (Some version) empty ∷ [])
+    (empty : Bool) × NoDiagnosticsExactlyIfWellTyped text empty × (sent ≡ publishes uri (Some version) empty ∷ [])
     × (made ≡ record { uri = uri; version = version; text = text; no_diagnostics = empty } ∷ [])
 SendsDiagnostics uri (Some OutOfStep) sent made = (sent ≡ []) × (made ≡ [])
 SendsDiagnostics uri None sent made = (sent ≡ []) × (made ≡ [])

@@ -15,12 +15,12 @@ pub record Replacement : Type 0 where
   pub text : List ℕ
 
 -- converts an edit of the code's type `Edit` to a replacement
-abbrev pub replacement_of : Edit → Replacement
-replacement_of e = record { range = e.range; text = chars (string_bytes e.text) }
+abbrev pub replacement_of_edit : Edit → Replacement
+replacement_of_edit e = record { range = e.range; text = chars (string_bytes e.text) }
 
 -- converts a list of edits of the code's type `Edit` to values of the type `Replacement`
-abbrev pub replacements : List Edit → List Replacement
-replacements edits = map replacement_of edits
+abbrev pub replacements_of_edits : List Edit → List Replacement
+replacements_of_edits edits = map replacement_of_edit edits
 
 -- Returns the text after all these edits. Each range refers to the text before the edits. Positions
 -- are counted in `unit`. Returns None if two edits share a character.
@@ -44,4 +44,4 @@ text_after_changes unit text changes = fold (changed_text unit) text changes
 abbrev pub EditedTextDefinitionsAgree : Type 0
 EditedTextDefinitionsAgree =
     (unit : Unit) (text : List ℕ) (edits : List Edit)
-    → text_after_edits unit text (replacements edits) ≡ patched_text (width_of unit) text edits
+    → text_after_edits unit text (replacements_of_edits edits) ≡ patched_text (width_of unit) text edits

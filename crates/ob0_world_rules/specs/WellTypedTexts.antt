@@ -5,9 +5,9 @@ use Rattle.std.specs.List.{flat_map}
 use Rattle.std.specs.Str.{IsUtf8}
 use Rattle.ob0_scan.specs.declared.lexeme.LexemeKind.{LexemeKind}
 use Rattle.ob0_scan.specs.declared.lexeme.LexemeKind.TheVariants as lexeme
-use Rattle.ob0_scan.specs.Lexed.{Lexeme, LexesInto}
+use Rattle.ob0_scan.specs.TextLexemes.{Lexeme, LexesInto}
 use Rattle.ob0_scan.specs.TextWithTokens.{max_text_length}
-use Rattle.ob0_tree.specs.Lexeme.{Terminal, terminal_of_kind}
+use Rattle.ob0_tree.specs.Terminals.{Terminal, terminal_of_kind}
 use Rattle.ob0_tree.specs.Module.{max_nesting}
 use Rattle.ob0_tree.specs.Tree.{Tree, module_text, spell, nesting}
 use Rattle.ob0_language_names.specs.Names.{Name}
@@ -18,7 +18,7 @@ use Rattle.ob0_edits.specs.Texts.{utf8}
 -- returns the leaves of a syntax tree that stand for a lexeme: one for a token, none for white
 -- space or a comment
 abbrev pub terminals_of_lexeme : LexemeKind → List ℕ → List (Terminal Name)
-terminals_of_lexeme lexeme.Space text = []
+terminals_of_lexeme lexeme.WhiteSpace text = []
 terminals_of_lexeme lexeme.Comment text = []
 terminals_of_lexeme (lexeme.Token kind) text = terminal_of_kind text kind ∷ []
 

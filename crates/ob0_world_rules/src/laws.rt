@@ -1,6 +1,6 @@
 //! Proves laws about the model of client and server.
 ghost use Rattle.ob0_world_rules.specs.Laws.{CourseExistsIfAsksHaveAnswers, AnswersAreUnique, AnswerEditsPreserveRun, GuaranteesHoldInEveryInterleaving, CourseIsDetermined, ModuleTextDefinitionsAgree, StateAfterEventIsDetermined, ServerMirrorsEditor};
-ghost use Rattle.ob0_world_rules.specs.PublicationsInOrder.{PublicationsInOrder};
+ghost use Rattle.ob0_world_rules.specs.PublicationsAreInOrder.{PublicationsAreInOrder};
 ghost use Rattle.ob0_world_rules.specs.EveryEditor.{ModelEditorKeepsRules, GuaranteesHoldForEveryEditor};
 
 /// Proves that every applied edit keeps the module's run and that all diagnostics are correct
@@ -50,8 +50,8 @@ pub fn server_mirrors_editor()
 /// Proves that the n-th publication with a version has the uri, version and text of the n-th
 /// document that the editor announced. The editor announces a document when it opens or changes the
 /// document, or applies an edit.
-pub fn publications_in_order()
-    ensures { PublicationsInOrder }
+pub fn publications_are_in_order()
+    ensures { PublicationsAreInOrder }
 {}
 
 /// Proves the guarantees for every editor that keeps ob0's rules, in whatever order the turns

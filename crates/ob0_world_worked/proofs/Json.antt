@@ -7,10 +7,10 @@ use Rattle.json.specs.Print.{escape}
 use Rattle.serde_json.specs.Data.{Data, null, boolean, number, string, array, object, unsigned, Members, no_members, member, depth}
 use Rattle.serde_json.specs.View.{items_of}
 use Rattle.serde_json.specs.Written.{compact_text}
-use Rattle.ob0_rpc.specs.Appending.{AppendsMembersAndBrace, AllReadBack, ReadsBack, comma_separated_texts}
-use Rattle.ob0_rpc.specs.Messages.{ReadsContent}
+use Rattle.ob0_rpc.specs.AppendedJson.{AppendsMembersAndBrace, AllReadBack, ReadsBack, comma_separated_texts}
+use Rattle.ob0_rpc.specs.Messages.{IsJsonOfContent}
 use Rattle.ob0_rpc.specs.WrittenMessages.{Writes}
-use Rattle.ob0_rpc.proofs.Appending.{are_names, array_of, count_written, object_of, rebuilt, text_written, written}
+use Rattle.ob0_rpc.proofs.AppendedJson.{are_names, array_of, count_written, object_of, rebuilt, text_written, written}
 use Rattle.ob0_world_worked.proofs.WorkedTexts.{is_ascii_text, utf8_so}
 
 pub text_read : {s : List ℕ} → is_ascii_text s ≡ true → ReadsBack (string s)
@@ -69,5 +69,5 @@ pub written_so : (d : Data) → ReadsBack d → nat_lt (depth d) 128 ≡ true �
 unfolding content_of
 written_so d r shallow = written d [] (compact_text d) refl (record { text = refl; reads = r }) (depth_so d shallow)
 
-pub reads_so : (d : Data) → ReadsBack d → nat_lt (depth d) 128 ≡ true → ReadsContent (content_of d) (Some d)
+pub reads_so : (d : Data) → ReadsBack d → nat_lt (depth d) 128 ≡ true → IsJsonOfContent (content_of d) (Some d)
 reads_so d r shallow = (written_so d r shallow).reads

@@ -4,7 +4,7 @@ use Rattle.std.specs.Prelude.{nat_lt}
 use Rattle.std.specs.Str.{IsUtf8, chars}
 use Rattle.std.proofs.lemmas.Bool.{ltb-false, ltb-true}
 use Rattle.std.proofs.lemmas.Str.{chars_from_encodes, encodes-chars}
-use Rattle.ob0_scan.specs.Lexed.{LexesInto, Lexeme}
+use Rattle.ob0_scan.specs.TextLexemes.{LexesInto, Lexeme}
 use Rattle.ob0_scan.specs.TextWithTokens.{IsScan, TextWithTokens, comments_of_lexemes_from, max_text_length, tokens_of_lexemes_from}
 use Rattle.ob0_text.specs.declared.edits.Edit.{Edit}
 use Rattle.ob0_text.specs.declared.edits.Indent.{Indent}
@@ -16,7 +16,7 @@ use Rattle.ob0_edits.specs.ReportedErrors.{IsTextOfTree, IsWellTypedModule}
 use Rattle.ob0_edits.specs.Texts.{utf8}
 use Rattle.ob0_edits.specs.FormattingEdits.{FormatsText, formatted_text_of_module}
 use Rattle.ob0_world_rules.specs.Asks.{format, clamped_indent}
-use Rattle.ob0_world_rules.specs.TextEdits.{replacements}
+use Rattle.ob0_world_rules.specs.TextEdits.{replacements_of_edits}
 use Rattle.ob0_world_rules.specs.WellTypedTexts.{WellTypedText}
 use Rattle.ob0_world_rules.specs.Laws.{AlwaysHasAnswer}
 use Rattle.ob0_world_rules.proofs.ModuleTexts.{well_typed_module}
@@ -65,15 +65,15 @@ module _ (stays : ModuleStays) (lexed : LexemesStay) (good : LayoutIsUtf8) (unit
         },
       )
 
-pub formatting_has_answers : ModuleStays → LexemesStay → LayoutIsUtf8 → (indent : Indent) → AlwaysHasAnswer (format indent)
-formatting_has_answers stays lexed good indent unit text none = none [] (inr (inr unfit, refl))
+pub formatting_always_has_answer : ModuleStays → LexemesStay → LayoutIsUtf8 → (indent : Indent) → AlwaysHasAnswer (format indent)
+formatting_always_has_answer stays lexed good indent unit text none = none [] (inr (inr unfit, refl))
   where
     go : (m : IsWellTypedModule (utf8 text)) (b : Bool) → nat_lt max_text_length (length (formatted_text_of_module (clamped_indent indent) m)) ≡ b → ⊥
     go m true long = none [] (inr (inl (record { before = m; long = ltb-true max_text_length (length (formatted_text_of_module (clamped_indent indent) m)) long }), refl))
     go m false fits =
         let low = ltb-false max_text_length (length (formatted_text_of_module (clamped_indent indent) m)) fits in
         let made = lays_out stays lexed good unit (clamped_indent indent) text m low in
-        none (replacements made.0) (inl (made.0, made.1, refl))
+        none (replacements_of_edits made.0) (inl (made.0, made.1, refl))
 
     unfit : WellTypedText text → ⊥
     unfit h = let m = well_typed_module text h in go m (nat_lt max_text_length (length (formatted_text_of_module (clamped_indent indent) m))) refl

@@ -13,7 +13,7 @@ use Rattle.ob0_scan.specs.declared.lexeme.LexemeKind.{LexemeKind}
 use Rattle.ob0_scan.specs.declared.lexeme.LexemeKind.TheVariants as lexeme
 use Rattle.ob0_scan.specs.LexemeClasses.{IsLexemeOfKind, IsIdentifier, decimal_value, is_white_space, reserved_word_text, symbol_text}
 use Rattle.ob0_scan.specs.LexemeEnds.{EachLexemeEndsBeforeNext, continues_lexeme}
-use Rattle.ob0_scan.specs.Lexed.{LexesInto, Lexeme, text_of_lexemes}
+use Rattle.ob0_scan.specs.TextLexemes.{LexesInto, Lexeme, text_of_lexemes}
 use Rattle.ob0_scan.proofs.Borders.{cut_into_lexemes_depends_only_on_next_bytes}
 
 abbrev pub all_reserved : List ReservedWord
@@ -67,7 +67,7 @@ identifier_of text h =
     record { word = record { letter = a.0; all = AllPass-from_list_all is_ascii_alphanumeric text b.0 }; differs_from_reserved = not_reserved text b.1 }
 
 abbrev pub belongs_test : LexemeKind → List ℕ → Bool
-belongs_test lexeme.Space text = nat_lt 0 (length text) && list_all is_white_space text
+belongs_test lexeme.WhiteSpace text = nat_lt 0 (length text) && list_all is_white_space text
 belongs_test lexeme.Comment text = false
 belongs_test (lexeme.Token token.Identifier) text = is_name text
 belongs_test (lexeme.Token (token.ReservedWord word)) text = bytes_eq text (reserved_word_text word)
@@ -76,7 +76,7 @@ belongs_test (lexeme.Token (token.Integer value)) text =
 belongs_test (lexeme.Token (token.Symbol s)) text = bytes_eq text (symbol_text s)
 
 belongs_so : (kind : LexemeKind) (text : List ℕ) → belongs_test kind text ≡ true → IsLexemeOfKind kind text
-belongs_so lexeme.Space text h =
+belongs_so lexeme.WhiteSpace text h =
     let a = and_parts (nat_lt 0 (length text)) (list_all is_white_space text) h in
     record { nonempty = ltb-true 0 (length text) a.0; all = AllPass-from_list_all is_white_space text a.1 }
 belongs_so lexeme.Comment text h = absurd (cc)

@@ -13,32 +13,32 @@ use Rattle.ob0_tree.specs.ParsedModule.{named_tree_of}
 use Rattle.ob0_language_names.specs.Names.{Name}
 use Rattle.ob0_language_names.specs.Scopes.{renamed}
 use Rattle.ob0_language_types.specs.WellTyped.{WellTyped}
-use Rattle.ob0_language_types.specs.ConstantValues.{value_of_constant}
+use Rattle.ob0_language_types.specs.ConstantValues.{constant_value_in_module}
 use Rattle.ob0_language_types.specs.EditLaws.{ConstantUsesAreFactors, Is32BitScalar}
-use Rattle.ob0_language_runs.specs.EditLaws.{FreeRenamingKeepsTypingAndRuns, InliningEverywhereKeepsTypingAndRuns, InliningKeepsTypingAndRuns, HaveSameRuns}
+use Rattle.ob0_language_runs.specs.EditLaws.{RenamingToFreeNameKeepsTypingAndRuns, InliningEverywhereKeepsTypingAndRuns, InliningKeepsTypingAndRuns, HaveSameRuns}
 use Rattle.ob0_language_values.specs.declared.scalar.Scalar.{Scalar}
 use Rattle.ob0_language_values.specs.declared.scalar.Scalar.TheVariants as scalar
 use Rattle.ob0_language_values.specs.Scalars.{scalar_value}
 use Rattle.ob0_types.specs.CheckedModules.{IsWellTyped}
 use Rattle.ob0_analysis.specs.AnalysisAnswers.{IsResolvedWellTypedModule}
 use Rattle.ob0_analysis.specs.ReportedErrors.{IsTextOfTree}
-use Rattle.ob0_analysis.specs.Texts.{utf8}
+use Rattle.ob0_analysis.specs.TextBytes.{utf8}
 use Rattle.ob0_analysis.proofs.Scanning.{is_module, utf8_of}
 use Rattle.ob0_edits_tokens.specs.Ranges.{range_of}
-use Rattle.ob0_edits_tokens.specs.Removals.{span_of_tokens, text_after_removal}
+use Rattle.ob0_edits_tokens.specs.Removals.{span_of_tokens, text_after_removal_and_replacement}
 use Rattle.ob0_edits_tokens.specs.Replacements.{replacement_at_token, range_and_text, text_after_replacement}
 use Rattle.ob0_rename.specs.Answers.{IsRenameRefusal, RenamesDeclaration}
-use Rattle.ob0_rename.specs.Renaming.{TargetsDeclaration, Renaming, rename_target_at, renaming_of}
-use Rattle.ob0_inline.specs.declared.uses.ConstantUse.{ConstantUse}
-use Rattle.ob0_inline.specs.declared.constants.DeclaredConstant.{DeclaredConstant}
-use Rattle.ob0_inline.specs.Everywhere.{IsConstant, IsConstantAt, tree_inlined_everywhere}
-use Rattle.ob0_inline.specs.EditedModuleTexts.{EditsGiveModule}
-use Rattle.ob0_inline.specs.Uses.{IsConstantUse, IsConstantUseAt, tree_inlined_here}
+use Rattle.ob0_rename.specs.Renaming.{TargetsDeclaration, Renaming, rename_target_at, renaming_at_place}
+use Rattle.ob0_inline.specs.declared.constant_uses.ConstantUse.{ConstantUse}
+use Rattle.ob0_inline.specs.declared.declared_constants.DeclaredConstant.{DeclaredConstant}
+use Rattle.ob0_inline.specs.Everywhere.{IsDeclaredConstant, IsConstantAtOffset, tree_inlined_everywhere}
+use Rattle.ob0_inline.specs.EditedModuleTexts.{EditedTextHasTree}
+use Rattle.ob0_inline.specs.Uses.{IsConstantUse, IsConstantUseAtOffset, tree_with_inlined_use}
 use Rattle.ob0_inline.specs.Values.{value_text}
 use Rattle.ob0_inline.proofs.AtUses as at_uses
 use Rattle.ob0_inline.proofs.AtConstants as at_constants
-use Rattle.ob0_edits.specs.declared.inlinings.Inlining.{Inlining}
-use Rattle.ob0_edits.specs.declared.inlinings.Inlining.TheVariants.{OneUse, Everywhere}
+use Rattle.ob0_edits.specs.declared.inline_question.InliningKind.{InliningKind}
+use Rattle.ob0_edits.specs.declared.inline_question.InliningKind.TheVariants.{OneUse, Everywhere}
 use Rattle.ob0_edits.specs.InliningEdits.{IsInlineResult, InlinesInText}
 use Rattle.ob0_edits.specs.Renamings.{IsRenameRefusedInText, RenamesInText}
 use Rattle.ob0_edits.proofs.Renamings.{new_name_found}
@@ -47,7 +47,7 @@ use Rattle.ob0_world_rules.specs.Answers.{IsAnswerForText}
 use Rattle.ob0_world_rules.specs.TextEdits.{Replacement}
 use Rattle.ob0_world_rules.specs.Laws.{AnswersAreUnique}
 use Rattle.ob0_world_worked.specs.WorkedText.{line_position, example_text}
-use Rattle.ob0_world_worked.specs.WorkedAnswers.{CaptureIsRefused, RenameIsAnswered, InliningOneUseIsAnswered, InliningEverywhereIsAnswered, IsAnsweredOnlyBy, range_on_line, replacement_on_line}
+use Rattle.ob0_world_worked.specs.WorkedAnswers.{CapturingRenameIsRefused, RenameAnswerHasThreeEdits, InlineHereAnswerHasOneEdit, InlineAllAnswerHasTwoEdits, IsAnsweredOnlyBy, range_on_line, replacement_on_line}
 use Rattle.ob0_world_worked.proofs.WorkedValues.{vec_of}
 use Rattle.ob0_world_worked.proofs.LexemeTests.{identifier_of}
 use Rattle.ob0_world_worked.proofs.WorkedTexts.{bytes_so, chars_so, inlined_lexemes, inlined_scan, renamed_lexemes, renamed_scan, scanned_of, utf8_so, without_lexemes, without_scan, worked_lexemes, worked_scan}
@@ -86,12 +86,12 @@ nothing_is = sym (chars_so [] refl)
 -- ---- the rename
 
 renaming : List ℕ → Renaming
-renaming new = renaming_of Utf16 example_text worked_names (line_position 4 2) new
+renaming new = renaming_at_place Utf16 example_text worked_names (line_position 4 2) new
 
-names_x : (new : List ℕ) → TargetsDeclaration (renaming_of Utf16 example_text worked_names (line_position 4 2) new) 8
+names_x : (new : List ℕ) → TargetsDeclaration (renaming_at_place Utf16 example_text worked_names (line_position 4 2) new) 8
 names_x new = ap (rename_target_at worked_names) x_is_at ∙ refl
 
-renames_x : FreeRenamingKeepsTypingAndRuns → RenamesDeclaration (renaming_of Utf16 example_text worked_names (line_position 4 2) (codes "y")) 8 renames
+renames_x : RenamingToFreeNameKeepsTypingAndRuns → RenamesDeclaration (renaming_at_place Utf16 example_text worked_names (line_position 4 2) (codes "y")) 8 renames
 renames_x keeps =
     let kept = keeps (named_tree_of worked_module) 8 (codes "y") (refl, refl) worked_fits in
     record {
@@ -109,17 +109,17 @@ renames_x keeps =
       };
     }
 
-pub renames_in : FreeRenamingKeepsTypingAndRuns → RenamesInText Utf16 example_text (line_position 4 2) (codes "y") renames
+pub renames_in : RenamingToFreeNameKeepsTypingAndRuns → RenamesInText Utf16 example_text (line_position 4 2) (codes "y") renames
 renames_in keeps =
     new_name_found Utf16 example_text example_text (line_position 4 2) (codes "y") (Some (Ok (vec_of renames (omega (arith))))) (utf8_so example_text refl) (chars_so example_text refl)
     (worked_names, worked_in, inl (8, names_x (codes "y"), renames_x keeps))
 
-pub rename_is_answered : FreeRenamingKeepsTypingAndRuns → AnswersAreUnique → RenameIsAnswered
-rename_is_answered keeps one =
+pub rename_answer_has_three_edits : RenamingToFreeNameKeepsTypingAndRuns → AnswersAreUnique → RenameAnswerHasThreeEdits
+rename_answer_has_three_edits keeps one =
     answered_by one (rename (line_position 4 2) (codes "y")) (replacement_on_line 4 2 3 (codes "y") ∷ replacement_on_line 6 2 3 (codes "y") ∷ replacement_on_line 7 8 9 (codes "y") ∷ [])
     (inl (renames, renames_in keeps, ap (λ t. replacement_on_line 4 2 3 t ∷ replacement_on_line 6 2 3 t ∷ replacement_on_line 7 8 9 t ∷ []) y_is))
 
-refused : IsRenameRefusal (renaming_of Utf16 example_text worked_names (line_position 4 2) (codes "Write")) (Captures (range_on_line 7 2 7))
+refused : IsRenameRefusal (renaming_at_place Utf16 example_text worked_names (line_position 4 2) (codes "Write")) (Captures (range_on_line 7 2 7))
 refused = inl (8, names_x (codes "Write"), (identifier_of (codes "Write") refl, (3, refl, ap Some write_is_at)))
 
 pub refused_in : IsRenameRefusedInText Utf16 example_text (line_position 4 2) (codes "Write") (Captures (range_on_line 7 2 7))
@@ -127,8 +127,8 @@ refused_in =
     new_name_found Utf16 example_text example_text (line_position 4 2) (codes "Write") (Some (Err (Captures (range_on_line 7 2 7)))) (utf8_so example_text refl) (chars_so example_text refl)
     (worked_names, worked_in, refused)
 
-pub capture_is_refused : AnswersAreUnique → CaptureIsRefused
-capture_is_refused one = record {
+pub capturing_rename_is_refused : AnswersAreUnique → CapturingRenameIsRefused
+capturing_rename_is_refused one = record {
   refused = refused_in;
   no_edits = answered_by one (rename (line_position 4 2) (codes "Write")) [] (inr (inl (Captures (range_on_line 7 2 7), refused_in), refl));
 }
@@ -141,8 +141,8 @@ two_value = scalar.Number (pos 2)
 text_of_two : codes "2" ≡ value_text (scalar.Number (pos 2))
 text_of_two = sym two_text
 
-has_two : value_of_constant (named_tree_of worked_module) 7 ≡ Some (scalar_value (scalar.Number (pos 2)))
-unfolding value_of_constant
+has_two : constant_value_in_module (named_tree_of worked_module) 7 ≡ Some (scalar_value (scalar.Number (pos 2)))
+unfolding constant_value_in_module
 has_two = refl
 
 two_fits : Is32BitScalar (scalar_value (scalar.Number (pos 2)))
@@ -151,14 +151,14 @@ two_fits = refl
 abbrev the_use : ConstantUse
 the_use = record { token = 16; occurrence = 2; constant = 7; value = scalar.Number (pos 2) }
 
-use_at : IsConstantUseAt worked_module 56 the_use
+use_at : IsConstantUseAtOffset worked_module 56 the_use
 use_at = record { named = refl; occurs = refl; has_value = has_two }
 
 use_so : IsConstantUse worked_module the_use
 use_so = record { occurs = refl; bound = refl; has_value = has_two }
 
 -- edits that leave the text of a module with the same runs
-inlines_in : (how : Inlining) (offset : ℕ) (edits : Vec Edit Global) (t : Tree Name module_text) → EditsGiveModule Utf16 example_text edits.items t → WellTyped t → HaveSameRuns t (named_tree_of worked_module)
+inlines_in : (how : InliningKind) (offset : ℕ) (edits : Vec Edit Global) (t : Tree Name module_text) → EditedTextHasTree Utf16 example_text edits.items t → WellTyped t → HaveSameRuns t (named_tree_of worked_module)
     → IsInlineResult how Utf16 example_text worked_module offset (Some edits) → InlinesInText how Utf16 example_text offset edits
 inlines_in how offset edits t leaves well same inlines =
     let after : List ℕ = chars leaves.after.text in
@@ -182,7 +182,7 @@ here_made = record {
       after = scanned_of inlined_lexemes;
       scan = inlined_scan;
       made = inlines_leave;
-      module_of = record { spelled = refl; short = inlined_scan.short; shallow = let n : nesting (tree_inlined_here worked_module the_use) ≡ 0 = refl in omega (arith, n) };
+      module_of = record { spelled = refl; short = inlined_scan.short; shallow = let n : nesting (tree_with_inlined_use worked_module the_use) ≡ 0 = refl in omega (arith, n) };
     };
     short = subst (λ (t : List ℕ). length (text_after_replacement (scanned_of worked_lexemes) (16 ∷ []) t) ≤ 1048576) text_of_two (omega (arith, inlined_length));
   };
@@ -194,10 +194,10 @@ one_edit = vec_of (puts_two ∷ []) (omega (arith))
 pub inlines_here_in : ConstantUsesAreFactors → InliningKeepsTypingAndRuns → InlinesInText OneUse Utf16 example_text 56 (vec_of (puts_two ∷ []) (omega (arith)))
 inlines_here_in alone keeps =
     let answer = at_uses.answer_ok worked_names worked_well the_use use_so alone two_fits keeps Utf16 example_text (puts_two ∷ []) here_made refl in
-    inlines_in OneUse 56 (vec_of (puts_two ∷ []) (omega (arith))) (tree_inlined_here worked_module the_use) answer.1.leaves answer.1.well_typed answer.1.same_runs (inl (the_use, use_at, answer))
+    inlines_in OneUse 56 (vec_of (puts_two ∷ []) (omega (arith))) (tree_with_inlined_use worked_module the_use) answer.1.leaves answer.1.well_typed answer.1.same_runs (inl (the_use, use_at, answer))
 
-pub inlining_one_use_is_answered : ConstantUsesAreFactors → InliningKeepsTypingAndRuns → AnswersAreUnique → InliningOneUseIsAnswered
-inlining_one_use_is_answered alone keeps one =
+pub inline_here_answer_has_one_edit : ConstantUsesAreFactors → InliningKeepsTypingAndRuns → AnswersAreUnique → InlineHereAnswerHasOneEdit
+inline_here_answer_has_one_edit alone keeps one =
     answered_by one (inline_here (line_position 6 7)) (replacement_on_line 6 7 8 (codes "2") ∷ [])
     (inl (
       puts_two ∷ [],
@@ -208,10 +208,10 @@ inlining_one_use_is_answered alone keeps one =
 abbrev the_constant : DeclaredConstant
 the_constant = record { ordinal = 7; value = scalar.Number (pos 2); first = 4; last = 7 }
 
-constant_so : IsConstant worked_module the_constant
+constant_so : IsDeclaredConstant worked_module the_constant
 constant_so = record { has_value = has_two; begins = refl; ends = refl }
 
-constant_at : IsConstantAt worked_module 56 the_constant
+constant_at : IsConstantAtOffset worked_module 56 the_constant
 constant_at = record { token = 16; named = refl; is_constant = constant_so }
 
 everywhere_made : at_constants.Made worked_names the_constant Utf16 example_text (takes_out ∷ puts_two ∷ [])
@@ -226,7 +226,7 @@ everywhere_made = record {
       made = everywhere_leave;
       module_of = record { spelled = refl; short = without_scan.short; shallow = let n : nesting (tree_inlined_everywhere worked_module the_constant) ≡ 0 = refl in omega (arith, n) };
     };
-    short = subst (λ (t : List ℕ). length (text_after_removal (scanned_of worked_lexemes) 4 7 (16 ∷ []) t) ≤ 1048576) text_of_two (omega (arith, without_length));
+    short = subst (λ (t : List ℕ). length (text_after_removal_and_replacement (scanned_of worked_lexemes) 4 7 (16 ∷ []) t) ≤ 1048576) text_of_two (omega (arith, without_length));
   };
 }
 
@@ -236,8 +236,8 @@ inlines_everywhere_in alone keeps =
     inlines_in Everywhere 56 (vec_of (takes_out ∷ puts_two ∷ []) (omega (arith))) (tree_inlined_everywhere worked_module the_constant) answer.1.leaves answer.1.well_typed answer.1.same_runs
     (inl (the_constant, constant_at, answer))
 
-pub inlining_everywhere_is_answered : ConstantUsesAreFactors → InliningEverywhereKeepsTypingAndRuns → AnswersAreUnique → InliningEverywhereIsAnswered
-inlining_everywhere_is_answered alone keeps one =
+pub inline_all_answer_has_two_edits : ConstantUsesAreFactors → InliningEverywhereKeepsTypingAndRuns → AnswersAreUnique → InlineAllAnswerHasTwoEdits
+inline_all_answer_has_two_edits alone keeps one =
     answered_by one (inline_all (line_position 6 7)) (replacement_on_line 2 2 8 [] ∷ replacement_on_line 6 7 8 (codes "2") ∷ [])
     (inl (
       takes_out ∷ puts_two ∷ [],

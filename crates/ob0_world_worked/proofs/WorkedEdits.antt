@@ -3,17 +3,17 @@ use Rattle.std.proofs.Common.{◌≡◌, ◌∙◌, ◌≤◌, ℕ, List, [], �
 use Rattle.std.specs.Prelude.{codes, decimal}
 use Rattle.std.specs.Fmt.{digits}
 use Rattle.std.specs.Str.{chars, IsUtf8}
-use Rattle.ob0_scan.specs.Lexed.{text_of_lexemes}
+use Rattle.ob0_scan.specs.TextLexemes.{text_of_lexemes}
 use Rattle.ob0_text.specs.declared.edits.Edit.{Edit}
 use Rattle.ob0_text.specs.declared.position_types.Unit.TheVariants.{Utf16}
 use Rattle.ob0_text.specs.Units.{width_of}
 use Rattle.ob0_text.specs.Texts.{text_before, line_body, ends_line, fitting_prefix, lines, offset_of, position_in_lines, position_of, starts_with_lf}
 use Rattle.ob0_text.specs.Texts as texts
-use Rattle.ob0_text.specs.Patches.{are_all_disjoint, cut_of_range, cuts_in_text_order, patched_text, text_patched_by_cuts, text_from_place_with_cuts, char_count_before}
+use Rattle.ob0_text.specs.Patches.{are_all_disjoint, cut_of_range, cuts_in_text_order, patched_text, text_patched_by_cuts, text_from_place_with_cuts, char_count_before_position}
 use Rattle.ob0_edits_tokens.specs.Ranges.{range_of}
-use Rattle.ob0_edits_tokens.specs.Removals.{span_of_tokens, text_after_removal}
+use Rattle.ob0_edits_tokens.specs.Removals.{span_of_tokens, text_after_removal_and_replacement}
 use Rattle.ob0_edits_tokens.specs.Replacements.{replacement_at_token, range_and_text, text_after_replacement}
-use Rattle.ob0_scope_table.specs.Resolution.{span_at}
+use Rattle.ob0_scope_table.specs.Resolution.{token_span}
 use Rattle.ob0_world_worked.specs.WorkedText.{line_position, example_text}
 use Rattle.ob0_world_worked.proofs.WorkedValues.{string_of}
 use Rattle.ob0_world_worked.proofs.WorkedTexts.{chars_so, inlined_lexemes, renamed_lexemes, scanned_of, utf8_so, without_lexemes, worked_lexemes}
@@ -50,21 +50,21 @@ unfolding position_of position_in_lines lines ends_line starts_with_lf fitting_p
 inlines_parts = refl
 
 renames_made : patched_text (width_of Utf16) example_text renames ≡ Some (text_of_lexemes renamed_lexemes)
-unfolding text_patched_by_cuts cut_of_range char_count_before are_all_disjoint cuts_in_text_order text_from_place_with_cuts text_before fitting_prefix lines line_body ends_line starts_with_lf texts.text_of_lines chars
+unfolding text_patched_by_cuts cut_of_range char_count_before_position are_all_disjoint cuts_in_text_order text_from_place_with_cuts text_before fitting_prefix lines line_body ends_line starts_with_lf texts.text_of_lines chars
 renames_made = refl
 
 pub renames_leave : patched_text (width_of Utf16) example_text renames ≡ Some (chars (text_of_lexemes renamed_lexemes))
 renames_leave = renames_made ∙ ap Some (sym (chars_so (text_of_lexemes renamed_lexemes) refl))
 
 inlines_made : patched_text (width_of Utf16) example_text (puts_two ∷ []) ≡ Some (text_of_lexemes inlined_lexemes)
-unfolding text_patched_by_cuts cut_of_range char_count_before are_all_disjoint cuts_in_text_order text_from_place_with_cuts text_before fitting_prefix lines line_body ends_line starts_with_lf texts.text_of_lines chars
+unfolding text_patched_by_cuts cut_of_range char_count_before_position are_all_disjoint cuts_in_text_order text_from_place_with_cuts text_before fitting_prefix lines line_body ends_line starts_with_lf texts.text_of_lines chars
 inlines_made = refl
 
 pub inlines_leave : patched_text (width_of Utf16) example_text (puts_two ∷ []) ≡ Some (chars (text_of_lexemes inlined_lexemes))
 inlines_leave = inlines_made ∙ ap Some (sym (chars_so (text_of_lexemes inlined_lexemes) refl))
 
 everywhere_made : patched_text (width_of Utf16) example_text (takes_out ∷ puts_two ∷ []) ≡ Some (text_of_lexemes without_lexemes)
-unfolding text_patched_by_cuts cut_of_range char_count_before are_all_disjoint cuts_in_text_order text_from_place_with_cuts text_before fitting_prefix lines line_body ends_line starts_with_lf texts.text_of_lines chars
+unfolding text_patched_by_cuts cut_of_range char_count_before_position are_all_disjoint cuts_in_text_order text_from_place_with_cuts text_before fitting_prefix lines line_body ends_line starts_with_lf texts.text_of_lines chars
 everywhere_made = refl
 
 pub everywhere_leave : patched_text (width_of Utf16) example_text (takes_out ∷ puts_two ∷ []) ≡ Some (chars (text_of_lexemes without_lexemes))
@@ -74,7 +74,7 @@ pub declaration_parts : range_and_text takes_out ≡ (range_of (width_of Utf16) 
 unfolding position_of position_in_lines lines ends_line starts_with_lf fitting_prefix
 declaration_parts = refl
 
-pub write_is_at : range_of (width_of Utf16) example_text (span_at (scanned_of worked_lexemes) 18) ≡ record { start = line_position 7 2; end = line_position 7 7 }
+pub write_is_at : range_of (width_of Utf16) example_text (token_span (scanned_of worked_lexemes) 18) ≡ record { start = line_position 7 2; end = line_position 7 7 }
 unfolding position_of position_in_lines lines ends_line starts_with_lf fitting_prefix
 write_is_at = refl
 
@@ -86,7 +86,7 @@ pub inlined_length : length (text_after_replacement (scanned_of worked_lexemes) 
 unfolding text_from_place_with_cuts
 inlined_length = refl
 
-pub without_length : length (text_after_removal (scanned_of worked_lexemes) 4 7 (16 ∷ []) (codes "2")) ≡ 71
+pub without_length : length (text_after_removal_and_replacement (scanned_of worked_lexemes) 4 7 (16 ∷ []) (codes "2")) ≡ 71
 unfolding text_from_place_with_cuts
 without_length = refl
 

@@ -8,35 +8,35 @@ use Rattle.serde_json.specs.Data.{Data, null, number, unsigned, depth}
 use Rattle.ob0_text.specs.declared.position_types.Unit.TheVariants.{Utf16}
 use Rattle.ob0_text.specs.Texts.{text_before, line_body, ends_line, fitting_prefix, lines, offset_of, starts_with_lf}
 use Rattle.ob0_text.specs.Texts as texts
-use Rattle.ob0_text.specs.Patches.{are_all_disjoint, cut_of_range, cuts_in_text_order, text_patched_by_cuts, text_from_place_with_cuts, char_count_before}
+use Rattle.ob0_text.specs.Patches.{are_all_disjoint, cut_of_range, cuts_in_text_order, text_patched_by_cuts, text_from_place_with_cuts, char_count_before_position}
 use Rattle.ob0_text.specs.OpenDocuments.{Document, InStep, changed_text, document_at, no_open_documents, documents_after_open}
-use Rattle.ob0_rpc.specs.Appending.{ReadsBack}
+use Rattle.ob0_rpc.specs.AppendedJson.{ReadsBack}
 use Rattle.ob0_rpc.specs.Requests.{DocumentPlace}
 use Rattle.ob0_rpc.specs.Notifications.{NotificationMeaning, notification_by_method, opens, changes}
 use Rattle.ob0_language_runs.specs.EditLaws.{InliningEverywhereKeepsTypingAndRuns, InliningKeepsTypingAndRuns}
 use Rattle.ob0_language_types.specs.EditLaws.{ConstantUsesAreFactors}
 use Rattle.ob0_refs.specs.Questions.{hover_at_offset}
 use Rattle.ob0_analysis.specs.ReportedErrors.{IsWellTypedModule}
-use Rattle.ob0_analysis.specs.Texts.{utf8}
+use Rattle.ob0_analysis.specs.TextBytes.{utf8}
 use Rattle.ob0_analysis.proofs.Scanning.{is_module}
-use Rattle.ob0_edits.specs.declared.inlinings.Inlining.TheVariants.{OneUse, Everywhere}
+use Rattle.ob0_edits.specs.declared.inline_question.InliningKind.TheVariants.{OneUse, Everywhere}
 use Rattle.ob0_edits.specs.InliningEdits.{InlinesInText}
 use Rattle.ob0_session_answers.specs.Actions.{first_offset_in_range, actions_array, ListsInlinings}
 use Rattle.ob0_session_answers.specs.Questions.{hover_value_with_range, hover_question, offset_of_place, value_or_null}
 use Rattle.ob0_session_server.specs.Answers as server
 use Rattle.ob0_session_server.specs.Answers.{Answers, IsConversation, AreContentsOfReply, SendsMessage, ServerState, react_to_document_request, question_reply, apply_notification, state_after_initialize, actions_reply, publication_reply}
-use Rattle.ob0_world_editor.specs.InitializeRequest.{client_features_for, initialize_message}
-use Rattle.ob0_world_editor.specs.Shapes.{change_object, did_change_params, did_open_params}
-use Rattle.ob0_world_editor.specs.MessagesToEditor.{message_to_editor_by_numbering, message_to_editor_of}
+use Rattle.ob0_world_editor.specs.InitializeRequest.{client_features_for_unit, initialize_message}
+use Rattle.ob0_world_editor.specs.Shapes.{change_value_of_range_and_text, did_change_params, did_open_params}
+use Rattle.ob0_world_editor.specs.MessagesToEditor.{message_to_editor_by_id_conversion, message_to_editor_of_value}
 use Rattle.ob0_world_rules.specs.Asks.{inline_all}
-use Rattle.ob0_world_rules.specs.ClientAndServer.{Applied, Editor, OpenDocument, SentAsk, MessageToEditor, answers, new_editor, editor_document_at, publishes}
+use Rattle.ob0_world_rules.specs.ClientAndServer.{Applied, Editor, OpenDocument, SentAsk, MessageToEditor, answers, new_editor, editor_document_with_uri, publishes}
 use Rattle.ob0_world_rules.specs.TextEdits.{Replacement, text_after_changes, text_after_edits}
-use Rattle.ob0_world_rules.specs.EditorActs.{asking_result, editor_without_answer}
-use Rattle.ob0_world_rules.specs.EditorMoves.{AppliesAnswer, opening_result_for_document, revised_document, editor_applies, editor_asks, editor_opens, notifications_of_revisions, editor_with_document}
+use Rattle.ob0_world_rules.specs.EditorActs.{result_of_sending_ask, editor_without_answer}
+use Rattle.ob0_world_rules.specs.EditorMoves.{AppliesAnswer, result_of_opening_given_document, revised_document, editor_applies, editor_asks, editor_opens, notifications_of_revisions, editor_with_document}
 use Rattle.ob0_world_rules.specs.EveryEditor.{editor_moves, editor_sends_unmodeled_message, editor_takes_message, server_takes_message}
-use Rattle.ob0_world_rules.specs.PublicationsInOrder.{AnnouncedDocument}
+use Rattle.ob0_world_rules.specs.PublicationsAreInOrder.{AnnouncedDocument}
 use Rattle.ob0_world_rules.proofs.UriLaws.{get_put}
-use Rattle.ob0_world.specs.Exchanges.{IsInitialExchange, Exchange, Exchanges, IsCodeActionRequest, SentRequestId, ask_number_of_json_id, number_id, message_to_editor_by_ids, editor_after_reading_if_any}
+use Rattle.ob0_world.specs.Exchanges.{IsInitialExchange, Exchange, ExchangeTakesTurn, IsCodeActionRequest, SentRequestId, ask_number_of_json_id, number_id, message_to_editor_by_request_ids, editor_after_optional_message}
 use Rattle.ob0_world_worked.specs.WorkedText.{line_position, example_text}
 use Rattle.ob0_world_worked.specs.WorkedAnswers.{range_on_line, replacement_on_line}
 use Rattle.ob0_world_worked.specs.WorkedExchange.{ExampleExchangeExists, example_code_action_params, example_code_action_request, hover_request, hover_params, inlined_text, inlining_context, inlining_revision, change_notification, initialized_notification, open_notification, example_turns, uri}
@@ -48,19 +48,19 @@ use Rattle.ob0_world_worked.proofs.Json.{content_of, reads_so}
 use Rattle.ob0_world_worked.proofs.WorkedMessages.{actions_read, capabilities_read, change_read, everywhere_edits, here_edits, hover_read, initialize_read, initialized_read, initialized_with, no_hover, no_hover_read, none_read, open_read, requested_actions, sends, shows_none, two_actions, two_actions_read}
 
 -- The editor reads this in the content.
-editor_reads : (of : Data → Option ℕ) (requested : List SentAsk) (d : Data) → ReadsBack d → nat_lt (depth d) 128 ≡ true → message_to_editor_by_numbering of requested (content_of d) ≡ message_to_editor_of of requested d
-unfolding message_to_editor_by_numbering
+editor_reads : (of : Data → Option ℕ) (requested : List SentAsk) (d : Data) → ReadsBack d → nat_lt (depth d) 128 ≡ true → message_to_editor_by_id_conversion of requested (content_of d) ≡ message_to_editor_of_value of requested d
+unfolding message_to_editor_by_id_conversion
 editor_reads of requested d r shallow =
     let w = reads_so d r shallow in
-    λ i. if is_utf8-from_IsUtf8 (content_of d) w.0 i then option_and_then (message_to_editor_of of requested) (w.1 i) else None
+    λ i. if is_utf8-from_IsUtf8 (content_of d) w.0 i then option_and_then (message_to_editor_of_value of requested) (w.1 i) else None
 
 -- ---- the states
 
 abbrev session₀ : ServerState
-session₀ = state_after_initialize (client_features_for Utf16)
+session₀ = state_after_initialize (client_features_for_unit Utf16)
 
 abbrev session₁ : ServerState
-session₁ = record { phase = session₀.phase; client = client_features_for Utf16; held = documents_after_open (no_open_documents Utf16) uri (pos 0) example_text }
+session₁ = record { phase = session₀.phase; client = client_features_for_unit Utf16; held = documents_after_open (no_open_documents Utf16) uri (pos 0) example_text }
 
 abbrev document₀ : OpenDocument
 document₀ = record { version = pos 0; text = example_text; opening = 1 }
@@ -163,23 +163,23 @@ x₁₂ =
 
 -- ---- the beginning
 
-initialized_so : Answers server.start (content_of (initialize_message Utf16)) (content_of initialized_with ∷ []) (state_after_initialize (client_features_for Utf16))
+initialized_so : Answers server.start (content_of (initialize_message Utf16)) (content_of initialized_with ∷ []) (state_after_initialize (client_features_for_unit Utf16))
 initialized_so = (Some (initialize_message Utf16), reads_so (initialize_message Utf16) initialize_read refl, (refl, sends initialized_with capabilities_read refl))
 
 begins_so : IsInitialExchange Utf16 x₀
 begins_so = record {
-  client = client_features_for Utf16;
+  client = client_features_for_unit Utf16;
   counts = refl;
   taken = begin;
   got = got₀;
-  initialized = record { between = state_after_initialize (client_features_for Utf16); first = got₀; later = []; answers = initialized_so; follows = (refl, refl); all = refl };
+  initialized = record { between = state_after_initialize (client_features_for_unit Utf16); first = got₀; later = []; answers = initialized_so; follows = (refl, refl); all = refl };
   is = refl;
 }
 
-turn₁ : Exchanges x₀ editor_sends_unmodeled_message x₁
+turn₁ : ExchangeTakesTurn x₀ editor_sends_unmodeled_message x₁
 turn₁ = (None, content_of initialized_notification, (initialized_notification, reads_so initialized_notification initialized_read refl, refl), refl)
 
-turn₂ : Exchanges x₁ server_takes_message x₂
+turn₂ : ExchangeTakesTurn x₁ server_takes_message x₂
 turn₂ = (x₂.wire, (session₀, [], (Some initialized_notification, reads_so initialized_notification initialized_read refl, (refl, refl)), refl), refl)
 
 -- ---- the document is opened
@@ -187,9 +187,9 @@ turn₂ = (x₂.wire, (session₀, [], (Some initialized_notification, reads_so 
 opened_note : notification_by_method (codes "textDocument/didOpen") ((did_open_params uri 0 example_text)) ≡ opens uri (pos 0) example_text
 opened_note = ap (λ t. opens uri (pos 0) t) (chars_so example_text refl)
 
-turn₃ : Exchanges x₂ (editor_moves (editor_opens uri (pos 0) example_text)) x₃
+turn₃ : ExchangeTakesTurn x₂ (editor_moves (editor_opens uri (pos 0) example_text)) x₃
 turn₃ = (
-  opening_result_for_document document₀ editor₀ uri,
+  result_of_opening_given_document document₀ editor₀ uri,
   announced₀ ∷ [],
   [],
   content_of open_notification ∷ [],
@@ -217,12 +217,12 @@ opened_so = (
   subst (λ (n : NotificationMeaning). let r = apply_notification session₀ n in (session₁ ≡ r.after) × AreContentsOfReply r.reply (content_of shows_none ∷ [])) (sym opened_note) (refl, published_so),
 )
 
-turn₄ : Exchanges x₃ server_takes_message x₄
+turn₄ : ExchangeTakesTurn x₃ server_takes_message x₄
 turn₄ = (x₄.wire, (session₁, content_of shows_none ∷ [], opened_so, refl), refl)
 
 -- ---- a hover
 
-turn₅ : Exchanges x₄ editor_sends_unmodeled_message x₅
+turn₅ : ExchangeTakesTurn x₄ editor_sends_unmodeled_message x₅
 turn₅ = (Some (number_id 1), content_of hover_request, (hover_request, reads_so hover_request hover_read refl, (refl, tt, refl)), refl)
 
 abbrev hover_place : DocumentPlace
@@ -240,12 +240,12 @@ hovered_so = (
       (refl, (null, inl (worked_names, worked_in_bytes, no_name), sends no_hover no_hover_read refl)),
 )
 
-turn₆ : Exchanges x₅ server_takes_message x₆
+turn₆ : ExchangeTakesTurn x₅ server_takes_message x₆
 turn₆ = (x₆.wire, (session₁, content_of no_hover ∷ [], hovered_so, refl), refl)
 
 -- ---- the actions
 
-open_is : editor_document_at editor₁ uri ≡ Some document₀
+open_is : editor_document_with_uri editor₁ uri ≡ Some document₀
 open_is = get_put map_of.empty uri document₀ uri
 
 asks_so : IsCodeActionRequest (number (unsigned 2)) uri (line_position 6 7) (content_of example_code_action_request)
@@ -262,9 +262,9 @@ asks_so = record {
   allowed = refl;
 }
 
-turn₇ : Exchanges x₆ (editor_moves (editor_asks uri (inline_all (line_position 6 7)))) x₇
+turn₇ : ExchangeTakesTurn x₆ (editor_moves (editor_asks uri (inline_all (line_position 6 7)))) x₇
 turn₇ = (
-  asking_result editor₁ uri (inline_all (line_position 6 7)) document₀,
+  result_of_sending_ask editor₁ uri (inline_all (line_position 6 7)) document₀,
   [],
   hover_id ∷ ask_id ∷ [],
   content_of example_code_action_request ∷ [],
@@ -297,7 +297,7 @@ module _ (alone : ConstantUsesAreFactors) (keeps : InliningKeepsTypingAndRuns) (
         (refl, (two_actions, (actions_array requested_actions (Some here_edits) (Some everywhere_edits), inl lists_so, refl), sends two_actions two_actions_read refl)),
   )
 
-  turn₈ : Exchanges x₇ server_takes_message x₈
+  turn₈ : ExchangeTakesTurn x₇ server_takes_message x₈
   turn₈ = (x₈.wire, (session₁, content_of two_actions ∷ [], offered_so, refl), refl)
 
 -- ---- the editor takes what was sent
@@ -305,37 +305,37 @@ module _ (alone : ConstantUsesAreFactors) (keeps : InliningKeepsTypingAndRuns) (
 abbrev ids₂ : List SentRequestId
 ids₂ = hover_id ∷ ask_id ∷ []
 
-reads_none : message_to_editor_by_ids ids₂ (the_ask ∷ []) (content_of shows_none) ≡ Some (publishes uri (Some (pos 0)) true)
+reads_none : message_to_editor_by_request_ids ids₂ (the_ask ∷ []) (content_of shows_none) ≡ Some (publishes uri (Some (pos 0)) true)
 reads_none = editor_reads (ask_number_of_json_id ids₂) (the_ask ∷ []) shows_none none_read refl ∙ refl
 
-turn₉ : Exchanges x₈ editor_takes_message x₉
-turn₉ = ap (λ (m : Option MessageToEditor). record x₉ { editor = editor_after_reading_if_any editor₂ m }) (sym reads_none)
+turn₉ : ExchangeTakesTurn x₈ editor_takes_message x₉
+turn₉ = ap (λ (m : Option MessageToEditor). record x₉ { editor = editor_after_optional_message editor₂ m }) (sym reads_none)
 
-reads_hover : message_to_editor_by_ids ids₂ (the_ask ∷ []) (content_of no_hover) ≡ None
+reads_hover : message_to_editor_by_request_ids ids₂ (the_ask ∷ []) (content_of no_hover) ≡ None
 reads_hover = editor_reads (ask_number_of_json_id ids₂) (the_ask ∷ []) no_hover no_hover_read refl ∙ refl
 
-turn₁₀ : Exchanges x₉ editor_takes_message x₁₀
-turn₁₀ = ap (λ (m : Option MessageToEditor). record x₁₀ { editor = editor_after_reading_if_any editor₂ m }) (sym reads_hover)
+turn₁₀ : ExchangeTakesTurn x₉ editor_takes_message x₁₀
+turn₁₀ = ap (λ (m : Option MessageToEditor). record x₁₀ { editor = editor_after_optional_message editor₂ m }) (sym reads_hover)
 
-reads_actions : message_to_editor_by_ids ids₂ (the_ask ∷ []) (content_of two_actions) ≡ Some (answers 1 the_edits)
+reads_actions : message_to_editor_by_request_ids ids₂ (the_ask ∷ []) (content_of two_actions) ≡ Some (answers 1 the_edits)
 unfolding chars
 reads_actions = editor_reads (ask_number_of_json_id ids₂) (the_ask ∷ []) two_actions two_actions_read refl ∙ refl
 
-turn₁₁ : Exchanges x₁₀ editor_takes_message x₁₁
-turn₁₁ = ap (λ (m : Option MessageToEditor). record x₁₁ { editor = editor_after_reading_if_any editor₂ m }) (sym reads_actions)
+turn₁₁ : ExchangeTakesTurn x₁₀ editor_takes_message x₁₁
+turn₁₁ = ap (λ (m : Option MessageToEditor). record x₁₁ { editor = editor_after_optional_message editor₂ m }) (sym reads_actions)
 
 -- ---- the edits are made
 
 edits_make : text_after_edits Utf16 example_text the_edits ≡ Some inlined_text
-unfolding text_after_edits text_patched_by_cuts cut_of_range char_count_before are_all_disjoint cuts_in_text_order text_from_place_with_cuts text_before fitting_prefix lines line_body ends_line starts_with_lf texts.text_of_lines
+unfolding text_after_edits text_patched_by_cuts cut_of_range char_count_before_position are_all_disjoint cuts_in_text_order text_from_place_with_cuts text_before fitting_prefix lines line_body ends_line starts_with_lf texts.text_of_lines
 edits_make = refl
 
 changes_make : text_after_changes Utf16 (Some example_text) law.example_changes ≡ Some inlined_text
-unfolding changed_text text_patched_by_cuts cut_of_range char_count_before are_all_disjoint cuts_in_text_order text_from_place_with_cuts text_before fitting_prefix lines line_body ends_line starts_with_lf texts.text_of_lines
+unfolding changed_text text_patched_by_cuts cut_of_range char_count_before_position are_all_disjoint cuts_in_text_order text_from_place_with_cuts text_before fitting_prefix lines line_body ends_line starts_with_lf texts.text_of_lines
 changes_make = refl
 
 abbrev the_change : Data
-the_change = did_change_params uri 1 (change_object (Some (range_on_line 6 7 8)) (codes "2") ∷ change_object (Some (range_on_line 2 2 8)) [] ∷ [])
+the_change = did_change_params uri 1 (change_value_of_range_and_text (Some (range_on_line 6 7 8)) (codes "2") ∷ change_value_of_range_and_text (Some (range_on_line 2 2 8)) [] ∷ [])
 
 changed_note : notification_by_method (codes "textDocument/didChange") the_change ≡ changes uri (pos 1) law.example_changes
 unfolding chars
@@ -361,7 +361,7 @@ applies_so = record {
   is = refl;
 }
 
-turn₁₂ : Exchanges x₁₁ (editor_moves (editor_applies 1 (inlining_revision ∷ []))) x₁₂
+turn₁₂ : ExchangeTakesTurn x₁₁ (editor_moves (editor_applies 1 (inlining_revision ∷ []))) x₁₂
 turn₁₂ = (
   record { editor = editor₄; sent = notifications_of_revisions uri (inlining_revision ∷ []); applied = record { uri = uri; before = example_text; after = inlined_text } ∷ [] },
   announced₁ ∷ [],

@@ -7,16 +7,16 @@ use Rattle.serde_json.specs.Data.{Data, array, null, number, object, string, uns
 use Rattle.serde_json.specs.View.{items_of}
 use Rattle.ob0_text.specs.declared.position_types.Unit.TheVariants.{Utf16}
 use Rattle.ob0_text.specs.declared.edits.Edit.{Edit}
-use Rattle.ob0_rpc.specs.Appending.{ReadsBack}
-use Rattle.ob0_rpc.specs.Shapes.{edit_value, position_value, range_value, result_message}
-use Rattle.ob0_rpc.proofs.Appending.{position_read, range_read}
-use Rattle.ob0_session_json.specs.Shapes.{capabilities, publication}
+use Rattle.ob0_rpc.specs.AppendedJson.{ReadsBack}
+use Rattle.ob0_rpc.specs.JsonShapes.{edit_value, position_value, range_value, result_message}
+use Rattle.ob0_rpc.proofs.AppendedJson.{position_read, range_read}
+use Rattle.ob0_session_json.specs.JsonShapes.{capabilities, publication}
 use Rattle.ob0_session_answers.specs.Actions.{VersionedActionsRequest, inlining_action_value, actions_array}
 use Rattle.ob0_session_server.specs.Answers.{SendsMessage}
-use Rattle.ob0_world_editor.specs.InitializeRequest.{text_document_capabilities, client_features_for, initialize_message, workspace_capabilities}
+use Rattle.ob0_world_editor.specs.InitializeRequest.{text_document_capabilities, client_features_for_unit, initialize_message, workspace_capabilities}
 use Rattle.ob0_world_worked.specs.WorkedText.{line_position}
-use Rattle.ob0_world_editor.specs.Shapes.{change_object}
-use Rattle.ob0_edits.specs.declared.inlinings.Inlining.TheVariants.{OneUse, Everywhere}
+use Rattle.ob0_world_editor.specs.Shapes.{change_value_of_range_and_text}
+use Rattle.ob0_edits.specs.declared.inline_question.InliningKind.TheVariants.{OneUse, Everywhere}
 use Rattle.ob0_world_worked.specs.WorkedAnswers.{range_on_line}
 use Rattle.ob0_world_worked.specs.WorkedExchange.{example_code_action_request, hover_request, inlining_context, change_notification, initialized_notification, open_notification, uri}
 use Rattle.ob0_world_worked.proofs.WorkedValues.{vec_of}
@@ -27,7 +27,7 @@ use Rattle.ob0_world_worked.proofs.Json.{array_read, content_of, count_read, emp
 -- ---- the contents
 
 abbrev pub initialized_with : Data
-initialized_with = result_message (string (codes "initialize")) (capabilities (client_features_for Utf16))
+initialized_with = result_message (string (codes "initialize")) (capabilities (client_features_for_unit Utf16))
 
 abbrev pub shows_none : Data
 shows_none = publication uri (Some (pos 0)) []
@@ -38,7 +38,7 @@ no_hover = result_message (number (unsigned 1)) null
 abbrev pub requested_actions : VersionedActionsRequest
 requested_actions = record {
   id = number (unsigned 2);
-  client = client_features_for Utf16;
+  client = client_features_for_unit Utf16;
   uri = uri;
   version = pos 0;
   range = record { start = line_position 6 7; end = line_position 6 8 };
@@ -142,7 +142,7 @@ change_read =
         text_read refl,
         (
           object_read refl refl (
-            array_read (change_object (Some (range_on_line 6 7 8)) (codes "2") ∷ change_object (Some (range_on_line 2 2 8)) [] ∷ []) (object_read refl refl (part_read 6 7 8 refl refl refl, (text_read refl, tt)), (object_read refl refl (part_read 2 2 8 refl refl refl, (text_read refl, tt)), tt)),
+            array_read (change_value_of_range_and_text (Some (range_on_line 6 7 8)) (codes "2") ∷ change_value_of_range_and_text (Some (range_on_line 2 2 8)) [] ∷ []) (object_read refl refl (part_read 6 7 8 refl refl refl, (text_read refl, tt)), (object_read refl refl (part_read 2 2 8 refl refl refl, (text_read refl, tt)), tt)),
             (
               versioned_read 1 one_read,
               tt,

@@ -6,10 +6,10 @@ use Rattle.ob0_tree.specs.declared.tree.Expression.{Expression, Factor}
 use Rattle.ob0_tree.specs.declared.tree.Factor.{Designator', Integer, end_of-Selector}
 use Rattle.ob0_tree.specs.declared.tree.Statement.{Statement, Assign, Call}
 use Rattle.ob0_tree.specs.declared.tree.WrittenType.{Named}
-use Rattle.ob0_tree.specs.declared.tree.Constant.{Constant}
+use Rattle.ob0_tree.specs.declared.tree.ConstantDeclaration.{ConstantDeclaration}
 use Rattle.ob0_tree.specs.declared.tree.VariableDeclaration.{VariableDeclaration}
 use Rattle.ob0_tree.specs.declared.tree.Block.{Block, Block', end_of-Procedure}
-use Rattle.ob0_tree.specs.ParsedModule.{IsParsed, ParsedModule, named_tree_of}
+use Rattle.ob0_tree.specs.ParsedModule.{TreeMatchesText, ParsedModule, named_tree_of}
 use Rattle.ob0_tree.specs.Module.{IsModuleWithTree}
 use Rattle.ob0_tree.specs.Tree.{nesting}
 use Rattle.ob0_scope_table.specs.Resolution.{AreNameFaultsOf, IsResolution, OnlyIdentifiersHaveOrdinals, Resolution, is_identifier_token}
@@ -22,7 +22,7 @@ use Rattle.ob0_world_worked.proofs.WorkedTexts.{scanned_of, worked_lexemes, work
 abbrev pub used : ℕ → Expression
 used token = Factor (Designator' token none_of end_of-Selector)
 
-abbrev pub n_is_two : Constant
+abbrev pub n_is_two : ConstantDeclaration
 n_is_two = record { name = 4; value = Factor (Integer 6) }
 
 abbrev pub x_is : VariableDeclaration
@@ -43,7 +43,7 @@ worked_module = record { source = scanned_of worked_lexemes; name = 1; block = w
 worked_module_of : IsModuleWithTree (scanned_of worked_lexemes) (named_tree_of worked_module)
 worked_module_of = record { spelled = refl; short = worked_short; shallow = let n : nesting (named_tree_of worked_module) ≡ 0 = refl in omega (arith, n) }
 
-pub worked_parsed : IsParsed worked_module
+pub worked_parsed : TreeMatchesText worked_module
 worked_parsed = record { module_of = worked_module_of; places = refl }
 
 -- ---- the bindings

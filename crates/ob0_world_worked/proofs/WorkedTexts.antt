@@ -12,7 +12,7 @@ use Rattle.ob0_scan.specs.declared.lexeme.Symbol.TheVariants as symbol
 use Rattle.ob0_scan.specs.declared.lexeme.TokenKind.TheVariants as token
 use Rattle.ob0_scan.specs.declared.lexeme.LexemeKind.TheVariants as lexeme
 use Rattle.ob0_scan.specs.LexemeClasses.{reserved_word_text, symbol_text}
-use Rattle.ob0_scan.specs.Lexed.{Lexeme, text_of_lexemes}
+use Rattle.ob0_scan.specs.TextLexemes.{Lexeme, text_of_lexemes}
 use Rattle.ob0_scan.specs.TextWithTokens.{TextWithTokens, IsScan, comments_of_lexemes_from, tokens_of_lexemes_from}
 use Rattle.ob0_world_worked.specs.WorkedText.{example_text}
 use Rattle.ob0_world_worked.proofs.LexemeTests.{are_disjoint, lexed_so}
@@ -48,7 +48,7 @@ abbrev pub name : List ℕ → Lexeme
 name text = record { kind = lexeme.Token token.Identifier; text = text }
 
 abbrev pub white : List ℕ → Lexeme
-white text = record { kind = lexeme.Space; text = text }
+white text = record { kind = lexeme.WhiteSpace; text = text }
 
 abbrev pub space : Lexeme
 space = white (32 ∷ [])

@@ -6,5 +6,5 @@ use Rattle.ob0_world_rules.specs.Laws.{AlwaysHasAnswer}
 
 -- States that a request for formatting has an answer for each text, unit and indent
 -- (`AlwaysHasAnswer`).
-abbrev pub FormattingHasAnswers : Type 0
-FormattingHasAnswers = (indent : Indent) → AlwaysHasAnswer (format indent)
+abbrev pub FormattingAlwaysHasAnswer : Type 0
+FormattingAlwaysHasAnswer = (indent : Indent) → AlwaysHasAnswer (format indent)

@@ -25,23 +25,23 @@ IsAnsweredOnlyBy ask edits =
     (given : List Replacement) → IsAnswerForText Utf16 example_text ask given ↔ (given ≡ edits)
 
 -- states that renaming `x` to `y` is answered by three edits: at the declaration and at both uses
-abbrev pub RenameIsAnswered : Type 0
-RenameIsAnswered =
+abbrev pub RenameAnswerHasThreeEdits : Type 0
+RenameAnswerHasThreeEdits =
     IsAnsweredOnlyBy (rename (line_position 4 2) (codes "y"))
     (replacement_on_line 4 2 3 (codes "y") ∷ replacement_on_line 6 2 3 (codes "y") ∷ replacement_on_line 7 8 9 (codes "y") ∷ [])
 
 -- States that renaming `x` to `Write` is refused, because the renamed variable would capture the
 -- call of `Write`. The answer has no edits.
-pub record CaptureIsRefused : Type 0 where
+pub record CapturingRenameIsRefused : Type 0 where
   pub refused : IsRenameRefusedInText Utf16 example_text (line_position 4 2) (codes "Write") (Captures (range_on_line 7 2 7))
   pub no_edits : IsAnsweredOnlyBy (rename (line_position 4 2) (codes "Write")) []
 
 -- states that inlining `n` at its use is answered by one edit, which replaces the use by the value
-abbrev pub InliningOneUseIsAnswered : Type 0
-InliningOneUseIsAnswered = IsAnsweredOnlyBy (inline_here (line_position 6 7)) (replacement_on_line 6 7 8 (codes "2") ∷ [])
+abbrev pub InlineHereAnswerHasOneEdit : Type 0
+InlineHereAnswerHasOneEdit = IsAnsweredOnlyBy (inline_here (line_position 6 7)) (replacement_on_line 6 7 8 (codes "2") ∷ [])
 
 -- states that inlining `n` everywhere is answered by two edits: one removes the declaration, and
 -- one replaces the use by the value
-abbrev pub InliningEverywhereIsAnswered : Type 0
-InliningEverywhereIsAnswered =
+abbrev pub InlineAllAnswerHasTwoEdits : Type 0
+InlineAllAnswerHasTwoEdits =
     IsAnsweredOnlyBy (inline_all (line_position 6 7)) (replacement_on_line 2 2 8 [] ∷ replacement_on_line 6 7 8 (codes "2") ∷ [])

@@ -5,9 +5,9 @@ use Rattle.serde_json.specs.Data.{Data, array, object, string, item, no_items, m
 use Rattle.serde_json.specs.Written.{compact_text}
 use Rattle.ob0_text.specs.declared.position_types.Unit.TheVariants.{Utf16}
 use Rattle.ob0_text.specs.OpenDocuments.{TextChange}
-use Rattle.ob0_rpc.specs.Shapes.{notification_message, position_value, range_value}
+use Rattle.ob0_rpc.specs.JsonShapes.{notification_message, position_value, range_value}
 use Rattle.ob0_world_editor.specs.InitializeRequest.{initialize_message}
-use Rattle.ob0_world_editor.specs.Shapes.{change_object, did_change_params, document_id_value, did_open_params, request_message}
+use Rattle.ob0_world_editor.specs.Shapes.{change_value_of_range_and_text, did_change_params, document_id_value, did_open_params, request_message}
 use Rattle.ob0_world_rules.specs.Asks.{inline_all}
 use Rattle.ob0_world_rules.specs.EditorMoves.{Revision, editor_applies, editor_asks, editor_opens}
 use Rattle.ob0_world_rules.specs.EveryEditor.{ExchangeTurn, editor_moves, editor_sends_unmodeled_message, editor_takes_message, server_takes_message}
@@ -96,8 +96,8 @@ example_code_action_request = request_message 2 (codes "textDocument/codeAction"
 abbrev pub change_notification : Data
 change_notification =
     notification_message (codes "textDocument/didChange") (did_change_params uri 1
-    (change_object (Some (range_on_line 6 7 8)) (codes "2")
-    ∷ change_object (Some (range_on_line 2 2 8)) []
+    (change_value_of_range_and_text (Some (range_on_line 6 7 8)) (codes "2")
+    ∷ change_value_of_range_and_text (Some (range_on_line 2 2 8)) []
     ∷ []))
 
 -- ---- the law

@@ -3,12 +3,12 @@
 
 ghost use Rattle.std.specs.Prelude.{◌≡◌, ◌≤◌, ◌∷◌, [], ◌++◌, ◌+◌, ◌^◌, map, IfOk, MatchResult, OnOk, option_map, slice_get, slice_index_or, None, Some};
 ghost use Rattle.ob0_types_table.specs.declared.types.TypeId.TheVariants as type;
-ghost use Rattle.ob0_tree.specs.Places.{token_text_at};
+ghost use Rattle.ob0_tree.specs.TokenIndexLeaves.{token_text_at};
 ghost use Rattle.ob0_types_check.specs.TypesAndMeanings.{a_procedure};
-ghost use Rattle.ob0_types_check.specs.OperandFaults.{ReturnsAndReports, fault_at_token, fault_at_tokens, token_after};
-ghost use Rattle.ob0_types_check.specs.KnownDeclarations.{define_name_at_token, is_within_limits, make_composite_type, predeclared_meanings, size_of_type_so_far, with_meaning};
+ghost use Rattle.ob0_types_check.specs.OperandFaults.{ReturnsAndReports, fault_at_token, fault_at_token_range, next_token_index};
+ghost use Rattle.ob0_types_check.specs.KnownDeclarations.{define_name_at_token, is_within_limits, make_composite_type, predeclared_meanings, size_of_known_type, declarations_with_meaning};
 ghost use Rattle.ob0_types_check.specs.CheckerViews.{capped_size, meaning_in_state, entry_element_type, entry_field_type, composite_type_of, meaning_view, size_of, declarations_in_state};
-ghost use Rattle.ob0_types_check.specs.WrittenTypeFaults.{array_size, sum_of_sizes, next_type_ordinal, record_size};
+ghost use Rattle.ob0_types_check.specs.WrittenTypeFaults.{array_size, combined_size, next_type_ordinal, record_size};
 
 use ob0_language_values::Scalar;
 use ob0_scan::FaultCode;
@@ -93,8 +93,8 @@ impl TypeSize {
 
     /// Returns the size of two parts together, such as two fields: the sum of their scalars and the
     /// greater of their depths. The sum is capped at 2^64 - 1.
-    pub(crate) fn size_of_both(self, other: TypeSize) -> TypeSize
-        ensures { size_of result ≡ capped_size (sum_of_sizes (size_of self) (size_of other)) }
+    pub(crate) fn combined_size(self, other: TypeSize) -> TypeSize
+        ensures { size_of result ≡ capped_size (combined_size (size_of self) (size_of other)) }
     {
         TypeSize {
             scalars: self.scalars.saturating_add(other.scalars),
@@ -136,28 +136,28 @@ pub(crate) fn sum_or_error(a: usize, b: usize) -> Result<usize, AllocError>
 }
 
 /// Appends a fault with this code to `faults`. The fault is at the tokens from `first` to `last`.
-pub(crate) fn report_at_tokens(
+pub(crate) fn report_fault_at_token_range(
     faults: &mut Vec<FaultAtTokens>,
     code: FaultCode,
     first: usize,
     last: usize,
 ) -> Result<(), AllocError>
     ensures { OnOk result
-        (faults.new.items ≡ faults.old.items ++ fault_at_tokens code first last) }
+        (faults.new.items ≡ faults.old.items ++ fault_at_token_range code first last) }
 {
     faults.push(FaultAtTokens { code, first, last })?;
     Ok(())
 }
 
 /// Appends a fault with this code to `faults`. The fault is at one token.
-pub(crate) fn report_at_token(
+pub(crate) fn report_fault_at_token(
     faults: &mut Vec<FaultAtTokens>,
     code: FaultCode,
     token: usize,
 ) -> Result<(), AllocError>
     ensures { OnOk result (faults.new.items ≡ faults.old.items ++ fault_at_token code token) }
 {
-    report_at_tokens(faults, code, token, token)
+    report_fault_at_token_range(faults, code, token, token)
 }
 
 /// The declarations and types of a module that the walk has found so far.
@@ -174,7 +174,7 @@ pub(crate) struct CheckerState<'t> {
 
 impl<'t> CheckerState<'t> {
     /// Returns the spelling of a token.
-    pub(crate) fn text(&self, token: usize) -> &'t str
+    pub(crate) fn token_text(&self, token: usize) -> &'t str
         ensures { result.now ≡ token_text_at self.now.resolved.now.module_read.source token }
     {
         token_text_at(self.resolved.tokens(), token)
@@ -182,8 +182,8 @@ impl<'t> CheckerState<'t> {
 
     /// Returns the index of the token after `token`. If `token` is the end of the text (the number
     /// of tokens), returns it unchanged.
-    pub(crate) fn token_after(&self, token: usize) -> usize
-        ensures { result ≡ token_after self.now.resolved.now.module_read.source token }
+    pub(crate) fn next_token_index(&self, token: usize) -> usize
+        ensures { result ≡ next_token_index self.now.resolved.now.module_read.source token }
     {
         if token < self.resolved.tokens().tokens().len() {
             token + 1
@@ -225,15 +225,15 @@ impl<'t> CheckerState<'t> {
     {
         match self.resolved.ordinal_at(token) {
             None => {}
-            Some(ordinal) => self.define_ordinal(ordinal, meaning),
+            Some(ordinal) => self.set_meaning_of_ordinal(ordinal, meaning),
         }
     }
 
     /// Records the meaning of the declaration with this ordinal. If there is no such ordinal,
     /// nothing changes.
-    fn define_ordinal(&mut self, ordinal: usize, meaning: Meaning)
+    fn set_meaning_of_ordinal(&mut self, ordinal: usize, meaning: Meaning)
         ensures { declarations_in_state self.new
-            ≡ with_meaning (declarations_in_state self.old) (meaning_view meaning) (Some ordinal) }
+            ≡ declarations_with_meaning (declarations_in_state self.old) (meaning_view meaning) (Some ordinal) }
     {
         if ordinal < self.meanings.len() {
             self.meanings[ordinal] = Some(meaning);
@@ -242,7 +242,7 @@ impl<'t> CheckerState<'t> {
 
     /// Returns the size of a type. The unknown type has no scalars and depth 0.
     pub(crate) fn size_of(&self, of: TypeId) -> TypeSize
-        ensures { size_of result ≡ size_of_type_so_far (declarations_in_state self.now).made of }
+        ensures { size_of result ≡ size_of_known_type (declarations_in_state self.now).made of }
     {
         match of {
             TypeId::Array(place) => self.composite_size(place),
@@ -256,7 +256,7 @@ impl<'t> CheckerState<'t> {
     /// Returns the size of the array or record type at the index `place` of `composites`. If there
     /// is no type at this index, returns the size of a scalar.
     fn composite_size(&self, place: usize) -> TypeSize
-        ensures { size_of result ≡ size_of_type_so_far (declarations_in_state self.now).made (type.Array place) }
+        ensures { size_of result ≡ size_of_known_type (declarations_in_state self.now).made (type.Array place) }
     {
         match self.composites.get(place) {
             None => SCALAR_SIZE,
@@ -266,7 +266,7 @@ impl<'t> CheckerState<'t> {
 
     /// Returns the element type of the array type at the index `place` of `composites`. Returns the
     /// unknown type if there is no array type at this index.
-    pub(crate) fn element_type_at(&self, place: usize) -> TypeId
+    pub(crate) fn composite_element_type(&self, place: usize) -> TypeId
         ensures { result ≡ entry_element_type (slice_get self.now.composites.items place) }
     {
         match self.composites.get(place) {
@@ -280,7 +280,7 @@ impl<'t> CheckerState<'t> {
 
     /// Returns the type of the first field with this name in the record type at the index `place`
     /// of `composites`. Returns None if there is no such record type or field.
-    pub(crate) fn field_type_at(&self, place: usize, name: &str) -> Option<TypeId>
+    pub(crate) fn composite_field_type(&self, place: usize, name: &str) -> Option<TypeId>
         ensures { result ≡ entry_field_type (slice_get self.now.composites.items place) name.now }
     {
         match self.composites.get(place) {
@@ -318,7 +318,7 @@ impl<'t> CheckerState<'t> {
             (composite_type_of entry).parts (composite_type_of entry).size)) }
     {
         if !size_of_entry(&entry).is_within_limits() {
-            report_at_token(faults, FaultCode::TypeTooLarge, token)?;
+            report_fault_at_token(faults, FaultCode::TypeTooLarge, token)?;
             return Ok(TypeId::Unknown);
         }
         add_entry(&mut self.composites, entry)

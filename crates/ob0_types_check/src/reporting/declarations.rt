@@ -2,20 +2,20 @@
 //! declaration, which the text after the declaration uses.
 
 ghost use Rattle.std.specs.Prelude.{◌≡◌, ◌∷◌, ◌++◌, [], map, IfOk, OnOk};
-ghost use Rattle.ob0_language_names.specs.BlockParts.{formal_sections, section_constants, section_types, section_variables};
+ghost use Rattle.ob0_language_names.specs.BlockParts.{formal_parameter_sections, section_constants, section_types, section_variables};
 ghost use Rattle.ob0_tree.specs.View.{block_of, body_of, constant_of, constant_section_of, formals_of, parameter_section_after_semicolon_of, items_of, procedure_of, type_declaration_of, type_section_of, variable_of, variable_section_of};
 ghost use Rattle.ob0_types_check.specs.DeclarationFaults.{body_faults, report_body_if_wanted, report_on_block, report_on_constant_declaration, report_on_constant_declarations, report_on_procedure, report_on_procedures, report_on_parameter_section, report_on_parameter_sections, report_on_type_declaration, report_on_type_declarations, report_on_variable_group, report_on_variable_declarations};
 ghost use Rattle.ob0_types_check.specs.TypesAndMeanings.{a_variable};
 ghost use Rattle.ob0_types_check.specs.OperandFaults.{ReturnsAndReports};
-ghost use Rattle.ob0_types_check.specs.KnownDeclarations.{define_names_at_tokens};
-ghost use Rattle.ob0_types_check.specs.SomeBodies.{includes_body, walk_progress_of};
+ghost use Rattle.ob0_types_check.specs.KnownDeclarations.{define_listed_names};
+ghost use Rattle.ob0_types_check.specs.WalksOverSomeBodies.{includes_body, walk_progress_of};
 ghost use Rattle.ob0_types_check.specs.CheckerViews.{heading_in_state, declarations_in_state};
 
 use crate::reporting::checker_state::{CheckerState, Meaning};
 use crate::reporting::{BodiesToWalk, ReportingWalk};
 use ob0_scope_table::FaultAtTokens;
 use ob0_tree::{
-    Block, Constant, Names, ParameterSection, Procedure, Statement, TypeDeclaration,
+    Block, ConstantDeclaration, Names, ParameterSection, Procedure, Statement, TypeDeclaration,
     VariableDeclaration,
 };
 use ob0_types_table::{FormalParameter, TypeId};
@@ -23,7 +23,7 @@ use std::alloc::AllocError;
 
 /// Appends the parameter `formal` to `formals`, once for each name in `names`. The names share one
 /// type and one mode.
-fn add_formals(
+fn add_formal_parameters(
     names: &Names,
     formal: FormalParameter,
     formals: &mut Vec<FormalParameter>,
@@ -40,9 +40,9 @@ fn add_formals(
 
 impl<'t> CheckerState<'t> {
     /// Records each name in `names` as a variable of the type `of`.
-    fn define_names_at_tokens(&mut self, names: &Names, of: TypeId)
+    fn define_listed_names(&mut self, names: &Names, of: TypeId)
         ensures { declarations_in_state self.new
-            ≡ define_names_at_tokens (declarations_in_state self.old) (a_variable of)
+            ≡ define_listed_names (declarations_in_state self.old) (a_variable of)
             (names.now.first ∷ names.now.more.items) }
     {
         self.define_name_at_token(names.first, Meaning::Variable(of));
@@ -163,7 +163,7 @@ impl<'t> ReportingWalk<'t> {
         ensures { IfOk result (λ formals. ReturnsAndReports self.old.faults.items self.new.faults.items
             (heading_in_state self.new.checker_state formals.items) (report_on_parameter_sections
             (record { formals = []; following = declarations_in_state self.old.checker_state })
-            (formal_sections (formals_of sections.now)))) }
+            (formal_parameter_sections (formals_of sections.now)))) }
     {
         let mut formals = Vec::new(self.alloc);
         self.report_parameter_sections_if_any(sections, &mut formals)?;
@@ -180,7 +180,7 @@ impl<'t> ReportingWalk<'t> {
         ensures { OnOk result (ReturnsAndReports self.old.faults.items self.new.faults.items
             (heading_in_state self.new.checker_state formals.new.items) (report_on_parameter_sections
             (heading_in_state self.old.checker_state formals.old.items)
-            (formal_sections (formals_of sections.now)))) }
+            (formal_parameter_sections (formals_of sections.now)))) }
     {
         match sections {
             None => Ok(()),
@@ -222,12 +222,15 @@ impl<'t> ReportingWalk<'t> {
             by_place: s.by_reference,
             of,
         };
-        add_formals(&s.names, formal, formals)?;
-        self.checker_state.define_names_at_tokens(&s.names, of);
+        add_formal_parameters(&s.names, formal, formals)?;
+        self.checker_state.define_listed_names(&s.names, of);
         Ok(())
     }
 
-    fn report_constant_section(&mut self, section: &Option<Vec<Constant>>) -> Result<(), AllocError>
+    fn report_constant_section(
+        &mut self,
+        section: &Option<Vec<ConstantDeclaration>>,
+    ) -> Result<(), AllocError>
         ensures { OnOk result (ReturnsAndReports self.old.faults.items self.new.faults.items
             (declarations_in_state self.new.checker_state) (report_on_constant_declarations (declarations_in_state self.old.checker_state)
             (section_constants (constant_section_of section.now)))) }
@@ -238,7 +241,10 @@ impl<'t> ReportingWalk<'t> {
         }
     }
 
-    fn report_constant_declarations(&mut self, constants: &[Constant]) -> Result<(), AllocError>
+    fn report_constant_declarations(
+        &mut self,
+        constants: &[ConstantDeclaration],
+    ) -> Result<(), AllocError>
         ensures { OnOk result (ReturnsAndReports self.old.faults.items self.new.faults.items
             (declarations_in_state self.new.checker_state) (report_on_constant_declarations (declarations_in_state self.old.checker_state)
             (items_of constant_of constants.now))) }
@@ -249,7 +255,7 @@ impl<'t> ReportingWalk<'t> {
         Ok(())
     }
 
-    fn report_constant_declaration(&mut self, c: &Constant) -> Result<(), AllocError>
+    fn report_constant_declaration(&mut self, c: &ConstantDeclaration) -> Result<(), AllocError>
         ensures { OnOk result (ReturnsAndReports self.old.faults.items self.new.faults.items
             (declarations_in_state self.new.checker_state)
             (report_on_constant_declaration (declarations_in_state self.old.checker_state) (constant_of c.now))) }
@@ -332,7 +338,7 @@ impl<'t> ReportingWalk<'t> {
             (report_on_variable_group (declarations_in_state self.old.checker_state) (variable_of v.now))) }
     {
         let of = self.check_written_type(&v.written)?;
-        self.checker_state.define_names_at_tokens(&v.names, of);
+        self.checker_state.define_listed_names(&v.names, of);
         Ok(())
     }
 }

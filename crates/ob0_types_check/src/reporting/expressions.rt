@@ -7,12 +7,14 @@ ghost use Rattle.ob0_types_table.specs.declared.types.TypeId.TheVariants as type
 ghost use Rattle.ob0_tree.specs.View.{compound_expression_of, expression_of, factor_of, selector_of, simple_expression_of, term_of};
 ghost use Rattle.ob0_language_types.specs.DesignatorSelectors.{selectors_of_designator};
 ghost use Rattle.ob0_types_check.specs.ExpressionFaults.{report_on_expression, report_on_factor, report_on_selector, report_on_selectors, report_on_simple_expression, report_on_term};
-ghost use Rattle.ob0_types_check.specs.OperandFaults.{ReturnsAndReports, constant_name_operand, number_operand, add_operands, required_type, required_type_of_both, fault_at_operand, prefixed_operand, negated_operand, element_type_from_form, element_operand, operand_in_parentheses, field_type_from_form, field_operand, may_be_same_type, operand_of_operation, multiply_operands, name_operand, extended_operand, relate_operands, signed_operand, comparison_type, operand_type_of_addition, operand_type_of_equality, operand_type_of_multiplication, operand_type_of_relation, value_type};
+ghost use Rattle.ob0_types_check.specs.OperandFaults.{ReturnsAndReports, constant_name_operand, number_operand, add_operands, require_type, require_type_of_both_operands, fault_at_operand, prefixed_operand, negated_operand, element_type_from_form, element_operand, operand_in_parentheses, field_type_from_form, field_operand, may_be_same_type, operand_of_operation, multiply_operands, name_operand, operand_with_selector, relate_operands, signed_operand, comparison_type, operand_type_of_addition, operand_type_of_equality, operand_type_of_multiplication, operand_type_of_relation, value_type};
 ghost use Rattle.ob0_types_check.specs.TypeFaults.{operand_value, report_on_constant_expression};
-ghost use Rattle.ob0_types_check.specs.KnownDeclarations.{same_type};
+ghost use Rattle.ob0_types_check.specs.KnownDeclarations.{is_same_type};
 ghost use Rattle.ob0_types_check.specs.CheckerViews.{facts_in, form_of_type_in, operand_of, type_id_representation};
 
-use crate::reporting::checker_state::{CheckerState, Meaning, report_at_token, report_at_tokens};
+use crate::reporting::checker_state::{
+    CheckerState, Meaning, report_fault_at_token, report_fault_at_token_range,
+};
 use ob0_language_values::Scalar;
 use ob0_scan::FaultCode;
 use ob0_scope_table::FaultAtTokens;
@@ -106,8 +108,8 @@ fn type_of_comparison(operands: TypeId) -> TypeId
 
 /// Returns whether the types are equal. Two array types, or two record types, are equal if they
 /// have the same index in the checker's list of array and record types.
-pub(crate) fn same_type(a: TypeId, b: TypeId) -> bool
-    ensures { result ≡ same_type a b }
+pub(crate) fn is_same_type(a: TypeId, b: TypeId) -> bool
+    ensures { result ≡ is_same_type a b }
 {
     a == b
 }
@@ -117,14 +119,16 @@ pub(crate) fn same_type(a: TypeId, b: TypeId) -> bool
 fn may_be_same_type(of: TypeId, wanted: TypeId) -> bool
     ensures { result ≡ may_be_same_type (type_id_representation []) of wanted }
 {
-    same_type(of, wanted) || same_type(of, TypeId::Unknown) || same_type(wanted, TypeId::Unknown)
+    is_same_type(of, wanted)
+        || is_same_type(of, TypeId::Unknown)
+        || is_same_type(wanted, TypeId::Unknown)
 }
 
 /// Returns `wanted` if `of` is the same type, otherwise the unknown type.
 fn required_type_or_unknown(of: TypeId, wanted: TypeId) -> TypeId
-    ensures { result ≡ (if same_type of wanted then wanted else type.Unknown) }
+    ensures { result ≡ (if is_same_type of wanted then wanted else type.Unknown) }
 {
-    if same_type(of, wanted) {
+    if is_same_type(of, wanted) {
         wanted
     } else {
         TypeId::Unknown
@@ -166,7 +170,7 @@ impl Operand {
     /// Returns the operand for a designator that extends this operand's designator by a selector.
     /// `last` is the last token of that selector. The result has the type `of` and no value.
     fn operand_with_selector(self, of: TypeId, last: usize) -> Operand
-        ensures { operand_of result ≡ extended_operand (operand_of self) of last }
+        ensures { operand_of result ≡ operand_with_selector (operand_of self) of last }
     {
         Operand {
             of,
@@ -179,7 +183,7 @@ impl Operand {
 }
 
 /// Reports a fault with this code at the whole expression of an operand.
-pub(crate) fn report_at_operand(
+pub(crate) fn report_fault_at_operand(
     faults: &mut Vec<FaultAtTokens>,
     code: FaultCode,
     operand: Operand,
@@ -187,7 +191,7 @@ pub(crate) fn report_at_operand(
     ensures { OnOk result
         (faults.new.items ≡ faults.old.items ++ fault_at_operand code (operand_of operand)) }
 {
-    report_at_tokens(faults, code, operand.first, operand.last)
+    report_fault_at_token_range(faults, code, operand.first, operand.last)
 }
 
 impl<'t> CheckerState<'t> {
@@ -200,10 +204,10 @@ impl<'t> CheckerState<'t> {
         operand: Operand,
     ) -> Result<TypeId, AllocError>
         ensures { IfOk result (λ t. ReturnsAndReports faults.old.items faults.new.items t
-            (required_type (facts_in self.now false) wanted (operand_of operand))) }
+            (require_type (facts_in self.now false) wanted (operand_of operand))) }
     {
         if !may_be_same_type(operand.of, wanted) {
-            report_at_operand(faults, FaultCode::TypeMismatch, operand)?;
+            report_fault_at_operand(faults, FaultCode::TypeMismatch, operand)?;
         }
         Ok(required_type_or_unknown(operand.of, wanted))
     }
@@ -211,7 +215,7 @@ impl<'t> CheckerState<'t> {
     /// Requires the type `wanted` of both operands of an operation. Reports a mismatch at the left
     /// operand or, if the left operand has no mismatch, at the right operand. Returns `wanted` if
     /// both operands have this type, otherwise the unknown type.
-    fn require_type_of_both(
+    fn require_type_of_both_operands(
         &self,
         faults: &mut Vec<FaultAtTokens>,
         wanted: TypeId,
@@ -219,14 +223,14 @@ impl<'t> CheckerState<'t> {
         right: Operand,
     ) -> Result<TypeId, AllocError>
         ensures { IfOk result (λ t. ReturnsAndReports faults.old.items faults.new.items t
-            (required_type_of_both (facts_in self.now false) wanted (operand_of left) (operand_of right))) }
+            (require_type_of_both_operands (facts_in self.now false) wanted (operand_of left) (operand_of right))) }
     {
         if !may_be_same_type(left.of, wanted) {
-            report_at_operand(faults, FaultCode::TypeMismatch, left)?;
+            report_fault_at_operand(faults, FaultCode::TypeMismatch, left)?;
             return Ok(TypeId::Unknown);
         }
         let of = self.require_type(faults, wanted, right)?;
-        if same_type(left.of, wanted) {
+        if is_same_type(left.of, wanted) {
             Ok(of)
         } else {
             Ok(TypeId::Unknown)
@@ -290,7 +294,7 @@ impl<'t> CheckerState<'t> {
             (operand_of right))) }
     {
         let wanted = operand_type_of_relation(relation, left.of);
-        let of = self.require_type_of_both(faults, wanted, left, right)?;
+        let of = self.require_type_of_both_operands(faults, wanted, left, right)?;
         let value = operators::value_of_relation(relation, left.value, right.value);
         Ok(left.joined_operand(right, type_of_comparison(of), value))
     }
@@ -327,7 +331,7 @@ impl<'t> CheckerState<'t> {
             (add_operands (facts_in self.now false) operator (operand_of left)
             (operand_of right))) }
     {
-        let of = self.require_type_of_both(
+        let of = self.require_type_of_both_operands(
             faults,
             operand_type_of_addition(operator),
             left,
@@ -389,7 +393,7 @@ impl<'t> CheckerState<'t> {
             (multiply_operands (facts_in self.now false) operator (operand_of left)
             (operand_of right))) }
     {
-        let of = self.require_type_of_both(
+        let of = self.require_type_of_both_operands(
             faults,
             operand_type_of_multiplication(operator),
             left,
@@ -415,7 +419,7 @@ impl<'t> CheckerState<'t> {
                 if d.selectors.is_empty() {
                     Ok(base)
                 } else {
-                    self.check_selectors(faults, base, d, only_constants)
+                    self.check_designator_selectors(faults, base, d, only_constants)
                 }
             }
             Factor::Integer(token) => Ok(self.integer_operand(*token)),
@@ -454,7 +458,7 @@ impl<'t> CheckerState<'t> {
             value: inside.value,
             may_be_variable: false,
             first: inside.first.saturating_sub(1),
-            last: self.token_after(inside.last),
+            last: self.next_token_index(inside.last),
         }
     }
 
@@ -497,17 +501,17 @@ impl<'t> CheckerState<'t> {
                 Meaning::Constant(value) => Ok(constant_operand(*value, token)),
                 Meaning::Variable(of) => {
                     if only_constants {
-                        report_at_token(faults, FaultCode::NotConstant, token)?;
+                        report_fault_at_token(faults, FaultCode::NotConstant, token)?;
                         return Ok(unknown);
                     }
                     Ok(unknown.operand_with_selector(*of, token))
                 }
                 Meaning::Named(_) => {
-                    report_at_token(faults, FaultCode::WrongKind, token)?;
+                    report_fault_at_token(faults, FaultCode::WrongKind, token)?;
                     Ok(unknown)
                 }
                 Meaning::Procedure(_) => {
-                    report_at_token(faults, FaultCode::WrongKind, token)?;
+                    report_fault_at_token(faults, FaultCode::WrongKind, token)?;
                     Ok(unknown)
                 }
             },
@@ -517,7 +521,7 @@ impl<'t> CheckerState<'t> {
     /// Returns the operand for the designator `d`, given the operand `base` for its name. Reports
     /// the faults of the designator's selectors.
     #[cycle(expressions)]
-    pub(crate) fn check_selectors(
+    pub(crate) fn check_designator_selectors(
         &self,
         faults: &mut Vec<FaultAtTokens>,
         base: Operand,
@@ -571,7 +575,7 @@ impl<'t> CheckerState<'t> {
     {
         let index_type = self.require_type(faults, TypeId::Integer, index)?;
         let of = self.array_element_type(faults, base.of, index, index_type)?;
-        Ok(base.operand_with_selector(of, self.token_after(index.last)))
+        Ok(base.operand_with_selector(of, self.next_token_index(index.last)))
     }
 
     /// Returns the element type of the array type `base`, and reports `NotArray` if `base` is known
@@ -590,8 +594,8 @@ impl<'t> CheckerState<'t> {
     {
         match base {
             TypeId::Array(place) => {
-                if same_type(index_type, TypeId::Integer) {
-                    Ok(self.element_type_at(place))
+                if is_same_type(index_type, TypeId::Integer) {
+                    Ok(self.composite_element_type(place))
                 } else {
                     Ok(TypeId::Unknown)
                 }
@@ -613,7 +617,7 @@ impl<'t> CheckerState<'t> {
             (element_type_from_form (facts_in self.now false) (operand_of index) type.Integer
             (form_of_type_in [] type.Integer))) }
     {
-        report_at_token(faults, FaultCode::NotArray, index.first.saturating_sub(1))?;
+        report_fault_at_token(faults, FaultCode::NotArray, index.first.saturating_sub(1))?;
         Ok(TypeId::Unknown)
     }
 
@@ -645,10 +649,10 @@ impl<'t> CheckerState<'t> {
             (field_type_from_form (facts_in self.now false) name (form_of_type_in self.now.composites.items base))) }
     {
         match base {
-            TypeId::Record(place) => match self.field_type_at(place, self.text(name)) {
+            TypeId::Record(place) => match self.composite_field_type(place, self.token_text(name)) {
                 Some(of) => Ok(of),
                 None => {
-                    report_at_token(faults, FaultCode::NoField, name)?;
+                    report_fault_at_token(faults, FaultCode::NoField, name)?;
                     Ok(TypeId::Unknown)
                 }
             },
@@ -668,7 +672,7 @@ impl<'t> CheckerState<'t> {
         ensures { IfOk result (λ t. ReturnsAndReports faults.old.items faults.new.items t
             (field_type_from_form (facts_in self.now false) name (form_of_type_in [] type.Integer))) }
     {
-        report_at_token(faults, FaultCode::NotRecord, name.saturating_sub(1))?;
+        report_fault_at_token(faults, FaultCode::NotRecord, name.saturating_sub(1))?;
         Ok(TypeId::Unknown)
     }
 
@@ -699,11 +703,11 @@ impl<'t> CheckerState<'t> {
             (option_map scalar_value v)
             (operand_value (facts_in self.now false) (operand_of constant_operand))) }
     {
-        if same_type(constant_operand.of, TypeId::Unknown) {
+        if is_same_type(constant_operand.of, TypeId::Unknown) {
             return Ok(None);
         }
         if constant_operand.value.is_none() {
-            report_at_operand(faults, FaultCode::ConstFault, constant_operand)?;
+            report_fault_at_operand(faults, FaultCode::ConstFault, constant_operand)?;
         }
         Ok(constant_operand.value)
     }

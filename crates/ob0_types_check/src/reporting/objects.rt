@@ -2,8 +2,8 @@
 //! table (`DeclarationTable`).
 
 ghost use Rattle.std.specs.Prelude.{◌≡◌, IfOk, Some, map, option_map, slice_set};
-ghost use Rattle.ob0_types_table.specs.declared.known.Object.TheVariants as kind;
-ghost use Rattle.ob0_types_check.specs.CheckerViews.{table_object, with_standard_procedures};
+ghost use Rattle.ob0_types_table.specs.declared.declaration_table.Object.TheVariants as kind;
+ghost use Rattle.ob0_types_check.specs.CheckerViews.{table_object_of_meaning, with_standard_procedures};
 
 use crate::reporting::checker_state::Meaning;
 use ob0_scope_table::{READ_ORDINAL, WRITE_LN_ORDINAL, WRITE_ORDINAL};
@@ -17,7 +17,7 @@ pub(crate) fn objects_of_meanings(
     meanings: Vec<Option<Meaning>>,
 ) -> Result<Vec<Option<Object>>, AllocError>
     ensures { IfOk result
-        (λ objects. objects.items ≡ map (option_map table_object) meanings.items) }
+        (λ objects. objects.items ≡ map (option_map table_object_of_meaning) meanings.items) }
 {
     let mut objects = Vec::new(alloc);
     for meaning in meanings {
@@ -28,7 +28,7 @@ pub(crate) fn objects_of_meanings(
 
 /// Returns the object of a declaration with this meaning, or None if it has no meaning.
 fn object_of_optional_meaning(meaning: Option<Meaning>) -> Option<Object>
-    ensures { result ≡ option_map table_object meaning }
+    ensures { result ≡ option_map table_object_of_meaning meaning }
 {
     match meaning {
         None => None,
@@ -39,7 +39,7 @@ fn object_of_optional_meaning(meaning: Option<Meaning>) -> Option<Object>
 /// Returns the object of a declaration with this meaning. A constant without a value becomes
 /// `FaultyConstant`.
 fn object_of_meaning(meaning: Meaning) -> Object
-    ensures { result ≡ table_object meaning }
+    ensures { result ≡ table_object_of_meaning meaning }
 {
     match meaning {
         Meaning::Named(of) => Object::Named(of),
@@ -58,14 +58,14 @@ fn object_of_meaning(meaning: Meaning) -> Object
 pub(crate) fn define_standard_procedures(objects: &mut Vec<Option<Object>>)
     ensures { objects.new.items ≡ with_standard_procedures objects.old.items }
 {
-    define_standard_procedure(objects, READ_ORDINAL, StandardProcedure::Read);
-    define_standard_procedure(objects, WRITE_ORDINAL, StandardProcedure::Write);
-    define_standard_procedure(objects, WRITE_LN_ORDINAL, StandardProcedure::WriteLn);
+    replace_by_standard_procedure(objects, READ_ORDINAL, StandardProcedure::Read);
+    replace_by_standard_procedure(objects, WRITE_ORDINAL, StandardProcedure::Write);
+    replace_by_standard_procedure(objects, WRITE_LN_ORDINAL, StandardProcedure::WriteLn);
 }
 
 /// Replaces the object with this ordinal by a standard procedure. If there is no such ordinal,
 /// nothing changes.
-fn define_standard_procedure(
+fn replace_by_standard_procedure(
     objects: &mut Vec<Option<Object>>,
     ordinal: usize,
     standard: StandardProcedure,

@@ -5,11 +5,11 @@ ghost use Rattle.ob0_scan.specs.declared.fault.FaultCode.TheVariants as code;
 ghost use Rattle.ob0_tree.specs.View.{assignment_of, call_of, elsifs_of_vec, expression_of, if_of, sequence_of_vec, statement_of};
 ghost use Rattle.ob0_types_check.specs.TypesAndMeanings.{a_procedure};
 ghost use Rattle.ob0_types_check.specs.OperandFaults.{ReturnsAndReports, fault_at_token};
-ghost use Rattle.ob0_types_check.specs.StatementFaults.{target_name_type, call_faults_from_meaning, required_type_of_argument, faults_of_argument, typed_expression_faults, call_faults, condition_faults, elsif_faults, untyped_argument_faults, sequence_faults, statement_faults};
-ghost use Rattle.ob0_types_check.specs.CheckerViews.{facts_in, formal_of, operand_of};
+ghost use Rattle.ob0_types_check.specs.StatementFaults.{target_name_type, call_faults_from_meaning, require_type_of_argument, faults_of_argument, faults_of_expression_of_type, call_faults, condition_faults, elsif_faults, untyped_argument_faults, sequence_faults, statement_faults};
+ghost use Rattle.ob0_types_check.specs.CheckerViews.{facts_in, known_parameter_of, operand_of};
 
-use crate::reporting::checker_state::{CheckerState, Meaning, report_at_token};
-use crate::reporting::expressions::{Operand, report_at_operand};
+use crate::reporting::checker_state::{CheckerState, Meaning, report_fault_at_token};
+use crate::reporting::expressions::{Operand, report_fault_at_operand};
 use ob0_scan::FaultCode;
 use ob0_scope_table::FaultAtTokens;
 use ob0_tree::{Assignment, Call, Elsif, Expression, If, Repeat, Statement, While};
@@ -104,11 +104,11 @@ impl<'t> CheckerState<'t> {
             ≡ faults.old.items
             ++ condition_faults (facts_in self.now false) (expression_of e.now)) }
     {
-        self.check_typed_expression(faults, TypeId::Boolean, e)
+        self.check_expression_of_type(faults, TypeId::Boolean, e)
     }
 
     /// Reports the faults of an expression that must have the type `wanted`.
-    fn check_typed_expression(
+    fn check_expression_of_type(
         &self,
         faults: &mut Vec<FaultAtTokens>,
         wanted: TypeId,
@@ -116,7 +116,7 @@ impl<'t> CheckerState<'t> {
     ) -> Result<(), AllocError>
         ensures { OnOk result (faults.new.items
             ≡ faults.old.items
-            ++ typed_expression_faults (facts_in self.now false) wanted (expression_of e.now)) }
+            ++ faults_of_expression_of_type (facts_in self.now false) wanted (expression_of e.now)) }
     {
         let operand = self.check_expression(faults, e, false)?;
         self.require_type(faults, wanted, operand)?;
@@ -142,8 +142,8 @@ impl<'t> CheckerState<'t> {
             first: token,
             last: token,
         };
-        let target = self.check_selectors(faults, base, &a.target, false)?;
-        self.check_typed_expression(faults, target.of, &a.value)
+        let target = self.check_designator_selectors(faults, base, &a.target, false)?;
+        self.check_expression_of_type(faults, target.of, &a.value)
     }
 
     /// Returns the type of the variable or parameter to which the assigned name at `token` refers.
@@ -162,15 +162,15 @@ impl<'t> CheckerState<'t> {
             Some(meaning) => match meaning {
                 Meaning::Variable(of) => Ok(*of),
                 Meaning::Constant(_) => {
-                    report_at_token(faults, FaultCode::NotVariable, token)?;
+                    report_fault_at_token(faults, FaultCode::NotVariable, token)?;
                     Ok(TypeId::Unknown)
                 }
                 Meaning::Named(_) => {
-                    report_at_token(faults, FaultCode::WrongKind, token)?;
+                    report_fault_at_token(faults, FaultCode::WrongKind, token)?;
                     Ok(TypeId::Unknown)
                 }
                 Meaning::Procedure(_) => {
-                    report_at_token(faults, FaultCode::WrongKind, token)?;
+                    report_fault_at_token(faults, FaultCode::WrongKind, token)?;
                     Ok(TypeId::Unknown)
                 }
             },
@@ -231,7 +231,7 @@ impl<'t> CheckerState<'t> {
             ++ (fault_at_token code.WrongKind procedure
             ++ untyped_argument_faults (facts_in self.now false) (map expression_of arguments.now))) }
     {
-        report_at_token(faults, FaultCode::WrongKind, procedure)?;
+        report_fault_at_token(faults, FaultCode::WrongKind, procedure)?;
         self.report_untyped_arguments(faults, arguments)
     }
 
@@ -263,10 +263,10 @@ impl<'t> CheckerState<'t> {
         ensures { OnOk result (faults.new.items
             ≡ faults.old.items
             ++ call_faults_from_meaning (facts_in self.now false) procedure
-            (Some (a_procedure (map formal_of formals.now))) (map expression_of arguments.now)) }
+            (Some (a_procedure (map known_parameter_of formals.now))) (map expression_of arguments.now)) }
     {
         if formals.len() != arguments.len() {
-            return report_at_token(faults, FaultCode::ArgumentCount, procedure);
+            return report_fault_at_token(faults, FaultCode::ArgumentCount, procedure);
         }
         for (formal, e) in formals.iter().zip(arguments.iter()) {
             self.report_argument(faults, formal, e)?;
@@ -283,7 +283,7 @@ impl<'t> CheckerState<'t> {
     ) -> Result<(), AllocError>
         ensures { OnOk result (faults.new.items
             ≡ faults.old.items
-            ++ faults_of_argument (facts_in self.now false) (formal_of formal.now)
+            ++ faults_of_argument (facts_in self.now false) (known_parameter_of formal.now)
             (expression_of e.now)) }
     {
         let operand = self.check_expression(faults, e, false)?;
@@ -302,10 +302,10 @@ impl<'t> CheckerState<'t> {
         operand: Operand,
     ) -> Result<TypeId, AllocError>
         ensures { IfOk result (λ t. ReturnsAndReports faults.old.items faults.new.items t
-            (required_type_of_argument (facts_in self.now false) (formal_of formal.now) (operand_of operand))) }
+            (require_type_of_argument (facts_in self.now false) (known_parameter_of formal.now) (operand_of operand))) }
     {
         if formal.by_place && !operand.may_be_variable {
-            report_at_operand(faults, FaultCode::NotVariable, operand)?;
+            report_fault_at_operand(faults, FaultCode::NotVariable, operand)?;
             return Ok(TypeId::Unknown);
         }
         self.require_type(faults, formal.of, operand)

@@ -5,21 +5,21 @@ ghost use Rattle.std.specs.Prelude.{◌≡◌, ◌∷◌, ◌++◌, [], false, I
 ghost use Rattle.ob0_types_table.specs.declared.types.TypeId.TheVariants as type;
 ghost use Rattle.ob0_tree.specs.Tree.{array_type, some_fields};
 ghost use Rattle.ob0_tree.specs.View.{expression_of, optional_field_group_of, field_group_after_semicolon_of, items_of, names_of, record_type_of, type_of};
-ghost use Rattle.ob0_language_types.specs.Typing.{array_length};
+ghost use Rattle.ob0_language_types.specs.Typing.{array_length_from_value};
 ghost use Rattle.ob0_language_values.specs.Scalars.{scalar_value};
 ghost use Rattle.ob0_types_check.specs.TypesAndMeanings.{a_variable};
 ghost use Rattle.ob0_types_check.specs.OperandFaults.{ReturnsAndReports};
 ghost use Rattle.ob0_types_check.specs.KnownDeclarations.{zero_size};
-ghost use Rattle.ob0_types_check.specs.CheckerViews.{AddsKnownFields, HasKnownFields, facts_in, known_fields_of, operand_of, size_of, declarations_in_state};
-ghost use Rattle.ob0_types_check.specs.TypeFaults.{length_from_operand, type_from_meaning, type_named_at};
-ghost use Rattle.ob0_types_check.specs.WrittenTypeFaults.{made_array_type, no_known_fields, made_record_type, record_keyword_token, report_on_field_group, report_on_further_field_groups, report_on_written_type, with_known_field, with_known_fields};
+ghost use Rattle.ob0_types_check.specs.CheckerViews.{CodeFindsFieldsAndReports, CodeFieldsMatchKnownFields, facts_in, known_fields_of, operand_of, size_of, declarations_in_state};
+ghost use Rattle.ob0_types_check.specs.TypeFaults.{length_from_operand, type_from_meaning, type_named_by_token};
+ghost use Rattle.ob0_types_check.specs.WrittenTypeFaults.{made_array_type, no_known_fields, made_record_type, record_keyword_token, report_on_field_group, report_on_further_field_groups, report_on_written_type, append_known_field, append_known_fields};
 ghost use Rattle.ob0_types_check.specs.WrittenTypeFaults as spec;
 
 use crate::reporting::ReportingWalk;
 use crate::reporting::checker_state::{
-    CheckerState, Meaning, TypeSize, ZERO_SIZE, report_at_token, sum_or_error,
+    CheckerState, Meaning, TypeSize, ZERO_SIZE, report_fault_at_token, sum_or_error,
 };
-use crate::reporting::expressions::{Operand, report_at_operand, same_type};
+use crate::reporting::expressions::{Operand, is_same_type, report_fault_at_operand};
 use ob0_language_values::Scalar;
 use ob0_scan::FaultCode;
 use ob0_scope_table::FaultAtTokens;
@@ -29,8 +29,8 @@ use std::alloc::{AllocError, Global};
 
 /// Returns the length of an array whose length expression has this value. Returns None unless the
 /// value is a number from 1 to 65,536.
-fn array_length(value: Scalar) -> Option<usize>
-    ensures { result ≡ array_length (scalar_value value) }
+fn array_length_from_value(value: Scalar) -> Option<usize>
+    ensures { result ≡ array_length_from_value (scalar_value value) }
 {
     match value {
         Scalar::Number(n) => {
@@ -102,13 +102,13 @@ impl<'t> CheckerState<'t> {
     /// Returns the type to which the name at `token` refers. If the name refers to something other
     /// than a type, a fault is reported. If the name has no known meaning, nothing is reported. In
     /// both cases the result is the unknown type.
-    fn type_named_at(
+    fn type_named_by_token(
         &self,
         faults: &mut Vec<FaultAtTokens>,
         token: usize,
     ) -> Result<TypeId, AllocError>
         ensures { IfOk result (λ t. ReturnsAndReports faults.old.items faults.new.items t
-            (type_named_at (facts_in self.now false) token)) }
+            (type_named_by_token (facts_in self.now false) token)) }
     {
         match self.meaning_of_name(token) {
             None => Ok(TypeId::Unknown),
@@ -130,14 +130,14 @@ impl<'t> CheckerState<'t> {
         ensures { IfOk result (λ t. ReturnsAndReports faults.old.items faults.new.items t
             (type_from_meaning (facts_in self.now false) token (Some (a_variable type.Integer)))) }
     {
-        report_at_token(faults, FaultCode::WrongKind, token)?;
+        report_fault_at_token(faults, FaultCode::WrongKind, token)?;
         Ok(TypeId::Unknown)
     }
 
     /// Returns the length of an array. `operand` is the result of checking the length's expression.
     /// A length that isn't INTEGER, has no value or isn't valid is reported. Returns None if a
     /// fault is reported or the operand's type is unknown.
-    fn check_length(
+    fn check_array_length(
         &self,
         faults: &mut Vec<FaultAtTokens>,
         operand: Operand,
@@ -146,16 +146,16 @@ impl<'t> CheckerState<'t> {
             (length_from_operand (facts_in self.now false) (operand_of operand))) }
     {
         let of = self.require_type(faults, TypeId::Integer, operand)?;
-        if !same_type(of, TypeId::Integer) {
+        if !is_same_type(of, TypeId::Integer) {
             return Ok(None);
         }
         let Some(value) = operand.value else {
-            report_at_operand(faults, FaultCode::ConstFault, operand)?;
+            report_fault_at_operand(faults, FaultCode::ConstFault, operand)?;
             return Ok(None);
         };
-        let length = array_length(value);
+        let length = array_length_from_value(value);
         if length.is_none() {
-            report_at_operand(faults, FaultCode::ArrayLength, operand)?;
+            report_fault_at_operand(faults, FaultCode::ArrayLength, operand)?;
         }
         Ok(length)
     }
@@ -183,7 +183,9 @@ impl<'t> ReportingWalk<'t> {
             (type_of t.now))) }
     {
         match t {
-            WrittenType::Named(name) => self.checker_state.type_named_at(&mut self.faults, *name),
+            WrittenType::Named(name) => self
+                .checker_state
+                .type_named_by_token(&mut self.faults, *name),
             WrittenType::Array(a) => self.check_array_type(a, around),
             WrittenType::Record(r) => self.check_record_type(r, around),
         }
@@ -203,7 +205,9 @@ impl<'t> ReportingWalk<'t> {
         let size = self
             .checker_state
             .check_expression(&mut self.faults, &a.size, true)?;
-        let length = self.checker_state.check_length(&mut self.faults, size)?;
+        let length = self
+            .checker_state
+            .check_array_length(&mut self.faults, size)?;
         let inside = sum_or_error(around, 1)?;
         let element = self.check_nested_type(&a.element, inside)?;
         self.make_array_type(ordinal, size, length, element)
@@ -269,7 +273,7 @@ impl<'t> ReportingWalk<'t> {
         around: usize,
     ) -> Result<KnownFields, AllocError>
         ensures { IfOk result (λ gathered.
-            AddsKnownFields self.old.faults.items self.new.faults.items self.new.checker_state gathered
+            CodeFindsFieldsAndReports self.old.faults.items self.new.faults.items self.new.checker_state gathered
             (report_on_further_field_groups around (no_known_fields
             (declarations_in_state self.old.checker_state))
             (items_of field_group_after_semicolon_of groups.now))) }
@@ -291,7 +295,7 @@ impl<'t> ReportingWalk<'t> {
         gathered: KnownFields,
     ) -> Result<TypeId, AllocError>
         ensures { (g : spec.KnownFields)
-            → HasKnownFields g self.old.checker_state gathered
+            → CodeFieldsMatchKnownFields g self.old.checker_state gathered
             → IfOk result (λ of. ReturnsAndReports self.old.faults.items self.new.faults.items
             (record { of = of; following = declarations_in_state self.new.checker_state })
             (made_record_type word ordinal g)) }
@@ -319,8 +323,8 @@ impl<'t> ReportingWalk<'t> {
         around: usize,
     ) -> Result<(), AllocError>
         ensures { OnOk result ((g : spec.KnownFields)
-            → HasKnownFields g self.old.checker_state gathered.old
-            → AddsKnownFields self.old.faults.items self.new.faults.items self.new.checker_state gathered.new
+            → CodeFieldsMatchKnownFields g self.old.checker_state gathered.old
+            → CodeFindsFieldsAndReports self.old.faults.items self.new.faults.items self.new.checker_state gathered.new
             (report_on_field_group around g (optional_field_group_of group.now))) }
     {
         match group {
@@ -339,8 +343,8 @@ impl<'t> ReportingWalk<'t> {
         around: usize,
     ) -> Result<(), AllocError>
         ensures { OnOk result ((g : spec.KnownFields)
-            → HasKnownFields g self.old.checker_state gathered.old
-            → AddsKnownFields self.old.faults.items self.new.faults.items self.new.checker_state gathered.new
+            → CodeFieldsMatchKnownFields g self.old.checker_state gathered.old
+            → CodeFindsFieldsAndReports self.old.faults.items self.new.faults.items self.new.checker_state gathered.new
             (report_on_field_group around g
             (some_fields (names_of list.now.names) (type_of list.now.written)))) }
     {
@@ -361,8 +365,8 @@ impl<'t> CheckerState<'t> {
         gathered: &mut KnownFields,
     ) -> Result<(), AllocError>
         ensures { OnOk result ((g : spec.KnownFields)
-            → HasKnownFields g self.now gathered.old
-            → HasKnownFields (with_known_fields of g (names.now.first ∷ names.now.more.items)) self.now
+            → CodeFieldsMatchKnownFields g self.now gathered.old
+            → CodeFieldsMatchKnownFields (append_known_fields of g (names.now.first ∷ names.now.more.items)) self.now
             gathered.new) }
     {
         self.add_known_field(alloc, names.first, of, gathered)?;
@@ -382,11 +386,11 @@ impl<'t> CheckerState<'t> {
         gathered: &mut KnownFields,
     ) -> Result<(), AllocError>
         ensures { OnOk result ((g : spec.KnownFields)
-            → HasKnownFields g self.now gathered.old
-            → HasKnownFields (with_known_field of g name) self.now gathered.new) }
+            → CodeFieldsMatchKnownFields g self.now gathered.old
+            → CodeFieldsMatchKnownFields (append_known_field of g name) self.now gathered.new) }
     {
-        gathered.add(alloc, self.text(name), of)?;
-        gathered.size = gathered.size.size_of_both(self.size_of(of));
+        gathered.add(alloc, self.token_text(name), of)?;
+        gathered.size = gathered.size.combined_size(self.size_of(of));
         Ok(())
     }
 }

@@ -2,7 +2,7 @@ use Rattle.std.proofs.Common.{◌≡◌, ◌∙◌, List, [], ap, map, subst, sy
 use Rattle.clap.specs.Faults.{is_simple_and_free}
 use Rattle.clap.specs.Words.{App, Text, fault_of}
 use Rattle.ob0_cli.specs.RequestedCommands.{FoundSubcommand, YieldsCommandLine}
-use Rattle.ob0_cli.specs.Lines.{ob0_app}
+use Rattle.ob0_cli.specs.ClapCommands.{ob0_app}
 use Rattle.ob0_cli.proofs.Named.{parsed, simple_and_free}
 use Rattle.ob0_cli.proofs.line.parse_command_line.Goals as goal
 

@@ -1,7 +1,7 @@
 use Rattle.std.proofs.Common.{◌∙◌, ℕ, List, ap, inl, inr, map, refl, subst, arith}
 use Rattle.std.proofs.lemmas.Result.{IfOk-weaker}
 use Rattle.ob0_analysis.specs.ReportedErrors.{ReportsErrorsOf, reported_diagnosis_of}
-use Rattle.ob0_commands.specs.StderrLines.{PrintsLine}
+use Rattle.ob0_commands.specs.StderrLines.{PrintsOptionalLine}
 use Rattle.ob0_commands.proofs.RenameEndsWithoutFault.{edited_in_text, found_in_text, prints_renamed, refuses_name}
 use Rattle.ob0_commands.proofs.Wrong.{ill_typed}
 use Rattle.ob0_commands.proofs.rename_command.rename_utf8_text.Goals as goal
@@ -18,7 +18,7 @@ returns-in-Some-clause-ends g c =
         (h.good zero).2,
       );
       other = λ one. (
-        inr (refuses_name c.args.text.now c.args.position c.args.new.now c.in-Some.outcome _ _ c.utf8.text found (PrintsLine g.E.Write.contents g.E.Output.is_flushed g.E.Output.has_failed c.args.err.now c.print_rename_outcome.new.err) (h.other one).0 (ap g.O.Write.contents (h.other one).1)),
+        inr (refuses_name c.args.text.now c.args.position c.args.new.now c.in-Some.outcome _ _ c.utf8.text found (PrintsOptionalLine g.E.Write.contents g.E.TrackedOutput.is_flushed g.E.TrackedOutput.has_failed c.args.err.now c.print_rename_outcome.new.err) (h.other one).0 (ap g.O.Write.contents (h.other one).1)),
         inr (h.other one).1,
       );
       both = h.both;

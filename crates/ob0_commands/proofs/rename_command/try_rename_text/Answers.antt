@@ -2,7 +2,7 @@ use Rattle.std.proofs.Common.{◌∙◌, ℕ, List, Option, inl, refl, ap, subst
 use Rattle.std.proofs.lemmas.Result.{IfOk-weaker}
 use Rattle.ob0_commands.specs.OutputWriters.{IsFlushedOrUnchanged}
 use Rattle.ob0_commands.specs.RenameOutput.{PrintsErrorsOrRefusal, PrintsRenamedText}
-use Rattle.ob0_commands.specs.StderrLines.{PrintsLine}
+use Rattle.ob0_commands.specs.StderrLines.{PrintsOptionalLine}
 use Rattle.ob0_commands.proofs.rename_command.try_rename_text.Goals as goal
 
 pub returns-in_default-clause-ends : goal.returns-in_default-clause-ends
@@ -18,7 +18,7 @@ returns-clause-ends g c =
     let here = rw c.in-Some.is at c.in_ok-text.ensures.found in
     let before = g.O.Write.contents c.args.out.now in
     let after = c.rename_utf8_text.new.out in
-    let said = PrintsLine g.E.Write.contents g.E.Output.is_flushed g.E.Output.has_failed c.args.err.now c.rename_utf8_text.new.err in
+    let said = PrintsOptionalLine g.E.Write.contents g.E.TrackedOutput.is_flushed g.E.TrackedOutput.has_failed c.args.err.now c.rename_utf8_text.new.err in
     IfOk-weaker c.rename_utf8_text.result _ _ (λ status h. record {
       status_at_most_one = h.status_at_most_one;
       good = λ zero. (
@@ -30,7 +30,7 @@ returns-clause-ends g c =
       other = λ one. (
         subst (λ (t : List ℕ). PrintsErrorsOrRefusal t c.args.position c.args.new.now before (g.O.Write.contents after) said) here.0
             (subst (λ (b : Option (List ℕ)). PrintsErrorsOrRefusal c.in-Some.text.now c.args.position c.args.new.now b (g.O.Write.contents after) said) (ap g.O.Write.contents here.1) (h.other one).0),
-        subst (λ out. IsFlushedOrUnchanged (g.O.Output.is_flushed after) out after) here.1 (h.other one).1,
+        subst (λ out. IsFlushedOrUnchanged (g.O.TrackedOutput.is_flushed after) out after) here.1 (h.other one).1,
       );
       both = (c.in_ok-text.ensures.readable, h.both ∙ c.in_ok-text.ensures.unfailed);
     }) c.rename_utf8_text.ensures.ends

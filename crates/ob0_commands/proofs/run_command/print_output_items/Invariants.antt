@@ -8,5 +8,5 @@ use Rattle.ob0_commands.proofs.run_command.print_output_items.Given as goal
 abbrev pub invariant-loop-item : goal.invariant-loop-item
 invariant-loop-item g l = record {
   written : IsWrittenExceptLastPart (g.O.Write.contents l.fn.out) (g.O.Write.contents l.out) (output_text (output_items l.output)) (l.text.bytes ++ output_text (output_items (drop l.item-index l.output)));
-  unfailed : g.O.Output.has_failed l.out ≡ g.O.Output.has_failed l.fn.out;
+  unfailed : g.O.TrackedOutput.has_failed l.out ≡ g.O.TrackedOutput.has_failed l.fn.out;
 }

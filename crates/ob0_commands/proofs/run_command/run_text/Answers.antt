@@ -1,6 +1,6 @@
 use Rattle.std.proofs.Common.{Some, inl, inr, subst}
 use Rattle.ob0_commands.specs.PrintedTexts.{fault_line}
-use Rattle.ob0_commands.specs.StderrLines.{PrintsLine}
+use Rattle.ob0_commands.specs.StderrLines.{PrintsOptionalLine}
 use Rattle.ob0_commands.proofs.run_command.run_text.Goals as goal
 
 pub returns-in-Ok-clause-ends : goal.returns-in-Ok-clause-ends
@@ -15,5 +15,5 @@ returns-in-Err-clause-ends g c = inr (record {
   kept = c.in-Err.ensures.kept;
   memory = c.in-Err.ensures.memory;
   said =
-      subst (λ before. PrintsLine g.E.Write.contents g.E.Output.is_flushed g.E.Output.has_failed before c.print_fault.new.err (Some (fault_line c.in-Err.fault))) c.in-Err.ensures.unsaid c.print_fault.ensures.said;
+      subst (λ before. PrintsOptionalLine g.E.Write.contents g.E.TrackedOutput.is_flushed g.E.TrackedOutput.has_failed before c.print_fault.new.err (Some (fault_line c.in-Err.fault))) c.in-Err.ensures.unsaid c.print_fault.ensures.said;
 })

@@ -1,6 +1,6 @@
 use Rattle.std.proofs.Common.{◌∙◌, ap, refl, inl, arith}
 use Rattle.std.proofs.lemmas.Result.{err_from_is_err_and}
-use Rattle.ob0_commands.specs.StderrLines.{PrintsLine}
+use Rattle.ob0_commands.specs.StderrLines.{PrintsOptionalLine}
 use Rattle.ob0_commands.proofs.RunsPrinted.{from_all, prints_done, prints_other, prints_run, prints_wrong, stops_reading}
 use Rattle.ob0_commands.proofs.run_command.try_run_text.Goals as goal
 
@@ -20,8 +20,8 @@ returns-in_default-2-clause-ends g c =
       status_at_most_one = omega arith;
       good = λ no. absurd (omega (arith, no));
       other = λ one. (
-        prints_wrong c.args.file.now c.in-Some.text.now (g.R.Read.remaining c.args.input.now) c.args.calls c.args.turns (g.O.Write.contents c.args.out.now) (g.O.Write.contents c.decode_or_print_too_long.new.out) (g.O.Write.contents c.lower_or_print_diagnoses.new.out)
-            here.0 (ap g.O.Write.contents here.1) wrong (PrintsLine g.E.Write.contents g.E.Output.is_flushed g.E.Output.has_failed c.args.err.now c.args.err.now) refl,
+        prints_wrong c.args.file.now c.in-Some.text.now (g.R.Read.remaining c.args.input.now) c.args.calls c.args.turns (g.O.Write.contents c.args.out.now) (g.O.Write.contents c.decode_or_print_too_long_line.new.out) (g.O.Write.contents c.lower_or_print_diagnoses.new.out)
+            here.0 (ap g.O.Write.contents here.1) wrong (PrintsOptionalLine g.E.Write.contents g.E.TrackedOutput.is_flushed g.E.TrackedOutput.has_failed c.args.err.now c.args.err.now) refl,
         rw c.in_default-2.is at c.in_ok-program.ensures.flushed,
       );
       both = (c.in_ok-text.ensures.readable, c.in_ok-program.ensures.unfailed ∙ c.in_ok-text.ensures.unfailed, refl);
@@ -48,7 +48,7 @@ returns-clause-ends g c =
     from_all c.print_run_outcome.result (λ status is status_at_most_one silent printed flushed same says. record {
       status_at_most_one = status_at_most_one;
       good = λ zero. (prints_done c.args.file.now given c.args.calls c.args.turns status before after o (run printed) is zero, flushed, silent zero);
-      other = λ one. (prints_other c.args.file.now given c.args.calls c.args.turns status before after o (run printed) is one (PrintsLine g.E.Write.contents g.E.Output.is_flushed g.E.Output.has_failed c.args.err.now c.print_run_outcome.new.err) says, flushed);
+      other = λ one. (prints_other c.args.file.now given c.args.calls c.args.turns status before after o (run printed) is one (PrintsOptionalLine g.E.Write.contents g.E.TrackedOutput.is_flushed g.E.TrackedOutput.has_failed c.args.err.now c.print_run_outcome.new.err) says, flushed);
       both = (c.in_ok-text.ensures.readable, same ∙ c.in_ok-program.ensures.unfailed ∙ c.in_ok-text.ensures.unfailed, c.in_ok-numbers.ensures.unfailed);
     })
     c.print_run_outcome.ensures.status c.print_run_outcome.ensures.ends c.print_run_outcome.ensures.silent c.print_run_outcome.ensures.printed c.print_run_outcome.ensures.flushed c.print_run_outcome.ensures.unfailed c.print_run_outcome.ensures.said

@@ -1,7 +1,7 @@
 use Rattle.std.proofs.Common.{◌++◌, [], ◌∷◌, Some, length, map, refl, ap, ◌∙◌, arith, sym}
 use Rattle.ob0_scan.specs.declared.lexeme.LexemeKind.TheVariants as lexeme
 use Rattle.ob0_layout.specs.declared.line_role.LineRole.{LineRole}
-use Rattle.ob0_layout.specs.Cuts.{gap_sites_to_change, gap_before, gap_cut}
+use Rattle.ob0_layout.specs.Cuts.{gap_sites_to_change, gap_before_token_or_comment, gap_cut}
 use Rattle.ob0_layout.specs.Gaps.{all_gaps, changed_gaps}
 use Rattle.ob0_layout.specs.Layout.{comment_role}
 use Rattle.ob0_layout.proofs.Ahead.{at_comment, at_end, at_token, passing_at_start, passing_moved, make_site, make_solid}
@@ -44,7 +44,7 @@ loop-next-preserved-in-Comment c = λ scan.
     let before = c.loop-next.before in
     let next = at_comment _ _ _ _ _ _ _ _ _ _ (c.loop-next.invariant scan) c.in-Comment.span (sym c.next_token_or_comment.ensures ∙ c.in-Some.is ∙ ap Some c.in-Comment.is) in
     let role_is = c.comment_role-role.ensures ∙ (λ i. comment_role (c.comment_begins_line-broken.ensures i) (c.next_token_line_level.ensures i)) in
-    let gap_is = c.gap_before-gap.ensures ∙ ap (gap_before before lexeme.Comment) role_is in
+    let gap_is = c.gap_before_token_or_comment-gap.ensures ∙ ap (gap_before_token_or_comment before lexeme.Comment) role_is in
     passing_moved _ _ next.after refl c.without_first_item-comments.ensures refl (ap (λ (st : LineRole). Some (make_solid lexeme.Comment st)) role_is) refl
     (c.in_ok-add_gap_if_changed-in-Comment.ensures ∙ ap (λ g. c.loop-next.gap_sites.items ++ gap_sites_to_change c.args.indent c.as_bytes-text.result.now (make_site c.loop-next.start c.in-Comment.span.start g ∷ [])) gap_is)
 
@@ -54,7 +54,7 @@ loop-next-preserved c = λ scan.
     let token = c.in-Token.token in
     let next = at_token _ _ _ _ _ _ _ _ _ _ (c.loop-next.invariant scan) c.in-Token.token (sym c.next_token_or_comment.ensures ∙ c.in-Some.is ∙ ap Some c.in-Token.is) in
     let role_is = c.next_token_role-role.ensures in
-    let gap_is = c.gap_before-gap-in-Token.ensures ∙ ap (gap_before before (lexeme.Token token.kind)) role_is in
+    let gap_is = c.gap_before_token_or_comment-gap-in-Token.ensures ∙ ap (gap_before_token_or_comment before (lexeme.Token token.kind)) role_is in
     passing_moved _ _ next.after c.without_first_item-left.ensures refl c.without_first_item-roles.ensures (ap (λ (st : LineRole). Some (make_solid (lexeme.Token token.kind) st)) role_is) c.next_token_line_level-level.ensures
     (c.in_ok-add_gap_if_changed-in-Token.ensures ∙ ap (λ g. c.loop-next.gap_sites.items ++ gap_sites_to_change c.args.indent c.as_bytes-text.result.now (make_site c.loop-next.start token.span.start g ∷ [])) gap_is)
 

@@ -1,7 +1,7 @@
 use Rattle.std.proofs.Common.{◌≡◌, ◌∙◌, ℕ, Err, None, Some, inl, inr, sym, ap, subst, arith}
 use Rattle.ob0_scan.specs.LexemeClasses.{IsIdentifier}
 use Rattle.ob0_text.specs.declared.refusals.EditRefusal.TheVariants as refusal
-use Rattle.ob0_tree.specs.Places.{token_text_at}
+use Rattle.ob0_tree.specs.TokenIndexLeaves.{token_text_at}
 use Rattle.ob0_types.specs.IdentifierMeanings.{MeansField}
 use Rattle.ob0_rename.specs.Renaming.{declaration, record_field, rename_target_at, nothing, predeclared}
 use Rattle.ob0_rename.proofs.FieldOutcomes.{field_answered_there}

@@ -6,7 +6,7 @@ use Rattle.ob0_scope_table.specs.Resolution.{Resolution}
 use Rattle.ob0_types.specs.CheckedModules.{IsWellTyped}
 use Rattle.ob0_edits_tokens.specs.Replacements.{AreIdentifierIndexes}
 use Rattle.ob0_rename.specs.Answers.{AnswersRenamingOfDeclaration, IsFirstRefusalForDeclaration}
-use Rattle.ob0_rename.specs.Renaming.{is_declared_as}
+use Rattle.ob0_rename.specs.Renaming.{declaration_has_name}
 use Rattle.ob0_rename.proofs.Outcomes.{Edited, answered, requested, captured, once_of, own_answered}
 use Rattle.ob0_rename.proofs.Owned.{own_free}
 use Rattle.ob0_rename.proofs.Spelled.{own_identifier}
@@ -18,7 +18,7 @@ returns-then-not-is_identifier-clause-own_name g c =
     let well = subst IsWellTyped (sym c.resolved-names.ensures.value) c.resolved-names.ensures.well_typed in
     let scan = subst IsScan c.tokens.ensures c.text-text.ensures.scan in
     λ own.
-    let same = subst (λ (x : Resolution). is_declared_as x.module_read c.args.declaration c.args.new.now ≡ true) (sym c.resolved-names.ensures.value) own in
+    let same = subst (λ (x : Resolution). declaration_has_name x.module_read c.args.declaration c.args.new.now ≡ true) (sym c.resolved-names.ensures.value) own in
     let id = own_identifier names.module_read c.args.declaration c.args.new.now well.resolved.parsed scan same in
     absurd (let yes : c.is_identifier.result ≡ true = c.is_identifier.ensures.1 id in let no = c.if-not-is_identifier.true in cc)
 
@@ -37,7 +37,7 @@ returns-in-Some g c =
           (captured unit text place c.args.new.now c.args.declaration names well.resolved id c.in-Some.capture c.refusal_of_conflict.result first other c.refusal_of_conflict.ensures.duplicate c.refusal_of_conflict.ensures.occurrence));
       memory = λ refused. id;
       own_name = λ own.
-          let same = subst (λ (x : Resolution). is_declared_as x.module_read c.args.declaration c.args.new.now ≡ true) (sym c.resolved-names.ensures.value) own in
+          let same = subst (λ (x : Resolution). declaration_has_name x.module_read c.args.declaration c.args.new.now ≡ true) (sym c.resolved-names.ensures.value) own in
           let none = c.in_ok-capture.ensures.free.1 (own_free names.module_read c.args.declaration c.args.new.now same (once_of (named_tree_of names.module_read) well.well_typed)) in
           absurd (cc);
     }
@@ -60,9 +60,9 @@ returns-in_ok-tokens-in-None g c =
     let are = subst (AreIdentifierIndexes names.module_read.source.tokens 0) c.in_ok-tokens-in-None.ensures.value c.in_ok-tokens-in-None.ensures.names in
     record {
       answers = λ place. subst (λ (x : Resolution). AnswersRenamingOfDeclaration (requested unit text place new d x) d c.replacement_edits.result) c.resolved-names.ensures.value
-          (answered unit text place new d names well id free c.free_renaming_keeps_typing_and_runs.ensures c.renamed_tree_spells_renamed_words.ensures c.identifier_may_replace_identifier.ensures are c.replacement_edits.result there);
+          (answered unit text place new d names well id free c.renaming_to_free_name_keeps_typing_and_runs.ensures c.renamed_tree_spells_renamed_words.ensures c.identifier_may_replace_identifier.ensures are c.replacement_edits.result there);
       memory = λ refused. id;
       own_name = λ own.
-          let same = subst (λ (x : Resolution). is_declared_as x.module_read d new ≡ true) (sym c.resolved-names.ensures.value) own in
+          let same = subst (λ (x : Resolution). declaration_has_name x.module_read d new ≡ true) (sym c.resolved-names.ensures.value) own in
           own_answered unit text new d names.module_read (subst IsScan c.tokens.ensures c.text-text.ensures.scan) same c.replacement_edits.result there;
     }

@@ -3,14 +3,14 @@ use Rattle.ob0_scan.specs.TextWithTokens.{IsScan, TextWithTokens}
 use Rattle.ob0_text.specs.Units.{width_of}
 use Rattle.ob0_text.specs.declared.refusals.EditRefusal.TheVariants as refusal
 use Rattle.ob0_tree.specs.ParsedModule.{named_tree_of}
-use Rattle.ob0_tree.specs.Places.{token_text_at}
+use Rattle.ob0_tree.specs.TokenIndexLeaves.{token_text_at}
 use Rattle.ob0_language_names.specs.Names.{Name, same_name}
-use Rattle.ob0_scope_table.specs.Resolution.{Resolution, span_at}
+use Rattle.ob0_scope_table.specs.Resolution.{Resolution, token_span}
 use Rattle.ob0_types.specs.CheckedModules.{IsWellTyped}
 use Rattle.ob0_edits_tokens.specs.Ranges.{range_of}
 use Rattle.ob0_edits_tokens.specs.Replacements.{AreIdentifierIndexes}
-use Rattle.ob0_language_fields.specs.Renaming.{IsFreeFieldName}
-use Rattle.ob0_types_fields.specs.Identifiers.{field_declaring_token}
+use Rattle.ob0_language_fields.specs.SingleFieldRenaming.{IsFreeFieldName}
+use Rattle.ob0_types_fields.specs.FieldIdentifiers.{field_declaring_token}
 use Rattle.ob0_rename.specs.Answers.{AnswersRenamingOfField, IsFirstRefusalForField}
 use Rattle.ob0_rename.specs.Renaming.{field_tokens_to_rename}
 use Rattle.ob0_rename.proofs.Outcomes.{Edited}
@@ -32,7 +32,7 @@ returns-in-Some-clause-answers g c = λ place.
     let old = c.token_text_at-old.ensures ∙ ap (λ (s : TextWithTokens). token_text_at s c.args.token) c.tokens-2.ensures in
     let other : (if same_name new f then None else field_declaring_token names.module_read c.args.owner new) ≡ Some c.in-Some.other =
     (λ i. if same_name new (sym old i) then None else field_declaring_token (c.resolved-names.ensures.value i).module_read c.args.owner new) ∙ (sym c.conflicting_field_token.ensures ∙ c.in-Some.is) in
-    let range = c.token_range.ensures c.in-Some.other refl ∙ ap (λ (s : TextWithTokens). range_of (width_of unit) text (span_at s c.in-Some.other)) c.tokens-in-Some.ensures in
+    let range = c.token_range.ensures c.in-Some.other refl ∙ ap (λ (s : TextWithTokens). range_of (width_of unit) text (token_span s c.in-Some.other)) c.tokens-in-Some.ensures in
     let refused = duplicated unit text place new c.args.owner f names id c.duplicate_field_name_has_declaring_token.ensures c.in-Some.other (refusal.Duplicate c.token_range.result) other (ap (λ r. refusal.Duplicate r) range) in
     inr (subst (λ (x : Resolution). IsFirstRefusalForField (requested_field unit text place new c.args.owner (token_text_at x.module_read.source c.args.token) x) c.args.owner (token_text_at x.module_read.source c.args.token) (refusal.Duplicate c.token_range.result)) c.resolved-names.ensures.value refused)
 
@@ -60,7 +60,7 @@ returns-in_ok-tokens-in-None g c =
     let are = subst (AreIdentifierIndexes names.module_read.source.tokens 0) value found in
     record {
       answers = λ place. subst (λ (x : Resolution). AnswersRenamingOfField (requested_field unit text place new k (token_text_at x.module_read.source c.args.token) x) k (token_text_at x.module_read.source c.args.token) c.replacement_edits.result) c.resolved-names.ensures.value
-          (field_answered unit text place new k f names well id free c.free_field_renaming_keeps_typing_and_runs.ensures c.renaming_changes_field_tokens.ensures c.renamed_tree_spells_renamed_words.ensures c.identifier_may_replace_identifier.ensures are c.replacement_edits.result there);
+          (field_answered unit text place new k f names well id free c.renaming_field_to_free_name_keeps_typing_and_runs.ensures c.renaming_changes_field_tokens.ensures c.renamed_tree_spells_renamed_words.ensures c.identifier_may_replace_identifier.ensures are c.replacement_edits.result there);
       memory = λ refused. id;
       own_name = λ id own.
           let same : new ≡ f = own ∙ ap (λ (x : Resolution). token_text_at x.module_read.source c.args.token) (sym c.resolved-names.ensures.value) in

@@ -9,4 +9,4 @@ returns-clause-spelled c =
     let r = c.args.well_typed.now in
     let source = c.tokens.ensures ∙ ap (λ (r : Resolution). r.module_read.source) c.resolved.ensures.value in
     let scan = subst IsScan source c.text-text.ensures.scan in
-    field_spelled r.module_read c.identifier_meaning_at.result scan c.identifier_meaning_at.ensures.are_identifiers
+    field_spelled r.module_read c.identifier_meaning_at_offset.result scan c.identifier_meaning_at_offset.ensures.are_identifiers

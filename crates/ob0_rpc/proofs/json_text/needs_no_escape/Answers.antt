@@ -1,4 +1,4 @@
-use Rattle.ob0_rpc.proofs.Appending.{plain_next}
+use Rattle.ob0_rpc.proofs.AppendedJson.{plain_next}
 use Rattle.ob0_rpc.proofs.json_text.needs_no_escape.Goals as goal
 
 pub loop-byte-preserved : goal.loop-byte-preserved

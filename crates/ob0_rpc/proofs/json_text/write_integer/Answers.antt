@@ -3,7 +3,7 @@ use Rattle.std.proofs.Math.Facts.{to_z-of_z}
 use Rattle.std.specs.Fmt.{signed_decimal}
 use Rattle.std.specs.Str.{IsUtf8}
 use Rattle.std.proofs.lemmas.Result.{on_ok_weaker}
-use Rattle.ob0_rpc.proofs.Appending.{integer_written}
+use Rattle.ob0_rpc.proofs.AppendedJson.{integer_written}
 use Rattle.ob0_rpc.proofs.json_text.write_integer.Goals as goal
 
 pub returns : goal.returns

@@ -2,7 +2,7 @@ use Rattle.std.proofs.Common.{◌∙◌, ◌++◌, ap, subst}
 use Rattle.json.specs.Print.{escape}
 use Rattle.std.specs.Str.{IsUtf8}
 use Rattle.std.proofs.lemmas.Result.{on_ok_weaker}
-use Rattle.ob0_rpc.proofs.Appending.{text_written}
+use Rattle.ob0_rpc.proofs.AppendedJson.{text_written}
 use Rattle.ob0_rpc.proofs.json_text.write_json_string.Goals as goal
 
 pub returns : goal.returns

@@ -1,7 +1,7 @@
 use Rattle.std.proofs.Common.{◌∙◌, ◌++◌, ap, arith, subst}
 use Rattle.std.specs.Str.{IsUtf8}
 use Rattle.std.proofs.lemmas.Result.{on_ok_weaker}
-use Rattle.ob0_rpc.proofs.Appending.{count_written}
+use Rattle.ob0_rpc.proofs.AppendedJson.{count_written}
 use Rattle.ob0_rpc.proofs.json_text.write_unsigned_integer.Goals as goal
 
 pub returns : goal.returns

@@ -1,4 +1,4 @@
-use Rattle.ob0_rpc.proofs.Appending.{position_read, position_written}
+use Rattle.ob0_rpc.proofs.AppendedJson.{position_read, position_written}
 use Rattle.ob0_rpc.proofs.ranges.write_position_ending_at.Goals as goal
 
 pub returns-clause-text : goal.returns-clause-text

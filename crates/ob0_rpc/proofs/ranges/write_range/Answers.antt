@@ -1,7 +1,7 @@
 use Rattle.std.proofs.Common.{◌∙◌, ◌++◌, ◌-◌, ap, arith, drop, refl}
 use Rattle.std.proofs.lemmas.List.{length-drop, take_all}
 use Rattle.std.proofs.lemmas.Result.{on_ok_weaker}
-use Rattle.ob0_rpc.proofs.Appending.{put_down}
+use Rattle.ob0_rpc.proofs.AppendedJson.{put_down}
 use Rattle.ob0_rpc.proofs.ranges.write_range.Goals as goal
 
 pub returns : goal.returns

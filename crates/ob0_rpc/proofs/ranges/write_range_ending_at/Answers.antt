@@ -1,4 +1,4 @@
-use Rattle.ob0_rpc.proofs.Appending.{range_read, range_text}
+use Rattle.ob0_rpc.proofs.AppendedJson.{range_read, range_text}
 use Rattle.ob0_rpc.proofs.ranges.write_range_ending_at.Goals as goal
 
 pub returns-clause-text : goal.returns-clause-text

@@ -4,7 +4,7 @@ use Rattle.std.proofs.lemmas.Result.{IfOk-weaker}
 use Rattle.ob0_language_runs.specs.Runs.{run}
 use Rattle.ob0_run_machine.specs.Execution as machine
 use Rattle.ob0_run_machine.specs.Outcomes as outcomes
-use Rattle.ob0_run_machine.specs.View.{program_of}
+use Rattle.ob0_run_machine.specs.LoweredCodeViews.{program_of}
 use Rattle.ob0_run_cells.specs.LoweringLaws as law
 use Rattle.ob0_run.specs.Outcomes.{run_of}
 use Rattle.ob0_run.proofs.module_runs.execute.Goals as goal

@@ -8,7 +8,7 @@ use Rattle.ob0_scope_table.specs.Resolution.{Resolution}
 use Rattle.ob0_types_table.specs.DeclarationTables.{declared_object_in}
 use Rattle.ob0_language_types.specs.Bindings.{declared_object}
 use Rattle.ob0_language_types.specs.WellTyped.{WellTyped}
-use Rattle.ob0_run_machine.specs.View.{program_of}
+use Rattle.ob0_run_machine.specs.LoweredCodeViews.{program_of}
 use Rattle.ob0_run_cells.specs.Activations.{ProgramMeansModule}
 use Rattle.ob0_run_lowering.specs.declared.programs.Program.{Program}
 use Rattle.ob0_run.specs.Programs.{ProgramRunsAsModule}

@@ -3,7 +3,7 @@ use Rattle.std.proofs.lemmas.Result.{IfOk-weaker}
 use Rattle.ob0_tree.specs.View.{assignment_of, expression_of, items_of, selector_of}
 use Rattle.ob0_scope_table.specs.LabelledTrees.{tree_with_labels}
 use Rattle.ob0_run_machine.specs.LoweredSyntax as lowered
-use Rattle.ob0_run_machine.specs.View.{number_of, place_of, statement_of}
+use Rattle.ob0_run_machine.specs.LoweredCodeViews.{number_of, place_of, statement_of}
 use Rattle.ob0_run_lowering.specs.LoweredBodies.{LowersStatement}
 use Rattle.ob0_run_lowering.specs.LoweredExpressionMeans.{LowersExpression}
 use Rattle.ob0_run_lowering.specs.declared.lowered_expression.LoweredExpression.{LoweredExpression}
@@ -34,8 +34,8 @@ returns-in-Block c =
     let P : LoweredExpression → Type 0 = λ l. LowersExpression c.args.scene.now (expression_of a.value) l in
     block_assigned c.args.scene.now a.target.name (items_of selector_of a.target.selectors.items) a.value c.in_ok-target.target c.in-Block.from c.in-Block.cells c.in_ok-target.ensures (subst P c.in-Block.is c.in_ok-n.ensures.lowers)
 
-pub returns-in-Nothing : goal.returns-in-Nothing
-returns-in-Nothing c =
+pub returns-in-NoCode : goal.returns-in-NoCode
+returns-in-NoCode c =
     let a = c.args.a.now in
     let P : LoweredExpression → Type 0 = λ l. LowersExpression c.args.scene.now (expression_of a.value) l in
     nothing_assigned c.args.scene.now a.target.name (items_of selector_of a.target.selectors.items) a.value c.in_ok-target.target _ (subst P c.in-Nothing.is c.in_ok-n.ensures.lowers)

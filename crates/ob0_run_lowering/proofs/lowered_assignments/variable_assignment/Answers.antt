@@ -1,6 +1,6 @@
 use Rattle.std.proofs.Common.{sym, ap, ◌∙◌}
 use Rattle.ob0_run_machine.specs.LoweredSyntax.{stores_number}
-use Rattle.ob0_run_machine.specs.View.{number_of, variable_of}
+use Rattle.ob0_run_machine.specs.LoweredCodeViews.{number_of, variable_of}
 use Rattle.ob0_run_machine.proofs.Chains.{chain_made}
 use Rattle.ob0_run_lowering.proofs.lowered_assignments.variable_assignment.Goals as goal
 

@@ -5,7 +5,7 @@ use Rattle.std.specs.declared.vec.Vec.{Vec}
 use Rattle.ob0_tree.specs.declared.tree.Expression.{Expression}
 use Rattle.ob0_types_table.specs.Designators.{labelled_expressions}
 use Rattle.ob0_run_machine.specs.declared.code.Argument.{Argument}
-use Rattle.ob0_run_machine.specs.View.{argument_of}
+use Rattle.ob0_run_machine.specs.LoweredCodeViews.{argument_of}
 use Rattle.ob0_run_lowering.specs.LoweredBodies.{LowersArguments, arguments_or_empty_list}
 use Rattle.ob0_run_lowering.proofs.Called.{none_given, signature_in}
 use Rattle.ob0_run_lowering.proofs.lowered_calls.lower_arguments.Goals as goal

@@ -3,7 +3,7 @@ use Rattle.std.proofs.lemmas.Result.{MatchResult-weaker}
 use Rattle.ob0_tree.specs.View.{arguments_of}
 use Rattle.ob0_scope_table.specs.LabelledTrees.{tree_with_labels, label_at_token}
 use Rattle.ob0_types_table.specs.DeclarationTables.{shapes_of}
-use Rattle.ob0_types_table.specs.DeclarationTableView.{formal_view, object_view}
+use Rattle.ob0_types_table.specs.DeclarationTableView.{formal_parameter_view, object_view}
 use Rattle.ob0_language_types.specs.Expressions.{a_procedure}
 use Rattle.ob0_language_types.specs.WellTyped.{signature_of}
 use Rattle.ob0_run_machine.specs.LoweredSyntax.{writes_line}
@@ -19,7 +19,7 @@ returns-in-None c =
 pub returns-in-Procedure : goal.returns-in-Procedure
 returns-in-Procedure c =
     let shapes = shapes_of c.args.scene.now.types.now in
-    MatchResult-weaker c.lower_procedure_call.result c.lower_procedure_call.ensures (λ made h. h (sym c.in-Some.ensures ∙ ap (object_view shapes) c.in-Procedure.is ∙ sym (ap (λ fs. Some (a_procedure (map (formal_view shapes) fs))) c.as_slice.ensures.value))) (λ y h. h)
+    MatchResult-weaker c.lower_procedure_call.result c.lower_procedure_call.ensures (λ made h. h (sym c.in-Some.ensures ∙ ap (object_view shapes) c.in-Procedure.is ∙ sym (ap (λ fs. Some (a_procedure (map (formal_parameter_view shapes) fs))) c.as_slice.ensures.value))) (λ y h. h)
 
 pub returns-in-StandardProcedure : goal.returns-in-StandardProcedure
 returns-in-StandardProcedure c =

@@ -3,7 +3,7 @@ use Rattle.ob0_tree.specs.Tree.{Tree, expression}
 use Rattle.ob0_tree.specs.View.{arguments_of}
 use Rattle.ob0_language_names.specs.Names.{Label}
 use Rattle.ob0_scope_table.specs.LabelledTrees.{tree_with_labels, label_at_token}
-use Rattle.ob0_run_machine.specs.View.{argument_of}
+use Rattle.ob0_run_machine.specs.LoweredCodeViews.{argument_of}
 use Rattle.ob0_run_lowering.specs.LoweredBodies.{LowersArguments}
 use Rattle.ob0_run_lowering.proofs.Called.{called, given_listed, signature_in}
 use Rattle.ob0_run_lowering.proofs.lowered_calls.lower_procedure_call.Goals as goal

@@ -1,5 +1,5 @@
 use Rattle.std.proofs.Common.{sym, ◌∙◌}
-use Rattle.ob0_run_machine.specs.View.{first_operand_of}
+use Rattle.ob0_run_machine.specs.LoweredCodeViews.{first_operand_of}
 use Rattle.ob0_run_machine.specs.declared.code.Chain.{out-Chain}
 use Rattle.ob0_run_lowering.proofs.KnownOffsets.{chain-unknown, first-alone}
 use Rattle.ob0_run_lowering.proofs.places.chain_element_offset.Goals as goal

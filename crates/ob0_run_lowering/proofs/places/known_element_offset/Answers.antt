@@ -1,8 +1,8 @@
 use Rattle.std.proofs.Common.{sym, ap, ◌∙◌}
-use Rattle.ob0_run_machine.specs.View.{chain_of, first_operand_of, number_of}
+use Rattle.ob0_run_machine.specs.LoweredCodeViews.{chain_of, first_operand_of, number_of}
 use Rattle.ob0_run_machine.specs.declared.code.Operation.{out-Operation}
 use Rattle.ob0_run_machine.proofs.Chains.{chain_made}
-use Rattle.ob0_run_lowering.specs.Codes.{known_element_offset}
+use Rattle.ob0_run_lowering.specs.OperationCodes.{known_element_offset}
 use Rattle.ob0_run_lowering.proofs.KnownOffsets.{operation_with_link-unknown}
 use Rattle.ob0_run_lowering.proofs.places.known_element_offset.Goals as goal
 

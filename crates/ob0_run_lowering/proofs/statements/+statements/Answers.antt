@@ -10,14 +10,14 @@ use Rattle.ob0_language_names.specs.Names.{Label}
 use Rattle.ob0_scope_table.specs.LabelledTrees.{tree_with_labels}
 use Rattle.ob0_run_machine.proofs.Viewed.{repeat_made, while_made}
 use Rattle.ob0_run_machine.specs.LoweredSyntax as lowered
-use Rattle.ob0_run_machine.specs.View as code
-use Rattle.ob0_run_machine.specs.View.{branches_of_list, sequence_of, truth_of}
+use Rattle.ob0_run_machine.specs.LoweredCodeViews as code
+use Rattle.ob0_run_machine.specs.LoweredCodeViews.{branches_of_list, sequence_of, truth_of}
 use Rattle.ob0_run_machine.specs.declared.code.Branch.{Branch}
 use Rattle.ob0_run_machine.specs.declared.code.RepeatLoop.{RepeatLoop}
 use Rattle.ob0_run_machine.specs.declared.code.Instruction.{Instruction}
 use Rattle.ob0_run_machine.specs.declared.code.WhileLoop.{WhileLoop}
 use Rattle.ob0_run_lowering.specs.LoweredBodies.{LowersSequence, LowersStatement}
-use Rattle.ob0_run_lowering.proofs.HoldsInScene.{condition-lowers, repeat-lowers, while-lowers}
+use Rattle.ob0_run_lowering.proofs.HoldsIfWellTypedInScene.{condition-lowers, repeat-lowers, while-lowers}
 use Rattle.ob0_run_lowering.proofs.Made.{BranchesMade, SequenceMade, branches_begin, branches_end, branches_go_on, if_rolled, none_otherwise, sequence_begins, sequence_ends, sequence_goes_on, some_otherwise}
 use Rattle.ob0_run_lowering.proofs.statements.+statements.Goals as goal
 

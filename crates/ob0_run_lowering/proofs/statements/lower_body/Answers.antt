@@ -5,9 +5,9 @@ use Rattle.std.specs.declared.vec.Vec.{Vec}
 use Rattle.ob0_tree.specs.View.{body_of, sequence_of_list}
 use Rattle.ob0_tree.specs.declared.tree.Statement.{Statement}
 use Rattle.ob0_scope_table.specs.LabelledTrees.{tree_with_labels}
-use Rattle.ob0_run_machine.specs.View.{sequence_of}
+use Rattle.ob0_run_machine.specs.LoweredCodeViews.{sequence_of}
 use Rattle.ob0_run_lowering.specs.LoweredBodies.{LowersBody}
-use Rattle.ob0_run_lowering.proofs.HoldsInScene.{no-body, some-body}
+use Rattle.ob0_run_lowering.proofs.HoldsIfWellTypedInScene.{no-body, some-body}
 use Rattle.ob0_run_lowering.proofs.statements.lower_body.Goals as goal
 
 pub returns-in-None : goal.returns-in-None

@@ -4,9 +4,9 @@ use Rattle.std.proofs.Common.{rules, w32, sym, ap, ◌∙◌}
 use Rattle.std.proofs.lemmas.Result.{err_from_is_err_and}
 use Rattle.ob0_run_machine.specs.declared.code.Chain.{out-Chain}
 use Rattle.ob0_run_machine.specs.StepOutcomes.{end_of}
-use Rattle.ob0_run_machine.specs.Evaluation.{ends, number, ◌>>=◌}
+use Rattle.ob0_run_machine.specs.Evaluation.{ends, number_value, ◌>>=◌}
 use Rattle.ob0_run_machine.specs.Levels.{levels_of}
-use Rattle.ob0_run_machine.specs.View.{chain_of, first_operand_of, number_of}
+use Rattle.ob0_run_machine.specs.LoweredCodeViews.{chain_of, first_operand_of, number_of}
 use Rattle.ob0_run_machine.specs.declared.code.Operation.{out-Operation}
 use Rattle.ob0_run_machine.specs.StepOutcomes.{outcome_of_applied_link}
 use Rattle.ob0_run_machine.proofs.Chains.{applied_to, chain_begins, chain_fails, chain_made}
@@ -22,7 +22,7 @@ evaluate_chain-loop-link-init t c = let a : SFits w32 c.in_ok-left.left = search
     rw (to_z-of_z a) (chain_begins (levels_of c.args.level.now) c.args.cells.now (first_operand_of (out-Chain c.args.c.now).first) (out-Chain c.args.c.now).rest.items _ c.in_ok-left.ensures)
 
 pub evaluate_number-returns-in-Chain : goal.evaluate_number-returns-in-Chain
-evaluate_number-returns-in-Chain t c = c.into_result-in-Chain.ensures ∙ c.evaluate_chain_as_flat_outcome.ensures ∙ ap (number (levels_of c.args.level.now) c.args.cells.now) (ap chain_of c.deref-in-Chain.ensures ∙ sym (chain_made c.in-Chain.c) ∙ ap number_of (sym c.in-Chain.is))
+evaluate_number-returns-in-Chain t c = c.into_result-in-Chain.ensures ∙ c.evaluate_chain_as_flat_outcome.ensures ∙ ap (number_value (levels_of c.args.level.now) c.args.cells.now) (ap chain_of c.deref-in-Chain.ensures ∙ sym (chain_made c.in-Chain.c) ∙ ap number_of (sym c.in-Chain.is))
 
 pub evaluate_general_operation-returns-in-Ok : goal.evaluate_general_operation-returns-in-Ok
 evaluate_general_operation-returns-in-Ok t c =
@@ -43,5 +43,5 @@ evaluate_operation-returns-in-Variable t c =
     let o = out-Operation c.args.o.now in
     let a : SFits w32 c.variable_value.result = search rules in
     c.into_flat_outcome.ensures ∙ c.apply_link.ensures ∙ ap (outcome_of_applied_link ls c.args.cells.now o.link) (to_z-of_z a)
-    ∙ ap (λ z. z >>= outcome_of_applied_link ls c.args.cells.now o.link) (sym c.variable_value.ensures ∙ sym (ap (λ f. number ls c.args.cells.now (first_operand_of f)) c.in-Variable.is))
+    ∙ ap (λ z. z >>= outcome_of_applied_link ls c.args.cells.now o.link) (sym c.variable_value.ensures ∙ sym (ap (λ f. number_value ls c.args.cells.now (first_operand_of f)) c.in-Variable.is))
     ∙ sym (applied_to ls c.args.cells.now (first_operand_of o.first) o.link)

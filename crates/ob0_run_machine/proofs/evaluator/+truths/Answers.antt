@@ -2,9 +2,9 @@ use Rattle.std.proofs.Common.{sym, ap, ◌∙◌}
 use Rattle.std.proofs.lemmas.Result.{err_from_is_err_and}
 use Rattle.ob0_run_machine.specs.declared.code.TruthList.{out-TruthList}
 use Rattle.ob0_run_machine.specs.StepOutcomes.{end_of}
-use Rattle.ob0_run_machine.specs.Evaluation.{ends, gives, truth}
+use Rattle.ob0_run_machine.specs.Evaluation.{ends, gives, truth_value}
 use Rattle.ob0_run_machine.specs.Levels.{levels_of}
-use Rattle.ob0_run_machine.specs.View.{conjunction_of, disjunction_of, truth_of}
+use Rattle.ob0_run_machine.specs.LoweredCodeViews.{conjunction_of, disjunction_of, truth_of}
 use Rattle.ob0_run_machine.proofs.TruthList.{all_fails, all_made, any_fails, any_made}
 use Rattle.ob0_run_machine.proofs.Exits.{reported_exit}
 use Rattle.ob0_run_machine.proofs.evaluator.+truths.Goals as goal
@@ -24,7 +24,7 @@ pub evaluate_disjunction_list-loop-t-init : goal.evaluate_disjunction_list-loop-
 evaluate_disjunction_list-loop-t-init t c = record { so_far = sym (any_fails (levels_of c.args.level.now) c.args.cells.now (truth_of (out-TruthList c.args.several.now).first) (out-TruthList c.args.several.now).rest.items (gives c.in_ok-left.left) c.in_ok-left.ensures) }
 
 pub evaluate_general_truth-returns-in-All : goal.evaluate_general_truth-returns-in-All
-evaluate_general_truth-returns-in-All t c = c.evaluate_conjunction_list.ensures ∙ ap (truth (levels_of c.args.level.now) c.args.cells.now) (ap conjunction_of c.deref-in-All.ensures ∙ sym (all_made c.in-All.several) ∙ ap truth_of (sym c.in-All.is))
+evaluate_general_truth-returns-in-All t c = c.evaluate_conjunction_list.ensures ∙ ap (truth_value (levels_of c.args.level.now) c.args.cells.now) (ap conjunction_of c.deref-in-All.ensures ∙ sym (all_made c.in-All.several) ∙ ap truth_of (sym c.in-All.is))
 
 pub evaluate_general_truth-returns-in-Any : goal.evaluate_general_truth-returns-in-Any
-evaluate_general_truth-returns-in-Any t c = c.evaluate_disjunction_list.ensures ∙ ap (truth (levels_of c.args.level.now) c.args.cells.now) (ap disjunction_of c.deref-in-Any.ensures ∙ sym (any_made c.in-Any.several) ∙ ap truth_of (sym c.in-Any.is))
+evaluate_general_truth-returns-in-Any t c = c.evaluate_disjunction_list.ensures ∙ ap (truth_value (levels_of c.args.level.now) c.args.cells.now) (ap disjunction_of c.deref-in-Any.ensures ∙ sym (any_made c.in-Any.several) ∙ ap truth_of (sym c.in-Any.is))

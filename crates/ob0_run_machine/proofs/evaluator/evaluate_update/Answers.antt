@@ -5,7 +5,7 @@ use Rattle.ob0_run_machine.specs.StepOutcomes.{outcome_of_applied_link}
 use Rattle.ob0_run_machine.specs.Evaluation.{◌>>=◌}
 use Rattle.ob0_run_machine.specs.Levels.{levels_of}
 use Rattle.ob0_run_machine.specs.LoweredSyntax.{cell}
-use Rattle.ob0_run_machine.specs.View.{variable_of}
+use Rattle.ob0_run_machine.specs.LoweredCodeViews.{variable_of}
 use Rattle.ob0_run_machine.proofs.Chains.{applied_to}
 use Rattle.ob0_run_machine.proofs.evaluator.evaluate_update.Goals as goal
 

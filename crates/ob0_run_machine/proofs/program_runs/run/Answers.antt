@@ -1,6 +1,6 @@
 use Rattle.std.proofs.Common.{◌∙◌, ◌++◌, refl, sym, ap}
 use Rattle.ob0_run_machine.specs.Execution.{zeros}
-use Rattle.ob0_run_machine.specs.View.{program_of}
+use Rattle.ob0_run_machine.specs.LoweredCodeViews.{program_of}
 use Rattle.ob0_run_machine.proofs.Returning.{begins_with, ended_by, finishes}
 use Rattle.ob0_run_machine.proofs.program_runs.run.Goals as goal
 

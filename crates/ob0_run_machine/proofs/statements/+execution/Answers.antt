@@ -4,7 +4,7 @@ use Rattle.ob0_run_machine.specs.declared.code.Comparator.TheVariants.{Less}
 use Rattle.ob0_run_machine.specs.declared.code.Instruction.{Increase}
 use Rattle.std.proofs.lemmas.Result.{err_from_is_err_and}
 use Rattle.ob0_run_machine.specs.Levels.{levels_of}
-use Rattle.ob0_run_machine.specs.View.{statement_of, variable_comparison}
+use Rattle.ob0_run_machine.specs.LoweredCodeViews.{statement_of, variable_comparison}
 use Rattle.ob0_run_machine.proofs.Executing.{before_last, branch_taken, branches_begin, does_statement, ending_by, branches_end, branches_fail, branches_on, if_fails, if_passed, if_taken, leaving, loop_as, repeat_begins, repeat_body_fails, repeat_bound, repeat_ends, repeat_fails, repeat_on, sequence_begins, sequence_ends, sequence_fails, sequence_on, settled, steps_as, then_last, turn_made, while_begins, while_body_fails, while_bound, while_ends, while_fails, while_on}
 use Rattle.ob0_run_machine.proofs.Viewed.{if_made, repeat_made, while_made}
 use Rattle.ob0_run_machine.proofs.statements.+execution.Goals as goal

@@ -2,7 +2,7 @@ use Rattle.ob0_run_machine.specs.Levels.{levels_of}
 use Rattle.std.proofs.Common.{[], ◌∷◌, ◌++◌}
 use Rattle.ob0_run_machine.specs.CountingLoops.{IsCountingLimit}
 use Rattle.ob0_run_machine.specs.LoweredSyntax as lowered
-use Rattle.ob0_run_machine.specs.View.{variable_comparison, truth_of}
+use Rattle.ob0_run_machine.specs.LoweredCodeViews.{variable_comparison, truth_of}
 use Rattle.ob0_run_machine.specs.declared.code.Comparator.TheVariants.{Less}
 use Rattle.ob0_run_machine.specs.declared.code.Instruction.{Increase}
 use Rattle.ob0_run_machine.proofs.Executing.{InBranches, InRepeat, InSequence, InWhile}

@@ -1,12 +1,12 @@
 use Rattle.std.proofs.Common.{◌≡◌, ◌≤◌, ◌+◌, ◌-◌, ℕ, List, length, refl, sym, ap, ap₂, ◌∙◌, subst, take, drop, arith}
 use Rattle.ob0_scan.specs.declared.lexeme.Token.{Token}
 use Rattle.ob0_scan.specs.TextWithTokens.{TextWithTokens, IsScanOf}
-use Rattle.ob0_scan.specs.ReusedLexemes.{kinds, spellings_of_identifiers_in, words_of_tokens, ReusesOldLexemes}
+use Rattle.ob0_scan.specs.ReusedLexemes.{token_kinds_without_values, spellings_of_identifiers_in, words_of_tokens, ReusesOldLexemes}
 use Rattle.ob0_scan.specs.RescanState.{scan_with_new_middle}
 use Rattle.ob0_scan.proofs.Alike.{kinds_stay}
 use Rattle.ob0_scan.proofs.Named.{back_written, front_written, names_stay, words_stay}
 use Rattle.ob0_scan.proofs.SameKinds.{joined_length, joined_tokens, same_tokens}
-use Rattle.ob0_scan.specs.SameKinds.{PrefixAndSuffixHaveSameKinds, PrefixAndSuffixHaveSameWords}
+use Rattle.ob0_scan.specs.SamePrefixAndSuffix.{PrefixAndSuffixHaveSameKinds, PrefixAndSuffixHaveSameWords}
 use Rattle.ob0_scan.specs.declared.tokens.CommonPrefixAndSuffix.{CommonPrefixAndSuffix}
 use Rattle.ob0_scan.proofs.incremental_scan.rescan_in_place.Goals as goal
 
@@ -27,24 +27,24 @@ returns-in_ok-tokens-in-Ok-clause-reused c =
 pub returns-in_ok-tokens-in-Ok-clause-alike : goal.returns-in_ok-tokens-in-Ok-clause-alike
 returns-in_ok-tokens-in-Ok-clause-alike c =
     let b = c.in-Ok.between in
-    λ alike. ap (λ (s : TextWithTokens). kinds s.tokens) c.in_ok-tokens-in-Ok.ensures
+    λ alike. ap (λ (s : TextWithTokens). token_kinds_without_values s.tokens) c.in_ok-tokens-in-Ok.ensures
     ∙ kinds_stay c.args.old.tokens b.tokens.items b.old_start.tokens b.old_end.tokens c.args.removed c.args.added c.in-Ok.ensures.ok.tokens_ordered
-    (c.has_same_kinds_as_replaced-same_kinds.ensures alike
-    ∙ ap (λ (l : List Token). kinds (take (b.old_end.tokens - b.old_start.tokens) (drop b.old_start.tokens l))) c.tokens.ensures)
+    (c.has_same_kinds_as_replaced_tokens-same_kinds.ensures alike
+    ∙ ap (λ (l : List Token). token_kinds_without_values (take (b.old_end.tokens - b.old_start.tokens) (drop b.old_start.tokens l))) c.tokens.ensures)
 
 pub returns-in_ok-tokens-in-Ok-clause-same_names : goal.returns-in_ok-tokens-in-Ok-clause-same_names
 returns-in_ok-tokens-in-Ok-clause-same_names c =
     let b = c.in-Ok.between in
     λ same. ap (λ (s : TextWithTokens). spellings_of_identifiers_in s.text s.tokens) c.in_ok-tokens-in-Ok.ensures
     ∙ names_stay c.args.old c.args.new_text.now c.args.from c.args.removed c.args.added b c.requires c.in-Ok.ensures.ok
-    (c.has_same_names_as_replaced-same_names.ensures same)
+    (c.has_same_names_as_replaced_tokens-same_names.ensures same)
 
 pub returns-in_ok-tokens-in-Ok-clause-same_words : goal.returns-in_ok-tokens-in-Ok-clause-same_words
 returns-in_ok-tokens-in-Ok-clause-same_words c =
     let b = c.in-Ok.between in
     λ same. ap (λ (s : TextWithTokens). words_of_tokens s.text s.tokens) c.in_ok-tokens-in-Ok.ensures
     ∙ words_stay c.args.old c.args.new_text.now c.args.from c.args.removed c.args.added b c.requires c.in-Ok.ensures.ok
-    (c.has_same_words_as_replaced-same_words.ensures same)
+    (c.has_same_words_as_replaced_tokens-same_words.ensures same)
 
 pub returns-in_ok-tokens-in-Ok-clause-same : goal.returns-in_ok-tokens-in-Ok-clause-same
 returns-in_ok-tokens-in-Ok-clause-same c =

@@ -4,7 +4,7 @@ use Rattle.ob0_scan.specs.declared.lexeme.Token.{Token}
 use Rattle.ob0_scan.specs.declared.old_lexemes.LexemeSlices.{LexemeSlices}
 use Rattle.ob0_scan.specs.TextWithTokens.{IsScannable}
 use Rattle.ob0_scan.specs.ScanRefusals.{AreFaultsOfRefusedText}
-use Rattle.ob0_scan.specs.Progress.{IsCutIntoLexemesUpTo}
+use Rattle.ob0_scan.specs.ScanProgress.{IsCutIntoLexemesUpToOffset}
 use Rattle.ob0_scan.specs.RescanState.{end_of_last_lexeme}
 use Rattle.ob0_scan.specs.ReusedLexemes.{tokens_ending_before, comments_ending_before}
 use Rattle.ob0_scan.proofs.Steps.{too_long_refused, scan_refused}
@@ -30,8 +30,8 @@ scanner_after_known_lexemes-scanner-requires-clause-cut c =
     let cut = front_cut c.args.old.now c.lexeme_slices-all.ensures.scan new c.args.change.from c.args.change.removed c.args.change.added c.requires in
     let tokens = c.lexemes_ending_before-front.ensures.tokens ∙ ap (tokens_ending_before c.args.change.from) c.lexeme_slices-all.ensures.tokens in
     let comments = c.lexemes_ending_before-front.ensures.comments ∙ ap (comments_ending_before c.args.change.from) c.lexeme_slices-all.ensures.comments in
-    subst (λ (ts : List Token). IsCutIntoLexemesUpTo new (end_of_last_lexeme ts c.lexemes_ending_before-front.result.comments.now) ts c.lexemes_ending_before-front.result.comments.now) (sym tokens)
-    (subst (λ (cs : List Span). IsCutIntoLexemesUpTo new (end_of_last_lexeme (tokens_ending_before c.args.change.from c.args.old.now.tokens) cs) (tokens_ending_before c.args.change.from c.args.old.now.tokens) cs) (sym comments) cut.1)
+    subst (λ (ts : List Token). IsCutIntoLexemesUpToOffset new (end_of_last_lexeme ts c.lexemes_ending_before-front.result.comments.now) ts c.lexemes_ending_before-front.result.comments.now) (sym tokens)
+    (subst (λ (cs : List Span). IsCutIntoLexemesUpToOffset new (end_of_last_lexeme (tokens_ending_before c.args.change.from c.args.old.now.tokens) cs) (tokens_ending_before c.args.change.from c.args.old.now.tokens) cs) (sym comments) cut.1)
 
 pub returns-then-not-is_empty-clause-err : goal.returns-then-not-is_empty-clause-err
 returns-then-not-is_empty-clause-err c =

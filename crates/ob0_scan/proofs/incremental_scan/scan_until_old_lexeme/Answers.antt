@@ -34,12 +34,12 @@ loop-scanner-preserved c =
     let here = c.loop-scanner.scanner in
     let inv = c.loop-scanner.invariant in
     record {
-      consistent_scanner = c.in_ok-step.ensures.consistent_scanner;
-      same_text = c.in_ok-step.ensures.text ∙ inv.same_text;
-      same_front = c.in_ok-step.ensures.front ∙ inv.same_front;
+      consistent_scanner = c.in_ok-read_next_lexeme.ensures.consistent_scanner;
+      same_text = c.in_ok-read_next_lexeme.ensures.text ∙ inv.same_text;
+      same_front = c.in_ok-read_next_lexeme.ensures.front ∙ inv.same_front;
       reads = λ none.
-          let one = c.in_ok-step.ensures.one none in
-          reads_more old from removed added c.args.scanner.now here c.step.new.self (inv.reads one.had_no_fault) one (λ far. elim c.if-is_empty.branch [
+          let one = c.in_ok-read_next_lexeme.ensures.one none in
+          reads_more old from removed added c.args.scanner.now here c.read_next_lexeme.new.self (inv.reads one.had_no_fault) one (λ far. elim c.if-is_empty.branch [
             | then-is_empty+then-scanner-change+else-first_lexeme_begins_at w ↦ (
                 let place = w.offset_in_old_text-place.result in
                 let same : place ≡ here.at + removed - added = omega (arith, w.offset_in_old_text-place.ensures) in
@@ -55,16 +55,16 @@ loop-scanner-preserved c =
       tokens = λ place far later. elim c.if-is_empty.branch [
         | then-is_empty+then-scanner-change+else-first_lexeme_begins_at w ↦
             ap (λ (r : LexemeSlices). tokens_beginning_at_or_after place r.tokens.now) w.rest-is ∙ ap (tokens_beginning_at_or_after place) w.skip_lexemes_before-rest.ensures.tokens
-            ∙ back_again (λ (t : Token). t.span.start) w.offset_in_old_text-place.result place c.loop-scanner.rest.tokens.now (omega (arith, later, w.offset_in_old_text-place.ensures, c.in_ok-step.ensures.further))
-            ∙ inv.tokens place far (omega (arith, later, c.in_ok-step.ensures.further))
-        | else-is_empty w ↦ ap (λ (r : LexemeSlices). tokens_beginning_at_or_after place r.tokens.now) w.rest-is ∙ inv.tokens place far (omega (arith, later, c.in_ok-step.ensures.further))
+            ∙ back_again (λ (t : Token). t.span.start) w.offset_in_old_text-place.result place c.loop-scanner.rest.tokens.now (omega (arith, later, w.offset_in_old_text-place.ensures, c.in_ok-read_next_lexeme.ensures.further))
+            ∙ inv.tokens place far (omega (arith, later, c.in_ok-read_next_lexeme.ensures.further))
+        | else-is_empty w ↦ ap (λ (r : LexemeSlices). tokens_beginning_at_or_after place r.tokens.now) w.rest-is ∙ inv.tokens place far (omega (arith, later, c.in_ok-read_next_lexeme.ensures.further))
       ];
       comments = λ place far later. elim c.if-is_empty.branch [
         | then-is_empty+then-scanner-change+else-first_lexeme_begins_at w ↦
             ap (λ (r : LexemeSlices). comments_beginning_at_or_after place r.comments.now) w.rest-is ∙ ap (comments_beginning_at_or_after place) w.skip_lexemes_before-rest.ensures.comments
-            ∙ back_again (λ (t : Span). t.start) w.offset_in_old_text-place.result place c.loop-scanner.rest.comments.now (omega (arith, later, w.offset_in_old_text-place.ensures, c.in_ok-step.ensures.further))
-            ∙ inv.comments place far (omega (arith, later, c.in_ok-step.ensures.further))
-        | else-is_empty w ↦ ap (λ (r : LexemeSlices). comments_beginning_at_or_after place r.comments.now) w.rest-is ∙ inv.comments place far (omega (arith, later, c.in_ok-step.ensures.further))
+            ∙ back_again (λ (t : Span). t.start) w.offset_in_old_text-place.result place c.loop-scanner.rest.comments.now (omega (arith, later, w.offset_in_old_text-place.ensures, c.in_ok-read_next_lexeme.ensures.further))
+            ∙ inv.comments place far (omega (arith, later, c.in_ok-read_next_lexeme.ensures.further))
+        | else-is_empty w ↦ ap (λ (r : LexemeSlices). comments_beginning_at_or_after place r.comments.now) w.rest-is ∙ inv.comments place far (omega (arith, later, c.in_ok-read_next_lexeme.ensures.further))
       ];
     }
 

@@ -1,8 +1,8 @@
 use Rattle.std.proofs.Common.{◌+◌, ◌∙◌, arith, subst, take, sym}
 use Rattle.ob0_scan.specs.Comments.{IsComment}
 use Rattle.ob0_scan.proofs.Closings.{opening_step, closing_step, other_step, never_closed, just_closed, comment_closed, comment_none}
-use Rattle.ob0_scan.proofs.leading_lexemes.comment_len.Goals as goal
-use Rattle.ob0_scan.proofs.leading_lexemes.comment_len.Goals.{else-bytes-len-eq40-via-then-bytes-len-eq40+else-bytes-len-eq42, else-bytes-len-eq40-via-else-bytes-len-eq40, else-bytes-len-eq42-2-via-then-bytes-len-eq42-2+else-bytes-len-eq41, else-bytes-len-eq42-2-via-else-bytes-len-eq42-2}
+use Rattle.ob0_scan.proofs.leading_lexemes.leading_comment_len.Goals as goal
+use Rattle.ob0_scan.proofs.leading_lexemes.leading_comment_len.Goals.{else-bytes-len-eq40-via-then-bytes-len-eq40+else-bytes-len-eq42, else-bytes-len-eq40-via-else-bytes-len-eq40, else-bytes-len-eq42-2-via-then-bytes-len-eq42-2+else-bytes-len-eq41, else-bytes-len-eq42-2-via-else-bytes-len-eq42-2}
 
 pub loop-len-preserved-then-bytes-len-eq42 : goal.loop-len-preserved-then-bytes-len-eq42
 loop-len-preserved-then-bytes-len-eq42 c = record {

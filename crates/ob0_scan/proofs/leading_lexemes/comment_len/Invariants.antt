@@ -1,6 +1,6 @@
 use Rattle.std.proofs.Common.{◌≡◌, ◌+◌, ◌-◌, ◌<◌, ◌≤◌, length, drop, option_map}
 use Rattle.ob0_scan.proofs.Closings.{closing}
-use Rattle.ob0_scan.proofs.leading_lexemes.comment_len.Given as goal
+use Rattle.ob0_scan.proofs.leading_lexemes.leading_comment_len.Given as goal
 
 -- The loop's invariant: the place that closes the comments that are open here also closes the first
 -- one.

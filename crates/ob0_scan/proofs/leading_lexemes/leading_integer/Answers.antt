@@ -4,7 +4,7 @@ use Rattle.std.specs.Char.{is_ascii_alphabetic, is_ascii_alphanumeric, is_ascii_
 use Rattle.ob0_scan.specs.declared.lexeme.LexemeKind.TheVariants as lexeme
 use Rattle.ob0_scan.specs.declared.lexeme.TokenKind.TheVariants as token
 use Rattle.ob0_scan.specs.LexemeClasses.{decimal_value}
-use Rattle.ob0_scan.specs.TextStart.{StartsWithLexeme}
+use Rattle.ob0_scan.specs.LeadingLexemes.{StartsWithLexeme}
 use Rattle.ob0_scan.specs.LeadingLexemeOrFault.{StartsWithFault}
 use Rattle.ob0_scan.specs.Faults.{letter_follows_digits}
 use Rattle.ob0_scan.specs.declared.fault.FaultCode.TheVariants as code

@@ -6,7 +6,7 @@ use Rattle.std.proofs.lemmas.Bool.Decides.{Decides-eqb}
 use Rattle.ob0_scan.specs.declared.lexeme.LexemeKind.TheVariants as lexeme
 use Rattle.ob0_scan.specs.declared.lexeme.TokenKind.TheVariants as token
 use Rattle.ob0_scan.specs.LexemeClasses.{is_white_space}
-use Rattle.ob0_scan.specs.TextStart.{StartsWithLexeme, StartsWithNoLexeme}
+use Rattle.ob0_scan.specs.LeadingLexemes.{StartsWithLexeme, StartsWithNoLexeme}
 use Rattle.ob0_scan.proofs.Families.{family-mark}
 use Rattle.ob0_scan.proofs.Runs.{space_first}
 use Rattle.ob0_scan.proofs.Symbols.{symbol_first, no_mark}
@@ -17,7 +17,7 @@ returns-then-is_white_space c =
     let text = c.args.text.now in
     let same = c.as_bytes-bytes.ensures.value in
     let head = subst (λ t. is_white_space (get_or t 0 0) ≡ true) same (sym c.if-is_white_space.ensures) in
-    subst (StartsWithLexeme text lexeme.Space) (sym (c.leading_white_space_len.ensures ∙ ap (prefix_len is_white_space) same)) (space_first text head c.requires)
+    subst (StartsWithLexeme text lexeme.WhiteSpace) (sym (c.leading_white_space_len.ensures ∙ ap (prefix_len is_white_space) same)) (space_first text head c.requires)
 
 -- If `starts_with` is false, the text doesn't begin with the pair `(*`
 no_pair : (text : List ℕ) → false ≡ starts_with eqb text (40 ∷ 42 ∷ []) → take 2 text ≢ 40 ∷ 42 ∷ []

@@ -3,7 +3,7 @@ use Rattle.std.specs.List.{prefix_len}
 use Rattle.std.specs.Char.{is_ascii_alphanumeric}
 use Rattle.ob0_scan.specs.declared.lexeme.LexemeKind.TheVariants as lexeme
 use Rattle.ob0_scan.specs.LexemeClasses.{IsIdentifierOrReservedWord, IsLexemeOfKind}
-use Rattle.ob0_scan.specs.TextStart.{StartsWithLexeme}
+use Rattle.ob0_scan.specs.LeadingLexemes.{StartsWithLexeme}
 use Rattle.ob0_scan.proofs.Runs.{word_at_front, word_first, letter_longer}
 use Rattle.ob0_scan.proofs.leading_lexemes.leading_word.Goals as goal
 

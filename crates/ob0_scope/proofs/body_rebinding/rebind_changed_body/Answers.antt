@@ -2,11 +2,11 @@ use Rattle.std.proofs.Common.{◌≡◌, ◌≤◌, ◌++◌, ℕ, List, Option,
 use Rattle.std.specs.List.{list_any}
 use Rattle.ob0_scan.specs.TextWithTokens.{TextWithTokens}
 use Rattle.ob0_tree.specs.ParsedModule.{tree_of}
-use Rattle.ob0_scope_table.specs.Resolution.{is_duplicate_or_end_name, ordinal_in, undeclared_faults_from_table}
+use Rattle.ob0_scope_table.specs.Resolution.{is_duplicate_or_end_name_fault, ordinal_in, undeclared_faults_from_table}
 use Rattle.ob0_scope_table.specs.Bindings.{resolution_with_bindings}
 use Rattle.ob0_scope_numbering.specs.MarkWalk.{initial_walk_state}
 use Rattle.ob0_scope_numbering.specs.IdentifierWalk.{visit_module}
-use Rattle.ob0_scope_numbering.specs.BodyWalk.{renumber_module, initial_walk_state_with_table}
+use Rattle.ob0_scope_numbering.specs.BodyWalk.{renumber_body_in_module, initial_walk_state_with_table}
 use Rattle.ob0_scope_numbering.specs.IdentifierSpellings.{original_spellings}
 use Rattle.ob0_scope_numbering.proofs.BodyTables.{body_numbered}
 use Rattle.ob0_scope_numbering.proofs.Passing.{HasMarks}
@@ -18,7 +18,7 @@ use Rattle.ob0_scope.proofs.body_rebinding.rebind_changed_body.Goals as goal
 pub recheck_declarations-requires : goal.recheck_declarations-requires
 recheck_declarations-requires c =
     let was = c.requires in
-    ap (list_any is_duplicate_or_end_name) c.deref-2.ensures.value
+    ap (list_any is_duplicate_or_end_name_fault) c.deref-2.ensures.value
     ∙ (was.resolved.reported.declared_twice ∙ ap not (sym (still_once_written was.old c.args.read.now c.args.low c.args._changed_end was.parsed was.change)))
 
 pub returns : goal.returns
@@ -26,7 +26,7 @@ returns c =
     let m = c.args.read.now in
     let was = c.requires in
     let b = c.args.old in
-    let made_of = λ (all : List ℕ). (renumber_module all c.args.low (tree_of m) (initial_walk_state_with_table (original_spellings m.source) b.ordinals.items)).marks in
+    let made_of = λ (all : List ℕ). (renumber_body_in_module all c.args.low (tree_of m) (initial_walk_state_with_table (original_spellings m.source) b.ordinals.items)).marks in
     let made : c.in_ok-ordinals.ordinals.items ≡ made_of b.declaration_tokens.items = c.in_ok-ordinals.ensures ∙ ap made_of c.deref.ensures.value in
     let count : length c.tokens.result.now ≡ length m.source.tokens = ap length (c.tokens.ensures ∙ ap (λ (s : TextWithTokens). s.tokens) c.tokens-tokens.ensures.source) in
     let within : length m.source.tokens ≤ length b.ordinals.items = omega (arith, c.if-len-tokens.false, c.len.ensures, count, b.ordinals.ok) in

@@ -17,7 +17,7 @@ rebind_body_range-requires c =
     let t = tree_of c.args.read.now in
     let low = c.args.same.prefix in
     let found = body_of c.find_body_in_block-found.result.statements.now in
-    let ids = identifiers role.Declaring found in
+    let ids = identifiers role.DeclaringName found in
     let there : found ≡ body_at_path (path_to_body_in_module low t) t = c.find_body_in_block-found.ensures.statements ∙ ap (λ (b : Block). body_at_path_in_block (path_to_body_in_block low (block_of b)) (block_of b)) c.block.ensures in
     let closed : c.find_body_in_block-found.result.closing ≡ closing_name_at_path (path_to_body_in_module low t) t = c.find_body_in_block-found.ensures.closing ∙ (λ i. closing_name_at_path_in_block (path_to_body_in_block low (block_of (c.block.ensures i))) (c.closing_name.ensures i) (block_of (c.block.ensures i))) in
     let walked = c.names.view_is
@@ -25,8 +25,8 @@ rebind_body_range-requires c =
     record {
       same = c.args.same;
       was_bound = c.requires;
-      first = ap (λ s. token_of_first_identifier (identifiers role.Declaring s)) (sym there) ∙ (sym (ap (λ (n : BodyNamesView). n.first) walked) ∙ c.in-Some.is);
+      first = ap (λ s. token_of_first_identifier (identifiers role.DeclaringName s)) (sym there) ∙ (sym (ap (λ (n : BodyNamesView). n.first) walked) ∙ c.in-Some.is);
       closing = closed;
       old_closing = c.old_closing_token.ensures;
-      uses = c.deref.ensures.value ∙ (ap (λ (n : BodyNamesView). n.uses) walked ∙ (looked_up-occurrences role.Declaring (λ n xs. refl) found ∙ ap occurrences there));
+      uses = c.deref.ensures.value ∙ (ap (λ (n : BodyNamesView). n.uses) walked ∙ (looked_up-occurrences role.DeclaringName (λ n xs. refl) found ∙ ap occurrences there));
     }

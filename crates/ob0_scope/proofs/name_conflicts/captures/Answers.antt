@@ -19,13 +19,13 @@ returns-in-Some-clause-free c =
 pub returns-in-None-clause-first : goal.returns-in-None-clause-first
 returns-in-None-clause-first c =
     let m = named_tree_of c.args.names.now.module_read in
-    MatchResult-weaker c.first_captured_occurrence.result c.first_captured_occurrence.ensures
+    MatchResult-weaker c.first_occurrence_conflict.result c.first_occurrence_conflict.ensures
     (λ found e. captured_later m c.args.declaration c.args.new.now found (sym c.in-None.is ∙ c.in_ok-other.ensures) e) (λ y h. h)
 
 pub returns-in-None-clause-free : goal.returns-in-None-clause-free
 returns-in-None-clause-free c =
     let m = named_tree_of c.args.names.now.module_read in
-    MatchResult-weaker c.first_captured_occurrence.result c.first_captured_occurrence.ensures
+    MatchResult-weaker c.first_occurrence_conflict.result c.first_occurrence_conflict.ensures
     (λ found e. free_where_none m c.args.declaration c.args.new.now found (captured_later m c.args.declaration c.args.new.now found (sym c.in-None.is ∙ c.in_ok-other.ensures) e)) (λ y h. h)
 
 pub returns-then-occurs_nowhere-clause-first : goal.returns-then-occurs_nowhere-clause-first

@@ -1,5 +1,5 @@
 use Rattle.std.proofs.Common.{◌≡◌, ℕ, ◌<◌, false}
-use Rattle.ob0_tree.specs.Places.{token_text_at}
+use Rattle.ob0_tree.specs.TokenIndexLeaves.{token_text_at}
 use Rattle.ob0_language_names.specs.Names.{same_name}
 use Rattle.ob0_scope.proofs.name_conflicts.occurs_nowhere.Given as goal
 

@@ -6,9 +6,9 @@ use Rattle.serde_json.specs.View.{items_of}
 use Rattle.ob0_text.specs.Units.{width_of}
 use Rattle.ob0_edits_tokens.specs.Ranges.{range_of}
 use Rattle.ob0_rpc.specs.MessageViews.{json_of_id}
-use Rattle.ob0_rpc.specs.Shapes.{result_message}
+use Rattle.ob0_rpc.specs.JsonShapes.{result_message}
 use Rattle.ob0_rpc.specs.WrittenMessages.{FitsInMessage, Writes}
-use Rattle.ob0_session_json.specs.Shapes.{location_value_of_range}
+use Rattle.ob0_session_json.specs.JsonShapes.{location_value_of_range}
 use Rattle.ob0_session_answers.proofs.Naming.{locations_can_be_sent}
 use Rattle.ob0_session_answers.proofs.questions.references_answer.Goals as goal
 

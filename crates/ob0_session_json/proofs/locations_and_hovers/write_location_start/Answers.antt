@@ -1,6 +1,6 @@
 use Rattle.std.proofs.Common.{◌∙◌, ◌++◌, ap, append_assoc, arith, codes, drop, sym}
 use Rattle.serde_json.specs.Written.{compact_text}
-use Rattle.ob0_rpc.specs.Shapes.{range_value}
+use Rattle.ob0_rpc.specs.JsonShapes.{range_value}
 use Rattle.ob0_session_json.proofs.Placed.{kept}
 use Rattle.ob0_session_json.proofs.locations_and_hovers.write_location_start.Goals as goal
 

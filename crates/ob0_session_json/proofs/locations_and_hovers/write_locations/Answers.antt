@@ -1,10 +1,10 @@
 use Rattle.std.proofs.Common.{◌≡◌, ◌∙◌, ◌++◌, ◌+◌, ◌-◌, if◌then◌else◌, ap, arith, drop, false, length, map, refl, subst, sym}
 use Rattle.std.proofs.lemmas.Bool.{lt-ltb}
 use Rattle.std.proofs.lemmas.List.{length-drop, take_all}
-use Rattle.ob0_rpc.specs.Appending.{AppendsEachValue}
-use Rattle.ob0_rpc.proofs.Appending.{each_done, each_next, each_none}
+use Rattle.ob0_rpc.specs.AppendedJson.{AppendsEachValue}
+use Rattle.ob0_rpc.proofs.AppendedJson.{each_done, each_next, each_none}
 use Rattle.ob0_session_json.specs.LocationBuffer.{EndsWithUriMember}
-use Rattle.ob0_session_json.specs.Shapes.{location_value_of_range}
+use Rattle.ob0_session_json.specs.JsonShapes.{location_value_of_range}
 use Rattle.ob0_session_json.proofs.Placed.{location_put, still_ends}
 use Rattle.ob0_session_json.proofs.locations_and_hovers.write_locations.Goals as goal
 use Rattle.ob0_session_json.proofs.locations_and_hovers.write_locations.Goals.{then-needs_comma, else-needs_comma}

@@ -1,7 +1,7 @@
 use Rattle.std.proofs.Common.{◌≡◌, false, map, nat_lt, take}
-use Rattle.ob0_rpc.specs.Appending.{AppendsEachValue}
+use Rattle.ob0_rpc.specs.AppendedJson.{AppendsEachValue}
 use Rattle.ob0_session_json.specs.LocationBuffer.{EndsWithUriMember}
-use Rattle.ob0_session_json.specs.Shapes.{location_value_of_range}
+use Rattle.ob0_session_json.specs.JsonShapes.{location_value_of_range}
 use Rattle.ob0_session_json.proofs.locations_and_hovers.write_locations.Given as goal
 
 abbrev pub invariant-loop-range : goal.invariant-loop-range

@@ -2,7 +2,7 @@ use Rattle.std.proofs.Common.{◌∙◌, List, ap, map, subst, sym}
 use Rattle.std.proofs.lemmas.Result.{IfOk-weaker}
 use Rattle.ob0_rpc.specs.WrittenMessages.{Writes}
 use Rattle.ob0_session_json.specs.JsonViews.{diagnostic_view}
-use Rattle.ob0_session_json.specs.Shapes.{Diagnostic, publication as publication_message}
+use Rattle.ob0_session_json.specs.JsonShapes.{Diagnostic, publication as publication_message}
 use Rattle.ob0_session_json.proofs.Plain.{publication_can_be_sent}
 use Rattle.ob0_session_json.proofs.publication.publication.Goals as goal
 

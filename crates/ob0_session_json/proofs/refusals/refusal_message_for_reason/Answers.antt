@@ -2,7 +2,7 @@ use Rattle.std.proofs.Common.{◌∙◌, ℕ, List, subst}
 use Rattle.std.proofs.lemmas.Result.{IfOk-weaker}
 use Rattle.ob0_rpc.specs.MessageViews.{json_of_id}
 use Rattle.ob0_rpc.specs.WrittenMessages.{Writes}
-use Rattle.ob0_session_json.specs.Shapes.{edit_refusal_message}
+use Rattle.ob0_session_json.specs.JsonShapes.{edit_refusal_message}
 use Rattle.ob0_session_json.proofs.refusals.refusal_message_for_reason.Goals as goal
 
 pub returns : goal.returns

@@ -2,9 +2,9 @@ use Rattle.std.proofs.Common.{sym, subst}
 use Rattle.std.specs.Cmp.Lexicographic.{slice_cmp}
 use Rattle.std.specs.Ordering.{nat_cmp}
 use Rattle.std.specs.FinMap.{get-empty}
-use Rattle.ob0_text.specs.OpenDocuments.{OpenDocuments, HasNoDocument}
+use Rattle.ob0_text.specs.OpenDocuments.{OpenDocuments, NoDocumentIsOpen}
 use Rattle.ob0_session_server.proofs.session.empty_document_collection.Goals as goal
 
 pub set_unit-requires : goal.set_unit-requires
 set_unit-requires g c =
-    subst (λ (m : OpenDocuments). HasNoDocument m) (sym c.new-documents.ensures) (λ uri. get-empty (slice_cmp nat_cmp) uri)
+    subst (λ (m : OpenDocuments). NoDocumentIsOpen m) (sym c.new-documents.ensures) (λ uri. get-empty (slice_cmp nat_cmp) uri)

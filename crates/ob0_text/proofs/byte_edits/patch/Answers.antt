@@ -5,7 +5,7 @@ use Rattle.std.proofs.Math.Utf8.{scalars}
 use Rattle.std.proofs.lemmas.Str.{chars-append, encodes-chars, scalars-chars, chars-nil, IsUtf8-string_bytes}
 use Rattle.std.proofs.lemmas.List.{drop_all, length-map}
 use Rattle.ob0_text.specs.Units.{width_of}
-use Rattle.ob0_text.specs.Patches.{cuts_of, cuts_in_text_order}
+use Rattle.ob0_text.specs.Patches.{cuts_of_edits, cuts_in_text_order}
 use Rattle.ob0_text.specs.StoredCuts.{cut_of_byte_edit, cut_in_bytes}
 use Rattle.ob0_text.proofs.CutOrder.{cuts_inside, inside_order}
 use Rattle.ob0_text.proofs.Pieces.{IsPieced, pieced_start, patched_text-none, patched_text-some, last_chars}
@@ -15,7 +15,7 @@ use Rattle.ob0_text.proofs.byte_edits.patch.Goals as goal
 pub loop-cut-init : goal.loop-cut-init
 loop-cut-init g c =
     let text = g.T.TextStore.content c.args.store.now in
-    let cs = cuts_in_text_order (cuts_of (width_of (g.T.TextStore.unit_of c.args.store.now)) text c.args.edits.now) in (
+    let cs = cuts_in_text_order (cuts_of_edits (width_of (g.T.TextStore.unit_of c.args.store.now)) text c.args.edits.now) in (
       ap (map cut_of_byte_edit) c.deref-cut-items.ensures.value ∙ c.in_ok-cuts.ensures,
       c.as_str-text.ensures,
       subst (λ d. IsPieced text cs d 0 cs) (sym (ap chars c.new-patched_text.ensures.bytes ∙ chars-nil)) (pieced_start text cs),
@@ -24,7 +24,7 @@ loop-cut-init g c =
 pub returns-then-cut-kept-clause-overlap : goal.returns-then-cut-kept-clause-overlap
 returns-then-cut-kept-clause-overlap g c =
     let text = g.T.TextStore.content c.args.store.now in
-    let cuts = cuts_of (width_of (g.T.TextStore.unit_of c.args.store.now)) text c.args.edits.now in
+    let cuts = cuts_of_edits (width_of (g.T.TextStore.unit_of c.args.store.now)) text c.args.edits.now in
     let inside = cuts_inside text (width_of (g.T.TextStore.unit_of c.args.store.now)) c.args.edits.now in
     let inv = c.loop-cut.invariant in
     let good = ap scalars (sym inv.1) ∙ scalars-chars c.as_str-text.result.now c.as_str-text.utf8 in
@@ -42,7 +42,7 @@ range-requires-clause-start_boundary g c =
 pub range-requires-clause-end_boundary : goal.range-requires-clause-end_boundary
 range-requires-clause-end_boundary g c =
     let text = g.T.TextStore.content c.args.store.now in
-    let cuts = cuts_of (width_of (g.T.TextStore.unit_of c.args.store.now)) text c.args.edits.now in
+    let cuts = cuts_of_edits (width_of (g.T.TextStore.unit_of c.args.store.now)) text c.args.edits.now in
     let inv = c.loop-cut.invariant in
     let good = ap scalars (sym inv.1) ∙ scalars-chars c.as_str-text.result.now c.as_str-text.utf8 in
     let whole = ap encode_utf8_all (sym inv.1) ∙ encodes-chars c.as_str-text.result.now c.as_str-text.utf8 in
@@ -61,7 +61,7 @@ range_from-requires g c =
 pub loop-cut-preserved : goal.loop-cut-preserved
 loop-cut-preserved g c =
     let text = g.T.TextStore.content c.args.store.now in
-    let cuts = cuts_of (width_of (g.T.TextStore.unit_of c.args.store.now)) text c.args.edits.now in
+    let cuts = cuts_of_edits (width_of (g.T.TextStore.unit_of c.args.store.now)) text c.args.edits.now in
     let inside = cuts_inside text (width_of (g.T.TextStore.unit_of c.args.store.now)) c.args.edits.now in
     let inv = c.loop-cut.invariant in
     let good = ap scalars (sym inv.1) ∙ scalars-chars c.as_str-text.result.now c.as_str-text.utf8 in
@@ -81,7 +81,7 @@ loop-cut-preserved g c =
 pub returns-clause-ok : goal.returns-clause-ok
 returns-clause-ok g c =
     let text = g.T.TextStore.content c.args.store.now in
-    let cuts = cuts_of (width_of (g.T.TextStore.unit_of c.args.store.now)) text c.args.edits.now in
+    let cuts = cuts_of_edits (width_of (g.T.TextStore.unit_of c.args.store.now)) text c.args.edits.now in
     let inside = cuts_inside text (width_of (g.T.TextStore.unit_of c.args.store.now)) c.args.edits.now in
     let inv = c.loop-cut.invariant in
     let good = ap scalars (sym inv.1) ∙ scalars-chars c.as_str-text.result.now c.as_str-text.utf8 in

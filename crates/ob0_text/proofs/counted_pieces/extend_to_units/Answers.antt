@@ -3,7 +3,7 @@ use Rattle.ob0_text.specs.Units.{width_of}
 use Rattle.ob0_text.proofs.Widths.{narrow}
 use Rattle.ob0_text.proofs.CountedPieces.{as_piece, piece_joined}
 use Rattle.ob0_text.proofs.StretchSteps.{units_fit}
-use Rattle.ob0_text.proofs.counted_pieces.extend_to_units.Goals as goal
+use Rattle.ob0_text.proofs.counted_pieces.extend_piece_within_units.Goals as goal
 
 pub overflow_add-counted : goal.overflow_add-counted
 overflow_add-counted c =

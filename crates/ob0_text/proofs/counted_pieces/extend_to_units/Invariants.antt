@@ -1,7 +1,7 @@
 use Rattle.std.proofs.Common.{◌-◌, ◌≤◌, length}
 use Rattle.ob0_text.specs.Units.{width_of}
 use Rattle.ob0_text.specs.Stretches.{IsPieceOfLine}
-use Rattle.ob0_text.proofs.counted_pieces.extend_to_units.Given as goal
+use Rattle.ob0_text.proofs.counted_pieces.extend_piece_within_units.Given as goal
 
 abbrev pub invariant-loop-next : goal.invariant-loop-next
 invariant-loop-next l = record {

@@ -1,6 +1,6 @@
 use Rattle.ob0_text.specs.Units.{width_of}
 use Rattle.ob0_text.specs.Stretches.{IsPieceOfLine}
-use Rattle.ob0_text.proofs.counted_pieces.shorten_to_units.Given as goal
+use Rattle.ob0_text.proofs.counted_pieces.shorten_piece_to_units.Given as goal
 
 abbrev pub invariant-loop-kept : goal.invariant-loop-kept
 invariant-loop-kept l = IsPieceOfLine (width_of l.fn.unit) l.text l.start l.kept

@@ -3,7 +3,7 @@ use Rattle.std.specs.Str.{IsUtf8, chars}
 use Rattle.ob0_text.specs.Units.{width_of}
 use Rattle.ob0_text.specs.Stretches.{AreInOneLineWithUnits}
 use Rattle.ob0_text.proofs.CountedPieces.{cut, piece_cut}
-use Rattle.ob0_text.proofs.counted_pieces.without_last_characters.Goals as goal
+use Rattle.ob0_text.proofs.counted_pieces.piece_without_last_characters.Goals as goal
 
 pub returns-clause-is : goal.returns-clause-is
 returns-clause-is c =

@@ -8,10 +8,10 @@ use Rattle.ob0_text.proofs.line_lookups.offsets_from_line_table.Goals as goal
 
 pub loop-position-preserved : goal.loop-position-preserved
 loop-position-preserved c = record {
-  place = c.place_from_previous-place.ensures.place;
+  place = c.place_from_previous_position-place.ensures.place;
   done = c.in_ok-push.ensures.items
-      ∙ one_more (offset_of (width_of c.args.unit) (chars c.args.text.now)) c.args.positions.now c.loop-position.position-index (record { line = 0; character = 0 }) c.loop-position.offsets.items c.place_from_previous-place.result.offset
-      c.loop-position-test.true c.loop-position.invariant.done c.place_from_previous-place.ensures.offset;
+      ∙ one_more (offset_of (width_of c.args.unit) (chars c.args.text.now)) c.args.positions.now c.loop-position.position-index (record { line = 0; character = 0 }) c.loop-position.offsets.items c.place_from_previous_position-place.result.offset
+      c.loop-position-test.true c.loop-position.invariant.done c.place_from_previous_position-place.ensures.offset;
 }
 
 pub returns : goal.returns

@@ -1,7 +1,7 @@
 use Rattle.std.proofs.Common.{◌≡◌, ◌+◌, ◌<◌, ◌≤◌, drop, length, sym, subst, arith}
 use Rattle.std.specs.Str.{chars}
 use Rattle.ob0_text.specs.Units.{width_of}
-use Rattle.ob0_text.specs.PassInvariants.{CanFindOffsets}
+use Rattle.ob0_text.specs.PassInvariants.{OffsetsCanBeFoundInRest}
 use Rattle.ob0_text.specs.Stretches.{IsPieceOfLine}
 use Rattle.ob0_text.proofs.LinePlaces.{some_start, seeks}
 use Rattle.ob0_text.proofs.StretchSteps.{sought_past_stretch}
@@ -24,4 +24,4 @@ advance_to_position-requires c =
     let room : start.result.character + counted.units ≤ position.character = omega (arith, c.if-counted-position.false, start.ensures.character) in
     let passed = sought_past_stretch width text position start.result counted sought (subst (λ n. IsPieceOfLine width text n counted) here c.requires.counted) line room in
     let units : start.result.character + counted.units ≡ counted.units = omega (arith, start.ensures.character) in
-    record { place = subst (λ n. CanFindOffsets width text position (drop counted.end text) counted.end start.result.line n) units passed }
+    record { place = subst (λ n. OffsetsCanBeFoundInRest width text position (drop counted.end text) counted.end start.result.line n) units passed }

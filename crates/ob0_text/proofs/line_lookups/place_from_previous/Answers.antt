@@ -1,6 +1,6 @@
 use Rattle.ob0_text.specs.Units.{width_of}
 use Rattle.ob0_text.proofs.PlaceSteps.{sought_later}
-use Rattle.ob0_text.proofs.line_lookups.place_from_previous.Goals as goal
+use Rattle.ob0_text.proofs.line_lookups.place_from_previous_position.Goals as goal
 
 pub advance_to_position-requires : goal.advance_to_position-requires
 advance_to_position-requires c =

@@ -27,8 +27,8 @@ loop-c-preserved c =
             rw (w.line-is, w.character-is) (sought_on width _ _ _ _ _ _ h c.in-Some.c (chars_rest c.next.new.self) begins w.if-line-position.true goes_on)
         | else-line-position+else-is_line_break+else-position-character w ↦
             let plain = sym w.is_line_break.ensures ∙ w.if-is_line_break.false in
-            let fits : width c.in-Some.c ≤ c.args.position.character - c.loop-c.character = subst (λ k. k ≤ c.args.position.character - c.loop-c.character) w.width-units.ensures w.if-position-character.false in
-            rw (w.line-is, w.character-is, w.width-units.ensures) (sought_past_char width _ _ _ _ _ _ h c.in-Some.c (chars_rest c.next.new.self) begins w.if-line-position.false plain fits)
+            let fits : width c.in-Some.c ≤ c.args.position.character - c.loop-c.character = subst (λ k. k ≤ c.args.position.character - c.loop-c.character) w.character_width-units.ensures w.if-position-character.false in
+            rw (w.line-is, w.character-is, w.character_width-units.ensures) (sought_past_char width _ _ _ _ _ _ h c.in-Some.c (chars_rest c.next.new.self) begins w.if-line-position.false plain fits)
       ]);
     }
 

@@ -4,7 +4,7 @@ use Rattle.std.specs.Str.Iter.{chars_rest}
 use Rattle.std.specs.Char.{len_utf8}
 use Rattle.ob0_text.specs.Texts.{ends_line, position_of}
 use Rattle.ob0_text.specs.Units.{width_of}
-use Rattle.ob0_text.specs.PassInvariants.{CanCountPositions}
+use Rattle.ob0_text.specs.PassInvariants.{PositionsCanBeCountedInRest}
 use Rattle.ob0_text.proofs.Widths.{narrow}
 use Rattle.ob0_text.proofs.PositionSteps.{counted_past_end, counted_past_cr, counted_past_char, counted_at_stop, counted_at_end, counted_here_at, counted_here_dropped, rest_border}
 use Rattle.ob0_text.proofs.passes.skip_char.Goals as goal
@@ -42,8 +42,8 @@ returns-clause-next c =
     rw c.len_utf8-2.ensures.value (counted_here_dropped (width_of c.args.unit) _ _ _ _ _ (elim c.if-c-eq13.branch [
       | then-c-eq13 w ↦
           let same : c.args.place.character ≡ c.args.place.character + c.if-c-eq13.units = omega (arith, w.units-is) in
-          subst (λ n. CanCountPositions (width_of c.args.unit) c.args.text.now (chars_rest c.next.new.self) (c.args.place.offset + len_utf8 c.in-Some.c) c.args.place.line n) same (counted_past_cr (width_of c.args.unit) _ _ _ _ _ c.requires.place c.in-Some.c (chars_rest c.next.new.self) begins goes_on w.if-c-eq13.true)
+          subst (λ n. PositionsCanBeCountedInRest (width_of c.args.unit) c.args.text.now (chars_rest c.next.new.self) (c.args.place.offset + len_utf8 c.in-Some.c) c.args.place.line n) same (counted_past_cr (width_of c.args.unit) _ _ _ _ _ c.requires.place c.in-Some.c (chars_rest c.next.new.self) begins goes_on w.if-c-eq13.true)
       | else-c-eq13 w ↦
-          let units : width_of c.args.unit c.in-Some.c ≡ c.if-c-eq13.units = sym w.width-units.ensures ∙ sym w.units-is in
-          subst (λ n. CanCountPositions (width_of c.args.unit) c.args.text.now (chars_rest c.next.new.self) (c.args.place.offset + len_utf8 c.in-Some.c) c.args.place.line (c.args.place.character + n)) units (counted_past_char (width_of c.args.unit) _ _ _ _ _ c.requires.place c.in-Some.c (chars_rest c.next.new.self) begins (narrow c.args.unit c.in-Some.c) goes_on w.if-c-eq13.false)
+          let units : width_of c.args.unit c.in-Some.c ≡ c.if-c-eq13.units = sym w.character_width-units.ensures ∙ sym w.units-is in
+          subst (λ n. PositionsCanBeCountedInRest (width_of c.args.unit) c.args.text.now (chars_rest c.next.new.self) (c.args.place.offset + len_utf8 c.in-Some.c) c.args.place.line (c.args.place.character + n)) units (counted_past_char (width_of c.args.unit) _ _ _ _ _ c.requires.place c.in-Some.c (chars_rest c.next.new.self) begins (narrow c.args.unit c.in-Some.c) goes_on w.if-c-eq13.false)
     ]))

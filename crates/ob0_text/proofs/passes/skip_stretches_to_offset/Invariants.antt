@@ -1,11 +1,11 @@
 use Rattle.std.proofs.Common.{◌-◌, ◌≤◌, length}
 use Rattle.ob0_text.specs.Units.{width_of}
-use Rattle.ob0_text.specs.PassInvariants.{CanCountPositionsFrom}
+use Rattle.ob0_text.specs.PassInvariants.{PositionsCanBeCountedFromPlace}
 use Rattle.ob0_text.proofs.passes.skip_stretches_to_offset.Given as goal
 
 abbrev pub invariant-loop-stretch : goal.invariant-loop-stretch
 invariant-loop-stretch l = record {
-  place : CanCountPositionsFrom (width_of l.fn.unit) l.text l.place;
+  place : PositionsCanBeCountedFromPlace (width_of l.fn.unit) l.text l.place;
   within : l.place.offset ≤ l.fn.offset;
 }
 

@@ -6,8 +6,8 @@ use Rattle.ob0_text.proofs.CountedPieces.{as_piece}
 use Rattle.ob0_text.proofs.StretchSteps.{sought_past_stretch, units_fit}
 use Rattle.ob0_text.proofs.passes.skip_stretches_to_position.Goals as goal
 
-pub next_stretch_before-requires : goal.next_stretch_before-requires
-next_stretch_before-requires c = rest_border c.args.text.now _ c.loop-stretch.place.offset c.loop-stretch.invariant.rest_is
+pub next_stretch_before_position-requires : goal.next_stretch_before_position-requires
+next_stretch_before_position-requires c = rest_border c.args.text.now _ c.loop-stretch.place.offset c.loop-stretch.invariant.rest_is
 
 pub overflow_add-place : goal.overflow_add-place
 overflow_add-place c =

@@ -1,6 +1,6 @@
 use Rattle.std.proofs.Common.{◌∙◌, ap}
 use Rattle.ob0_scope_table.specs.Resolution.{Resolution}
-use Rattle.ob0_types_fields.specs.Identifiers.{first_token, tokens_of_field}
+use Rattle.ob0_types_fields.specs.FieldIdentifiers.{first_token, tokens_of_field}
 use Rattle.ob0_types.proofs.fields.field_declaring_token.Goals as goal
 
 pub returns : goal.returns

@@ -1,9 +1,9 @@
 use Rattle.std.proofs.Common.{◌∙◌, ap}
 use Rattle.std.specs.List.{position_from}
-use Rattle.ob0_tree.specs.Places.{token_text_at}
+use Rattle.ob0_tree.specs.TokenIndexLeaves.{token_text_at}
 use Rattle.ob0_language_names.specs.Names.{same_name}
 use Rattle.ob0_scope_table.specs.Resolution.{Resolution}
-use Rattle.ob0_types_fields.specs.Identifiers.{field_tokens_of_record}
+use Rattle.ob0_types_fields.specs.FieldIdentifiers.{field_tokens_of_record}
 use Rattle.ob0_types.proofs.fields.field_index_in_record.Goals as goal
 
 pub returns : goal.returns

@@ -1,7 +1,7 @@
 use Rattle.std.proofs.Common.{sym, ap, ◌∙◌}
 use Rattle.ob0_tree.specs.View.{block_of}
 use Rattle.ob0_types_check.specs.DeclarationFaults.{report_on_block}
-use Rattle.ob0_types_check.specs.SomeBodies.{includes_body}
+use Rattle.ob0_types_check.specs.WalksOverSomeBodies.{includes_body}
 use Rattle.ob0_types_check.specs.CheckerViews.{declarations_in_state}
 use Rattle.ob0_types_check.proofs.ResultWithFaults.{walked}
 use Rattle.ob0_types_check.proofs.reporting.module_report_walking_wanted_bodies.Goals as goal

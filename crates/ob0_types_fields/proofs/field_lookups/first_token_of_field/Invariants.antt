@@ -1,5 +1,5 @@
 use Rattle.std.proofs.Common.{◌≡◌, drop}
-use Rattle.ob0_types_fields.specs.Identifiers.{first_token, tokens_of_field}
+use Rattle.ob0_types_fields.specs.FieldIdentifiers.{first_token, tokens_of_field}
 use Rattle.ob0_types_fields.proofs.field_lookups.first_token_of_field.Given as goal
 
 abbrev pub invariant-loop-field : goal.invariant-loop-field

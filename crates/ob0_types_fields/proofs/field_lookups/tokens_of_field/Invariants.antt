@@ -1,5 +1,5 @@
 use Rattle.std.proofs.Common.{◌≡◌, ◌++◌, drop}
-use Rattle.ob0_types_fields.specs.Identifiers.{tokens_of_field}
+use Rattle.ob0_types_fields.specs.FieldIdentifiers.{tokens_of_field}
 use Rattle.ob0_types_fields.proofs.field_lookups.tokens_of_field.Given as goal
 
 abbrev pub invariant-loop-field : goal.invariant-loop-field

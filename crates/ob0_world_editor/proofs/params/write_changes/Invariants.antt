@@ -1,5 +1,5 @@
 use Rattle.std.proofs.Common.{◌≡◌, false, map, nat_lt, take}
-use Rattle.ob0_rpc.specs.Appending.{AppendsEachValue}
+use Rattle.ob0_rpc.specs.AppendedJson.{AppendsEachValue}
 use Rattle.ob0_world_editor.specs.Shapes.{change_value}
 use Rattle.ob0_world_editor.proofs.params.write_changes.Given as goal
 

@@ -1,17 +1,17 @@
 use Rattle.std.proofs.Common.{◌≡◌, refl}
-use Rattle.ob0_scan.specs.ReusedLexemes.{kinds}
+use Rattle.ob0_scan.specs.ReusedLexemes.{token_kinds_without_values}
 use Rattle.ob0_scan.specs.declared.tokens.RescanWithComparison.{RescanWithComparison}
-use Rattle.ob0_tree.specs.ParsedModule.{IsParsed, parsed_module}
+use Rattle.ob0_tree.specs.ParsedModule.{TreeMatchesText, parsed_module}
 use Rattle.ob0_tree.specs.declared.tree.ModuleTree.{ModuleTree}
 use Rattle.ob0_scope_table.specs.declared.resolved.Bindings.{Bindings}
-use Rattle.ob0_types.specs.declared.checked.CheckResult.{CheckResult}
+use Rattle.ob0_types.specs.declared.checked_modules.CheckResult.{CheckResult}
 use Rattle.ob0_parse.proofs.Stays.{tree_stays}
 use Rattle.ob0_analysis.specs.LastModule.{IsEarlierModule}
 use Rattle.ob0_analysis.proofs.scanned_text.ScannedTextAnalysis.reanalyse_module.Goals as goal
 
 -- The old tree is the tree of the changed text if all tokens have the same kinds.
-still_parsed : (r : RescanWithComparison) (tree : ModuleTree) (b : Bindings) (types : CheckResult) (earlier : IsEarlierModule r.rescan.tokens tree b types r.same) → kinds r.rescan.tokens.tokens ≡ kinds earlier.old.tokens
-    → IsParsed (parsed_module r.rescan.tokens tree)
+still_parsed : (r : RescanWithComparison) (tree : ModuleTree) (b : Bindings) (types : CheckResult) (earlier : IsEarlierModule r.rescan.tokens tree b types r.same) → token_kinds_without_values r.rescan.tokens.tokens ≡ token_kinds_without_values earlier.old.tokens
+    → TreeMatchesText (parsed_module r.rescan.tokens tree)
 still_parsed r tree b types earlier alike = tree_stays (parsed_module earlier.old tree) (parsed_module r.rescan.tokens tree) earlier.parsed refl earlier.new_scan.short alike
 
 pub reanalyse_with_changed_kinds-requires : goal.reanalyse_with_changed_kinds-requires

@@ -21,4 +21,4 @@ returns g c =
     subst P (sym both.0)
     (formats_or_not unit indent text c.args.module.now c.module-module.result.now c.format.result is h same
     c.format.ensures.edits c.format.ensures.fits c.format.ensures.patched_text c.format.ensures.too_long c.format.ensures.refusals (subst Q both.0 both.1)
-    c.gaps_give_formatted_text.ensures.utf8 c.formatting_keeps_tokens_and_comments.ensures.lexed c.formatting_keeps_module.ensures)) c.memory_refusal_as_error.ensures
+    c.replacing_gaps_gives_formatted_text.ensures.utf8 c.formatting_keeps_tokens_and_comments.ensures.lexed c.formatting_keeps_module_tree.ensures)) c.memory_refusal_as_error.ensures

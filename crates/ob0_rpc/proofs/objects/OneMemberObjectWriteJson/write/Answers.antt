@@ -1,5 +1,5 @@
 use Rattle.std.proofs.lemmas.Result.{on_ok_weaker}
-use Rattle.ob0_rpc.proofs.Appending.{object_named}
+use Rattle.ob0_rpc.proofs.AppendedJson.{object_named}
 use Rattle.ob0_rpc.proofs.objects.OneMemberObjectWriteJson.write.Goals as goal
 
 pub returns : goal.returns

@@ -1,6 +1,6 @@
 use Rattle.std.proofs.Common.{refl}
 use Rattle.std.proofs.lemmas.Result.{on_ok_weaker}
-use Rattle.ob0_rpc.proofs.Appending.{object_of}
+use Rattle.ob0_rpc.proofs.AppendedJson.{object_of}
 use Rattle.ob0_rpc.proofs.ranges.PositionWriteJson.write.Goals as goal
 
 pub returns : goal.returns

@@ -10,8 +10,8 @@ use Rattle.ob0_tree.specs.View.{items_of, compound_expression_of, expression_of,
 use Rattle.ob0_scope_table.specs.LabelledTrees.{tree_with_labels}
 use Rattle.ob0_types_table.specs.DeclarationTables.{shapes_of}
 use Rattle.ob0_language_types.proofs.TreeParts.{addend_parts, compound_alone, compound_related}
-use Rattle.ob0_run_lowering.specs.Codes.{addition_code, multiplication_code, relation_code, signed_term_code}
-use Rattle.ob0_run_lowering.specs.TreeCodes.{addends_code, code_of, expression_code, factor_code, place_with_shape_of, multipliers_code, selected_place, simple_expression_code, term_code}
+use Rattle.ob0_run_lowering.specs.OperationCodes.{addition_code, multiplication_code, relation_code, signed_term_code}
+use Rattle.ob0_run_lowering.specs.TreeCodes.{addends_code, expression_code_of, expression_code, factor_code, place_with_shape_of, multipliers_code, selected_place, simple_expression_code, term_code}
 use Rattle.ob0_run_lowering.proofs.CodeChains.{added_fold, added_once, fold_ends, fold_goes_on, multiplied_fold, selected_fold}
 use Rattle.ob0_run_lowering.proofs.TruthDepths.{still_flat}
 use Rattle.ob0_run_lowering.proofs.scene.Scene.+lowering.Goals as goal
@@ -19,7 +19,7 @@ use Rattle.ob0_run_lowering.proofs.scene.Scene.+lowering.Goals as goal
 pub lower_factor-returns-in-Designator-clause-code : goal.lower_factor-returns-in-Designator-clause-code
 lower_factor-returns-in-Designator-clause-code t c =
     let scene = c.args.self.now in
-    subst (λ z. IfOk c.lower_designator.result (λ l. code_of l ≡ factor_code scene (tree_with_labels scene.resolved.now z))) (sym (designator_made c.in-Designator.d) ∙ sym (ap factor_of c.in-Designator.is)) c.lower_designator.ensures.code
+    subst (λ z. IfOk c.lower_designator.result (λ l. expression_code_of l ≡ factor_code scene (tree_with_labels scene.resolved.now z))) (sym (designator_made c.in-Designator.d) ∙ sym (ap factor_of c.in-Designator.is)) c.lower_designator.ensures.code
 
 pub locate_designator-loop-selector-preserved : goal.locate_designator-loop-selector-preserved
 locate_designator-loop-selector-preserved t c =
@@ -36,12 +36,12 @@ locate_designator-returns t c =
 pub lower_expression-returns-in-Factor-clause-code : goal.lower_expression-returns-in-Factor-clause-code
 lower_expression-returns-in-Factor-clause-code t c =
     let scene = c.args.self.now in
-    subst (λ z. IfOk c.lower_factor.result (λ l. code_of l ≡ expression_code scene (tree_with_labels scene.resolved.now z))) (sym (ap expression_of c.in-Factor.is)) c.lower_factor.ensures.code
+    subst (λ z. IfOk c.lower_factor.result (λ l. expression_code_of l ≡ expression_code scene (tree_with_labels scene.resolved.now z))) (sym (ap expression_of c.in-Factor.is)) c.lower_factor.ensures.code
 
 pub lower_expression-returns-in-CompoundExpression-clause-code : goal.lower_expression-returns-in-CompoundExpression-clause-code
 lower_expression-returns-in-CompoundExpression-clause-code t c =
     let scene = c.args.self.now in
-    subst (λ z. IfOk c.lower_compound_expression.result (λ l. code_of l ≡ expression_code scene (tree_with_labels scene.resolved.now z)))
+    subst (λ z. IfOk c.lower_compound_expression.result (λ l. expression_code_of l ≡ expression_code scene (tree_with_labels scene.resolved.now z)))
     (ap compound_expression_of c.deref.ensures ∙ sym (ap expression_of c.in-CompoundExpression.is)) c.lower_compound_expression.ensures.code
 
 pub lower_compound_expression-returns-in-None-clause-code : goal.lower_compound_expression-returns-in-None-clause-code
@@ -55,8 +55,8 @@ lower_compound_expression-returns-in_ok-right-in-Some-clause-code t c =
     let r = scene.resolved.now in
     let compared = out-Comparison c.deref-compared.result.now in
     let left = simple_expression_of (out-CompoundExpression c.args.c.now).left in
-    subst (λ z. IfOk c.lower_relation.result (λ l. code_of l ≡ z))
-    (ap (λ a. relation_code compared.relation a (code_of c.in_ok-right-in-Some.right)) c.in_ok-left.ensures.code
+    subst (λ z. IfOk c.lower_relation.result (λ l. expression_code_of l ≡ z))
+    (ap (λ a. relation_code compared.relation a (expression_code_of c.in_ok-right-in-Some.right)) c.in_ok-left.ensures.code
     ∙ ap (relation_code compared.relation (simple_expression_code scene (tree_with_labels r left))) c.in_ok-right-in-Some.ensures.code
     ∙ ap (λ k. expression_code scene (tree_with_labels r (compares left (one (relates (out-Comparison k).relation (simple_expression_of (out-Comparison k).right)))))) c.deref-compared.ensures
     ∙ sym (ap (λ e. expression_code scene (tree_with_labels r e)) (compound_related c.args.c.now c.in-Some.compared c.in-Some.is)))
@@ -73,8 +73,8 @@ lower_simple_expression-loop-addend-preserved t c =
       made =
           fold_goes_on a _ (added_fold scene) c.loop-addend.invariant.made c.loop-addend-test.true c.addend-item.is
           (c.in_ok-so_far-2.ensures.code
-          ∙ ap (addition_code (out-Addend a).operator (code_of c.loop-addend.so_far)) c.in_ok-term.ensures.code
-          ∙ ap (λ z. added_once scene (code_of c.loop-addend.so_far) (tree_with_labels scene.resolved.now z)) (sym (addend_parts a)));
+          ∙ ap (addition_code (out-Addend a).operator (expression_code_of c.loop-addend.so_far)) c.in_ok-term.ensures.code
+          ∙ ap (λ z. added_once scene (expression_code_of c.loop-addend.so_far) (tree_with_labels scene.resolved.now z)) (sym (addend_parts a)));
       flat = still_flat c.in_ok-so_far-2.ensures.flat c.loop-addend.invariant.flat;
     }
 
@@ -84,7 +84,7 @@ lower_simple_expression-returns-clause-code t c =
     let r = scene.resolved.now in
     let s = out-SimpleExpression c.args.s.now in
     fold_ends (added_fold scene) c.loop-addend.invariant.made c.loop-addend-test.false
-    ∙ ap (λ xs. addends_code scene (code_of c.in_ok-so_far.so_far) (tree_with_labels r (items_of addend_of xs))) c.deref-addend-items.ensures.value
+    ∙ ap (λ xs. addends_code scene (expression_code_of c.in_ok-so_far.so_far) (tree_with_labels r (items_of addend_of xs))) c.deref-addend-items.ensures.value
     ∙ ap (λ k. addends_code scene k (tree_with_labels r (items_of addend_of s.more.items))) (c.in_ok-so_far.ensures.code ∙ ap (signed_term_code s.sign) c.in_ok-first.ensures.code)
     ∙ sym (ap (λ z. simple_expression_code scene (tree_with_labels r z)) (simple_parts c.args.s.now))
 
@@ -95,7 +95,7 @@ lower_term-loop-multiplier-preserved t c =
     record {
       made =
           fold_goes_on a _ (multiplied_fold scene) c.loop-multiplier.invariant.made c.loop-multiplier-test.true c.multiplier-item.is
-          (c.in_ok-so_far-2.ensures.code ∙ ap (multiplication_code a.operator (code_of c.loop-multiplier.so_far)) c.in_ok-factor.ensures.code);
+          (c.in_ok-so_far-2.ensures.code ∙ ap (multiplication_code a.operator (expression_code_of c.loop-multiplier.so_far)) c.in_ok-factor.ensures.code);
       flat = still_flat c.in_ok-so_far-2.ensures.flat c.loop-multiplier.invariant.flat;
     }
 
@@ -105,6 +105,6 @@ lower_term-returns-clause-code t c =
     let r = scene.resolved.now in
     let s = out-Term c.args.t.now in
     fold_ends (multiplied_fold scene) c.loop-multiplier.invariant.made c.loop-multiplier-test.false
-    ∙ ap (λ xs. multipliers_code scene (code_of c.in_ok-so_far.so_far) (tree_with_labels r (items_of multiplier_of xs))) c.deref-multiplier-items.ensures.value
+    ∙ ap (λ xs. multipliers_code scene (expression_code_of c.in_ok-so_far.so_far) (tree_with_labels r (items_of multiplier_of xs))) c.deref-multiplier-items.ensures.value
     ∙ ap (λ k. multipliers_code scene k (tree_with_labels r (items_of multiplier_of s.more.items))) c.in_ok-so_far.ensures.code
     ∙ sym (ap (λ z. term_code scene (tree_with_labels r z)) (term_parts c.args.t.now))

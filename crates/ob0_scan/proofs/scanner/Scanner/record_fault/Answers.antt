@@ -2,7 +2,7 @@ use Rattle.std.proofs.Common.{◌≡◌, ℕ, ◌∙◌, ◌+◌, ◌++◌, ◌�
 use Rattle.std.proofs.ResultArms.{chosen}
 use Rattle.std.proofs.lemmas.List.{length_push}
 use Rattle.ob0_scan.specs.declared.fault.Fault.{Fault}
-use Rattle.ob0_scan.specs.Progress.{IsScannedUpTo}
+use Rattle.ob0_scan.specs.ScanProgress.{IsScannedUpToOffset}
 use Rattle.ob0_scan.proofs.Steps.{fault_passed, fault_ends, progress_same}
 use Rattle.ob0_scan.proofs.scanner.Scanner.record_fault.Goals as goal
 use Rattle.ob0_scan.proofs.scanner.Scanner.record_fault.Goals.{then-ends_scan, else-ends_scan, then-len-eq-MAX_FAULTS, else-len-eq-MAX_FAULTS}
@@ -18,7 +18,7 @@ returns-clause-consistent_scanner c =
     let room = c.requires.consistent_scanner.room c.requires.more in
     let ts = old.front.tokens.now ++ old.tokens.items in
     let cs = old.front.comments.now ++ old.comments.items in
-    let Kept = λ (at : ℕ). IsScannedUpTo text at ts cs c.push.new.self.items in
+    let Kept = λ (at : ℕ). IsScannedUpToOffset text at ts cs c.push.new.self.items in
     elim c.if-len-eq-MAX_FAULTS.branch [
       | then-len-eq-MAX_FAULTS w ↦ subst Kept (sym w.self-is)
           (progress_same text (length text) ts ts cs cs (old.faults.items ++ new ∷ []) c.push.new.self.items refl refl pushed

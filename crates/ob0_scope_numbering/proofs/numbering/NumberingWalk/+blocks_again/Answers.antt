@@ -23,7 +23,7 @@ renumber_block-returns-then-p-low t c =
     ∙ ap (visit_variable_section (variable_section_of b.variables)) (c.in_ok-walk_type_section.ensures ∙ ap (visit_type_section (type_section_of b.types)) c.in_ok-walk_constant_section.ensures) in
     let split : drop k xs ≡ q ∷ drop (k + 1) xs = drop_more xs k q c.loop-p-test.true ∙ ap (λ y. y ∷ drop (k + 1) xs) (sym c.p-item.is) in
     let entered = sym (enters_one all low statements q (drop (k + 1) xs) c.loop-p.self (omega (arith, c.if-p-low.true))) in
-    let walked = ap (renumber_procedure all low (procedure_of q)) c.in_ok-append_declarations_before.ensures
+    let walked = ap (renumber_procedure all low (procedure_of q)) c.in_ok-append_declarations_before_token.ensures
     ∙ (entered ∙ (ap (λ ys. going all low statements ys c.loop-p.self) (sym split) ∙ c.loop-p.invariant.so_far)) in
     let whole = walked
     ∙ (ap (λ ys. going all low statements ys c.walk_variable_section.new.self) c.deref-p-items.ensures.value
@@ -40,7 +40,7 @@ renumber_block-loop-p-preserved t c =
     goes_on (going all low statements) q c.skip_procedure.new.self c.loop-p.invariant c.loop-p-test.true c.p-item.is
     (λ rest.
     passes_one all low statements q rest c.loop-p.self (omega (arith, c.if-p-low.false))
-    ∙ ap (going all low statements rest) (sym (c.in_ok-skip_procedure.ensures ∙ ap (with_skipped_procedure_name (out-Procedure q).name) c.in_ok-append_declarations_before.ensures)))
+    ∙ ap (going all low statements rest) (sym (c.in_ok-skip_procedure.ensures ∙ ap (with_skipped_procedure_name (out-Procedure q).name) c.in_ok-append_declarations_before_token.ensures)))
 
 pub renumber_block-returns : goal.renumber_block-returns
 renumber_block-returns t c =

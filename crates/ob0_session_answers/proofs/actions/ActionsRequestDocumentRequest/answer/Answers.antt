@@ -4,7 +4,7 @@ use Rattle.std.proofs.lemmas.Result.{IfOk-weaker}
 use Rattle.ob0_text.specs.Texts.{offset_of}
 use Rattle.ob0_text.specs.Units.{width_of}
 use Rattle.ob0_edits.specs.InliningEdits.{AreOptionalInlineResults}
-use Rattle.ob0_edits.specs.declared.inlinings.InliningEdits.{InliningEdits}
+use Rattle.ob0_edits.specs.declared.inline_question.InliningEdits.{InliningEdits}
 use Rattle.ob0_session_answers.specs.Actions.{actions_request_view, first_offset_in_range}
 use Rattle.ob0_session_answers.proofs.actions.ActionsRequestDocumentRequest.answer.Goals as goal
 

@@ -2,7 +2,7 @@ use Rattle.std.proofs.Common.{◌≡◌, ◌∙◌, ℕ, List, Option, ap, optio
 use Rattle.std.proofs.lemmas.Result.{IfOk-weaker}
 use Rattle.ob0_refs.specs.AnswerViews.{hover_view}
 use Rattle.ob0_refs.specs.NameHovers.{HoverTextWithSpan}
-use Rattle.ob0_refs.specs.declared.answers.Hover.{Hover}
+use Rattle.ob0_refs.specs.declared.answer_types.Hover.{Hover}
 use Rattle.ob0_refs.specs.Questions.{hover_at_offset}
 use Rattle.ob0_scope_table.specs.Resolution.{Resolution}
 use Rattle.serde_json.specs.Data.{null}

@@ -1,9 +1,9 @@
 use Rattle.std.proofs.Common.{◌≡◌, Bool, true, false, codes, refl}
 use Rattle.std.proofs.lemmas.Result.{on_ok_weaker}
 use Rattle.serde_json.specs.Data.{Members, boolean, member, no_members}
-use Rattle.ob0_rpc.specs.declared.clients.ClientFeatures.{ClientFeatures}
-use Rattle.ob0_rpc.proofs.Appending.{are_names, object_of, rebuilt}
-use Rattle.ob0_session_json.specs.Shapes.{code_action_options, members_after_definition_provider}
+use Rattle.ob0_rpc.specs.declared.client_capabilities.ClientFeatures.{ClientFeatures}
+use Rattle.ob0_rpc.proofs.AppendedJson.{are_names, object_of, rebuilt}
+use Rattle.ob0_session_json.specs.JsonShapes.{code_action_options, members_after_definition_provider}
 use Rattle.ob0_session_json.proofs.capabilities.ServerCapabilitiesWriteJson.write.Goals as goal
 
 abbrev from_definition : ClientFeatures → Members

@@ -1,6 +1,6 @@
 use Rattle.std.proofs.Common.{◌≡◌, refl, rules, w64, to_z, of_z}
 use Rattle.std.proofs.lemmas.Result.{on_ok_weaker}
-use Rattle.ob0_rpc.proofs.Appending.{object_of}
+use Rattle.ob0_rpc.proofs.AppendedJson.{object_of}
 use Rattle.ob0_session_json.proofs.edits.WorkspaceEditWriteJson.write.Goals as goal
 
 pub returns-in_ok-write_first_member : goal.returns-in_ok-write_first_member

@@ -1,7 +1,7 @@
 use Rattle.std.proofs.Common.{map}
 use Rattle.std.proofs.lemmas.Result.{on_ok_weaker}
-use Rattle.ob0_rpc.proofs.Appending.{array_of}
-use Rattle.ob0_session_json.specs.Shapes.{location_value_of_range}
+use Rattle.ob0_rpc.proofs.AppendedJson.{array_of}
+use Rattle.ob0_session_json.specs.JsonShapes.{location_value_of_range}
 use Rattle.ob0_session_json.proofs.locations_and_hovers.LocationListWriteJson.write.Goals as goal
 
 pub returns : goal.returns

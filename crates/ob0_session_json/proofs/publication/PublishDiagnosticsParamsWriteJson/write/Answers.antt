@@ -3,9 +3,9 @@ use Rattle.std.proofs.lemmas.Result.{on_ok_weaker}
 use mathlib.Core.List.{map-map}
 use Rattle.serde_json.specs.Data.{Data, array}
 use Rattle.serde_json.specs.View.{items_of}
-use Rattle.ob0_rpc.proofs.Appending.{object_of}
+use Rattle.ob0_rpc.proofs.AppendedJson.{object_of}
 use Rattle.ob0_session_json.specs.JsonViews.{diagnostic_view}
-use Rattle.ob0_session_json.specs.Shapes.{diagnostic_value, diagnostic_list_value}
+use Rattle.ob0_session_json.specs.JsonShapes.{diagnostic_value, diagnostic_list_value}
 use Rattle.ob0_session_json.specs.declared.publication.Diagnostic.{Diagnostic}
 use Rattle.ob0_session_json.proofs.publication.PublishDiagnosticsParamsWriteJson.write.Goals as goal
 

@@ -13,5 +13,5 @@ returns-in-ShutDown g c =
     let s : ServerState = c.args.self.now in
     let phase : s.phase ≡ ShutDown = sym (ap (λ t. t.phase) c.self.view_is) ∙ c.in-ShutDown.is in
     let reaction = ap (λ (p : Phase). react_to_request p s (json_of_id c.args.id.now) c.args.method.now (view c.args.params.now)) phase in
-    IfOk-weaker c.refusal_message-in-ShutDown.result _ _ (λ sent h.
-    subst (λ (r : Reaction). MatchesReaction r sent s) (sym reaction) h) c.refusal_message-in-ShutDown.ensures
+    IfOk-weaker c.error_response-in-ShutDown.result _ _ (λ sent h.
+    subst (λ (r : Reaction). MatchesReaction r sent s) (sym reaction) h) c.error_response-in-ShutDown.ensures

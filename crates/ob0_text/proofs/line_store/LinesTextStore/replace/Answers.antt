@@ -30,7 +30,7 @@ pub invariant_of-self-2 : goal.invariant_of-self-2
 invariant_of-self-2 c =
     let bytes = string_bytes c.self.inside.text in
     let from = c.min-from.result in
-    let kept = c.piece_or_empty_before-self-inside.result in
+    let kept = c.piece_or_empty_if_beyond-self-inside.result in
     let border = from_border (width_of c.args.self.now.unit) c.args.self.now.text bytes (IsUtf8-string_bytes c.self.inside.text) (ap (λ (v : TextWithUnit). v.text) c.self.view_is) c.args.range c.range_offsets-found.result.start c.range_offsets-found.result.end from c.max-to.result (c.range_offsets-found.ensures.start ∙ ap (λ bs. offset_of (width_of c.self.inside.unit) (chars bs) c.args.range.start) c.as_str.ensures.value ∙ ap (λ (v : TextWithUnit). offset_of (width_of v.unit) v.text c.args.range.start) c.self.view_is) (c.range_offsets-found.ensures.end ∙ ap (λ bs. offset_of (width_of c.self.inside.unit) (chars bs) c.args.range.end) c.as_str.ensures.value ∙ ap (λ (v : TextWithUnit). offset_of (width_of v.unit) v.text c.args.range.end) c.self.view_is) c.min-from.ensures c.max-to.ensures in
     let width = width_of c.self.inside.unit in
     let found = c.range_offsets-found.result.counted_piece in
@@ -39,5 +39,5 @@ invariant_of-self-2 c =
     record {
       lines = c.replace.ensures.table;
       piece = subst (λ bs. IsPieceOfLine (width_of c.self.inside.unit) bs kept.start kept.end_and_units) (sym left)
-          (c.piece_or_empty_before-self-inside.ensures width bytes (c.args.text.now ++ drop c.max-to.result bytes) counted border.0);
+          (c.piece_or_empty_if_beyond-self-inside.ensures width bytes (c.args.text.now ++ drop c.max-to.result bytes) counted border.0);
     }

@@ -1,6 +1,6 @@
 use Rattle.ob0_tree.specs.View.{procedure_of}
 use Rattle.ob0_types_check.specs.DeclarationFaults.{report_on_procedures}
-use Rattle.ob0_types_check.specs.SomeBodies.{walk_progress_of, includes_body}
+use Rattle.ob0_types_check.specs.WalksOverSomeBodies.{walk_progress_of, includes_body}
 use Rattle.ob0_types_check.proofs.Chains.{Chained}
 use Rattle.ob0_types_check.proofs.reporting.ReportingWalk.+blocks.Given as goal
 

@@ -6,8 +6,8 @@ use Rattle.ob0_types_check.specs.ExpressionFaults.{report_on_expression}
 use Rattle.ob0_types_check.specs.OperandFaults.{ReturnsAndReports, without_fault, ◌>>=◌}
 use Rattle.ob0_types_check.specs.KnownDeclarations.{TypeWithFollowingDeclarations, facts_from_declarations}
 use Rattle.ob0_types_check.specs.CheckerViews.{operand_of, declarations_in_state}
-use Rattle.ob0_types_check.specs.TypeFaults.{length_from_operand, type_named_at}
-use Rattle.ob0_types_check.specs.WrittenTypeFaults.{KnownFields, made_array_type, with_field_group, no_known_fields, next_type_ordinal, record_keyword_token, report_on_field_group, report_on_further_field_groups, report_on_written_type}
+use Rattle.ob0_types_check.specs.TypeFaults.{length_from_operand, type_named_by_token}
+use Rattle.ob0_types_check.specs.WrittenTypeFaults.{KnownFields, made_array_type, append_field_group, no_known_fields, next_type_ordinal, record_keyword_token, report_on_field_group, report_on_further_field_groups, report_on_written_type}
 use Rattle.ob0_types_check.specs.WrittenTypeFaults as spec
 use Rattle.ob0_types_check.proofs.Chains.{chain_ends, steps, reports_nothing, reports_same}
 use Rattle.ob0_types_check.proofs.GatheredFields.{gathers, groups_begin, groups_go_on}
@@ -22,9 +22,9 @@ check_nested_type-returns-in-Named t c =
     let p = declarations_in_state s in
     let n = c.args.around in
     let name = c.in-Named.name in
-    IfOk-weaker c.type_named_at.result _ _ (λ of h. reports_same
-    (steps (λ u. without_fault (record { of = u; following = p })) (reports_same h (ap (λ facts. type_named_at facts name) (facts_same s false))) (reports_nothing c.type_named_at.new.faults.items (record { of = of; following = p })))
-    (sym (ap (λ z. report_on_written_type n p (type_of z)) c.in-Named.is ∙ named_reported n p name))) c.type_named_at.ensures
+    IfOk-weaker c.type_named_by_token.result _ _ (λ of h. reports_same
+    (steps (λ u. without_fault (record { of = u; following = p })) (reports_same h (ap (λ facts. type_named_by_token facts name) (facts_same s false))) (reports_nothing c.type_named_by_token.new.faults.items (record { of = of; following = p })))
+    (sym (ap (λ z. report_on_written_type n p (type_of z)) c.in-Named.is ∙ named_reported n p name))) c.type_named_by_token.ensures
 
 pub check_nested_type-returns-in-Record : goal.check_nested_type-returns-in-Record
 check_nested_type-returns-in-Record t c =
@@ -69,8 +69,8 @@ check_field_group-returns t c =
     let next : KnownFields = record { fields = g.fields; size = g.size; following = following } in
     let typed : TypeWithFollowingDeclarations = record { of = c.in_ok-of.of; following = following } in
     gathers (reports_same
-    (steps (λ u. without_fault (with_field_group g xs u)) (reports_same c.in_ok-of.ensures (ap (λ p. report_on_written_type n p (type_of l.written)) h.following)) (reports_nothing c.check_nested_type.new.self.faults.items (with_field_group g xs typed)))
-    (sym (fields_reported n g (names_of l.names) (type_of l.written) ∙ ap (λ ys. report_on_written_type n g.following (type_of l.written) >>= (λ u. without_fault (with_field_group g ys u))) (names_are l.names))))
+    (steps (λ u. without_fault (append_field_group g xs u)) (reports_same c.in_ok-of.ensures (ap (λ p. report_on_written_type n p (type_of l.written)) h.following)) (reports_nothing c.check_nested_type.new.self.faults.items (append_field_group g xs typed)))
+    (sym (fields_reported n g (names_of l.names) (type_of l.written) ∙ ap (λ ys. report_on_written_type n g.following (type_of l.written) >>= (λ u. without_fault (append_field_group g ys u))) (names_are l.names))))
     (gathered next (record { fields = h.fields; size = h.size; following = refl }))) c.add_known_fields.ensures
 
 pub check_field_groups-loop-group-init : goal.check_field_groups-loop-group-init

@@ -2,7 +2,7 @@ use Rattle.std.proofs.Common.{sym, ap, ◌∙◌, subst, arith}
 use Rattle.std.specs.Vec.{vec_len}
 use Rattle.ob0_tree.specs.ParsedModule.{named_tree_of}
 use Rattle.ob0_types_check.specs.DeclarationFaults.{WalkProgress}
-use Rattle.ob0_types_check.specs.ModuleLaws.{HasDeclarations}
+use Rattle.ob0_types_check.specs.ModuleLaws.{TableHasDeclaredObjects}
 use Rattle.ob0_types_check.proofs.ResultWithFaults.{declares, in_order, is_nothing, is_something, nothing}
 use Rattle.ob0_types_check.proofs.reporting.ReportingWalk.into_report.Goals as goal
 
@@ -22,7 +22,7 @@ returns-in_ok-known c =
     let table = declares r t.faults.items t.checker_state c.args.bodies_with_faults.items c.requires c.walk_without_fault_finds_correct_meanings.ensures c.module-module.ensures.resolved none in
     record {
       faults = c.requires.faults;
-      known = (nothing r t.faults.items t.checker_state c.args.bodies_with_faults.items c.requires c.walk_without_fault_finds_correct_meanings.ensures c.module-module.ensures.resolved none, subst (HasDeclarations (named_tree_of r.module_read)) (sym c.in_ok-known.ensures) table);
+      known = (nothing r t.faults.items t.checker_state c.args.bodies_with_faults.items c.requires c.walk_without_fault_finds_correct_meanings.ensures c.module-module.ensures.resolved none, subst (TableHasDeclaredObjects (named_tree_of r.module_read)) (sym c.in_ok-known.ensures) table);
       bodies_with_faults = ap (λ (w : WalkProgress). w.bodies_with_faults) c.requires.known;
     }
 

@@ -1,6 +1,6 @@
 use Rattle.std.proofs.Common.{arith}
 use Rattle.ob0_tree.specs.View.{body_of}
-use Rattle.ob0_types_check.specs.SomeBodies.{walk_progress_of}
+use Rattle.ob0_types_check.specs.WalksOverSomeBodies.{walk_progress_of}
 use Rattle.ob0_types_check.proofs.ReportedDeclarations.{body_faulty, body_faultless}
 use Rattle.ob0_types_check.proofs.reporting.ReportingWalk.report_body_if_wanted.Goals as goal
 

@@ -3,7 +3,7 @@ use Rattle.ob0_tree.proofs.Viewed.{block_parts}
 use Rattle.ob0_tree.specs.declared.tree.Block.{out-Block}
 use Rattle.ob0_tree.specs.View.{block_of, body_of, items_of, procedure_of, type_section_of, variable_section_of}
 use Rattle.ob0_language_names.specs.BlockParts.{section_types, section_variables}
-use Rattle.ob0_language_types.specs.Declarations.{block_constructor_count, procedures_constructor_count, types_constructor_count, variables_constructor_count}
+use Rattle.ob0_language_types.specs.Declarations.{block_constructor_count, procedure_list_constructor_count, types_constructor_count, variables_constructor_count}
 use Rattle.ob0_types_fields.specs.IdentifierOwners.{fields_in_tree, fields_in_block, fields_in_procedures, fields_in_types, fields_in_variables}
 use Rattle.ob0_types_fields.specs.FieldWalks.{field_walk_meanings}
 use Rattle.ob0_types_fields.proofs.DeclaredWalks.{procedures_end}
@@ -40,6 +40,6 @@ add_block_fields-returns-clause-word_count t c =
     let ts = section_types (type_section_of b.types) in
     let vs = section_variables (variable_section_of b.variables) in
     let ends = procedures_end c.loop-p.invariant c.loop-p-test.false in
-    let listed = ap (λ xs. procedures_constructor_count (items_of procedure_of xs)) c.deref-p-items.ensures.value in
-    let whole : block_constructor_count (block_of c.args.b.now) ≡ types_constructor_count ts + (variables_constructor_count vs + procedures_constructor_count (items_of procedure_of b.procedures.items)) = ap block_constructor_count (block_parts c.args.b.now) in
+    let listed = ap (λ xs. procedure_list_constructor_count (items_of procedure_of xs)) c.deref-p-items.ensures.value in
+    let whole : block_constructor_count (block_of c.args.b.now) ≡ types_constructor_count ts + (variables_constructor_count vs + procedure_list_constructor_count (items_of procedure_of b.procedures.items)) = ap block_constructor_count (block_parts c.args.b.now) in
     always c.add_body_fields.result (omega (arith, ends.1, listed, whole, c.in_ok-add_type_section_fields.ensures.word_count, c.in_ok-add_variable_section_fields.ensures.word_count))

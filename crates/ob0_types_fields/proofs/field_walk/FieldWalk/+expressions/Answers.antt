@@ -53,5 +53,5 @@ add_expression_fields-returns-in-Factor t c =
 pub add_expression_fields-returns-in-CompoundExpression : goal.add_expression_fields-returns-in-CompoundExpression
 add_expression_fields-returns-in-CompoundExpression t c =
     let m = field_walk_meanings c.args.self.now in
-    subst (λ z. IfOk c.add_compound_fields.result (λ _. c.add_compound_fields.new.found.items ≡ c.args.found.now.items ++ z))
-    (ap (λ e. fields_in_tree m (compound_expression_of e)) c.deref.ensures ∙ sym (ap (λ e. fields_in_tree m (expression_of e)) c.in-CompoundExpression.is)) c.add_compound_fields.ensures
+    subst (λ z. IfOk c.add_compound_expression_fields.result (λ _. c.add_compound_expression_fields.new.found.items ≡ c.args.found.now.items ++ z))
+    (ap (λ e. fields_in_tree m (compound_expression_of e)) c.deref.ensures ∙ sym (ap (λ e. fields_in_tree m (expression_of e)) c.in-CompoundExpression.is)) c.add_compound_expression_fields.ensures

@@ -14,7 +14,7 @@ returns-in-Record-clause-found c =
     let shapes = shapes_of w.table.now in
     let base : Some (record_shape_in_walk w c.in-Record.shape.now) ≡ option_map (type_shape shapes) c.args.base =
     ap Some (ap (shape_of_type_with_parts shapes) (sym c.in-Record.is) ∙ c.parts.ensures.shape) ∙ ap (option_map (type_shape shapes)) (sym c.in-Some.is) in
-    subst (λ (s : Option Shape). IfOk c.add_record_selection.result (λ _. c.add_record_selection.new.found.items ≡ c.args.found.now.items ++ field_if_owned c.args.name (owner s ((field_walk_meanings w).written c.args.name)))) base c.add_record_selection.ensures.found
+    subst (λ (s : Option Shape). IfOk c.add_field_selected_in_record.result (λ _. c.add_field_selected_in_record.new.found.items ≡ c.args.found.now.items ++ field_if_owned c.args.name (owner s ((field_walk_meanings w).written c.args.name)))) base c.add_field_selected_in_record.ensures.found
 
 pub returns-in-Record-clause-following : goal.returns-in-Record-clause-following
 returns-in-Record-clause-following c =
@@ -23,4 +23,4 @@ returns-in-Record-clause-following c =
     let x = (field_walk_meanings w).written c.args.name in
     let base : Some (record_shape_in_walk w c.in-Record.shape.now) ≡ option_map (type_shape shapes) c.args.base =
     ap Some (ap (shape_of_type_with_parts shapes) (sym c.in-Record.is) ∙ c.parts.ensures.shape) ∙ ap (option_map (type_shape shapes)) (sym c.in-Some.is) in
-    subst (λ (s : Option Shape). IfOk c.add_record_selection.result (λ t. option_map (type_shape shapes) t ≡ option_and_then (λ z. field_type z x) s)) base c.add_record_selection.ensures.following
+    subst (λ (s : Option Shape). IfOk c.add_field_selected_in_record.result (λ t. option_map (type_shape shapes) t ≡ option_and_then (λ z. field_type z x) s)) base c.add_field_selected_in_record.ensures.following

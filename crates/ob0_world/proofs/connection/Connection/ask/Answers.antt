@@ -1,7 +1,7 @@
 use Rattle.std.proofs.Common.{refl, ap, subst}
-use Rattle.ob0_world_editor.specs.ModelValues.{ask_of}
+use Rattle.ob0_world_editor.specs.ModelValues.{model_ask_of}
 use Rattle.std.specs.Prelude.{OnOk}
-use Rattle.ob0_world_rules.specs.EditorActs.{ask_about}
+use Rattle.ob0_world_rules.specs.EditorActs.{request_edits}
 use Rattle.ob0_world.specs.Queues.{wire_from_fields}
 use Rattle.ob0_world.specs.Worlds.{Connection, QueuesAtMostOneContent}
 use Rattle.ob0_world.proofs.Moved.{sent_sound, sent_shows, writes_sent, ask_applies}
@@ -10,14 +10,14 @@ use Rattle.ob0_world.proofs.connection.Connection.ask.Goals as goal
 pub invariant_of-self-2 : goal.invariant_of-self-2
 invariant_of-self-2 g c =
     let i = c.self.inside in
-    sent_sound (ask_about c.args.uri.now (ask_of c.args.ask.now)) i.editor c.ask.new.self c.in_ok-content.content i.to_server.items c.send.new.queue.items i.to_editor.items i.session c.send.result
+    sent_sound (request_edits c.args.uri.now (model_ask_of c.args.ask.now)) i.editor c.ask.new.self c.in_ok-content.content i.to_server.items c.send.new.queue.items i.to_editor.items i.session c.send.result
     c.in_ok-content.ensures.ok c.send.ensures.ok c.send.ensures.err c.self.invariant
 
 pub returns-clause-ok : goal.returns-clause-ok
 returns-clause-ok g c =
     let i = c.self.inside in
-    sent_shows (ask_about c.args.uri.now (ask_of c.args.ask.now)) c.args.self.now.model i.editor c.ask.new.self c.in_ok-content.content i.to_server.items c.send.new.queue.items i.to_editor.items i.session i.applied.items i.made.items c.send.result
-    (ap (λ (w : Connection). w.model) c.self.view_is) (ask_applies i.editor c.args.uri.now (ask_of c.args.ask.now)) refl c.in_ok-content.ensures.ok c.send.ensures.ok c.self.invariant
+    sent_shows (request_edits c.args.uri.now (model_ask_of c.args.ask.now)) c.args.self.now.model i.editor c.ask.new.self c.in_ok-content.content i.to_server.items c.send.new.queue.items i.to_editor.items i.session i.applied.items i.made.items c.send.result
+    (ap (λ (w : Connection). w.model) c.self.view_is) (ask_applies i.editor c.args.uri.now (model_ask_of c.args.ask.now)) refl c.in_ok-content.ensures.ok c.send.ensures.ok c.self.invariant
 
 pub returns-clause-wire : goal.returns-clause-wire
 returns-clause-wire g c =

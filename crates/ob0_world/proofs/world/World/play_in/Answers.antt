@@ -1,6 +1,6 @@
 use Rattle.std.proofs.Common.{◌∙◌, ◌+◌, map, refl, ap, subst}
 use Rattle.std.proofs.lemmas.List.{take_all}
-use Rattle.ob0_world.specs.ModelValues.{event_of}
+use Rattle.ob0_world.specs.ModelValues.{model_event_of}
 use Rattle.ob0_world.specs.Worlds.{IsConnectionCourse}
 use Rattle.ob0_world.proofs.world.World.play_in.Goals as goal
 use Rattle.ob0_world.proofs.Courses.{plays, plays_nothing, plays_before, course_more, come_before, passed_before}
@@ -33,5 +33,5 @@ pub returns-clause-ok : goal.returns-clause-ok
 returns-clause-ok g c =
     let i = c.loop-event.invariant in
     plays c.args.unit c.args.events.now i.0 c.loop-event.world.connection c.into_played-2.result i.1
-    (subst (λ events. IsConnectionCourse i.0 (map event_of events) c.loop-event.world.connection) (take_all c.loop-event.event-index c.args.events.now c.loop-event-test.false) i.2)
+    (subst (λ events. IsConnectionCourse i.0 (map model_event_of events) c.loop-event.world.connection) (take_all c.loop-event.event-index c.args.events.now c.loop-event-test.false) i.2)
     c.into_played-2.ensures.results_match c.into_played-2.ensures.contents_match

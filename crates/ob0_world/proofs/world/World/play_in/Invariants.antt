@@ -1,5 +1,5 @@
 use Rattle.std.proofs.Common.{◌≡◌, false, take, map}
-use Rattle.ob0_world.specs.ModelValues.{event_of}
+use Rattle.ob0_world.specs.ModelValues.{model_event_of}
 use Rattle.ob0_world.specs.Worlds.{Connection, IsInitialConnection, IsConnectionCourse}
 use Rattle.ob0_world.proofs.world.World.play_in.Given as goal
 
@@ -8,6 +8,6 @@ abbrev pub invariant-loop-event : goal.invariant-loop-event
 invariant-loop-event g l =
     (begin : Connection)
     × IsInitialConnection l.fn.unit begin
-    × IsConnectionCourse begin (map event_of (take l.event-index l.events)) l.world.connection
+    × IsConnectionCourse begin (map model_event_of (take l.event-index l.events)) l.world.connection
     × (l.world.steps ≡ l.event-index)
     × (l.world.ended ≡ false)

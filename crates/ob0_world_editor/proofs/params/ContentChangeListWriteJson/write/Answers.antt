@@ -1,6 +1,6 @@
 use Rattle.std.proofs.Common.{map}
 use Rattle.std.proofs.lemmas.Result.{on_ok_weaker}
-use Rattle.ob0_rpc.proofs.Appending.{array_of}
+use Rattle.ob0_rpc.proofs.AppendedJson.{array_of}
 use Rattle.ob0_world_editor.specs.Shapes.{change_value}
 use Rattle.ob0_world_editor.proofs.params.ContentChangeListWriteJson.write.Goals as goal
 

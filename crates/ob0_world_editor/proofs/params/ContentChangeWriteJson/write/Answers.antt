@@ -1,6 +1,6 @@
 use Rattle.std.proofs.Common.{refl}
 use Rattle.std.proofs.lemmas.Result.{on_ok_weaker}
-use Rattle.ob0_rpc.proofs.Appending.{object_of}
+use Rattle.ob0_rpc.proofs.AppendedJson.{object_of}
 use Rattle.ob0_world_editor.proofs.params.ContentChangeWriteJson.write.Goals as goal
 
 pub returns-in-Some : goal.returns-in-Some

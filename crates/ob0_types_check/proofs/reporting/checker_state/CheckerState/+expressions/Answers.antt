@@ -48,8 +48,8 @@ check_factor-returns-else-is_empty t c =
     let facts = facts_in c.args.self.now c.args.only_constants in
     let d = c.in-Designator.d in
     let path = items_of selector_of d.selectors.items in
-    IfOk-weaker c.check_selectors.result _ _ (λ o h. reports_same (steps (λ x. report_on_selectors facts x path) c.in_ok-base-in-Designator.ensures h)
-    (sym (ap (λ f. report_on_factor facts (factor_of f)) c.in-Designator.is ∙ ap (report_on_factor facts) (designator_made d) ∙ designator_reported facts d.name path))) c.check_selectors.ensures
+    IfOk-weaker c.check_designator_selectors.result _ _ (λ o h. reports_same (steps (λ x. report_on_selectors facts x path) c.in_ok-base-in-Designator.ensures h)
+    (sym (ap (λ f. report_on_factor facts (factor_of f)) c.in-Designator.is ∙ ap (report_on_factor facts) (designator_made d) ∙ designator_reported facts d.name path))) c.check_designator_selectors.ensures
 
 pub check_factor-returns-then-is_empty : goal.check_factor-returns-then-is_empty
 check_factor-returns-then-is_empty t c =
@@ -92,13 +92,13 @@ check_selector-returns-in_ok-index-in-Index t c =
     IfOk-weaker c.select_element.result _ _ (λ o h. reports_same (steps (element_operand facts x) c.in_ok-index-in-Index.ensures h)
     (sym (ap (λ s. report_on_selector facts x (selector_of s)) c.in-Index.is ∙ index_reported facts x (expression_of c.in-Index.e)))) c.select_element.ensures
 
-pub check_selectors-loop-selector-preserved : goal.check_selectors-loop-selector-preserved
-check_selectors-loop-selector-preserved t c =
+pub check_designator_selectors-loop-selector-preserved : goal.check_designator_selectors-loop-selector-preserved
+check_designator_selectors-loop-selector-preserved t c =
     let facts = facts_in c.args.self.now c.args.only_constants in
     chain_goes_on c.selector-item.result (selected_chain facts) c.loop-selector.invariant c.loop-selector-test.true c.selector-item.is c.in_ok-so_far.ensures
 
-pub check_selectors-returns : goal.check_selectors-returns
-check_selectors-returns t c =
+pub check_designator_selectors-returns : goal.check_designator_selectors-returns
+check_designator_selectors-returns t c =
     let facts = facts_in c.args.self.now c.args.only_constants in
     reports_same (chain_ends (selected_chain facts) c.loop-selector.invariant c.loop-selector-test.false)
     (ap (λ xs. report_on_selectors facts (operand_of c.args.base) (items_of selector_of xs)) c.deref-selector-items.ensures.value)

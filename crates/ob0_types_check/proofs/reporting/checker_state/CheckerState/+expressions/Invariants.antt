@@ -4,8 +4,8 @@ use Rattle.ob0_types_check.specs.CheckerViews.{facts_in, operand_of}
 use Rattle.ob0_types_check.proofs.Chains.{Chained}
 use Rattle.ob0_types_check.proofs.reporting.checker_state.CheckerState.+expressions.Given as goal
 
-abbrev pub invariant-check_selectors-loop-selector : goal.invariant-check_selectors-loop-selector
-invariant-check_selectors-loop-selector l =
+abbrev pub invariant-check_designator_selectors-loop-selector : goal.invariant-check_designator_selectors-loop-selector
+invariant-check_designator_selectors-loop-selector l =
     Chained (report_on_selectors (facts_in l.self l.only_constants)) selector_of l.initial.faults.items (operand_of l.initial.so_far) l.selector-items l.selector-index l.faults.items (operand_of l.so_far)
 
 abbrev pub invariant-check_simple_expression-loop-addend : goal.invariant-check_simple_expression-loop-addend

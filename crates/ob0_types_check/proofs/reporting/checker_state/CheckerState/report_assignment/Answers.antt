@@ -3,7 +3,7 @@ use Rattle.std.proofs.lemmas.Result.{on_ok_weaker}
 use Rattle.ob0_tree.specs.View.{expression_of, items_of, selector_of}
 use Rattle.ob0_types_check.specs.OperandFaults.{typed_name_operand}
 use Rattle.ob0_types_check.specs.ExpressionFaults.{report_on_selectors}
-use Rattle.ob0_types_check.specs.StatementFaults.{typed_expression_faults}
+use Rattle.ob0_types_check.specs.StatementFaults.{faults_of_expression_of_type}
 use Rattle.ob0_types_check.specs.CheckerViews.{facts_in}
 use Rattle.ob0_types_check.proofs.Chains.{steps, reports_same}
 use Rattle.ob0_types_check.proofs.Listed.{reported_following}
@@ -19,4 +19,4 @@ returns c =
     let path = items_of selector_of a.target.selectors.items in
     let e = expression_of a.value in
     let target = reports_same (steps (λ t. report_on_selectors facts (typed_name_operand t x) path) c.in_ok-target_type.ensures c.in_ok-target.ensures) (sym (target_reported facts x path)) in
-    on_ok_weaker c.check_typed_expression.result (λ h. reported_following (λ o. typed_expression_faults facts o.of e) target h ∙ sym (ap (λ f. before ++ f) (assigned_reported facts x path e))) c.check_typed_expression.ensures
+    on_ok_weaker c.check_expression_of_type.result (λ h. reported_following (λ o. faults_of_expression_of_type facts o.of e) target h ∙ sym (ap (λ f. before ++ f) (assigned_reported facts x path e))) c.check_expression_of_type.ensures

@@ -1,0 +1,46 @@
+//! Performs the command that a command line requests, on the bytes of a file.
+
+ghost use Rattle.std.specs.Prelude.{◌≢◌};
+ghost use Rattle.ob0_cli.specs.declared.line.CommandLine.TheVariants.{Serve};
+ghost use Rattle.ob0_commands.specs.CommandEffects.{PerformsCommandOnFile};
+ghost use Rattle.ob0_commands.specs.StderrLines.{PrintsOptionalLine};
+
+use crate::check_command::check_text;
+use crate::rename_command::rename_text;
+use crate::run_command::run_text;
+use crate::tracked_input::TrackedInput;
+use crate::tracked_output::TrackedOutput;
+use ob0_cli::CommandLine;
+use std::alloc::Global;
+
+/// Performs the command that a command line requests, on a file with these bytes. Returns the
+/// program's exit status. The output goes to `out`, faults and refusals go to `err`. Only `run` reads
+/// from `input`. `serve` isn't allowed here, because it isn't a command on a file.
+pub fn perform_command<R: TrackedInput, O: TrackedOutput, E: TrackedOutput>(
+    alloc: Global,
+    line: CommandLine<'_>,
+    file: &[u8],
+    input: &mut R,
+    out: &mut O,
+    err: &mut E,
+) -> u8
+    requires { line ≢ Serve }
+    ensures { PerformsCommandOnFile O.contents O.is_flushed O.has_failed out.old out.new
+        (PrintsOptionalLine E.contents E.is_flushed E.has_failed err.old err.new) file.now
+        R.remaining R.has_failed input.old input.new line.entry result }
+{
+    match line {
+        CommandLine::Serve => unreachable!(),
+        CommandLine::Check { file: _path } => check_text(alloc, file, out, err),
+        CommandLine::Run {
+            file: _path,
+            calls,
+            turns,
+        } => run_text(alloc, file, input, calls, turns, out, err),
+        CommandLine::Rename {
+            file: _path,
+            position,
+            name,
+        } => rename_text(alloc, file, position, name, out, err),
+    }
+}

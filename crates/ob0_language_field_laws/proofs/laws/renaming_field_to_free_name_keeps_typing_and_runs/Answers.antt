@@ -1,0 +1,5 @@
+use Rattle.ob0_language_field_laws.proofs.Exchange.{renaming_field_to_free_name_keeps_typing_and_runs-holds}
+use Rattle.ob0_language_field_laws.proofs.laws.renaming_field_to_free_name_keeps_typing_and_runs.Goals as goal
+
+pub returns : goal.returns
+returns c = renaming_field_to_free_name_keeps_typing_and_runs-holds

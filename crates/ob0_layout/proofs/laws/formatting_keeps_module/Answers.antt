@@ -1,5 +1,0 @@
-use Rattle.ob0_layout.proofs.Modules as modules
-use Rattle.ob0_layout.proofs.laws.formatting_keeps_module.Goals as goal
-
-pub returns : goal.returns
-returns c = modules.layout_module

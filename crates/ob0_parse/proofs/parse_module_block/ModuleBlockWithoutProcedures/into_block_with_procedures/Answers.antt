@@ -1,5 +1,0 @@
-use Rattle.ob0_tree.proofs.Viewed.{block_made}
-use Rattle.ob0_parse.proofs.parse_module_block.ModuleBlockWithoutProcedures.into_block_with_procedures.Goals as goal
-
-pub returns : goal.returns
-returns c = block_made _

@@ -1,0 +1,115 @@
+-- States which bytes the steps of `serve` append to the writer: sending messages, answering the
+-- message contents that wait in the framer, and flushing after a fault.
+-- Rule: none; used in the contracts of the private functions that `serve` calls.
+use Rattle.std.specs.Prelude.{◌≡◌, ℕ, List, [], ◌++◌, ◌⊎◌, Bool, true, false, Option, Result, Ok, Err, ⊤}
+use Rattle.std.specs.Io.KnownBytes.{Appends}
+use Rattle.std.specs.List.{flat_map}
+use Rattle.ob0_frame.specs.Frames.{frame}
+use Rattle.ob0_session_server.specs.Answers.{ServerState, IsConversation}
+use Rattle.ob0_session_server.specs.Steps.{HasNotEnded}
+use Rattle.ob0_session_server.specs.declared.session.Phase.TheVariants.{Ended}
+use Rattle.ob0_session.specs.declared.serve_loop.ServeFault.{ServeFault}
+use Rattle.ob0_session.specs.declared.serve_loop.ServeFault.TheVariants.{Write, Memory}
+use Rattle.ob0_session_server.specs.declared.session.Next.{Next}
+use Rattle.ob0_session_server.specs.declared.session.Next.TheVariants.{Continue, End}
+
+-- States that a prefix of `bytes` was appended to a writer. `old` and `new` are the writer's bytes
+-- before and after. If they are unknown (None), nothing is stated about them.
+abbrev pub AppendsPrefix : Option (List ℕ) → Option (List ℕ) → List ℕ → Type 0
+AppendsPrefix old new bytes =
+    (front : List ℕ) × (back : List ℕ) × (bytes ≡ front ++ back) × Appends old new front
+
+-- States that sending these messages may have this result. With Ok, the frames of all messages were
+-- written. With `Memory`, nothing was written. With `Write`, the device failed, and a prefix of the
+-- frames was written. Other faults never occur.
+abbrev pub SendsFrames : Option (List ℕ)
+    → Option (List ℕ)
+    → List (List ℕ)
+    → Result ⊤ ServeFault
+    → Bool
+    → Type 0
+SendsFrames old new messages (Ok done) failed =
+    Appends old new (flat_map frame messages) × (failed ≡ false)
+SendsFrames old new messages (Err Memory) failed = Appends old new [] × (failed ≡ false)
+SendsFrames old new messages (Err Write) failed =
+    AppendsPrefix old new (flat_map frame messages) × (failed ≡ true)
+SendsFrames old new messages (Err fault) failed = ⊥
+
+-- States that all waiting message contents are answered, except the contents `left` at the end of
+-- the list, which still wait. The answers take the session from the state `before` to the state
+-- `after`. The bytes `frames` are the frames of the answers.
+pub record AnswersAllButRemaining (waiting : List (List ℕ)) (before after : ServerState)
+    (left : List (List ℕ)) (frames : List ℕ) : Type 0 where
+  pub answered : List (List ℕ)
+  pub sent : List (List ℕ)
+  pub cut : waiting ≡ answered ++ left
+  pub conversation : IsConversation before answered sent after
+  pub framed : frames ≡ flat_map frame sent
+
+-- States that all waiting message contents are answered, that the conversation hasn't ended, and
+-- that the writer hasn't failed. The bytes `put` are the frames of the answers.
+pub record AnswersAllWaiting (waiting : List (List ℕ)) (before : ServerState) (left : List (List ℕ))
+    (after : ServerState) (put : List ℕ) (failed : Bool) : Type 0 where
+  pub answered : AnswersAllButRemaining waiting before after left put
+  pub none_left : left ≡ []
+  pub not_ended : HasNotEnded after.phase
+  pub not_failed : failed ≡ false
+
+-- States that the first of the waiting message contents are answered, and that the conversation has
+-- then ended with this status. The other contents, `left`, still wait. The bytes `put` are the
+-- frames of the answers. The writer hasn't failed.
+pub record AnswersUntilExit (status : ℕ) (waiting : List (List ℕ)) (before : ServerState)
+    (left : List (List ℕ)) (after : ServerState) (put : List ℕ) (failed : Bool) : Type 0 where
+  pub answered : AnswersAllButRemaining waiting before after left put
+  pub ended : after.phase ≡ Ended status
+  pub not_failed : failed ≡ false
+
+-- States that the first of the waiting message contents are answered and the others, `later`, are
+-- not. The bytes `put` are the frames of the answers. The writer hasn't failed. This is the outcome
+-- if an allocation fails (`Memory`).
+pub record AnswersUntilOutOfMemory (waiting : List (List ℕ)) (before : ServerState) (put : List ℕ)
+    (failed : Bool) : Type 0 where
+  pub after : ServerState
+  pub later : List (List ℕ)
+  pub answered : AnswersAllButRemaining waiting before after later put
+  pub not_failed : failed ≡ false
+
+-- States that the writer has failed. The bytes `put` are a prefix of the frames of the answers to
+-- the first of the waiting message contents. The others, `later`, aren't answered.
+pub record AnswersUntilWriteFailure (waiting : List (List ℕ)) (before : ServerState) (put : List ℕ)
+    (failed : Bool) : Type 0 where
+  pub after : ServerState
+  pub later : List (List ℕ)
+  pub unwritten : List ℕ
+  pub answered : AnswersAllButRemaining waiting before after later (put ++ unwritten)
+  pub fails : failed ≡ true
+
+-- States that answering the message contents `waiting` may have this result. With `Continue`, all
+-- contents are answered. With `End`, the contents up to an `exit` are answered. With `Memory` or
+-- `Write`, the contents before the failed allocation or write are answered. Other faults never
+-- occur.
+abbrev pub AnswersWaitingMessages : List (List ℕ)
+    → ServerState
+    → List (List ℕ)
+    → ServerState
+    → List ℕ
+    → Result Next ServeFault
+    → Bool
+    → Type 0
+AnswersWaitingMessages waiting before left after put (Ok Continue) failed =
+    AnswersAllWaiting waiting before left after put failed
+AnswersWaitingMessages waiting before left after put (Ok (End status)) failed =
+    AnswersUntilExit status waiting before left after put failed
+AnswersWaitingMessages waiting before left after put (Err Memory) failed =
+    AnswersUntilOutOfMemory waiting before put failed
+AnswersWaitingMessages waiting before left after put (Err Write) failed =
+    AnswersUntilWriteFailure waiting before put failed
+AnswersWaitingMessages waiting before left after put (Err fault) failed = ⊥
+
+-- States that `result` is the fault to report after a flush. If the flush succeeded, `result` is
+-- `fault`, everything is flushed, and the flush didn't change whether the writer has failed. If the
+-- flush failed, `result` is `Write`, and the writer has failed.
+abbrev pub IsFaultAfterFlush : ServeFault → Bool → ServeFault → Bool → Bool → Type 0
+IsFaultAfterFlush fault failed_before result failed flushed =
+    ((result ≡ fault) × (failed ≡ failed_before) × (flushed ≡ true))
+    ⊎ ((result ≡ Write) × (failed ≡ true))

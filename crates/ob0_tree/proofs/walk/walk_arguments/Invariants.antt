@@ -1,7 +1,0 @@
-use Rattle.ob0_tree.specs.declared.tree.Role.TheVariants as role
-use Rattle.ob0_tree.specs.View.{argument_after_comma_of}
-use Rattle.ob0_tree.proofs.Visits.{Visiting}
-use Rattle.ob0_tree.proofs.walk.walk_arguments.Given as goal
-
-abbrev pub invariant-loop-e : goal.invariant-loop-e
-invariant-loop-e g l = Visiting g.V.Visitor.seen argument_after_comma_of role.Declaring l.initial.visitor l.e-items l.e-index l.visitor

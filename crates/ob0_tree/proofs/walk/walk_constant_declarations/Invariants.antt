@@ -1,7 +1,0 @@
-use Rattle.ob0_tree.specs.declared.tree.Role.TheVariants as role
-use Rattle.ob0_tree.specs.View.{constant_of}
-use Rattle.ob0_tree.proofs.Visits.{Visiting}
-use Rattle.ob0_tree.proofs.walk.walk_constant_declarations.Given as goal
-
-abbrev pub invariant-loop-c : goal.invariant-loop-c
-invariant-loop-c g l = Visiting g.V.Visitor.seen constant_of role.Declaring l.initial.visitor l.c-items l.c-index l.visitor

@@ -1,7 +1,0 @@
-use Rattle.std.proofs.Common.{◌≡◌, ◌++◌, drop}
-use Rattle.std.specs.List.{filter}
-use Rattle.ob0_scope_table.specs.Resolution.{is_duplicate_or_end_name}
-use Rattle.ob0_types.proofs.checked.add_duplicates_and_end_names.Given as goal
-
-abbrev pub invariant-loop-fault : goal.invariant-loop-fault
-invariant-loop-fault l = l.faults.items ++ filter is_duplicate_or_end_name (drop l.fault-index l.scopes) ≡ l.initial.faults.items ++ filter is_duplicate_or_end_name l.scopes

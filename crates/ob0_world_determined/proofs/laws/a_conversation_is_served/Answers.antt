@@ -1,5 +1,0 @@
-use Rattle.ob0_world_determined.proofs.laws.a_conversation_is_served.Goals as goal
-use Rattle.ob0_world_determined.proofs.Streams.{conversation_is_served}
-
-pub returns : goal.returns
-returns c = conversation_is_served c.conversation_is_determined.ensures c.feeding_is_determined.ensures c.empty_feed_completes_nothing.ensures c.written_frames_are_read.ensures

@@ -1,5 +1,0 @@
-use Rattle.ob0_world_rules.proofs.laws.publications_in_order.Goals as goal
-use Rattle.ob0_world_rules.proofs.ModelEditor as proof
-
-pub returns : goal.returns
-returns c = proof.publications_in_order
