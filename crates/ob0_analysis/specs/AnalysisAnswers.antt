@@ -19,9 +19,9 @@ pub record IsParsedWellTypedModule (text : List ℕ) (m : ParsedModule) : Type 0
   pub parsed : TreeMatchesText m
   pub well_typed : WellTyped (named_tree_of m)
 
--- States that an optional answer about a text is right. For Some, the text must be a well-typed
--- module, and `answers` must relate this module to the answer. For None, the text must not be a
--- well-typed module.
+-- States that an optional answer about a text is right. If there is an answer (Some), the text must
+-- be a well-typed module, and `answers` must hold for this module and the answer. If there is none
+-- (None), the text must not be a well-typed module.
 abbrev pub AnswersExactlyIfWellTyped : {A : Type 0} → List ℕ → (Resolution → A → Type 0) → Option A → Type 0
 AnswersExactlyIfWellTyped text answers (Some answer) =
     (names : Resolution) × IsResolvedWellTypedModule text names × answers names answer

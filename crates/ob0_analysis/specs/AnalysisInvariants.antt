@@ -15,14 +15,14 @@ use Rattle.ob0_analysis.specs.declared.scanned_text.ReanalysisFailure.TheVariant
 use Rattle.ob0_analysis.specs.declared.scanned_text.ParseOutcome.{ParseOutcome}
 use Rattle.ob0_analysis.specs.declared.scanned_text.ParseOutcome.TheVariants.{NoTree, Module}
 
--- States that the refusal isn't lack of memory.
+-- States that the refusal isn't `Memory`, a failed allocation.
 abbrev pub IsNotLackOfMemory : ParseRefusal → Type 0
 IsNotLackOfMemory (Syntax token expected) = Unit {0}
 IsNotLackOfMemory (TooDeep token) = Unit {0}
 IsNotLackOfMemory Memory = ⊥
 
--- States that the parser refuses these tokens with this refusal, and that the refusal isn't lack of
--- memory.
+-- States that the parser refuses these tokens with this refusal, and that the refusal isn't
+-- `Memory`, a failed allocation.
 abbrev pub IsRefusedByParser : TextWithTokens → ParseRefusal → Type 0
 IsRefusedByParser tokens refusal = IsRightParseRefusal tokens refusal × IsNotLackOfMemory refusal
 
@@ -32,9 +32,9 @@ text_of_parse_outcome (NoTree ill) = ill.tokens.text
 text_of_parse_outcome (Module m) = m.module_read.source.text
 
 -- States that the outcome of parsing a text is right. If the text has no tree, the parser refuses
--- its tokens with this refusal, and the kept trees belong to its tokens. Also, `last` is None or
--- has the names and types of the last module before this text. If the text is a module, this always
--- holds, because a `ModuleParts` has its own invariant.
+-- its tokens with this refusal, and the kept trees match its tokens. Also, `last` is None or has
+-- the names and types of the last module before this text. If the text is a module, states nothing,
+-- because a `ModuleParts` has its own invariant.
 abbrev pub IsValidParseOutcome : ParseOutcome → Type 0
 IsValidParseOutcome (NoTree ill) =
     IsRefusedByParser ill.tokens ill.refusal
@@ -42,9 +42,9 @@ IsValidParseOutcome (NoTree ill) =
     × IfSome ill.last (IsLastModuleOf ill.tokens)
 IsValidParseOutcome (Module m) = Unit {0}
 
--- States that the failure to analyse the changed text is right. If the reason is lexical faults,
--- the text can't be scanned, and these are the lexical faults to report for it
--- (`AreFaultsOfRefusedText`). Always holds for lack of memory.
+-- States that the reason why a changed text wasn't analysed is right. If the reason is lexical
+-- faults, the text can't be scanned, and these are the lexical faults to report for it
+-- (`AreFaultsOfRefusedText`). The reason `Memory`, a failed allocation, is always right.
 abbrev pub IsRightReanalysisFailure : List ℕ → ReanalysisFailure → Type 0
 IsRightReanalysisFailure text (reanalysis_failure.Faults faults last) = (IsScannable text → ⊥) × AreFaultsOfRefusedText text faults.items
 IsRightReanalysisFailure text reanalysis_failure.Memory = Unit {0}
@@ -56,7 +56,7 @@ text_of_analysis_result (Scannable read) = read
 
 -- States that the result of analysing a text is right. If the result is lexical faults, the text
 -- can't be scanned, and these are the lexical faults to report for it (`AreFaultsOfRefusedText`).
--- For any other result this always holds, because a `ScannedTextAnalysis` has its own invariant.
+-- States nothing about any other result, because a `ScannedTextAnalysis` has its own invariant.
 abbrev pub IsValidAnalysisResult : AnalysisResult → Type 0
 IsValidAnalysisResult (Unscannable ill) =
     (IsScannable (string_bytes ill.text) → ⊥) × AreFaultsOfRefusedText (string_bytes ill.text) ill.faults.items

@@ -15,9 +15,9 @@ use Rattle.ob0_types.specs.declared.checked_modules.CheckResult.{CheckResult}
 use Rattle.ob0_analysis.specs.declared.last_module.LastModule.{LastModule}
 
 -- States that an earlier text was a module with this tree, these bindings and this result of
--- checking its types. `s` describes the tokens that begin both the earlier text and the current
--- text `new`, and the tokens that end both texts. These tokens must have the same kinds and
--- spellings in both texts.
+-- checking its types. `s` describes the tokens that the earlier text and the current text `new`
+-- share at the beginning and at the end. These tokens must have the same kinds and spellings in
+-- both texts.
 pub record IsEarlierModule
     (new : TextWithTokens) (tree : ModuleTree) (b : Bindings) (types : CheckResult) (s : CommonPrefixAndSuffix)
     : Type 0 where
@@ -32,23 +32,24 @@ pub record IsEarlierModule
 
 -- States that `last` has the names and types of an earlier text that was a module. All tokens of
 -- the earlier text that may differ from the current text `new` must lie in one body. `last.place`
--- must have the token indexes that bound this body.
+-- must have the bounds of this body.
 pub record IsLastModuleOf (new : TextWithTokens) (last : LastModule) : Type 0 where
   pub tree : ModuleTree
   pub earlier_module : IsEarlierModule new tree last.bindings last.types last.same
   pub placed : body_bounds_of_range last.same.prefix last.same.old_suffix (module_tree_of tree) ≡ Some last.place
 
--- States that the tokens that may differ according to `wide` include the tokens that may differ
--- according to `narrow`. At the end of the range, `wide` must add as many tokens in the old text as
--- in the new text.
+-- States that the range of tokens that may differ according to `wide` includes the range of tokens
+-- that may differ according to `narrow`. At the end of the range, `wide` must add as many tokens in
+-- the old text as in the new text.
 pub record WidensDifference (narrow wide : CommonPrefixAndSuffix) : Type 0 where
   pub front : wide.prefix ≤ narrow.prefix
   pub back : narrow.old_suffix ≤ wide.old_suffix
   pub adds_equally_many_tokens : wide.new_suffix + narrow.old_suffix ≡ narrow.new_suffix + wide.old_suffix
 
--- States about a change of the text: if `before` is None or the last module of the old text, then
--- `after` is None or the last module of the new text (`IsLastModuleOf`). This must hold for any old
--- text and any scanned new text (`IsScan`) that share the tokens described by `change`.
+-- States that `after` is right after a change of the text if `before` was right before it. `before`
+-- is right if it is None or is the last module for the old text (`IsLastModuleOf`). `after` is
+-- right if it is None or is the last module for the new text. This must hold for any old text and
+-- any scanned new text (`IsScan`) that share the tokens described by `change`.
 abbrev pub KeepsLastModule : Option LastModule → CommonPrefixAndSuffix → Option LastModule → Type 0
 KeepsLastModule before change after =
     (old new : TextWithTokens)

@@ -61,7 +61,7 @@ pub record ReportsLexicalFaults (text : List ℕ) (reported : List ReportedDiagn
   pub of_text : AreFaultsOfRefusedText text faults
   pub all : reported ≡ map reported_diagnosis_of_fault faults
 
--- ---- the error of a text that scans and that the parser refuses
+-- ---- the error of a text that can be scanned and that the parser refuses
 
 -- Returns the span of a token, or an empty span at the end of the text if there is no token.
 abbrev pub span_or_end : List ℕ → Option Token → Span
@@ -84,13 +84,13 @@ abbrev pub depth_error_diagnosis : Span → ReportedDiagnosis
 depth_error_diagnosis place = record { code = codes "TooDeep"; message = codes "nested too deep"; span = place }
 
 -- States that the error `c` reports this refusal of the text with the tokens `s`, at the token that
--- the parser refused. Never holds if the refusal is lack of memory.
+-- the parser refused. This is false if the refusal is `Memory`, a failed allocation.
 abbrev pub IsDiagnosisOfRefusal : TextWithTokens → ParseRefusal → ReportedDiagnosis → Type 0
 IsDiagnosisOfRefusal s (Syntax token expected) c = c ≡ syntax_error_diagnosis (expected_text expected) (token_span_or_end s token)
 IsDiagnosisOfRefusal s (TooDeep token) c = c ≡ depth_error_diagnosis (token_span_or_end s token)
 IsDiagnosisOfRefusal s Memory c = ⊥
 
--- States that the text scans and the parser refuses it. The list must have only one error
+-- States that the text can be scanned, but the parser refuses it. The list must have only one error
 -- (`parser_diagnosis`), which reports the parser's refusal.
 pub record ReportsParserRefusal (text : List ℕ) (reported : List ReportedDiagnosis) : Type 0 where
   pub scanned : TextWithTokens

@@ -25,8 +25,8 @@ use Rattle.ob0_analysis.specs.declared.last_module.LastModule.{LastModule}
 
 -- States that the results kept for a previous text `old` are right:
 -- - The scan `c` of the changed text reports correctly which tokens both texts share.
--- - The kept trees (`kept_trees`) belong to the tokens of `old`. If `c` reports that all tokens
---   have the same kinds, these trees also belong to the new tokens.
+-- - The kept trees (`kept_trees`) match the tokens of `old`. If `c` reports that all tokens have
+--   the same kinds, these trees also match the new tokens.
 -- - `last` is None, or it has the names and types of the last module before `old`.
 pub record KeptResultsMatchPreviousText (c : RescanWithComparison) (kept_trees : KeptTrees) (last : Option LastModule) : Type 0 where
   pub old : TextWithTokens
@@ -38,9 +38,9 @@ pub record KeptResultsMatchPreviousText (c : RescanWithComparison) (kept_trees :
   pub was : IfSome last (IsLastModuleOf old)
 
 -- States that the previous text was a module with this tree, these bindings and this result of
--- checking its types. The scan `c` of the changed text must be right about the tokens that both
--- texts share. If `c` reports that all kinds, all names or all spellings are the same, `c` must
--- also be right about that.
+-- checking its types. The scan `c` of the changed text must report correctly which tokens both
+-- texts share. If `c` reports that all kinds, all names or all spellings are the same, this must be
+-- true.
 pub record PreviousTextWasModule
     (c : RescanWithComparison) (tree : ModuleTree) (b : Bindings) (types : CheckResult) : Type 0 where
   pub earlier_module : IsEarlierModule c.rescan.tokens tree b types c.same
@@ -52,10 +52,10 @@ pub record PreviousTextWasModule
       → words_of_tokens c.rescan.tokens.text c.rescan.tokens.tokens
       ≡ words_of_tokens earlier_module.old.text earlier_module.old.tokens
 
--- States that a failed scan of the changed text is right, if the parser refused the previous text.
--- If the changed text has lexical faults, the scan returns these faults and the previous text's
--- tokens. The refusal, the kept trees and the last module must belong to these tokens. Always holds
--- if the scan failed for lack of memory.
+-- States that the error of scanning a changed text is right. The parser refused the previous text.
+-- If the changed text has lexical faults, the error has these faults and the previous text's
+-- tokens. The refusal, the kept trees and the last module must belong to these tokens. If the scan
+-- failed for lack of memory, states nothing.
 abbrev pub IsRightScanFailureAfterRefusal : List ℕ
     → ParseRefusal
     → KeptTrees
@@ -70,10 +70,10 @@ IsRightScanFailureAfterRefusal text refusal kept_trees last (rescanned.Faults fa
     × IfSome last (IsLastModuleOf tokens)
 IsRightScanFailureAfterRefusal text refusal kept_trees last rescanned.Memory = Unit {0}
 
--- States that a failed scan of the changed text is right, if the previous text was a module. If the
--- changed text has lexical faults, the scan returns these faults and the previous text's tokens.
--- The tree, the bindings and the types must belong to these tokens. Always holds if the scan failed
--- for lack of memory.
+-- States that the error of scanning a changed text is right. The previous text was a module. If the
+-- changed text has lexical faults, the error has these faults and the previous text's tokens. The
+-- tree, the bindings and the types must belong to these tokens. If the scan failed for lack of
+-- memory, states nothing.
 abbrev pub IsRightScanFailureAfterModule : List ℕ
     → ModuleTree
     → Bindings

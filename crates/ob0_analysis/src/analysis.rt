@@ -1,10 +1,10 @@
 //! Keeps the analysis of a text as one value, and updates it when the text changes.
 //!
 //! An `Analysis` owns one of two things:
-//! - For a text without lexical faults (a text that *has lexemes*), a `ScannedTextAnalysis`. It has
-//!   the parts of the module, or the parser's refusal and the tokens.
-//! - For a text with lexical faults, an `UnscannableTextAnalysis`. It has the text, its faults, and
-//!   the `ScannedTextAnalysis` of the last text that had lexemes, if this analysis is kept.
+//! - For a text without lexical faults, a `ScannedTextAnalysis`. It has the parts of the module, or
+//!   the parser's refusal and the tokens.
+//! - For a text with lexical faults, an `UnscannableTextAnalysis`. It has the text, its faults and,
+//!   if it is kept, the `ScannedTextAnalysis` of the last text without lexical faults.
 //!
 //! In contracts, the value of an `Analysis` is only the text. Its invariant says that the analysis
 //! is right for that text (`IsValidAnalysisResult`, `IsValidParseOutcome`). So `analyse_text` and
@@ -17,30 +17,30 @@
 //! - All tokens have the same kinds as before, and the old text has a tree: the tree is kept. It
 //!   has token indexes instead of names and numbers, so the new text has the same tree
 //!   (`tree_stays` of `ob0_parse`). Bindings are kept if the identifiers have the same spelling and
-//!   no name has a fault. If all tokens that may differ in spelling lie in one body, only the names
-//!   in that body are bound again. The types outside the body are reused (`changed_body.rt`). Otherwise
-//!   all names are bound and all types are checked again.
+//!   no name has a fault. Otherwise names are bound again. Types are checked again unless all
+//!   tokens have the same spelling (see below). If all tokens that may differ in spelling lie in
+//!   one body, only names and types in that body are bound and checked again (`changed_body.rt`).
 //! - All tokens have the same kinds as before, and the parser refused the old text: the refusal is
-//!   kept (`refusal_stays`). The parser looks only at kinds, so it would stop at the same token.
-//!   This saves the parsing for half of the keystrokes in an unfinished statement.
-//! - A kind has changed: the text is parsed, but procedures of the module's own block and the
-//!   module's body are reused (`reparse_tree`). If the tokens that differ lie in one body of both
-//!   modules, after its first identifier, all results outside the body are kept. Their token
-//!   indexes are adapted (`replaced_body.rt`). The two modules are equal outside this body
+//!   kept (`refusal_stays`). The parser reads only the kinds of tokens, so it would stop at the
+//!   same token. This saves the parsing for half of the keystrokes in an unfinished statement.
+//! - A kind has changed: the text is parsed, but unchanged procedures of the module's own block and
+//!   an unchanged module body are reused (`reparse_tree`). If the tokens that differ lie in one
+//!   body of both modules, after its first identifier, all results outside the body are kept. Their
+//!   token indexes are adapted (`replaced_body.rt`). The two modules are equal outside this body
 //!   (`body_replaced` in `proofs/NewBody.antt`). Between the two modules there may be texts that
 //!   the parser refuses. Meanwhile the results for the earlier module are kept (`last_module.rt`).
 //!
 //! If all tokens have the same spelling (`words_of_tokens`), for example after a change of blanks,
 //! line endings or comments, everything is kept. The tree has the same names and numbers, and the
-//! kept faults are at tokens (`bindings_depend_only_on_spellings` of `ob0_scope`,
-//! `check_result_depends_only_on_spellings` of `ob0_types`). Faults get their spans only when they are asked
-//! for.
+//! places of the kept faults are token indexes (`bindings_depend_only_on_spellings` of `ob0_scope`,
+//! `check_result_depends_only_on_spellings` of `ob0_types`). Faults get their spans only when they
+//! are asked for.
 //!
-//! If a new text has lexical faults, all results for the last text that had lexemes are kept. This
-//! is possible because a failing scan returns the old tokens (`IsRightRescanRefusal`). The next
-//! successful scan starts from these tokens, after any number of texts with lexical faults. So if a
-//! bad character is typed and removed, nothing is lost. If the previous text or an earlier one was
-//! much longer than the new one (`MAX_SPARE_BYTES`, `room`), nothing is kept.
+//! If a new text has lexical faults, all results for the last text without lexical faults are kept.
+//! This is possible because a failing scan returns the old tokens (`IsRightRescanRefusal`). The
+//! next successful scan starts from these tokens, after any number of texts with lexical faults. So
+//! if a bad character is typed and removed, nothing is lost. If the previous text or an earlier one
+//! was much longer than the new one (`MAX_SPARE_BYTES`, `room`), nothing is kept.
 
 ghost use Rattle.std.specs.Prelude.{◌≡◌, ◌≤◌, IfErr, IfOk, MatchOption, length, map};
 ghost use Rattle.std.specs.Str.{IsUtf8};
@@ -56,8 +56,8 @@ use ob0_scan::{Fault, ScanRefusal, scan};
 use std::alloc::{AllocError, Global};
 use std::marker::Model;
 
-/// An old analysis is dropped if half of its `room` exceeds the new text's length by more than this
-/// number of bytes.
+/// An old analysis is dropped if its lists have room for much more than the new text: if half of
+/// `Analysis::room` exceeds the new text's length by more than this number of bytes.
 const MAX_SPARE_BYTES: usize = 4096;
 
 /// The analysis of a text with lexical faults: the text, its lexical faults, and the analysis of
@@ -70,8 +70,8 @@ pub(crate) struct UnscannableTextAnalysis {
     last: Option<ScannedTextAnalysis>,
 }
 
-/// The result of analysing a text: `Unscannable` for a text with lexical faults, otherwise `Scannable`
-/// with the analysis of its tokens.
+/// The result of analysing a text: `Unscannable` for a text with lexical faults, otherwise
+/// `Scannable` with the analysis of its tokens.
 #[derive(Drop)]
 pub(crate) enum AnalysisResult {
     Unscannable(UnscannableTextAnalysis),
@@ -82,9 +82,9 @@ pub(crate) enum AnalysisResult {
 /// earlier results answers like one from scratch.
 pub struct Analysis {
     outcome: AnalysisResult,
-    /// The length, in bytes, of the longest text without lexical faults whose lists may be used in
-    /// this analysis: this text or an earlier one. It is 0 if there is none. Lists keep their
-    /// capacity, so these lists may have room for a text of that length.
+    /// The number of bytes of text for which the lists of this analysis may have room. It is the
+    /// length of the longest text, among this text and earlier ones, for which these lists were
+    /// used. (Reused lists keep their capacity.) If the analysis has no such lists, `room` is 0.
     room: usize,
 }
 
@@ -140,8 +140,8 @@ impl Analysis {
 
     /// Analyses the changed text `text`, and reuses results for the parts that the old and the new
     /// text have in common (`ScannedTextAnalysis::reanalyse`). If the new text has lexical faults,
-    /// the results for the last text that had lexemes are kept. If an earlier text was much longer
-    /// than the new text, nothing is reused or kept.
+    /// the results for the last text without lexical faults are kept. If an earlier text was much
+    /// longer than the new text, nothing is reused or kept.
     pub fn reanalyse(self, alloc: Global, text: &str) -> Result<Analysis, AllocError>
         ensures { IfOk result (λ a. a ≡ text.now) }
     {
@@ -157,8 +157,9 @@ impl Analysis {
     }
 
     /// Analyses a changed text (`text`), and reuses the analysis `read` of an earlier text, which
-    /// has lexemes. The lists of `read` have room for a text of `room` bytes. If `room` is much
-    /// more than `text` needs, `read` is dropped, because reused lists keep their capacity.
+    /// has no lexical faults. The lists of `read` may have room for a text of `room` bytes. If
+    /// `room` is much more than `text` needs, `read` is dropped, because reused lists keep their
+    /// capacity.
     fn analyse_after_scanned_text(
         alloc: Global,
         read: ScannedTextAnalysis,
@@ -185,8 +186,8 @@ impl Analysis {
     }
 
     /// Returns the analysis of a text with these lexical faults. `last` is the kept analysis of the
-    /// last text that had lexemes, or None. `room` is the number of bytes for which the lists of
-    /// `last` have room.
+    /// last text without lexical faults, or None. `room` is the number of bytes of text for which
+    /// the lists of `last` may have room.
     fn unscannable_text_analysis(
         alloc: Global,
         text: &str,
@@ -216,8 +217,8 @@ impl Analysis {
     }
 
     /// Returns a measure of the memory that the analysis uses, in bytes of text. The measure is the
-    /// text's length, or `room` if `room` is greater. If the text has lexical faults, the measure
-    /// is the text's length plus `room`.
+    /// text's length or the field `room`, whichever is greater. If the text has lexical faults, the
+    /// measure is the text's length plus `room`.
     pub fn size_in_bytes(&self) -> usize
         ensures { length self.now ≤ result }
     {
@@ -243,8 +244,8 @@ impl Analysis {
     /// Returns the errors of the text. There are none exactly if the text is a well-typed module.
     /// - If the text has lexical faults, the errors are the first hundred lexical faults, in text
     ///   order.
-    /// - If the text has lexemes but no tree, the only error is the parser's refusal, at the token
-    ///   where parsing stops.
+    /// - If the text has no lexical faults and the parser refuses it, the only error is the
+    ///   refusal, at the token where parsing stops.
     /// - If the text has a tree, the errors are the first hundred faults of names and types.
     pub fn diagnoses(&self, alloc: Global) -> Result<Vec<Diagnosis>, AllocError>
         ensures reported { IfOk result (λ list. ReportsErrorsOf self.now (map reported_diagnosis_of list.items)) }

@@ -19,7 +19,7 @@ use ob0_types::{CheckResult, check_result_after_body_change};
 use std::alloc::{AllocError, Global};
 
 /// Returns whether all tokens that may differ in spelling from the previous text lie in one body
-/// (the statements of one block). These are the tokens `same.prefix..same.old_suffix`.
+/// (the statements of one block). The tokens that may differ are `same.prefix..same.old_suffix`.
 pub(crate) fn differs_only_in_one_body(
     tokens: &Tokens,
     tree: &ModuleTree,

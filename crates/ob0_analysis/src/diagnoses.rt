@@ -1,5 +1,6 @@
-//! Makes the diagnoses of a text, each with a code, a message and a range of bytes. A text has a
-//! diagnosis for each fault, or only one diagnosis for the parser's refusal.
+//! Makes the diagnoses of a text, each with a code, a message and a range of bytes. A text that the
+//! parser refuses has one diagnosis, for the refusal. Any other text has a diagnosis for each
+//! reported fault.
 
 ghost use Rattle.std.specs.Prelude.{◌≡◌, IfOk, map};
 ghost use Rattle.ob0_analysis.specs.ReportedErrors.{IsDiagnosisOfRefusal, reported_diagnosis_of, reported_diagnosis_of_fault, syntax_error_diagnosis as expected_at, depth_error_diagnosis as too_deep_at, token_span_or_end as span_or_end};
@@ -41,7 +42,7 @@ fn diagnosis_of_fault(alloc: Global, fault: &Fault) -> Result<Diagnosis, AllocEr
 }
 
 /// Returns the diagnosis of the parser's refusal, at the token that was refused. Returns an error
-/// if the refusal is lack of memory or an allocation fails.
+/// if the refusal is `Memory` or an allocation fails.
 pub fn diagnosis_of_refusal(
     alloc: Global,
     tokens: &Tokens,

@@ -8,8 +8,8 @@
 //! (`reuse_last_module`).
 //!
 //! The earlier module's tree isn't kept while the parser refuses the texts, so the body that
-//! contains the differences can't be found again. So the whole body counts as different
-//! (`widen_difference_to_body`), and each further change must lie in the same body
+//! contains the differences can't be found again. Therefore the whole body counts as different from
+//! the start (`widen_difference_to_body`). Each further change must lie in the same body
 //! (`keep_optional_module_across_change`).
 
 ghost use Rattle.std.specs.Prelude.{◌≡◌, ◌≤◌, IfSome, Some};
@@ -21,8 +21,9 @@ use ob0_tree::ModuleTree;
 use ob0_types::CheckResult;
 
 /// The names and types of the last text that was a module. `same` describes the tokens that the
-/// current text certainly shares with that module. All other tokens of that module lie in one body:
-/// `place` has the token indexes of this body's first identifier and of its block's closing name.
+/// current text is known to share with that module. All other tokens of that module lie in one
+/// body. `place` has the token indexes of this body's first identifier and of its block's closing
+/// name.
 #[derive(Drop)]
 pub(crate) struct LastModule {
     pub(crate) bindings: Bindings,
@@ -118,10 +119,9 @@ fn widen_difference_to_body(
     Some(wider)
 }
 
-/// Extends the range of tokens of the old text that may differ, from
-/// `same.prefix..same.old_suffix` to `prefix..old_suffix`. The end of the range moves by the same
-/// number of tokens in the new text. Returns None if `prefix..old_suffix` doesn't contain the range
-/// of `same`.
+/// Extends the range of tokens of the old text that may differ, from `same.prefix..same.old_suffix`
+/// to `prefix..old_suffix`. In the new text the end of the range moves by the same number of tokens
+/// as in the old text. Returns None if `prefix..old_suffix` doesn't contain the range of `same`.
 fn widen_difference(
     same: CommonPrefixAndSuffix,
     prefix: usize,

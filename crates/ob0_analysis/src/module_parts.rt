@@ -3,8 +3,9 @@
 //! A *view* (`Module`, `Resolved`, `Checked`) has one part of the results and a reference to the
 //! view of the layer below. The view's invariant says that the part is right for the layer below.
 //! Each view has two constructors, which require this invariant: `new` owns the part, and
-//! `from_parts` borrows it. The functions of `Checked` also give the faults their spans, and only
-//! they allocate. In contracts, a `ModuleParts` has the same value as its `Resolved`.
+//! `from_parts` borrows it. Only the constructors of `Checked` allocate: they make a list of the
+//! faults with their spans. In contracts, a `ModuleParts` has the same value as its `Resolved`
+//! view.
 
 ghost use Rattle.std.specs.Prelude.{◌≡◌, IfOk};
 ghost use Rattle.ob0_tree.specs.ParsedModule.{TreeMatchesText, parsed_module};
@@ -104,8 +105,8 @@ impl ModuleParts {
         Resolved::from_parts(module, &self.bindings)
     }
 
-    /// Returns a view of the module with its types and with its faults at their spans. Fails only
-    /// if an allocation fails.
+    /// Returns a view of the module with its types and its faults, including the faults' spans.
+    /// Fails only if an allocation fails.
     pub(crate) fn checked_module<'a>(
         &'a self,
         alloc: Global,

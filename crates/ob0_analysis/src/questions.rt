@@ -2,16 +2,19 @@
 //!
 //! `ask` takes an analysis of the text. If the text is a well-typed module, `ask` passes the
 //! question a view of this module (`WellTyped`). The view is built from the analysis's tokens,
-//! tree, bindings and types. Otherwise `ask` returns None, and `diagnoses` of the same analysis
-//! gives the reason.
+//! tree, bindings and types. If the text isn't a well-typed module, `ask` returns None, and
+//! `diagnoses` of the same analysis gives the reason.
 //!
-//! A question is a struct with `impl Question`. The impl has the type `Answer` of the answers and
-//! the function `answer`. The contract of `answer` is the ghost member
-//! `answers = { λ question names answer. .. }`. The module `names` has the bytes of the text. A
-//! statement in `answers` about the text's characters, which are called `content`, has two
-//! conditions: `IsResolvedWellTypedModule (utf8 content) names` and
-//! `content ≡ chars names.module_read.source.text`. If a question can be asked about only one text,
-//! the ghost member `is_about` states which text, and callers of `ask` must prove it.
+//! A question is a struct that implements `Question`: it defines the type `Answer` of the answers
+//! and the function `answer`. The contract of this function is the ghost member
+//! `answers = { λ question names answer. .. }`. `names` is the module, with its text as bytes.
+//!
+//! Some questions state something about the text's characters (`content`). In `answers`, they do
+//! this under two conditions: `IsResolvedWellTypedModule (utf8 content) names` and
+//! `content ≡ chars names.module_read.source.text`.
+//!
+//! If a question can be asked about only one text, the ghost member `is_about` states which text
+//! this is. Callers of `ask` must prove that the analysed text is this text.
 
 ghost use Rattle.std.specs.Prelude.{⊤, ℕ, List, IfOk};
 ghost use Rattle.std.specs.Str.{IsUtf8};

@@ -21,9 +21,9 @@ use ob0_types::{CheckResult, check_result_after_body_replacement};
 use std::alloc::{AllocError, Global};
 
 /// Analyses a module, given its tokens and tree, and reuses names and types of an earlier module
-/// (`last`) if possible. If all tokens that may differ lie in one body of both modules, only that
-/// body's names are bound and its types checked. Otherwise all names are bound and all types are
-/// checked.
+/// (`last`) if possible. If all tokens that may differ lie in the same body of both modules, only
+/// names and types in that body are bound and checked. Otherwise all names are bound and all types
+/// are checked.
 pub(crate) fn reuse_last_module(
     alloc: Global,
     tokens: Tokens,
@@ -74,8 +74,9 @@ fn is_same_body(was: BodyBounds, now: Option<BodyBounds>, same: CommonPrefixAndS
     place.closing - same.new_suffix == was.closing - same.old_suffix
 }
 
-/// Binds the names of the body that contains all differences from the earlier module (`same`).
-/// Reuses the earlier module's other bindings (`bindings`). Fails only if an allocation fails.
+/// Binds the names of the body that contains all differences from the earlier module. Reuses the
+/// bindings of all other names from the earlier module (`bindings`). `same` describes the tokens
+/// that both modules share. Fails only if an allocation fails.
 fn bind_new_body(
     alloc: Global,
     tokens: &Tokens,
@@ -91,8 +92,9 @@ fn bind_new_body(
     rebind_replaced_body(alloc, &read, bindings, same)
 }
 
-/// Checks the types of the body that contains all differences from the earlier module (`same`).
-/// Reuses the earlier module's other types (`types`). Fails only if an allocation fails.
+/// Checks the types of the body that contains all differences from the earlier module. Reuses all
+/// other types from the earlier module (`types`). `same` describes the tokens that both modules
+/// share. Fails only if an allocation fails.
 fn check_new_body(
     alloc: Global,
     tokens: &Tokens,

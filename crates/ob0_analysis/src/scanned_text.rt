@@ -1,5 +1,5 @@
-//! Analyses a text that *has lexemes*, which means that it has no lexical faults. The result has
-//! the text's tokens, with its module or the parser's refusal.
+//! Analyses a text without lexical faults. The result has the text's tokens, and its module or the
+//! parser's refusal.
 
 ghost use Rattle.std.specs.Prelude.{◌≡◌, [], true, IfErr, IfOk, IfSome, MatchOption, map};
 ghost use Rattle.ob0_scan.specs.ScanRefusals.{AreFaultsOfRefusedText};
@@ -57,7 +57,7 @@ pub(crate) enum ParseOutcome {
     Module(ModuleParts),
 }
 
-/// The analysis of a text that has lexemes.
+/// The analysis of a text without lexical faults.
 #[derive(Drop)]
 pub(crate) struct ScannedTextAnalysis {
     parse_outcome: ParseOutcome,
@@ -119,9 +119,9 @@ impl ScannedTextAnalysis {
         }
     }
 
-    /// Binds the names and checks the types of a text that has the tree `tree`. If there is an
-    /// earlier module (`last`) and the two modules differ in only one body, its names and types
-    /// outside this body are reused.
+    /// Binds the names and checks the types of a text that has the tree `tree`. If an earlier
+    /// module (`last`) differs from this module in only one body, the earlier module's names and
+    /// types outside this body are reused.
     fn analyse_tree(
         alloc: Global,
         tokens: Tokens,
@@ -139,7 +139,7 @@ impl ScannedTextAnalysis {
         Ok(ScannedTextAnalysis::from_module(parts))
     }
 
-    /// Makes the analysis of a text from the parts of its module.
+    /// Returns the analysis of a text, given the parts of its module.
     fn from_module(parts: ModuleParts) -> ScannedTextAnalysis
         ensures { result ≡ parts.module_read.source.text }
     {
@@ -148,8 +148,8 @@ impl ScannedTextAnalysis {
         }
     }
 
-    /// Analyses a changed text. These results for the previous text are reused:
-    /// - always the tokens, and the trees of procedures, that both texts have in common;
+    /// Analyses the changed text `text`. These results for the previous text are reused:
+    /// - always the tokens and the trees of procedures that both texts have in common;
     /// - if all tokens have the same kinds as before, the tree or the parser's refusal;
     /// - if also all identifiers have the same spelling and no name has a fault, the bindings;
     /// - if all differences lie in one body, the bindings and types outside this body;
@@ -207,9 +207,8 @@ impl ScannedTextAnalysis {
         }
     }
 
-    /// Returns the error for a changed text that can't be scanned, if the parser refused the
-    /// previous text. If the reason is lexical faults, the error also has the analysis of the
-    /// previous text.
+    /// Returns the error for a changed text that can't be scanned. The parser refused the previous
+    /// text. If the reason is lexical faults, the error also has the analysis of the previous text.
     fn reanalysis_failure_after_refusal(
         _text: &str,
         unread: RescanRefusal,
@@ -238,7 +237,7 @@ impl ScannedTextAnalysis {
 
     /// Analyses a changed text, given its scan (`changed`). The parser refused the previous text.
     /// If all tokens have the same kinds as before, the refusal is kept. Otherwise the text is
-    /// parsed, and the kept trees (`kept`) and the names and types of the last module (`last`) are
+    /// parsed. The kept trees (`kept`) and the names and types of the last module (`last`) are then
     /// reused if possible.
     fn reanalyse_refused_text(
         alloc: Global,
@@ -305,8 +304,8 @@ impl ScannedTextAnalysis {
         }
     }
 
-    /// Returns the error for a changed text that can't be scanned, if the previous text was a
-    /// module. If the reason is lexical faults, the error also has the analysis of that module.
+    /// Returns the error for a changed text that can't be scanned. The previous text was a module.
+    /// If the reason is lexical faults, the error also has the analysis of that module.
     fn reanalysis_failure_after_module(
         _text: &str,
         unread: RescanRefusal,
@@ -365,9 +364,9 @@ impl ScannedTextAnalysis {
     }
 
     /// Parses and analyses a changed text whose tokens may have other kinds than the tokens of the
-    /// previous text, a module. Procedures of the previous tree are reused. If the changed text is
-    /// also a module and the two modules differ in only one body, the names and types outside this
-    /// body are reused.
+    /// previous text, a module. Unchanged procedures of the previous tree are reused. If the
+    /// changed text is a module that differs from the previous one in only one body, names and
+    /// types outside this body are reused.
     fn reanalyse_with_changed_kinds(
         alloc: Global,
         tokens: Tokens,
@@ -386,7 +385,7 @@ impl ScannedTextAnalysis {
 
     /// Analyses a text that has the same tree as the previous text. If the identifiers have the
     /// same spellings as before (`same_names`) and no name has a fault, the bindings are kept.
-    /// Otherwise names are bound again, because their bindings or their faults may have changed.
+    /// Otherwise names are bound again, because bindings or faults may have changed.
     fn reanalyse_with_same_tree(
         alloc: Global,
         tokens: Tokens,

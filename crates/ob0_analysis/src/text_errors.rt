@@ -13,7 +13,7 @@ use ob0_scan::laws::scan_is_unique;
 use std::alloc::{AllocError, Global};
 
 /// Returns the only diagnosis of a text that the parser refuses: the refusal, at the token that was
-/// refused. Returns an error if the refusal is lack of memory or an allocation fails.
+/// refused. Returns an error if the refusal is `Memory` or an allocation fails.
 pub(crate) fn diagnose_refusal(
     alloc: Global,
     tokens: &Tokens,

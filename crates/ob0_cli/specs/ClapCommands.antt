@@ -1,4 +1,5 @@
--- Defines the commands of `ob0` (each is an `App` of clap's specs) and their arguments (`Rule`).
+-- Defines the program `ob0` and its subcommands (each is an `App` of clap's specs) and their
+-- arguments (each is a `Rule`).
 -- Rule: docs/PROTOCOL.md, The program; clap's definition of a command line.
 use Rattle.std.specs.Prelude.{[], ◌∷◌, ℕ, pos, true, Some, codes}
 use Rattle.clap.specs.Words.{App, Rule, Text, new_app, new_rule, with_rule, with_subcommand}
@@ -48,8 +49,8 @@ abbrev pub stdio_rule : Rule
 stdio_rule =
     record (new_rule (codes "stdio")) { long = Some (codes "stdio"); action = Some SetTrue }
 
--- clap's rule for the option `--clientProcessId`, the client's process (LSP 3.17, implementation
--- considerations). Any word is accepted and ignored.
+-- clap's rule for the option `--clientProcessId`, whose value is the client's process id (LSP 3.17,
+-- implementation considerations). Any word is accepted as the value and ignored.
 abbrev pub client_process_rule : Rule
 client_process_rule =
     record (new_rule (codes "client")) { long = Some (codes "clientProcessId"); value_names = 1 }
@@ -61,7 +62,7 @@ serve_without_options =
     record (new_app (codes "serve"))
     { top = record (new_app (codes "serve")).top { args_override_self = true } }
 
--- The subcommand `serve`, which accepts no words except its two options.
+-- The subcommand `serve`, which accepts no arguments except its two options.
 abbrev pub serve_app : App
 serve_app = with_rule (with_rule serve_without_options stdio_rule) client_process_rule
 

@@ -19,8 +19,8 @@ use Rattle.ob0_cli.specs.declared.line.CommandFault.TheVariants.{Refused, Memory
 abbrev pub FoundSubcommand : Type 0
 FoundSubcommand = Option (Text × List Row)
 
--- States that the value of the argument `id` is the number `n`. `rows` has the values that clap
--- found: from the command line, or else the defaults.
+-- States that the value of the argument `id` is the number `n`. `rows` has the arguments' values
+-- that clap found on the command line, or the default values.
 abbrev pub HasNumberValue : Text → List Row → ℕ → Type 0
 HasNumberValue id rows n =
     (digits : Text)
@@ -59,15 +59,16 @@ abbrev pub YieldsCommandLine : FoundSubcommand → CommandLine → Type 0
 YieldsCommandLine found line =
     (name : Text) × (rows : List Row) × (found ≡ Some (name, rows)) × IsCommandWithFoundValues name rows line
 
--- States that clap's definition of `ob0` finds no fault in the words, and that the words request
--- this command.
+-- States that the words have no fault according to clap's definition of `ob0` (`ob0_app`), and that
+-- they request this command.
 pub record SpellsCommand (words : List Text) (line : CommandLine) : Type 0 where
   pub has_no_fault : fault_of ob0_app words ≡ []
   pub read : YieldsCommandLine (subcommand_of ob0_app words) line
 
--- States that the words may be refused with this fault. A clap error (`Refused`) has a kind that
--- clap's specs allow for the first fault of the words, and never the kind `OutOfMemory`. For `help`
--- and for an unknown subcommand, two kinds are allowed. `Memory` is allowed for any words.
+-- States that the words may be refused with this fault. If the fault is a clap error (`Refused`),
+-- clap's specs must allow its kind for the first fault of the words. The kind must not be
+-- `OutOfMemory`. For `help` and for an unknown subcommand, clap's specs allow two kinds. The fault
+-- `Memory` is allowed for any words.
 abbrev pub MayBeRefusedWithFault : List Text → CommandFault → Type 0
 MayBeRefusedWithFault words (Refused error) =
     IsAmong (kind_of error) (fault_of ob0_app words) × ¬ (kind_of error ≡ OutOfMemory)

@@ -1,21 +1,21 @@
 //! Reads the command line.
 //!
 //! To add a subcommand, write:
-//! - an `App` in `specs/ClapCommands.antt`, and a case in each of `IsCommandWithFoundValues`, `HasFilePath` and
-//!   `HasNeededValues`;
-//! - two lemmas in `proofs/Named.antt`, with names that end in `_fits` and `_needs`, by `refl` under
-//!   `unfolding clap_on_literals nth`;
+//! - an `App` in `specs/ClapCommands.antt`;
+//! - a case in each of `IsCommandWithFoundValues`, `HasFilePath` and `HasNeededValues`;
+//! - two lemmas in `proofs/Named.antt`, with names that end in `_fits` and `_needs`. They are
+//!   proved by `refl` under `unfolding clap_on_literals nth`;
 //! - if the `App` has several arguments, a line for each argument in the proof of the function that
 //!   makes the subcommand. `add_argument` adds the arguments one after another, and needs each
 //!   argument's clause `own` (`global ≡ false`).
 //!
-//! Only the `App` of `serve` and `serve_subcommand` mention the options of `serve`.
+//! Only the `App` of `serve` and the function `serve_subcommand` mention the options of `serve`.
 //!
-//! Traps of the proofs:
+//! Pitfalls in the proofs:
 //! - No `ghost` clause can depend on a `&str` parameter. So the greatest value of an option is a
 //!   function of the option's name (`max_option_value`).
 //! - A local variable `run` of the code is called `run'` in the files `Answers.antt`.
-//! - A `where` block needs every `_` written out.
+//! - In a `where` block, each argument `_` has to be written out.
 //!
 //! Help texts are constants, one for each command. A test checks that their lines have at most 80
 //! columns.

@@ -1,5 +1,7 @@
--- Defines the effect of each command on a file: its output, its exit status, and how much of the
--- input is read. In each definition, `before` and `after` are the output before and after the call.
+-- Defines the effect of each command on a file (`check`, `run` and `rename`): its output, its exit
+-- status, and how much of the input is read. In each definition, `before` and `after` are the
+-- output before and after the command. `IsPrintedOnStderr` is applied to the line that the command
+-- prints on standard error, or to None if it prints no line there.
 -- Rule: docs/PROTOCOL.md, The program 1 to 8.
 use Rattle.std.specs.Prelude.{◌≡◌, ◌⊎◌, ℕ, List, [], Option, None, Bool, true, suc}
 use Rattle.ob0_text.specs.declared.position_types.Position.{Position}
@@ -14,9 +16,9 @@ use Rattle.ob0_commands.specs.RenameOutput.{RenameEndsWithoutFault}
 use Rattle.ob0_commands.specs.Statuses.{IsShortNonUtf8File, KeepsInputFailureUnlessInputFault, FaultMayStopCommandOnFile, FaultMayStopRun}
 use Rattle.ob0_commands.specs.TextRuns.{RunCommandEndsWithoutFault}
 
--- States that `check` ends with this status. With status 0, the file has no diagnostics, and
--- nothing is printed. With status 1, the file's errors are printed and flushed. With any other
--- status, a fault ended the command (`EndsByFault`).
+-- States that `check` ends with this status. With status 0, the file has no errors, and nothing is
+-- printed. With status 1, the file's errors are printed and flushed. With any other status, a fault
+-- ended the command (`EndsByFault`).
 abbrev pub ChecksFile : {O : Type 0}
     → (contents : O → Option (List ℕ))
     → (is_flushed has_failed : O → Bool)
@@ -32,10 +34,11 @@ ChecksFile contents is_flushed has_failed before after IsPrintedOnStderr file st
     status
     ⊎ EndsByFault has_failed before after file (FaultMayStopCommandOnFile file) IsPrintedOnStderr status
 
--- States that `run` ends with this status. With status 0 or 1, a run of the file's module on the
--- input's numbers is printed, or the file's errors are printed (`RunCommandEndsWithoutFault`). With any
--- other status, a fault ended the command (`EndsByFault`). At most `c` calls are open at a time in
--- the run, and each execution of a loop has at most `t` iterations.
+-- States that `run` ends with this status. With status 0 or 1, the output of a run of the file's
+-- module is printed, or the file's errors are printed (`RunCommandEndsWithoutFault`). With any
+-- other status, a fault ended the command (`EndsByFault`). The run reads the numbers of the input.
+-- At most `c` calls are open at a time in the run, and each execution of a loop has at most `t`
+-- iterations. `input` and `input_after` are the input before and after the command.
 abbrev pub RunsFile : {O I : Type 0}
     → (contents : O → Option (List ℕ))
     → (is_flushed has_failed : O → Bool)
@@ -58,9 +61,9 @@ RunsFile contents is_flushed has_failed before after IsPrintedOnStderr file rema
     × KeepsInputFailureUnlessInputFault (input_failed input) (input_failed input_after) fault)
     IsPrintedOnStderr status
 
--- States that `rename` ends with this status. With status 0, the file's text is printed with the
--- new name. With status 1, the file's errors are printed or the name is refused. With any other
--- status, a fault ended the command (`EndsByFault`).
+-- States that `rename` ends with this status. With status 0, the file's text is printed, with the
+-- declaration or field at `position` renamed to `new`. With status 1, the file's errors are printed
+-- or the new name is refused. With any other status, a fault ended the command (`EndsByFault`).
 abbrev pub RenamesInFile : {O : Type 0}
     → (contents : O → Option (List ℕ))
     → (is_flushed has_failed : O → Bool)
@@ -79,9 +82,9 @@ RenamesInFile contents is_flushed has_failed before after IsPrintedOnStderr file
 
 -- States that the command of this command line ends with this status and has the effect that
 -- `ChecksFile`, `RunsFile` or `RenamesInFile` describes. `input` and `input_after` are the input
--- before and after the call. Only `run` reads from the input: at most one byte over the limit
--- `max_input_length`, and nothing if the file isn't a well-typed module. Never holds for `serve`,
--- which isn't a command on a file.
+-- before and after the command. Only `run` reads from the input, and it reads at most
+-- `max_input_length` + 1 bytes. If the file isn't a well-typed module, `run` reads nothing. For
+-- `serve`, which isn't a command on a file, this never holds.
 abbrev pub PerformsCommandOnFile : {O I : Type 0}
     → (contents : O → Option (List ℕ))
     → (is_flushed has_failed : O → Bool)

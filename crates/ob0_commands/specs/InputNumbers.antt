@@ -1,4 +1,4 @@
--- Defines which numbers the text of an input spells. Texts and words are bytes.
+-- Defines which numbers the input of `run` spells. Texts and words are lists of bytes.
 -- Rule: docs/PROTOCOL.md, The program 2 and 6.
 use Rattle.std.specs.Prelude.{◌≡◌, ◌≢◌, ◌≤◌, ◌⊎◌, ℕ, ℤ, List, [], ◌∷◌, ◌++◌, Bool, true, Option, IfSome, IsTrue, ⊤, length, slice_index}
 use Rattle.std.specs.Str.Parse.{IsNumeral, signed_digits_value, without_leading_sign}
@@ -18,8 +18,8 @@ abbrev pub MayFollowWord : List ℕ → Type 0
 MayFollowWord [] = ⊤
 MayFollowWord (b ∷ bs) = IsTrue (is_white_space b)
 
--- States that the text spells these numbers. Each word is a number, and words are separated by
--- white space: space, tab, CR or LF.
+-- States that the text spells these numbers, in order. Each word of the text spells one number.
+-- Words are separated by white space: space, tab, CR or LF.
 pub data SpellsNumberList : List ℕ → List ℤ → Type 0 where
   nothing : SpellsNumberList [] []
   space : {b : ℕ} {text : List ℕ} {ns : List ℤ}
@@ -35,11 +35,12 @@ pub data SpellsNumberList : List ℕ → List ℤ → Type 0 where
 abbrev pub IsListOfNumbers : List ℕ → Type 0
 IsListOfNumbers text = (ns : List ℤ) × SpellsNumberList text ns
 
--- The greatest length of an input, in bytes.
+-- The greatest length in bytes of the input of `run`.
 abbrev pub max_input_length : ℕ
 max_input_length = 16777216
 
--- States that the text of an input spells the numbers `ns`, and has at most 16,777,216 bytes.
+-- States that the text spells the numbers `ns`, and that it has at most 16,777,216 bytes
+-- (`max_input_length`).
 pub record IsValidInputTextOfNumbers (ns : List ℤ) (text : List ℕ) : Type 0 where
   pub short : length text ≤ max_input_length
   pub writes : SpellsNumberList text ns
@@ -48,7 +49,8 @@ pub record IsValidInputTextOfNumbers (ns : List ℤ) (text : List ℕ) : Type 0 
 abbrev pub IsInvalidInput : List ℕ → Type 0
 IsInvalidInput text = ¬ ((ns : List ℤ) × IsValidInputTextOfNumbers ns text)
 
--- States that an input can't be used: its reader has failed (`failed`), or its bytes (`given`)
--- aren't a valid input. If the bytes aren't known (None), only a failed reader makes it unusable.
+-- States that the input of `run` can't be used: its reader has failed (`failed`), or its bytes
+-- (`given`) aren't a valid input. If the bytes aren't known (None), only a failed reader makes the
+-- input unusable.
 abbrev pub IsUnusableInput : Option (List ℕ) → Bool → Type 0
 IsUnusableInput given failed = (failed ≡ true) ⊎ IfSome given IsInvalidInput

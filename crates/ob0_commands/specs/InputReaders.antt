@@ -1,5 +1,5 @@
--- Defines what a `TrackedReader` holds: the wrapped reader, and whether a read has failed. Also
--- defines a bound on the bytes that are read from a reader.
+-- Defines the two parts of a `TrackedReader`: the wrapped reader, and whether a read has failed.
+-- Also defines when at most `n` bytes have been read from a reader.
 -- Rule: none; used in the contracts of functions that read from a `TrackedInput`.
 use Rattle.std.specs.Prelude.{◌≤◌, ℕ, List, Option, Bool, length}
 use Rattle.std.specs.Io.KnownBytes.{Consumes}

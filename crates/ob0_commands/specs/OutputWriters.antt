@@ -1,5 +1,5 @@
--- Defines what a `TrackedWriter` holds: the wrapped writer, and whether it has been flushed or has
--- failed.
+-- Defines the parts of a `TrackedWriter`: the wrapped writer, whether it has been flushed since the
+-- last write, and whether it has failed.
 -- Rule: none; used in the contracts of functions that print to a `TrackedOutput`.
 use Rattle.std.specs.Prelude.{◌≡◌, ◌⊎◌, Bool, true}
 use Rattle.ob0_commands.specs.declared.tracked_output.TrackedWriter.{TrackedWriter}

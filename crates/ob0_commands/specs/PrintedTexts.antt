@@ -29,7 +29,8 @@ fault_line fault.Memory = codes "fault: Memory\n"
 
 -- ---- the errors of a file: one line for each diagnostic (a `ReportedDiagnosis`)
 
--- Returns the line `L:C: FaultCode: message` that reports a diagnostic at this position.
+-- Returns the line `L:C: FaultCode: message` that reports a diagnostic. `L` and `C` are the line
+-- and the character of this position.
 abbrev pub diagnosis_line_at : Position → ReportedDiagnosis → List ℕ
 diagnosis_line_at p c =
     decimal p.line
@@ -43,8 +44,8 @@ diagnosis_lines_at_positions [] cs = []
 diagnosis_lines_at_positions (p ∷ ps) [] = []
 diagnosis_lines_at_positions (p ∷ ps) (c ∷ cs) = diagnosis_line_at p c ++ diagnosis_lines_at_positions ps cs
 
--- Returns the line that reports a diagnostic of the text, with the position of the diagnostic's
--- start. Lines and UTF-16 units are counted from 0.
+-- Returns the output line that reports a diagnostic of the text. It contains the position at which
+-- the diagnostic starts: a line and a UTF-16 unit, both counted from 0.
 abbrev pub diagnosis_line : List ℕ → ReportedDiagnosis → List ℕ
 diagnosis_line text c = diagnosis_line_at (position_of (width_of Utf16) (chars text) c.span.start) c
 
@@ -76,7 +77,8 @@ PrintsDiagnostics file before after =
 
 -- ---- the output of a run, and the line that reports its end
 
--- Returns the text of an output item: a space and the digits of a number, or a line feed.
+-- Returns the text of an output item. A number becomes a space and the number in decimal, and a
+-- line end becomes a line feed.
 abbrev pub output_item_text : PrintedItem → List ℕ
 output_item_text (printed_number n) = codes " " ++ signed_decimal n
 output_item_text printed_line_end = codes "\n"
@@ -93,7 +95,7 @@ pub record IsWrittenExceptLastPart (before after : Option (List ℕ)) (text left
   pub appends_written : Appends before after written
   pub split : text ≡ written ++ left
 
--- Returns the line that reports the end of a run, or None for Done.
+-- Returns the line that reports the end of a run. Returns None for `Done`, the normal end.
 abbrev pub run_end_line : End → Option (List ℕ)
 run_end_line end.Done = None
 run_end_line end.Overflow = Some (codes "fault: Overflow\n")

@@ -18,9 +18,9 @@ use Rattle.ob0_commands.specs.PrintedTexts.{PrintsDiagnostics}
 use Rattle.ob0_commands.specs.StderrLines.{refusal_line}
 use Rattle.ob0_commands.specs.Statuses.{IsTextFile}
 
--- States that the edits can be applied to the text `content`, with positions in this unit, and that
--- the edited text is printed in UTF-8. If the output's bytes aren't known, nothing is stated about
--- them.
+-- States that the edits can be applied to the text `content`, and that the edited text is printed
+-- in UTF-8. The positions of the edits are counted in `unit`. If the output's bytes aren't known,
+-- nothing is stated about them.
 pub record PrintsPatchedText (unit : Unit) (content : List ℕ) (edits : List Edit)
     (before after : Option (List ℕ)) : Type 0 where
   pub text : List ℕ
@@ -28,8 +28,8 @@ pub record PrintsPatchedText (unit : Unit) (content : List ℕ) (edits : List Ed
   pub made : patched_text (width_of unit) content edits ≡ Some (chars text)
   pub printed : Appends before after text
 
--- States that the third argument is `Ok` with edits that can be applied to the text `content`, and
--- that the edited text is printed. A refusal (`Err`) never satisfies this.
+-- States that the third argument is a list of edits (`Ok`), not a refusal (`Err`). The edits can be
+-- applied to the text `content`, and the edited text is printed (`PrintsPatchedText`).
 abbrev pub IsOkAndPrintsPatchedText : Unit
     → List ℕ
     → Result (Vec Edit Global) EditRefusal
@@ -40,16 +40,16 @@ IsOkAndPrintsPatchedText unit content (Ok edits) before after =
     PrintsPatchedText unit content edits.items before after
 IsOkAndPrintsPatchedText unit content (Err refusal) before after = ⊥
 
--- States that the first argument is a refusal (`Err`), and that its line is printed on standard
--- error. A list of edits (`Ok`) never satisfies this.
+-- States that the first argument is a refusal (`Err`), not a list of edits (`Ok`), and that the
+-- refusal's line is printed on standard error.
 abbrev pub IsErrAndPrintsRefusal : Result (Vec Edit Global) EditRefusal
     → (Option (List ℕ) → Type 0)
     → Type 0
 IsErrAndPrintsRefusal (Ok edits) IsPrintedOnStderr = ⊥
 IsErrAndPrintsRefusal (Err refusal) IsPrintedOnStderr = IsPrintedOnStderr (Some (refusal_line refusal))
 
--- States that the file has a text (`IsTextFile`), and that this text is printed with the
--- declaration or field at the position renamed to `new`. `edits` are the edits of this renaming.
+-- States that the file's bytes are a text (`IsTextFile`), and that this text is printed with the
+-- declaration or field at `position` renamed to `new`. `edits` are the edits of this renaming.
 -- Positions are counted in UTF-16 units.
 pub record PrintsRenamedText (file : List ℕ) (position : Position) (new : List ℕ)
     (before after : Option (List ℕ)) : Type 0 where
@@ -58,9 +58,9 @@ pub record PrintsRenamedText (file : List ℕ) (position : Position) (new : List
   pub rename : RenamesInText Utf16 (chars file) position new edits
   pub prints : PrintsPatchedText Utf16 (chars file) edits before after
 
--- States that the file has a text (`IsTextFile`), but that renaming the declaration or field at the
--- position to `new` is refused. The refusal is printed on standard error, and the output is
--- unchanged.
+-- States that the file's bytes are a text (`IsTextFile`), but that renaming the declaration or
+-- field at `position` to `new` is refused. The refusal is printed on standard error, and the output
+-- is unchanged.
 pub record RefusesName (file : List ℕ) (position : Position) (new : List ℕ)
     (before after : Option (List ℕ)) (IsPrintedOnStderr : Option (List ℕ) → Type 0) : Type 0 where
   pub has_text : IsTextFile file
@@ -69,8 +69,8 @@ pub record RefusesName (file : List ℕ) (position : Position) (new : List ℕ)
   pub nothing : after ≡ before
   pub said : IsPrintedOnStderr (Some (refusal_line refusal))
 
--- States that the file's errors are printed on the output and nothing is printed on standard error,
--- or that the name is refused (`RefusesName`).
+-- States that one of two cases applies. Either the file's errors are printed on the output, and
+-- nothing is printed on standard error. Or the new name is refused (`RefusesName`).
 abbrev pub PrintsErrorsOrRefusal : List ℕ
     → Position
     → List ℕ
@@ -82,10 +82,10 @@ PrintsErrorsOrRefusal file position new before after IsPrintedOnStderr =
     (PrintsDiagnostics file before after × IsPrintedOnStderr None)
     ⊎ RefusesName file position new before after IsPrintedOnStderr
 
--- States that `rename` ends with this status and that no fault stops it. With status 0, the text
--- with the new name is printed and flushed, and nothing is printed on standard error. With status
--- 1, the file's errors are printed or the name is refused, and any output is flushed. With either
--- status, `Both` holds.
+-- States that `rename` ends with this status and that no fault stops it. With status 0, the renamed
+-- text is printed and flushed, and nothing is printed on standard error. With status 1, the file's
+-- errors are printed or the new name is refused, and the output is flushed or unchanged. With
+-- either status, `Both` holds.
 abbrev pub RenameEndsWithoutFault : {O : Type 0}
     → (contents : O → Option (List ℕ))
     → (is_flushed : O → Bool)

@@ -23,7 +23,7 @@ status_of fault.Memory = 5
 abbrev pub IsWriteOrMemoryFault : FileCommandFault → Type 0
 IsWriteOrMemoryFault f = (f ≡ fault.Write) ⊎ (f ≡ fault.Memory)
 
--- States that the file has a text: the file isn't too long, and its bytes are UTF-8.
+-- States that the file's bytes are a text: the file isn't too long, and its bytes are UTF-8.
 abbrev pub IsTextFile : List ℕ → Type 0
 IsTextFile file = (length file ≤ max_text_length) × IsUtf8 file
 
@@ -31,8 +31,8 @@ IsTextFile file = (length file ≤ max_text_length) × IsUtf8 file
 abbrev pub IsShortNonUtf8File : List ℕ → Type 0
 IsShortNonUtf8File file = (length file ≤ max_text_length) × ¬ (IsUtf8 file)
 
--- States that this fault may stop a command on this file. The fault is `Utf8` if the file isn't
--- UTF-8 (`IsShortNonUtf8File`). Otherwise it is `Write` or `Memory`.
+-- States that this fault may stop a command on this file. If the file isn't too long and isn't
+-- UTF-8 (`IsShortNonUtf8File`), the fault is `Utf8`. Otherwise it is `Write` or `Memory`.
 abbrev pub FaultMayStopCommandOnFile : List ℕ → FileCommandFault → Type 0
 FaultMayStopCommandOnFile file f =
     ((f ≡ fault.Utf8) × IsShortNonUtf8File file) ⊎ (IsWriteOrMemoryFault f × ¬ (IsShortNonUtf8File file))
@@ -42,7 +42,7 @@ abbrev pub MemoryFaultImpliesShortFile : List ℕ → FileCommandFault → Type 
 MemoryFaultImpliesShortFile file f = f ≡ fault.Memory → length file ≤ max_text_length
 
 -- States that the output is unchanged, unless the fault is `Write`. `before` and `after` are the
--- output before and after the call.
+-- output before and after the command.
 abbrev pub PrintsNothingUnlessWriteFault : {O : Type 0} → (before after : O) → FileCommandFault → Type 0
 PrintsNothingUnlessWriteFault before after f = f ≢ fault.Write → after ≡ before
 
@@ -62,9 +62,9 @@ run_end_status end.InputEnd = 1
 run_end_status end.CallBound = 1
 run_end_status end.TurnBound = 1
 
--- States how a command's fault determines whether the output has failed. `before` and `after` say
--- whether the output has failed, before and after the call. If the fault is `Write`, `after` is
--- true. For any other fault, `after` equals `before`.
+-- States whether the output has failed after a command that this fault has ended. If the fault is
+-- `Write`, the output has failed (`after` is true). For any other fault, `after` equals `before`,
+-- which says whether the output had failed before the command.
 abbrev pub OutputFailureMatchesFault : (before after : Bool) → FileCommandFault → Type 0
 OutputFailureMatchesFault before after f =
     (f ≡ fault.Write → after ≡ true) × (f ≢ fault.Write → after ≡ before)
@@ -77,14 +77,14 @@ OutputFailureMatchesFault before after f =
 abbrev pub ModuleLacksUsableInput : List ℕ → Option (List ℕ) → (input_failed : Bool) → Type 0
 ModuleLacksUsableInput file given input_failed = IsWellTypedModule file × IsUnusableInput given input_failed
 
--- States that the call didn't change whether the input has failed, unless the fault is `Input`.
--- `before` and `after` say whether the input has failed, before and after the call.
+-- States that the failure flag of the input is unchanged, unless the fault is `Input`. `before` and
+-- `after` are the flag before and after the command.
 abbrev pub KeepsInputFailureUnlessInputFault : (before after : Bool) → FileCommandFault → Type 0
 KeepsInputFailureUnlessInputFault before after f = f ≢ fault.Input → after ≡ before
 
--- States that this fault may stop `run` on this file and this input. The fault is `Input`, and the
--- module has no valid input. Or it is a fault that may stop any command on the file
--- (`FaultMayStopCommandOnFile`).
+-- States that this fault may stop `run` on this file and this input. Either the fault is `Input`,
+-- and the file is a well-typed module without a usable input (`ModuleLacksUsableInput`). Or the
+-- fault may stop any command on the file (`FaultMayStopCommandOnFile`).
 abbrev pub FaultMayStopRun : List ℕ → Option (List ℕ) → (input_failed : Bool) → FileCommandFault → Type 0
 FaultMayStopRun file given input_failed f =
     ((f ≡ fault.Input) × ModuleLacksUsableInput file given input_failed) ⊎ FaultMayStopCommandOnFile file f

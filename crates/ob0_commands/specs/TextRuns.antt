@@ -1,4 +1,4 @@
--- Defines the run of a text's module, and the output of `run`.
+-- Defines the runs of the module that a text contains, and the output of the command `run`.
 -- Rule: docs/PROTOCOL.md, The program 2.
 use Rattle.std.specs.Prelude.{◌≡◌, ◌≢◌, ◌⊎◌, ℕ, ℤ, List, Option, None, IfSome, Bool, true}
 use Rattle.std.specs.Io.KnownBytes.{Appends}
@@ -34,7 +34,7 @@ pub record ProgramRunsAsText (text : List ℕ) (program : Program) : Type 0 wher
 
 -- States that `r` is a run of the file's module, and that the output of `r` is printed. If the
 -- bytes of the command's input are known (`given`), they spell the numbers of the run's input. `c`
--- and `t` are the bounds of the run (`IsRunOfText`).
+-- limits the number of open calls, and `t` the number of iterations of a loop (`IsRunOfText`).
 pub record PrintsRun (file : List ℕ) (given : Option (List ℕ)) (c t : ℕ)
     (before after : Option (List ℕ)) (r : Run) : Type 0 where
   pub input : List ℤ

@@ -23,11 +23,11 @@ use std::alloc::{AllocError, Global};
 use std::mem::ManuallyDrop;
 
 /// Prints one line `L:C: FaultCode: message` to `out` for each diagnostic of a file, and returns
-/// the program's exit status. `L:C` is the diagnostic's start, in lines and UTF-16 units counted
-/// from 0. `file` holds all bytes of the file, or the first 1,048,577 if the file has more. The
-/// status is 0 if there are no diagnostics and 1 if there are some. If the bytes aren't UTF-8 or a
-/// write fails, the status is 4. If an allocation fails, it is 5. With status 4 or 5, the line
-/// `fault: NAME` is printed to `err`.
+/// the program's exit status. `L` and `C` are the line and the UTF-16 unit at which the diagnostic
+/// starts, counted from 0. `file` holds all bytes of the file, or the first 1,048,577 if the file
+/// has more. The status is 0 if there are no diagnostics and 1 if there are some. If the bytes
+/// aren't UTF-8 or a write fails, the status is 4. If an allocation fails, it is 5. With status 4
+/// or 5, the line `fault: NAME` is printed to `err`.
 pub fn check_text<O: TrackedOutput, E: TrackedOutput>(
     alloc: Global,
     file: &[u8],
@@ -45,8 +45,9 @@ pub fn check_text<O: TrackedOutput, E: TrackedOutput>(
 }
 
 /// Returns the text of a file that has no diagnostics. Otherwise prints the diagnostics, flushes
-/// and returns None. A file that has more bytes than a text may have gets only one diagnostic: it
-/// is too long. If the bytes of any other file aren't UTF-8, the fault is `Utf8`.
+/// and returns None. A file that has more bytes than a text may have gets only the diagnostic
+/// `TooLong`. If the bytes of any other file aren't UTF-8, the fault is `Utf8`. If a write or an
+/// allocation fails, the fault is `Write` or `Memory`.
 pub fn validate_or_print_diagnoses<'f, O: TrackedOutput>(
     alloc: Global,
     file: &'f [u8],
@@ -93,7 +94,8 @@ pub fn analyse_without_drop(alloc: Global, text: &str) -> Result<ManuallyDrop<An
 }
 
 /// Returns the text of a file. If the file is too long, prints a diagnostic that says so, flushes
-/// and returns None. If the bytes of a shorter file aren't UTF-8, the fault is `Utf8`.
+/// and returns None. If the bytes of a shorter file aren't UTF-8, the fault is `Utf8`. If the
+/// diagnostic can't be written, the fault is `Write`.
 pub fn decode_or_print_too_long_line<'f, O: TrackedOutput>(
     file: &'f [u8],
     out: &mut O,

@@ -14,8 +14,8 @@ use ob0_cli::CommandLine;
 use std::alloc::Global;
 
 /// Performs the command that a command line requests, on a file with these bytes. Returns the
-/// program's exit status. The output goes to `out`, faults and refusals go to `err`. Only `run` reads
-/// from `input`. `serve` isn't allowed here, because it isn't a command on a file.
+/// program's exit status. The output goes to `out`. Faults and refusals go to `err`. Only `run`
+/// reads from `input`. `line` must not be `serve`, because `serve` isn't a command on a file.
 pub fn perform_command<R: TrackedInput, O: TrackedOutput, E: TrackedOutput>(
     alloc: Global,
     line: CommandLine<'_>,

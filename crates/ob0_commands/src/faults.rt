@@ -10,7 +10,8 @@ use crate::tracked_output::{TrackedOutput, print};
 use std::alloc::{AllocError, AllocFailed};
 use thiserror::Error;
 
-/// The reason why a command on a file failed. The name of the fault is printed.
+/// The reason why a command on a file failed. It is printed on standard error as `fault: NAME`,
+/// with the name of the variant.
 #[derive(Clone, Copy, Debug, Drop, PartialEq, Eq, Error)]
 pub enum FileCommandFault {
     #[error("the file can't be read")]

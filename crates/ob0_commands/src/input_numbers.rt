@@ -1,10 +1,10 @@
 //! Reads the numbers of a run's input.
 //!
-//! The whole input is read before the run. The bytes are first split into words, and then each word
-//! is decoded. A word that isn't UTF-8 isn't a number. A word that begins with `+` isn't a number,
+//! The whole input is read before the run. The bytes are split into words, and each word is decoded
+//! as UTF-8. A word that isn't UTF-8 isn't a number. A word that begins with `+` isn't a number,
 //! although Rust's `parse` accepts it.
 //!
-//! The invariant of the loop in `parse_number_list` (`Gathered`) has two directions. If the remaining
+//! `Gathered`, the invariant of the loop in `parse_number_list`, states two facts. If the remaining
 //! text spells a list of numbers, the whole text spells the numbers found so far, followed by that
 //! list. If the whole text spells a list of numbers, the remaining text also spells one. The first
 //! word of the remaining text ends at the first white space (`first_word` of `proofs/Words`).
@@ -22,9 +22,9 @@ use crate::tracked_input::{TrackedInput, read_input};
 use ob0_scan::is_white_space;
 use std::alloc::{AllocError, Global};
 
-/// Reads the numbers of the input. The input consists of words, separated by white space. Each word
-/// has to be a 32-bit number in decimal digits, optionally after a `-`. The fault is `Input` if a
-/// read fails, the input is too long, or a word isn't such a number.
+/// Reads the whole input and returns its numbers, in order. The input consists of words, separated
+/// by white space. Each word has to be a 32-bit number in decimal digits, optionally after a `-`.
+/// The fault is `Input` if a read fails, the input is too long, or a word isn't such a number.
 pub fn read_numbers<R: TrackedInput>(
     alloc: Global,
     input: &mut R,
@@ -66,8 +66,8 @@ fn parse_number_list(alloc: Global, text: &[u8]) -> Result<Option<Vec<i32>>, All
     Ok(Some(numbers))
 }
 
-/// Returns the length in bytes of the word with which `bytes` begins. The word ends before the first
-/// white space, or at the end of `bytes` if there is no white space.
+/// Returns the length in bytes of the word at the beginning of `bytes`. The word ends before the
+/// first white space, or at the end of `bytes` if there is no white space.
 fn first_word_length(bytes: &[u8]) -> usize
     ensures is { result ≡ position_or_len is_white_space bytes.now }
     ensures inside { result ≤ length bytes.now }

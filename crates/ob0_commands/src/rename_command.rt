@@ -1,11 +1,13 @@
 //! Renames a declaration or field in a file's text, and prints the result.
 //!
-//! `rename_text` analyses the text once. `renaming_edits` of `ob0_edits` computes the edits from that
-//! analysis. If the text isn't a well-typed module, the diagnostics of the same analysis are
-//! printed, as in `validate_or_print_diagnoses`. `rename_utf8_text` does the work once the bytes
-//! are known to be UTF-8. It is a separate function because its proof needs a `&str`. The contract of
-//! `renaming_edits` is about the characters of a text, and the contract of `diagnoses` is about the
-//! bytes. A `&str` relates the two.
+//! `rename_text` analyses the text once. `renaming_edits` of `ob0_edits` computes the edits from
+//! that analysis. If the text isn't a well-typed module, the diagnostics of the same analysis are
+//! printed, as in `validate_or_print_diagnoses`.
+//!
+//! `rename_utf8_text` does the work once the bytes are known to be UTF-8. It is a separate function
+//! because its proof needs a `&str`, which relates the bytes of a text to its characters. The
+//! contract of `renaming_edits` is about characters, and the contract of `diagnoses` is about
+//! bytes.
 
 ghost use Rattle.std.specs.Prelude.{◌≡◌, true, IfOk, IfErr, OnErr};
 ghost use Rattle.ob0_commands.specs.CommandEndings.{EndsWithoutFault};
@@ -22,10 +24,12 @@ use ob0_text::{Edit, EditRefusal, Lines, Position, TextStore, patch};
 use std::alloc::Global;
 
 /// Prints a file's text to `out`, with the declaration or field at a position renamed to `new`, and
-/// returns the program's exit status. The position's line and UTF-16 units are counted from 0. If
+/// returns the program's exit status. The position's line and UTF-16 unit are counted from 0. If
 /// the name is refused, `refused: TEXT` is printed to `err`. If the file isn't a well-typed module,
 /// its diagnostics are printed as `check_text` prints them. The status is 0 if the text is printed,
-/// and 1 for a refusal or diagnostics. For 4 and 5, see `check_text`.
+/// and 1 for a refusal or diagnostics. If the bytes aren't UTF-8 or a write to `out` fails, the
+/// status is 4. If an allocation fails, it is 5. With status 4 or 5, the line `fault: NAME` is
+/// printed to `err`.
 pub fn rename_text<O: TrackedOutput, E: TrackedOutput>(
     alloc: Global,
     file: &[u8],
@@ -70,9 +74,9 @@ fn try_rename_text<O: TrackedOutput, E: TrackedOutput>(
     rename_utf8_text(alloc, text, position, new, out, err)
 }
 
-/// Prints a text with the declaration or field at a position renamed, or the refusal of the name.
-/// If the text isn't a well-typed module, prints its diagnostics instead. Returns the program's
-/// exit status: 0 for the renamed text, otherwise 1.
+/// Prints a text with the declaration or field at a position renamed to `new`, or prints the
+/// refusal of the name `new`. If the text isn't a well-typed module, prints its diagnostics
+/// instead. Returns the program's exit status: 0 for the renamed text, otherwise 1.
 fn rename_utf8_text<O: TrackedOutput, E: TrackedOutput>(
     alloc: Global,
     text: &str,
@@ -102,9 +106,10 @@ fn rename_utf8_text<O: TrackedOutput, E: TrackedOutput>(
     }
 }
 
-/// Applies the edits and prints the edited text to `out`, or prints the refusal to `err` as
-/// `refused: TEXT`. Returns the program's exit status: 0 for edits, 1 for a refusal. If an
-/// allocation fails, the fault is `Memory`.
+/// Applies `edits` to the text of `store` and prints the edited text to `out`. If `edits` is a
+/// refusal, prints it to `err` as `refused: TEXT`. Returns the program's exit status: 0 for edits,
+/// 1 for a refusal. If an allocation fails, the fault is `Memory`. If a write to `out` fails, it is
+/// `Write`.
 pub fn print_rename_outcome<T: TextStore, O: TrackedOutput, E: TrackedOutput>(
     alloc: Global,
     store: &T,

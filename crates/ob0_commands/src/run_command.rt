@@ -2,14 +2,16 @@
 //!
 //! `run_text` analyses the text once and lowers it to a program (`LoweringQuestion`). If the text
 //! isn't a well-typed module, the diagnostics are printed. Otherwise the analysis is dropped, the
-//! input is read, and the program is executed. `ProgramRunsAsText` states that the program runs like the
-//! text's module. The contract of `execute` describes the run of the program (`ProgramRunsAsModule`).
+//! input is read, and the program is executed. `ProgramRunsAsText` states that the program runs
+//! like the text's module. From this fact, the contract of `execute` concludes that the outcome is
+//! a run of the module.
 //!
 //! The output is written in pieces of at most `IO_BUFFER_SIZE` bytes (`print_output_items`), so the
-//! whole text of the output is never stored. `IsWrittenExceptLastPart` separates the written text from the
-//! piece that isn't written yet. A piece is an `ArrayString`: it is on the stack and doesn't grow.
-//! It is written if the next item might not fit. So nothing is allocated after the first byte is
-//! printed. (A `String` could allocate between pieces, because its contract allows that.)
+//! whole text of the output is never stored. `IsWrittenExceptLastPart` separates the written text
+//! from the piece that isn't written yet. A piece is an `ArrayString`: it is on the stack and
+//! doesn't grow. It is written if the next item might not fit. So nothing is allocated after the
+//! first byte is printed. (A `String` could allocate between pieces, because its contract allows
+//! that.)
 
 ghost use Rattle.std.specs.Prelude.{◌≡◌, ◌+◌, ◌≤◌, ◌++◌, true, IfOk, IfErr, IfNone, MatchOption, OnOk, OnErr, option_map, suc};
 ghost use Rattle.std.specs.Io.KnownBytes.{Appends};
@@ -57,8 +59,9 @@ impl Question for LoweringQuestion {
 /// The output is printed to `out`. An end other than `Done` is printed to `err` as `fault: NAME`.
 /// If the file isn't a well-typed module, its diagnostics are printed as `check_text` prints them,
 /// and the input isn't read. The status is 0 for `Done`, and 1 for another end or diagnostics. If
-/// the input can't be read, is too long or isn't a list of numbers, the status is 4. For the other
-/// uses of 4 and for 5, see `check_text`.
+/// the input can't be read, is too long or isn't a list of numbers, the status is 4. It is also 4
+/// if the file's bytes aren't UTF-8 or a write to `out` fails. If an allocation fails, it is 5.
+/// With status 4 or 5, the fault is also printed to `err` as `fault: NAME`.
 pub fn run_text<R: TrackedInput, O: TrackedOutput, E: TrackedOutput>(
     alloc: Global,
     file: &[u8],
@@ -237,7 +240,8 @@ fn print_output_items<O: TrackedOutput>(
 }
 
 /// Appends an output item to `text`, the collected text that isn't written yet. If the item might
-/// not fit, `text` is first written and cleared.
+/// not fit, `text` is first written and cleared. `digits` is the buffer in which a number is
+/// formatted.
 fn append_item_writing_if_full<O: TrackedOutput>(
     text: &mut ArrayString<IO_BUFFER_SIZE>,
     digits: &mut Buffer,
@@ -258,8 +262,9 @@ fn append_item_writing_if_full<O: TrackedOutput>(
     Ok(())
 }
 
-/// Appends an output item to a text. A number becomes a space and its digits, and a line end
-/// becomes a line feed. `text` must have at least 12 bytes of free capacity.
+/// Appends an output item to a text. A number becomes a space and the number in decimal, and a line
+/// end becomes a line feed. `digits` is the buffer in which a number is formatted. `text` must have
+/// at least 12 bytes of free capacity.
 fn append_item_text(text: &mut ArrayString<IO_BUFFER_SIZE>, digits: &mut Buffer, item: Item)
     requires { array_string_len text.old + 12 ≤ 8192 }
     ensures { text.new.bytes ≡ text.old.bytes ++ output_item_text (item_of item) }

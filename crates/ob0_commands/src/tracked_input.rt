@@ -1,9 +1,10 @@
 //! Reads all bytes of a file, and all bytes of the input of a run.
 //!
-//! The commands read through the trait `TrackedInput`: a reader that remembers whether a read has failed. So
-//! the contracts can state why the fault is `File` or `Input` (`IsFaultForReasonOrMemory`).
-//! `TrackedReader` implements this trait for any reader. If the remaining bytes of a reader aren't
-//! known (`Read::remaining`), the contracts don't say which bytes are read.
+//! The commands read through the trait `TrackedInput`: a reader that remembers whether a read has
+//! failed. So the contracts can state why the fault is `File` or `Input`
+//! (`IsFaultForReasonOrMemory`). `TrackedReader` implements this trait for any reader. If the
+//! remaining bytes of a reader aren't known (`Read::remaining` is None), the contracts don't say
+//! which bytes are read.
 
 ghost use Rattle.std.specs.Prelude.{◌≡◌, ◌≤◌, ◌<◌, ◌||◌, ◌⊎◌, Bool, true, false, is_err, IfOk, OnOk, IfErr, IfSome, length, suc};
 ghost use Rattle.std.specs.Io.{ReadsAtMost};
@@ -31,7 +32,8 @@ pub trait TrackedInput: Read {
     // Returns whether a call of `read_noting_failure` has failed.
     ghost has_failed: { Self → Bool };
 
-    /// Reads bytes into the buffer, and returns the number of bytes read. A failure is remembered.
+    /// Reads bytes into the buffer, and returns the number of bytes read. If the read fails, this
+    /// is remembered (`has_failed`).
     fn read_noting_failure(&mut self, buf: &mut [u8]) -> io::Result<usize>
         ensures bound { ReadsAtMost result buf.new }
         ensures bytes { ReadConsumes
@@ -39,7 +41,8 @@ pub trait TrackedInput: Read {
         ensures failed { has_failed self.new ≡ (has_failed self.old || is_err result) };
 }
 
-/// A wrapper that implements the trait `TrackedInput` for any reader: it remembers whether a read has failed.
+/// A wrapper that implements the trait `TrackedInput` for any reader. It remembers whether a read
+/// has failed.
 #[derive(Drop)]
 pub struct TrackedReader<R> {
     device: R,

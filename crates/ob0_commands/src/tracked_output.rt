@@ -1,10 +1,11 @@
 //! Prints whole texts.
 //!
-//! The commands print through the trait `TrackedOutput`: a writer that remembers whether it has been flushed
-//! since the last write, and whether it has failed. std's contracts of `Write` mention neither fact,
-//! but the contract of `print` needs both. `TrackedWriter` implements this trait for any writer,
-//! including the writer for standard error. The bytes that a writer has written are its `contents`,
-//! or None if they aren't known. If they aren't known, the contracts say nothing about them.
+//! The commands print through the trait `TrackedOutput`: a writer that remembers whether it has
+//! been flushed since the last write, and whether it has failed. std's contracts of `Write` mention
+//! neither fact, but the contract of `print` needs both. `TrackedWriter` implements this trait for
+//! any writer, including the writer for standard error. A writer's `contents` are the bytes that it
+//! has written, or None if these bytes aren't known. For None, the contracts say nothing about the
+//! bytes.
 //!
 //! Each command flushes its output after it has printed. If `rename` refuses a name, nothing is
 //! printed to the output, so the output may still be unflushed (`IsFlushedOrUnchanged`). `check`

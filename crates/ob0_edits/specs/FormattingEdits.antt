@@ -1,4 +1,4 @@
--- Defines the edits that format a text, and the text that they leave.
+-- Defines the edits that format a text, and the resulting text.
 -- Rule: docs/PROTOCOL.md, Requests on documents 8, 10.
 use Rattle.std.specs.Prelude.{◌≡◌, ◌<◌, ℕ, List, Option, Some, None, Result, Ok, Err, Vec, map, length}
 use Rattle.std.specs.declared.alloc.Global.{Global}
@@ -24,8 +24,8 @@ use Rattle.ob0_analysis.specs.SameRuns.{RunsAsBefore}
 abbrev pub formatted_text_of_module : {text : List ℕ} → Indent → IsWellTypedModule text → List ℕ
 formatted_text_of_module indent m = formatted_text indent m.tree m.text_of.scan.scan.lexemes
 
--- Returns the edit for each gap (white space between lexemes) that formatting changes: the gap's
--- range, with positions in this unit, and the gap's new text.
+-- Returns one edit for each gap (white space between lexemes) that formatting changes. An edit is
+-- the gap's range, with positions counted in `unit`, and the gap's new text.
 abbrev pub edits_of_changed_gaps : {text : List ℕ}
     → Unit
     → Indent

@@ -1,4 +1,4 @@
--- Defines the edits that inline a constant, at one use or everywhere, and the text that they leave.
+-- Defines the edits that inline a constant, at one use or everywhere, and the resulting text.
 -- Rule: docs/PROTOCOL.md, Requests on documents 7, 9, 10.
 use Rattle.std.specs.Prelude.{◌≡◌, ℕ, List, Option, Some, None, Result, Ok, Err, Vec}
 use Rattle.std.specs.declared.alloc.Global.{Global}
@@ -19,8 +19,8 @@ use Rattle.ob0_edits.specs.declared.inline_question.InliningKind.{InliningKind}
 use Rattle.ob0_edits.specs.declared.inline_question.InliningKind.TheVariants.{OneUse, Everywhere}
 use Rattle.ob0_edits.specs.declared.inline_question.InliningEdits as found_inlinings
 
--- States that `answer`, edits or a refusal, is the right answer to a request for this kind of
--- inlining at a byte offset of the module, according to the definitions of `ob0_inline`.
+-- States that `answer` (edits or a refusal) is the right answer to a request for this kind of
+-- inlining at a byte offset of the module. `ob0_inline` defines the right answers.
 abbrev pub AnswersInlining : InliningKind
     → Unit
     → List ℕ

@@ -33,8 +33,8 @@ pub record RenamesInText (unit : Unit) (text : List ℕ) (place : Position) (new
   pub made : patched_text (width_of unit) text edits ≡ Some after
   pub runs : RunsAsBefore (utf8 text) (utf8 after)
 
--- States that the text is a well-typed module, and that renaming the declaration or field at the
--- position `place` to `new` is refused for the reason `refusal`.
+-- States that the text is a well-typed module. Renaming the declaration or field at the position
+-- `place` to `new` is refused for the reason `refusal`.
 pub record IsRenameRefusedInText (unit : Unit) (text : List ℕ) (place : Position) (new : List ℕ)
     (refusal : EditRefusal) : Type 0 where
   pub names : Resolution

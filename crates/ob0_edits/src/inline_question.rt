@@ -1,10 +1,9 @@
 //! Inlines a constant in a text, using the text's analysis.
 //!
-//! `InlineQuestion` asks for the edits of both kinds of inlining. It is a `Question` of
-//! `ob0_analysis`, which is answered only for a well-typed text. `edits_unless_refused` separates a
-//! failed allocation from the refusals. To add another kind of inlining, add a variant of
-//! `InliningKind`, a line in `AnswersInlining`, a field in `InliningEdits`, and a case in `inlines_in` of
-//! `proofs/Inlined`.
+//! `InlineQuestion` asks for the edits of both kinds of inlining. `ask` answers it only for a
+//! well-typed text. `edits_unless_refused` separates a failed allocation from the refusals. To add
+//! another kind of inlining, add a variant of `InliningKind`, a line in `AnswersInlining`, a field
+//! in `InliningEdits`, and a case in `inlines_in` of `proofs/Inlined`.
 
 ghost use Rattle.std.specs.Prelude.{◌≡◌, IfOk};
 ghost use Rattle.std.specs.Str.{chars};

@@ -1,12 +1,13 @@
 //! Answers requests for renames in an analysed text.
 //!
-//! `renaming_edits` asks a `RenameQuestion`. The function `ask` answers it only for a well-typed text.
+//! `renaming_edits` asks a `RenameQuestion`. The function `ask` answers this question only for a
+//! well-typed text.
 //!
-//! `AreRenameEdits` and `IsRenameRefusal` of `ob0_rename` each have a case for declarations and a case
-//! for fields. Both cases of `AreRenameEdits` state which tokens get the new name (`WritesNewName`), so
-//! one lemma covers both: `renames_in` of `proofs/Renamings`. A second lemma, `new_name_found`, derives
-//! `RenamesInText`, which is about the text's characters, from the contract of `ask`, which is about
-//! the text's bytes.
+//! `AreRenameEdits` and `IsRenameRefusal` of `ob0_rename` each have a case for declarations and a
+//! case for fields. Both cases of `AreRenameEdits` state which tokens get the new name
+//! (`WritesNewName`), so one lemma covers both: `renames_in` of `proofs/Renamings`. A second lemma,
+//! `new_name_found`, derives `RenamesInText` from the contract of `ask`. `RenamesInText` is about
+//! the text's characters, and that contract is about the text's bytes.
 //!
 //! `RenamesInText` and `IsRenameRefusedInText` are about the module with its names bound
 //! (`IsResolvedWellTypedModule`), because fields are found through the bindings of names.

@@ -1,4 +1,5 @@
--- Defines the edit for a cut, and the length of a text after cuts. A cut replaces a range of bytes.
+-- Defines the edit for a cut, and the length of a text after cuts are applied. A cut replaces a
+-- range of bytes.
 -- Rule: docs/PROTOCOL.md, Requests on documents 8 to 10; LSP 3.17, TextEdit.
 use Rattle.std.specs.Prelude.{ℕ, ◌+◌, ◌-◌, List, [], ◌∷◌, length}
 use Rattle.ob0_text.specs.declared.position_types.Range.{Range}
@@ -13,7 +14,7 @@ abbrev pub edit_of_cut : counting.Unit → List ℕ → Cut → Range × List �
 edit_of_cut unit text c =
     (range_of (width_of unit) text (record { start = c.from; end = c.to }), c.new)
 
--- Returns the length in bytes that the rest of a text, starting at the offset `at`, has after all
+-- Returns the length in bytes of the rest of a text, from the offset `at` to the end, after all
 -- cuts are applied. `len` is the length of the whole text before the cuts, in bytes. `at` and the
 -- ends of the cuts are byte offsets in the text before the cuts.
 abbrev pub length_from_place_with_cuts : ℕ → ℕ → List Cut → ℕ

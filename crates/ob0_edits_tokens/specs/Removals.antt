@@ -1,4 +1,4 @@
--- Defines the text that is left if a constant's declaration is removed and identifiers after the
+-- Defines the text that results if a constant's declaration is removed and identifiers after the
 -- declaration are replaced.
 -- Rule: docs/PROTOCOL.md, Requests on documents 9.
 use Rattle.std.specs.Prelude.{◌≡◌, ℕ, suc, ◌<◌, ◌⊎◌, nat_le, ◌&&◌, if◌then◌else◌, List, [], ◌∷◌, length, map, Some}
@@ -18,9 +18,8 @@ abbrev pub changes_with_removal : ℕ → ℕ → WordChanges → WordChanges
 changes_with_removal first last changes k = if nat_le first k && nat_le k last then Some [] else changes k
 
 -- States that the tokens from the index `first` to the index `last` may be a declaration in a CONST
--- section. Only the first token, the last token and the token before the first are checked: the
--- first is an identifier, the last is a `;`, and the token before the first, if there is one, is
--- CONST or another `;`.
+-- section. Only three tokens are checked. The first token is an identifier, and the last token is a
+-- `;`. If a token precedes the first one, that token is CONST or another `;`.
 pub record MayBeConstantDeclaration (tokens : List Token) (first last : ℕ) : Type 0 where
   pub order : first < last
   pub inside : last < length tokens
@@ -37,15 +36,14 @@ abbrev pub span_of_tokens : List Token → ℕ → ℕ → Span
 span_of_tokens tokens first last =
     record { start = (token_span_or_empty tokens first).start; end = (token_span_or_empty tokens last).end }
 
--- Returns the cut, in byte offsets, that removes the text from the start of the token with the
--- index `first` to the end of the token with the index `last`.
+-- Returns the cut, in byte offsets, that removes the tokens with the indexes `first` to `last` and
+-- all text between them.
 abbrev pub removal_cut : List Token → ℕ → ℕ → Cut
 removal_cut tokens first last =
     record { from = (token_span_or_empty tokens first).start; to = (token_span_or_empty tokens last).end; new = [] }
 
--- Returns the text that is left if the tokens from the index `first` to the index `last` are
--- removed with all text between them, and each token whose index is in `token_indexes` is replaced
--- by `new`.
+-- Returns the text after two kinds of edits. The tokens with the indexes `first` to `last` and all
+-- text between them are removed. Each token whose index is in `token_indexes` is replaced by `new`.
 abbrev pub text_after_removal_and_replacement : TextWithTokens → ℕ → ℕ → List ℕ → List ℕ → List ℕ
 text_after_removal_and_replacement s first last token_indexes new =
     text_from_place_with_cuts s.text 0 (removal_cut s.tokens first last ∷ map (replacement_cut s.tokens new) token_indexes)

@@ -1,4 +1,4 @@
--- Defines the text that is left if several identifiers are replaced by another text, and the edits
+-- Defines the text that results if several identifiers are replaced by another text, and the edits
 -- that replace them.
 -- Rule: docs/PROTOCOL.md, Requests on documents 10.
 use Rattle.std.specs.Prelude.{◌≡◌, ℕ, suc, ◌<◌, ◌≤◌, false, List, [], ◌∷◌, ◌++◌, length, map, IsTrue, Some, slice_index, slice_index_or, string_bytes}
@@ -50,15 +50,15 @@ replacement_cut tokens new p =
 abbrev pub text_after_replacement : TextWithTokens → List ℕ → List ℕ → List ℕ
 text_after_replacement s token_indexes new = text_from_place_with_cuts s.text 0 (map (replacement_cut s.tokens new) token_indexes)
 
--- States that the text of each lexeme belongs to the class of the lexeme's kind, and that the byte
--- after a lexeme never continues the lexeme. `byte` is the byte after the last lexeme.
+-- States that the text of each lexeme belongs to the class of the lexeme's kind, and that the next
+-- byte never continues the lexeme. `byte` is the byte after the last lexeme.
 abbrev pub LexemesEndBeforeByte : List Lexeme → ℕ → Type 0
 LexemesEndBeforeByte [] byte = Unit {0}
 LexemesEndBeforeByte (l ∷ lexemes) byte =
     EndsBeforeByte l (slice_index (text_of_lexemes lexemes ++ (byte ∷ [])) 0) × LexemesEndBeforeByte lexemes byte
 
--- States that the text `new`, whose words are `ws`, may replace any identifier. A lexeme before
--- `new` that can't continue with a letter can't continue with the first byte of `new` either. The
+-- States that the text `new`, whose words are `ws`, may replace any identifier. If a letter can't
+-- continue the lexeme before `new`, the first byte of `new` can't continue that lexeme either. The
 -- lexemes of `new` stay separate from one another, and from a following byte that isn't a letter or
 -- digit.
 pub record MayReplaceIdentifier (new : List ℕ) (ws : List Word) : Type 0 where

@@ -1,4 +1,4 @@
--- Defines the replacement of words of a text by other words.
+-- Defines the replacement of words of a text by other words. A word is a token's kind and spelling.
 -- Rule: none; used in contracts about making edits.
 use Rattle.std.specs.Prelude.{ℕ, suc, ◌==◌, Bool, false, ◌||◌, if◌then◌else◌, List, [], ◌∷◌, ◌++◌, map, Option, Some, None}
 use Rattle.ob0_scan.specs.TextWithTokens.{TextWithTokens, Word, word_of_token}

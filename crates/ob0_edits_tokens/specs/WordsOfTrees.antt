@@ -11,8 +11,8 @@ use Rattle.ob0_edits_tokens.specs.WordReplacements.{words_of_text, changed_words
 use Rattle.ob0_edits_tokens.specs.Replacements.{AreIdentifierIndexes}
 use Rattle.ob0_edits_tokens.specs.Written.{name_word}
 
--- Returns the terminals (tokens as a tree spells them) of the given words. The terminal of a name
--- or integer has the index of its word instead of the name or value. `k` is the index of the first
+-- Returns the terminal of each given word: the token as a tree spells it. The terminal of a name or
+-- integer has the index of its word instead of the name or value. `k` is the index of the first
 -- given word in the text.
 abbrev pub indexed_terminals_of_words : ℕ → List Word → List (Terminal ℕ)
 indexed_terminals_of_words k [] = []
@@ -36,9 +36,9 @@ integer_value_at ws k = integer_value_or_zero (word_at_or_empty ws k).kind
 abbrev pub renamed_word_text : List Word → List ℕ → List ℕ → ℕ → List ℕ
 renamed_word_text ws token_indexes new k = if is_in_list k token_indexes then new else word_text_at ws k
 
--- States that a renamed tree spells the renamed words. Assume that a tree with word indexes instead
--- of names spells the words of a text. If the identifiers with the indexes `token_indexes` get the
--- name `new`, both in the tree and in the words, the renamed tree spells the renamed words.
+-- States that a renamed tree spells the renamed words. Before the renaming, the tree spells the
+-- words of a text, and has the index of a word instead of each name. The identifiers with the
+-- indexes `token_indexes` get the name `new`, both in the tree and in the words.
 abbrev pub RenamedTreeSpellsRenamedWords : Type 0
 RenamedTreeSpellsRenamedWords =
     (s : TextWithTokens) (sort : Sort) (t : Tree ℕ sort) (token_indexes new : List ℕ)

@@ -1,5 +1,5 @@
-//! Proves two laws of renaming: an identifier may replace any identifier of a text, and a renamed
-//! tree spells the renamed words.
+//! Proves two laws of renaming. An identifier may replace any identifier of a text. If identifiers
+//! get a new name in a text and in its tree, the new tree spells the tokens of the new text.
 
 ghost use Rattle.std.specs.Prelude.{ℕ, List, [], ◌∷◌};
 ghost use Rattle.ob0_scan.specs.LexemeClasses.{IsIdentifier};
@@ -13,10 +13,9 @@ pub fn identifier_may_replace_identifier()
     ensures { (new : List ℕ) → IsIdentifier new → MayReplaceIdentifier new (name_word new ∷ []) }
 {}
 
-/// Proves that a renamed tree spells the renamed words. A word is a token's kind and spelling. Assume
-/// that a tree, with word indexes instead of names, spells the words of a text. If the identifiers at
-/// certain indexes get a new name in the tree and in the words, the renamed tree spells the renamed
-/// words.
+/// Proves that a renamed tree spells the renamed words. A word is a token's kind and spelling.
+/// Before the renaming, the tree spells the words of a text, and has the index of a word instead of
+/// each name. The same identifiers get the same new name in the tree and in the words.
 pub fn renamed_tree_spells_renamed_words()
     ensures { RenamedTreeSpellsRenamedWords }
 {}

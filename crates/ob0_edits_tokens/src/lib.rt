@@ -1,5 +1,5 @@
-//! Makes edits that replace tokens of a text or remove a declaration, and proves which text they
-//! leave.
+//! Makes edits that replace tokens of a text or remove a declaration, and proves which text results
+//! from the edits.
 #![tactic(auto)]
 
 pub mod laws;

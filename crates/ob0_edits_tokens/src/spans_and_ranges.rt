@@ -1,4 +1,4 @@
-//! Finds the spans of tokens, and the ranges of positions that spans have in a text.
+//! Finds the spans of tokens, and converts spans to ranges of positions.
 
 ghost use Rattle.std.specs.Prelude.{◌≡◌, ◌++◌, IfOk, OnOk, map};
 ghost use Rattle.ob0_edits_tokens.specs.Replacements.{token_span_or_empty};
@@ -53,8 +53,8 @@ fn add_ranges<T: TextStore>(
     Ok(())
 }
 
-/// Returns the byte offsets of the start and the end of each span, in one list: two offsets for
-/// each span, in the order of the spans.
+/// Returns a list with two byte offsets for each span: its start and its end. The spans keep their
+/// order.
 fn span_bounds(alloc: Global, spans: &[Span]) -> Result<Vec<usize>, AllocError>
     ensures { IfOk result (λ offsets. offsets.items ≡ span_bounds spans.now) }
 {

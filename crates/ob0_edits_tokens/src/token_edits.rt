@@ -17,10 +17,10 @@ use ob0_scan::{MAX_TEXT_LENGTH, Span, Tokens};
 use ob0_text::{Edit, EditRefusal, Range, TextStore};
 use std::alloc::Global;
 
-/// Returns the edits that replace identifiers by `new`: one edit for each index in
-/// `token_indexes`, in text order. `token_indexes` are token indexes of identifiers, in ascending
-/// order. Fails with `TooLong` if the resulting text is longer than a text may be. Fails with `Memory`
-/// if an allocation fails.
+/// Returns the edits that replace identifiers by `new`, in text order. There is one edit for each
+/// index in `token_indexes`, which are token indexes of identifiers in ascending order. Fails with
+/// `TooLong` if the resulting text is longer than a text may be. Fails with `Memory` if an
+/// allocation fails.
 pub fn replacement_edits<T: TextStore>(
     alloc: Global,
     store: &T,
@@ -42,7 +42,7 @@ pub fn replacement_edits<T: TextStore>(
         → max_text_length < length (text_after_replacement tokens.now token_indexes.now new.now) }
     ensures refusals { IfErr result (λ refusal. (refusal ≡ TooLong) ⊎ (refusal ≡ Memory)) }
 {
-    // The proof needs the contract of this call: the tokens are a scan of their text (`IsScan`).
+    // The proof needs the contract of this call: scanning the text gives these tokens (`IsScan`).
     let _text = tokens.text();
     let nothing = Span { start: 0, end: 0 };
     if is_edited_text_too_long(tokens, nothing, token_indexes, new) {
@@ -53,12 +53,12 @@ pub fn replacement_edits<T: TextStore>(
     Ok(edits)
 }
 
-/// Returns the edits that remove a declaration and replace identifiers after it, in text order.
-/// The first edit removes the text from the start of the token with the index `first` to the end of
-/// the token with the index `last`. The other edits replace the tokens with the indexes
-/// `token_indexes` by `new`, one edit for each. `token_indexes` are token indexes of identifiers, in
-/// ascending order and all greater than `last`. Fails with `TooLong` if the resulting text is longer
-/// than a text may be. Fails with `Memory` if an allocation fails.
+/// Returns the edits that remove a declaration and replace identifiers after it, in text order. The
+/// first edit removes the tokens with the indexes `first` to `last` and all text between them. The
+/// other edits replace the tokens with the indexes `token_indexes` by `new`, one edit for each.
+/// `token_indexes` are token indexes of identifiers, in ascending order, and all are greater than
+/// `last`. Fails with `TooLong` if the resulting text is longer than a text may be. Fails with
+/// `Memory` if an allocation fails.
 pub fn removal_and_replacement_edits<T: TextStore>(
     alloc: Global,
     store: &T,
@@ -88,7 +88,7 @@ pub fn removal_and_replacement_edits<T: TextStore>(
         → max_text_length < length (text_after_removal_and_replacement tokens.now first last token_indexes.now new.now) }
     ensures refusals { IfErr result (λ refusal. (refusal ≡ TooLong) ⊎ (refusal ≡ Memory)) }
 {
-    // The proof needs the contract of this call: the tokens are a scan of their text (`IsScan`).
+    // The proof needs the contract of this call: scanning the text gives these tokens (`IsScan`).
     let _text = tokens.text();
     let start = token_span_or_empty(tokens.tokens(), first).start;
     let end = token_span_or_empty(tokens.tokens(), last).end;
@@ -105,8 +105,9 @@ pub fn removal_and_replacement_edits<T: TextStore>(
     Ok(edits)
 }
 
-/// Appends edits to `edits`, in order: for each index in `token_indexes`, one edit that replaces
-/// the token with this index by `new`. The only refusal is `Memory`, if an allocation fails.
+/// Appends to `edits` one edit for each index in `token_indexes`, in the same order. The edit
+/// replaces the token with this index by `new`. The only refusal is `Memory`, if an allocation
+/// fails.
 fn add_replacement_edits<T: TextStore>(
     alloc: Global,
     store: &T,
@@ -134,7 +135,7 @@ fn add_replacement_edits<T: TextStore>(
     Ok(())
 }
 
-/// Returns the range of a span of bytes, with positions in the unit of the store.
+/// Returns the range of a span of bytes. Its positions are counted in the store's unit.
 pub fn range_of<T: TextStore>(store: &T, span: Span) -> Range
     ensures { result ≡ range_of (width_of (T.unit_of store.now)) (T.content store.now) span }
 {
@@ -144,9 +145,9 @@ pub fn range_of<T: TextStore>(store: &T, span: Span) -> Range
     }
 }
 
-/// Returns whether an edited text is longer than a text may be. The edited text is the old text
-/// without the bytes of the span `removed`. After that span, `new` replaces each token whose index is
-/// in `token_indexes`.
+/// Returns whether an edited text is longer than a text may be. The edits remove the bytes of the
+/// span `removed`. After that span, they replace each token whose index is in `token_indexes` by
+/// `new`.
 fn is_edited_text_too_long(
     tokens: &Tokens,
     removed: Span,

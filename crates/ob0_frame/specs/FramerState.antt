@@ -1,11 +1,11 @@
--- Defines the states of a framer (a reader of messages from a stream), and the effect of one piece
--- of the stream.
+-- Defines the states of a framer, which reads messages from a stream that arrives in pieces. Also
+-- defines how one piece of the stream changes the state.
 -- Rule: docs/PROTOCOL.md, Framing 4, 5.
 use Rattle.std.specs.Prelude.{◌≡◌, ℕ, List, [], ◌++◌}
 use Rattle.ob0_frame.specs.Frames.{Frames, CannotBeginMessage}
 
 -- The rest of a stream: the bytes after the last complete message (`Open`), or `Broken`. A bad head
--- breaks the stream, which then isn't read further.
+-- breaks the stream. A broken stream isn't read further.
 pub data StreamRest : Type 0 where
   Open : List ℕ → StreamRest
   Broken : StreamRest
@@ -18,8 +18,8 @@ pub record FramerState : Type 0 where
 
 -- States what reading a piece of the stream does. Arguments: the rest of the stream before the
 -- piece, the piece, the contents of the messages that the piece completes, and the rest after the
--- piece. If no message can begin with the bytes that are left, the last argument is `Broken`. A
--- broken stream remains broken and completes nothing.
+-- piece. If no message can begin with the bytes after the last complete message, the rest after the
+-- piece is `Broken`. A broken stream remains broken, and no later piece completes a message.
 abbrev pub FeedsStream : StreamRest → List ℕ → List (List ℕ) → StreamRest → Type 0
 FeedsStream (Open rest) piece contents (Open left) = Frames (rest ++ piece) contents left × ¬ (CannotBeginMessage left)
 FeedsStream (Open rest) piece contents Broken =

@@ -1,4 +1,5 @@
--- Defines which part of the message at the beginning of a list of bytes has arrived.
+-- Defines the stage of the message with which a list of bytes begins: how much of the message has
+-- arrived.
 -- Rule: none; used in private contracts about how much of a message has arrived.
 use Rattle.std.specs.Prelude.{ℕ, ◌-◌, ◌<◌, ◌≤◌, List, ◌++◌, length, take, drop}
 use Rattle.ob0_frame.specs.declared.head.MessageStage.{MessageStage}
@@ -6,16 +7,18 @@ use Rattle.ob0_frame.specs.declared.head.MessageStage.TheVariants.{Head, Content
 use Rattle.ob0_frame.specs.Head.{AnnouncesContentLength, HasNoEmptyLine, max_head_length}
 use Rattle.ob0_frame.specs.Frames.{Frames, CannotBeginMessage}
 
--- States that the bytes begin with an accepted head that ends at the byte offset `start`, and that
--- the content announced by the head ends at the byte offset `end`. Not all bytes of the content
--- need to have arrived.
+-- States that the bytes begin with an accepted head that announces a content. The head ends, and
+-- the content begins, at the byte offset `start`. The content ends at the byte offset `end`, but
+-- its bytes may not all have arrived.
 pub record AnnouncesContentBetween (bytes : List ℕ) (start end : ℕ) : Type 0 where
   pub within : start ≤ length bytes
   pub ordered : start ≤ end
   pub head_is_nonempty : 0 < start
   pub announces : AnnouncesContentLength (take start bytes) (end - start)
 
--- States that the message at the beginning of the bytes is at this stage.
+-- States that the message at the beginning of the bytes is at this stage. At the stage `Head`, its
+-- head isn't complete. At the stage `Content`, its head announces the content from `start` to
+-- `end`. At the stage `Bad`, its head is bad: no message can begin with the bytes.
 abbrev pub IsMessageStage : List ℕ → MessageStage → Type 0
 IsMessageStage bytes Head = (length bytes < max_head_length) × HasNoEmptyLine bytes
 IsMessageStage bytes (Content start end) = AnnouncesContentBetween bytes start end

@@ -1,5 +1,5 @@
--- Defines when edits give the text of a module with a certain tree, and when edits are refused
--- because their text is too long or nested too deep.
+-- Defines when edits give the text of a module with a certain tree. Also defines when edits are
+-- refused because the edited text is too long or nested too deep.
 -- Rule: docs/PROTOCOL.md, Requests on documents 9, 10, Refusals of edits.
 use Rattle.std.specs.Prelude.{◌≡◌, ℕ, nat_lt, if◌then◌else◌, length, List, Option, Some}
 use Rattle.std.specs.Str.{chars}

@@ -49,7 +49,7 @@ pub record IsConstantAtOffset (m : ParsedModule) (offset : ℕ) (c : DeclaredCon
   pub named : name_at_offset m offset ≡ Some (record { token = token; ordinal = c.ordinal })
   pub is_constant : IsDeclaredConstant m c
 
--- States that the byte offset isn't on a name of a constant: if a name is at the offset, its
+-- States that the byte offset isn't on a name of a constant. If a name is at the offset, its
 -- declaration isn't a constant with a value.
 abbrev pub HasNoConstantAtOffset : ParsedModule → ℕ → Type 0
 HasNoConstantAtOffset m offset =
@@ -78,18 +78,19 @@ tree_inlined_everywhere m c = inlined_everywhere_and_removed (named_tree_of m) c
 abbrev pub text_inlined_everywhere : ParsedModule → DeclaredConstant → List ℕ
 text_inlined_everywhere m c = text_after_removal_and_replacement m.source c.first c.last (tokens_of_uses m c.ordinal) (value_text c.value)
 
--- Returns whether the occurrence with the number `k` is a use of the constant `c` at which TRUE or
--- FALSE, written for the constant's value, wouldn't mean the predeclared name.
+-- Returns whether the occurrence with the number `k` is a use of the constant `c` at which the word
+-- for the truth value of `c` is shadowed. The word, TRUE or FALSE, is shadowed if it wouldn't refer
+-- to the predeclared name there. If the value of `c` is a number, the result is false.
 abbrev pub is_shadowed_use : Tree Name module_text → DeclaredConstant → ℕ → Bool
 is_shadowed_use m c k = same_ordinal (ordinal_bound_at_occurrence m k) c.ordinal && not (value_text_keeps_meaning m k c.value)
 
--- Returns whether the constant `c` has a use at which TRUE or FALSE, written for the constant's
--- value, wouldn't mean the predeclared name.
+-- Returns whether the word for the truth value of the constant `c`, TRUE or FALSE, is shadowed at
+-- some use of `c` (`is_shadowed_use`).
 abbrev pub has_shadowed_use : Tree Name module_text → DeclaredConstant → Bool
 has_shadowed_use m c = list_any (is_shadowed_use m c) (range_with_len 0 (length (bindings m)))
 
--- Returns whether a comment lies between the name of the constant in its declaration and the `;` of
--- that declaration.
+-- Returns whether the constant's declaration has a comment between the constant's name and the
+-- declaration's `;`.
 abbrev pub declaration_has_comment : ParsedModule → DeclaredConstant → Bool
 declaration_has_comment m c = list_any (contains_span (span_of_tokens m.source.tokens c.first c.last)) m.source.comments
 
@@ -116,7 +117,7 @@ pub record InlinesEverywhere (unit : counting.Unit) (text : List ℕ) (m : Parse
 
 -- States that the answer to inlining the constant `c` everywhere is right. If the answer is edits,
 -- they inline the constant everywhere, and no refusal applies. Otherwise the answer is the first
--- refusal that applies, or `Memory`.
+-- refusal that applies, or `Memory` (a failed allocation).
 abbrev pub AnswersInliningOfConstant : counting.Unit
     → List ℕ
     → ParsedModule

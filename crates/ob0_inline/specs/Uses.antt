@@ -28,7 +28,7 @@ use Rattle.ob0_inline.specs.EditedModuleTexts.{EditedTextHasTree, size_refusal_o
 use Rattle.ob0_inline.specs.Values.{value_factor, value_text}
 
 -- States that the byte offset is on a use of a constant of a CONST section, and that `u` is this
--- use: `u` has the token index of the use, the number of the use among the occurrences, and the
+-- use. `u` has the token index of the use, and its number among the occurrences. `u` also has the
 -- constant's ordinal and value.
 pub record IsConstantUseAtOffset (m : ParsedModule) (offset : ℕ) (u : ConstantUse) : Type 0 where
   pub named : name_at_offset m offset ≡ Some (record { token = u.token; ordinal = u.constant })
@@ -36,8 +36,8 @@ pub record IsConstantUseAtOffset (m : ParsedModule) (offset : ℕ) (u : Constant
   pub has_value : constant_value_in_module (named_tree_of m) u.constant ≡ Some (scalar_value u.value)
 
 -- States that `u` is a use of a constant of a CONST section. The occurrence with the number
--- `u.occurrence` has the token `u.token`, and it is bound to the constant with the ordinal and the
--- value of `u`.
+-- `u.occurrence` has the token `u.token`. It is bound to the constant with the ordinal
+-- `u.constant`, whose value is `u.value`.
 pub record IsConstantUse (m : ParsedModule) (u : ConstantUse) : Type 0 where
   pub occurs : slice_get (occurrences (tree_of m)) u.occurrence ≡ Some u.token
   pub bound : ordinal_bound_at_occurrence (named_tree_of m) u.occurrence ≡ Some u.constant
@@ -48,8 +48,8 @@ abbrev pub truth_name_ordinal : Bool → ℕ
 truth_name_ordinal true = 2
 truth_name_ordinal false = 3
 
--- Returns whether TRUE or FALSE, written for a truth value in place of the occurrence with the
--- number `occurrence`, would mean the predeclared name. If the value is a number, the result is
+-- Returns whether the word for a truth value, TRUE or FALSE, would refer to the predeclared name if
+-- it replaced the occurrence with the number `occurrence`. If the value is a number, the result is
 -- true.
 abbrev pub value_text_keeps_meaning : Tree Name module_text → ℕ → Scalar → Bool
 value_text_keeps_meaning m occurrence (scalar.Number n) = true
@@ -80,7 +80,7 @@ pub record InlinesUse (unit : counting.Unit) (text : List ℕ) (m : ParsedModule
 
 -- States that the answer to inlining the constant at the use `u` is right. If the answer is edits,
 -- they inline the constant at that use, and no refusal applies. Otherwise the answer is the first
--- refusal that applies, or `Memory`.
+-- refusal that applies, or `Memory` (a failed allocation).
 abbrev pub AnswersInliningOfUse : counting.Unit
     → List ℕ
     → ParsedModule

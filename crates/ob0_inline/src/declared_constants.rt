@@ -15,9 +15,9 @@ use ob0_scope::name_at_offset;
 use ob0_scope_table::Resolved;
 use ob0_types::WellTyped;
 
-/// A constant of a CONST section, with its value. `ordinal` is the number of its declaration,
-/// counted from 0: first the predeclared names, then all declarations of the module in text order.
-/// `first` is the index of the token that declares the name, and `last` is the index of the
+/// A constant of a CONST section, with its value. `ordinal` is the number of its declaration. The
+/// predeclared names are numbered first, from 0, and then all declarations of the module in text
+/// order. `first` is the index of the token that declares the name, and `last` is the index of the
 /// declaration's `;`.
 #[derive(Clone, Copy)]
 pub struct DeclaredConstant {

@@ -157,8 +157,8 @@ fn tokens_of_uses(
     Ok(uses)
 }
 
-/// Returns whether a comment lies between the name of the constant in its declaration and the `;`
-/// of that declaration.
+/// Returns whether the constant's declaration has a comment between the constant's name and the
+/// declaration's `;`.
 fn declaration_has_comment(tokens: &Tokens, constant: DeclaredConstant) -> bool
     requires inside { constant.last < length tokens.now.tokens }
     requires order { constant.first < constant.last }

@@ -65,8 +65,8 @@ fn is_reparsed_text_nested_too_deeply<T: TextStore>(
 }
 
 /// Returns whether the text can be scanned and parsed as a module. If the text's tokens spell the
-/// tree of a module, the result is true exactly if the tree isn't nested deeper than a module may
-/// be.
+/// tree of a module, the result is true exactly if the tree's nesting is within the limit for
+/// modules.
 fn text_can_be_parsed(alloc: Global, text: &str) -> Result<bool, EditRefusal>
     ensures shallow { (s : TextWithTokens) (t : Tree (List ℕ) module_text) → IsScan s → s.text ≡ text.now
         → terminals_of_text s ≡ spell t
@@ -83,7 +83,7 @@ fn text_can_be_parsed(alloc: Global, text: &str) -> Result<bool, EditRefusal>
 }
 
 /// Returns whether these tokens can be parsed as a module. If the tokens spell the tree of a
-/// module, the result is true exactly if the tree isn't nested deeper than a module may be.
+/// module, the result is true exactly if the tree's nesting is within the limit for modules.
 fn tokens_can_be_parsed(alloc: Global, tokens: &Tokens) -> Result<bool, EditRefusal>
     ensures shallow { (t : Tree (List ℕ) module_text)
         → terminals_of_text tokens.now ≡ spell t

@@ -1,5 +1,5 @@
-//! Tests whether TRUE or FALSE, written in place of an occurrence, would mean the predeclared name.
-//! An occurrence is a name in the text that is looked up to find its declaration.
+//! Tests whether TRUE or FALSE, written in place of an occurrence, would refer to the predeclared
+//! name. An occurrence is a name in the text that is looked up to find its declaration.
 
 ghost use Rattle.std.specs.Prelude.{◌≡◌, IfOk, ◌==◌, ◌&&◌, not, length, option_and_then, slice_get};
 ghost use Rattle.std.specs.List.{list_any, range_with_len};
@@ -16,9 +16,9 @@ use ob0_scope::resolve_name_at_each_occurrence;
 use ob0_scope_table::{FALSE_ORDINAL, Resolved, TRUE_ORDINAL, same_ordinal};
 use std::alloc::{AllocError, Global};
 
-/// Returns whether TRUE or FALSE, written for the truth value `value` in place of an occurrence,
-/// would mean the predeclared name. If the value is a number, the result is true. `occurrence` is
-/// the number of the occurrence in text order, counted from 0.
+/// Returns whether the word for the truth value `value`, TRUE or FALSE, would refer to the
+/// predeclared name if it replaced an occurrence. `occurrence` is the number of this occurrence in
+/// text order, counted from 0. If the value is a number, the result is true.
 pub(crate) fn value_text_keeps_meaning(
     alloc: Global,
     names: &Resolved,
@@ -69,8 +69,9 @@ fn is_bound_to_ordinal(bound: &[Option<usize>], occurrence: usize, ordinal: usiz
     }
 }
 
-/// Returns whether the constant has a use at which TRUE or FALSE, written for the constant's value,
-/// wouldn't mean the predeclared name. If the value is a number, the result is false.
+/// Returns whether the word for the constant's truth value, TRUE or FALSE, is shadowed at some use
+/// of the constant. The word is shadowed at a use if it wouldn't refer to the predeclared name
+/// there. If the value is a number, the result is false.
 pub(crate) fn has_shadowed_use(
     alloc: Global,
     names: &Resolved,
@@ -99,9 +100,9 @@ pub(crate) fn has_shadowed_use(
     }
 }
 
-/// Returns whether `name` is shadowed at some use of the constant with the ordinal `constant`. It is
-/// shadowed there if, written in place of the use, it wouldn't be bound to the declaration with the
-/// ordinal `ordinal`.
+/// Returns whether `name` is shadowed at some use of the constant with the ordinal `constant`. The
+/// name is shadowed at a use if, written in place of the use, it wouldn't be bound to the
+/// declaration with the ordinal `ordinal`.
 fn is_name_shadowed_at_some_use(
     alloc: Global,
     names: &Resolved,

@@ -1,6 +1,6 @@
 -- States that a request to inline a constant always has an answer: for each text, some list of
--- edits is right, which may be the empty list. The statement rests on an assumption about
--- well-typed texts (`WellTypedTextsCanBeParsed`).
+-- edits, possibly empty, is right. The statement rests on an assumption about well-typed texts
+-- (`WellTypedTextsCanBeParsed`).
 -- Rule: docs/PROTOCOL.md, Requests on documents 9.
 use Rattle.std.specs.Prelude.{ℕ, List}
 use Rattle.ob0_text.specs.declared.position_types.Position.{Position}

@@ -12,14 +12,14 @@ use Rattle.ob0_language_types.specs.Typing.{constructor_count, element_type, fie
 use Rattle.ob0_language_types.specs.WellTyped.{TypeEnvironment, TypeMeanings, TypedParameter, bind_typed_parameters, declare_typed_variables, bind_procedure, typed_parameters}
 use Rattle.ob0_language_values.specs.Values.{Shape, array_shape, boolean_shape, integer_shape, record_shape}
 
--- A function that returns the new name of a field. Its arguments are the ordinal of the field's
--- record and the field's old name. The ordinal is the number of words ARRAY and RECORD before the
--- record, or None if the record is unknown.
+-- A function that returns the new name of a field. The first argument is the ordinal of the field's
+-- record, or None if the record is unknown. A record's ordinal is the number of words ARRAY and
+-- RECORD before the record in the text. The second argument is the field's old name.
 abbrev pub FieldRenaming : Type 0
 FieldRenaming = Option ℕ → Name → Name
 
 -- returns the ordinal of a record type: the number of words ARRAY and RECORD before its RECORD;
--- None for any other type and for None
+-- None if the type isn't a record type or is unknown (None)
 abbrev pub record_ordinal : Option Shape → Option ℕ
 record_ordinal None = None
 record_ordinal (Some integer_shape) = None
@@ -27,17 +27,18 @@ record_ordinal (Some boolean_shape) = None
 record_ordinal (Some (array_shape k n s)) = None
 record_ordinal (Some (record_shape k fs)) = Some k
 
--- returns the type of a designator including one more selector, given the type `s` before this
--- selector; returns None if `s` is unknown (None) or has no such field or element; for a tree that
--- isn't a selector, returns `s`
+-- Returns the type of a designator with one more selector. `s` is the type before this selector.
+-- Returns `s` if the tree isn't a selector. Returns None if `s` is unknown (None) or has no such
+-- field or element.
 abbrev pub shape_after_selector : {i : GrammarItem} → Option Shape → Tree Name (item i) → Option Shape
 shape_after_selector s (field x) = option_and_then (λ t. field_type t x) s
 shape_after_selector s (index e) = option_and_then (λ t. element_type t integer_shape) s
 shape_after_selector s _ = s
 
 -- Returns a statement, or a construct within a statement, with the selected fields renamed by `l`.
--- A field belongs to the record from which it is selected. If the construct is a selector or a list
--- of selectors, `s` is the type of the designator before it.
+-- The record of a selected field is the record type of the designator before the selector. If the
+-- construct is a selector or a list of selectors, `s` is the type of the designator before the
+-- construct.
 abbrev pub rename_selected_fields : {s : Sort} → FieldRenaming → TypeMeanings Name → Option Shape → Tree Name s → Tree Name s
 rename_selected_fields l meaning s (more t ts) =
     more (rename_selected_fields l meaning s t) (rename_selected_fields l meaning (shape_after_selector s t) ts)
@@ -80,13 +81,13 @@ rename_selected_fields l meaning s (else_branch a) = else_branch (rename_selecte
 rename_selected_fields l meaning s (begins a) = begins (rename_selected_fields l meaning None a)
 rename_selected_fields l meaning s t = t
 
--- Renames the fields that a written type, a group of fields or several groups declare. `k` is the
--- number of words ARRAY and RECORD before them. `r` is the ordinal of the record to which a group
--- of fields belongs. The length of an array is unchanged, because a constant expression has no
--- selectors.
+-- Renames, by the function `l`, the fields that a written type, a group of fields or several groups
+-- declare. Array and record types are numbered from `k`, the count of words ARRAY and RECORD before
+-- these declarations. `r` is the ordinal of the record to which a group belongs. The length of an
+-- array is unchanged, because a constant expression has no selectors.
 abbrev mutual
-  -- returns a written type with its fields renamed; `k` is the number of words ARRAY and RECORD
-  -- before the written type
+  -- returns a written type with its fields renamed by `l`; array and record types are numbered from
+  -- `k`, the count of words ARRAY and RECORD before the written type
   pub rename_fields_in_type : FieldRenaming → ℕ → Tree Name written_type → Tree Name written_type
   rename_fields_in_type l k (named_type x) = named_type x
   rename_fields_in_type l k (array_type e t) = array_type e (rename_fields_in_type l (suc k) t)
@@ -94,15 +95,17 @@ abbrev mutual
       record_type (rename_fields_in_group l k (suc k) g)
       (rename_fields_in_further_groups l k (suc k + group_constructor_count g) rest)
 
-  -- returns a group of fields of the record with ordinal `r`, with its fields and the fields in its
-  -- type renamed; `k` is the number of words ARRAY and RECORD before that type
+  -- Returns a group of fields with its own fields and the fields in its type renamed by `l`. `r` is
+  -- the ordinal of the record to which the group belongs. Array and record types are numbered from
+  -- `k`, the count of words ARRAY and RECORD before the group.
   pub rename_fields_in_group : FieldRenaming → ℕ → ℕ → Tree Name fields → Tree Name fields
   rename_fields_in_group l r k no_fields = no_fields
   rename_fields_in_group l r k (some_fields ns t) =
       some_fields (map_names (λ x. x) (l (Some r)) ns) (rename_fields_in_type l k t)
 
-  -- returns the groups of the record with ordinal `r` after its first group, with all fields
-  -- renamed; `k` is the number of words ARRAY and RECORD before these groups
+  -- Returns the groups of a record after its first group, with all fields renamed by `l`. `r` is
+  -- the record's ordinal. Array and record types are numbered from `k`, the count of words ARRAY
+  -- and RECORD before these groups.
   pub rename_fields_in_further_groups : FieldRenaming
       → ℕ
       → ℕ
@@ -113,8 +116,8 @@ abbrev mutual
       more (semicolon_then_fields (rename_fields_in_group l r k g))
       (rename_fields_in_further_groups l r (k + group_constructor_count g) rest)
 
--- returns declarations of types with the fields in these types renamed; `k` is the number of words
--- ARRAY and RECORD before these declarations
+-- returns declarations of types with the fields in these types renamed by `l`; array and record
+-- types are numbered from `k`, the count of words ARRAY and RECORD before these declarations
 abbrev pub rename_fields_in_type_definitions : FieldRenaming
     → ℕ
     → Tree Name (items type_definition)
@@ -123,8 +126,8 @@ rename_fields_in_type_definitions l k end = end
 rename_fields_in_type_definitions l k (more (declares_type x u) ds) =
     more (declares_type x (rename_fields_in_type l k u)) (rename_fields_in_type_definitions l (k + constructor_count u) ds)
 
--- returns a TYPE section with the fields in its types renamed; `k` is the number of words ARRAY and
--- RECORD before the section
+-- returns a TYPE section with the fields in its types renamed by `l`; array and record types are
+-- numbered from `k`, the count of words ARRAY and RECORD before the section
 abbrev pub rename_fields_in_type_section : FieldRenaming
     → ℕ
     → Tree Name (maybe type_definitions)
@@ -132,8 +135,8 @@ abbrev pub rename_fields_in_type_section : FieldRenaming
 rename_fields_in_type_section l k none = none
 rename_fields_in_type_section l k (one (declares_type_section ts)) = one (declares_type_section (rename_fields_in_type_definitions l k ts))
 
--- returns declarations of variables with the fields in their types renamed; `k` is the number of
--- words ARRAY and RECORD before these declarations
+-- returns declarations of variables with the fields in their types renamed by `l`; array and record
+-- types are numbered from `k`, the count of words ARRAY and RECORD before these declarations
 abbrev pub rename_fields_in_variables : FieldRenaming
     → ℕ
     → Tree Name (items variable)
@@ -142,8 +145,8 @@ rename_fields_in_variables l k end = end
 rename_fields_in_variables l k (more (declares_variable ns u) gs) =
     more (declares_variable ns (rename_fields_in_type l k u)) (rename_fields_in_variables l (k + constructor_count u) gs)
 
--- returns a VAR section with the fields in its types renamed; `k` is the number of words ARRAY and
--- RECORD before the section
+-- returns a VAR section with the fields in its types renamed by `l`; array and record types are
+-- numbered from `k`, the count of words ARRAY and RECORD before the section
 abbrev pub rename_fields_in_variable_section : FieldRenaming
     → ℕ
     → Tree Name (maybe variables)
@@ -152,14 +155,15 @@ rename_fields_in_variable_section l k none = none
 rename_fields_in_variable_section l k (one (declares_var_section vs)) =
     one (declares_var_section (rename_fields_in_variables l k vs))
 
--- returns a section of parameters with the fields in its type renamed; `k` is the number of words
--- ARRAY and RECORD before the section
+-- returns a section of parameters with the fields in its type renamed by `l`; array and record
+-- types are numbered from `k`, the count of words ARRAY and RECORD before the section
 abbrev pub rename_fields_in_parameter_section : FieldRenaming → ℕ → Tree Name section → Tree Name section
 rename_fields_in_parameter_section l k (value_section ns u) = value_section ns (rename_fields_in_type l k u)
 rename_fields_in_parameter_section l k (variable_section ns u) = variable_section ns (rename_fields_in_type l k u)
 
--- returns the sections of parameters after the first section, with the fields in their types
--- renamed; `k` is the number of words ARRAY and RECORD before these sections
+-- Returns the sections of parameters after the first section, with the fields in their types
+-- renamed by `l`. Array and record types are numbered from `k`, the count of words ARRAY and RECORD
+-- before these sections.
 abbrev pub rename_fields_in_further_parameter_sections : FieldRenaming
     → ℕ
     → Tree Name (items section_after_semicolon)
@@ -169,8 +173,8 @@ rename_fields_in_further_parameter_sections l k (more (semicolon_then_section f)
     more (semicolon_then_section (rename_fields_in_parameter_section l k f))
     (rename_fields_in_further_parameter_sections l (k + constructor_count (parameter_section_type f)) fs)
 
--- returns formal parameters with the fields in their types renamed; `k` is the number of words
--- ARRAY and RECORD before the parameters
+-- returns formal parameters with the fields in their types renamed by `l`; array and record types
+-- are numbered from `k`, the count of words ARRAY and RECORD before the parameters
 abbrev pub rename_fields_in_formals : FieldRenaming → ℕ → Tree Name (maybe formals) → Tree Name (maybe formals)
 rename_fields_in_formals l k none = none
 rename_fields_in_formals l k (one no_formals) = one no_formals
@@ -178,32 +182,33 @@ rename_fields_in_formals l k (one (some_formals f fs)) =
     one (some_formals (rename_fields_in_parameter_section l k f)
     (rename_fields_in_further_parameter_sections l (k + constructor_count (parameter_section_type f)) fs))
 
--- Returns the environment `env` with a block's constants, types and variables added. Returns `env`
--- unchanged if one of these declarations has an error. `k` is the number of words ARRAY and RECORD
--- before the block.
+-- Returns the environment `env` with a block's constants, types and variables added. Array and
+-- record types are numbered from `k`, the count of words ARRAY and RECORD before the block. Returns
+-- `env` unchanged if one of these declarations has an error.
 abbrev pub environment_after_variables : TypeEnvironment Name → ℕ → Tree Name block → TypeEnvironment Name
 environment_after_variables env k b =
     unwrap_or (option_and_then (declare_typed_variables naming_by_spelling (constructor_count_before_variables k b) (block_variables b))
     (declare_constants_and_types naming_by_spelling env k b)) env
 
--- returns the parameters of a procedure, or an empty list if a parameter's type has an error; `k`
--- is the number of words ARRAY and RECORD before the procedure
+-- Returns the parameters of a procedure. Array and record types are numbered from `k`, the count of
+-- words ARRAY and RECORD before the procedure. Returns an empty list if a parameter's type has an
+-- error.
 abbrev pub typed_parameters_of_procedure : TypeEnvironment Name
     → ℕ
     → Tree Name (item procedure)
     → List (TypedParameter Name)
 typed_parameters_of_procedure env k p = unwrap_or (typed_parameters naming_by_spelling env k (procedure_formals p)) []
 
--- returns the environment `env` with a procedure's name added; `k` is the number of words ARRAY and
--- RECORD before the procedure
+-- returns the environment `env` with a procedure's name added; array and record types are numbered
+-- from `k`, the count of words ARRAY and RECORD before the procedure
 abbrev pub environment_after_heading : TypeEnvironment Name
     → ℕ
     → Tree Name (item procedure)
     → TypeEnvironment Name
 environment_after_heading env k p = bind_procedure (procedure_name p) (typed_parameters_of_procedure env k p) env
 
--- returns the environment `env` with the names of these procedures added; `k` is the number of
--- words ARRAY and RECORD before the procedures
+-- returns the environment `env` with the names of these procedures added; array and record types
+-- are numbered from `k`, the count of words ARRAY and RECORD before the procedures
 abbrev pub environment_after_procedures : TypeEnvironment Name
     → ℕ
     → Tree Name (items procedure)
@@ -212,13 +217,13 @@ environment_after_procedures env k end = env
 environment_after_procedures env k (more p rest) =
     environment_after_procedures (environment_after_heading env k p) (k + procedure_constructor_count p) rest
 
--- Returns a block, its procedures or one procedure, with all fields renamed by `l`. `k` is the
--- number of words ARRAY and RECORD before it. Declarations of constants are unchanged, because they
--- contain no fields.
+-- Returns a block, a list of procedures or one procedure, with all fields renamed by `l`. Array and
+-- record types are numbered from `k`, the count of words ARRAY and RECORD before this part of the
+-- text. Declarations of constants are unchanged, because they contain no fields.
 abbrev mutual
-  -- returns a block with the fields in its types, variables, procedures and statements renamed;
-  -- `env` is the environment around the block, and `k` is the number of words ARRAY and RECORD
-  -- before the block
+  -- Returns a block with the fields in its types, variables, procedures and statements renamed by
+  -- `l`. `env` is the environment around the block. Array and record types are numbered from `k`,
+  -- the count of words ARRAY and RECORD before the block.
   pub rename_fields_in_block : FieldRenaming → TypeEnvironment Name → ℕ → Tree Name block → Tree Name block
   rename_fields_in_block l env k (forms_block (declares cs ts vs ps) statements) =
       forms_block
@@ -231,9 +236,9 @@ abbrev mutual
       (environment_after_variables env k (forms_block (declares cs ts vs ps) statements))
       (constructor_count_before_procedures k (forms_block (declares cs ts vs ps) statements)) ps)) None statements)
 
-  -- returns procedures with their fields renamed; `env` is the environment before the first
-  -- procedure, and `k` is the number of words ARRAY and RECORD before it; each procedure is visible
-  -- in the later procedures
+  -- Returns procedures with the fields in them renamed by `l`. Each procedure is visible in the
+  -- later procedures. `env` is the environment before the first procedure. Array and record types
+  -- are numbered from `k`, the count of words ARRAY and RECORD before the first procedure.
   pub rename_fields_in_procedure_list : FieldRenaming
       → TypeEnvironment Name
       → ℕ
@@ -245,9 +250,9 @@ abbrev mutual
       p)
       (rename_fields_in_procedure_list l (environment_after_heading env k p) (k + procedure_constructor_count p) rest)
 
-  -- returns a procedure with its fields renamed; `env` is the environment around the procedure's
-  -- block and already binds the procedure's name and parameters; `k` is the number of words ARRAY
-  -- and RECORD before the procedure
+  -- Returns a procedure with the fields in it renamed by `l`. `env` is the environment around the
+  -- procedure's block; it already binds the procedure's name and parameters. Array and record types
+  -- are numbered from `k`, the count of words ARRAY and RECORD before the procedure.
   pub rename_fields_in_procedure : FieldRenaming
       → TypeEnvironment Name
       → ℕ
@@ -257,6 +262,6 @@ abbrev mutual
       declares_procedure x (rename_fields_in_formals l k fs)
       (rename_fields_in_block l env (constructor_count_before_procedure_block k (declares_procedure x fs b closing)) b) closing
 
--- returns a module with its fields renamed by the function `l`
+-- returns a module with the fields of its records renamed by the function `l`
 abbrev pub rename_fields_in_module : FieldRenaming → Tree Name module_text → Tree Name module_text
 rename_fields_in_module l (forms_module x b closing) = forms_module x (rename_fields_in_block l (outermost_environment naming_by_spelling) 0 b) closing

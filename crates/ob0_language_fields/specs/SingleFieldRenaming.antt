@@ -23,16 +23,19 @@ single_field_renaming r f new owner x = if same_ordinal owner r && same_name x f
 abbrev pub module_with_renamed_field : Tree Name module_text → ℕ → Name → Name → Tree Name module_text
 module_with_renamed_field m r f new = rename_fields_in_module (single_field_renaming r f new) m
 
--- a RECORD of the text: the number of words ARRAY and RECORD before it, and the names of its fields
+-- A record that is written in the text, with its ordinal and the names of its fields. The ordinal
+-- is the number of words ARRAY and RECORD before the record in the text.
 pub record RecordFields : Type 0 where
   pub ordinal : ℕ
   pub declared : List Name
 
--- Returns the records in a written type, in a group of fields or in several groups. `k` is the
--- number of words ARRAY and RECORD before it.
+-- Returns the records in a written type, in a group of fields or in several groups. Array and
+-- record types are numbered from `k`, the count of words ARRAY and RECORD before this part of the
+-- text.
 abbrev mutual
-  -- returns the records in a written type, in the order of their words RECORD in the text; `k` is the number of words
-  -- ARRAY and RECORD before the written type
+  -- Returns the records in a written type, in the order of their words RECORD in the text. Array
+  -- and record types are numbered from `k`, the count of words ARRAY and RECORD before the written
+  -- type.
   pub records_in_type : ℕ → Tree Name written_type → List RecordFields
   records_in_type k (named_type x) = []
   records_in_type k (array_type e t) = records_in_type (suc k) t
@@ -40,45 +43,47 @@ abbrev mutual
       record { ordinal = k; declared = group_field_names g ++ field_names_after_first_group rest }
       ∷ (records_in_group (suc k) g ++ records_in_further_groups (suc k + group_constructor_count g) rest)
 
-  -- returns the records in the type of a group of fields, in text order; `k` is the number of words ARRAY and RECORD
-  -- before this type
+  -- returns the records in the type of a group of fields, in text order; array and record types are
+  -- numbered from `k`, the count of words ARRAY and RECORD before this type
   pub records_in_group : ℕ → Tree Name fields → List RecordFields
   records_in_group k no_fields = []
   records_in_group k (some_fields ns t) = records_in_type k t
 
-  -- returns the records in the types of a record's groups of fields after the first group, in text order; `k` is the
-  -- number of words ARRAY and RECORD before these groups
+  -- Returns the records in the types of a record's groups of fields after the first group, in text
+  -- order. Array and record types are numbered from `k`, the count of words ARRAY and RECORD before
+  -- these groups.
   pub records_in_further_groups : ℕ → Tree Name (items fields_after_semicolon) → List RecordFields
   records_in_further_groups k end = []
   records_in_further_groups k (more (semicolon_then_fields g) rest) =
       records_in_group k g ++ records_in_further_groups (k + group_constructor_count g) rest
 
--- returns the records in declarations of types, in text order; `k` is the number of words ARRAY and
--- RECORD before these declarations
+-- returns the records in declarations of types, in text order; array and record types are numbered
+-- from `k`, the count of words ARRAY and RECORD before these declarations
 abbrev pub records_in_type_definitions : ℕ → Tree Name (items type_definition) → List RecordFields
 records_in_type_definitions k end = []
 records_in_type_definitions k (more (declares_type x u) ds) =
     records_in_type k u ++ records_in_type_definitions (k + constructor_count u) ds
 
--- returns the records in the types of variables, in text order; `k` is the number of words ARRAY
--- and RECORD before these variables
+-- returns the records in the types of variables, in text order; array and record types are numbered
+-- from `k`, the count of words ARRAY and RECORD before these variables
 abbrev pub records_in_variables : ℕ → Tree Name (items variable) → List RecordFields
 records_in_variables k end = []
 records_in_variables k (more (declares_variable ns u) gs) =
     records_in_type k u ++ records_in_variables (k + constructor_count u) gs
 
--- returns the records in the types of parameters, in text order; `k` is the number of words ARRAY
--- and RECORD before these parameters
+-- returns the records in the types of parameters, in text order; array and record types are
+-- numbered from `k`, the count of words ARRAY and RECORD before these parameters
 abbrev pub records_in_parameter_sections : ℕ → Tree Name (items section_after_semicolon) → List RecordFields
 records_in_parameter_sections k end = []
 records_in_parameter_sections k (more (semicolon_then_section f) fs) =
     records_in_type k (parameter_section_type f) ++ records_in_parameter_sections (k + constructor_count (parameter_section_type f)) fs
 
--- Returns the records in a block or in its procedures, in text order. `k` is the number of words
--- ARRAY and RECORD before it.
+-- Returns the records in a block, in a list of procedures or in one procedure, in text order. Array
+-- and record types are numbered from `k`, the count of words ARRAY and RECORD before this part of
+-- the text.
 abbrev mutual
-  -- returns the records in the types, the variables and the procedures of a block; `k` is the number of words ARRAY and
-  -- RECORD before the block
+  -- returns the records in the types, the variables and the procedures of a block; array and record
+  -- types are numbered from `k`, the count of words ARRAY and RECORD before the block
   pub records_in_block : ℕ → Tree Name block → List RecordFields
   records_in_block k (forms_block (declares cs ts vs ps) statements) =
       records_in_type_definitions k (section_types ts)
@@ -86,14 +91,15 @@ abbrev mutual
       (section_variables vs)
       ++ records_in_procedure_list (constructor_count_before_procedures k (forms_block (declares cs ts vs ps) statements)) ps)
 
-  -- returns the records in procedures, in text order; `k` is the number of words ARRAY and RECORD before the procedures
+  -- returns the records in procedures, in text order; array and record types are numbered from `k`,
+  -- the count of words ARRAY and RECORD before the procedures
   pub records_in_procedure_list : ℕ → Tree Name (items procedure) → List RecordFields
   records_in_procedure_list k end = []
   records_in_procedure_list k (more p rest) =
       records_in_procedure k p ++ records_in_procedure_list (k + procedure_constructor_count p) rest
 
-  -- returns the records in the parameters and the block of a procedure; `k` is the number of words ARRAY and RECORD
-  -- before the procedure
+  -- returns the records in the parameters and the block of a procedure; array and record types are
+  -- numbered from `k`, the count of words ARRAY and RECORD before the procedure
   pub records_in_procedure : ℕ → Tree Name (item procedure) → List RecordFields
   records_in_procedure k (declares_procedure x fs b closing) =
       records_in_parameter_sections k (formal_parameter_sections fs)

@@ -42,7 +42,7 @@ block_constants (forms_block (declares cs ts vs ps) statements) = section_consta
 abbrev pub block_types : {N : Type 0} → Tree N block → Tree N (items type_definition)
 block_types (forms_block (declares cs ts vs ps) statements) = section_types ts
 
--- returns the groups of variables that a block declares, in text order
+-- returns the groups of variables that a block declares, such as `a, b: INTEGER`, in text order
 abbrev pub block_variables : {N : Type 0} → Tree N block → Tree N (items variable)
 block_variables (forms_block (declares cs ts vs ps) statements) = section_variables vs
 
@@ -50,7 +50,7 @@ block_variables (forms_block (declares cs ts vs ps) statements) = section_variab
 abbrev pub block_procedures : {N : Type 0} → Tree N block → Tree N (items procedure)
 block_procedures (forms_block (declares cs ts vs ps) statements) = ps
 
--- returns the statements of a block, or `none` if it has none
+-- returns the statements of a block, or `none` if the block has no statements
 abbrev pub block_statements : {N : Type 0} → Tree N block → Tree N (maybe body)
 block_statements (forms_block ds statements) = statements
 

@@ -78,9 +78,9 @@ formals_have_distinct_fields (more (semicolon_then_section s) fs) = has_distinct
 -- procedure's closing name equals the procedure's name. A procedure's parameters and locals count
 -- as one block.
 abbrev mutual
-  -- Returns whether a block and the blocks and records inside it declare no name twice. The
-  -- procedures inside it must also have the right closing names. `own` has the names of the
-  -- parameters if this is a procedure's block. These names count as the block's names.
+  -- Returns whether the block declares no name twice, and no block or record inside it does. The
+  -- procedures inside the block must also have the right closing names. If this is a procedure's
+  -- block, `own` has the names of the parameters, which count as names of the block.
   pub block_has_consistent_names : List Name → Tree Name block → Bool
   block_has_consistent_names own (forms_block (declares cs ts vs ps) statements) =
       are_distinct (own ++ names_declared_in_block (forms_block (declares cs ts vs ps) statements))

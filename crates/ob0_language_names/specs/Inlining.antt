@@ -12,9 +12,9 @@ use Rattle.ob0_language_names.specs.Scopes.{ordinal_after_names, ordinal_after_p
 abbrev pub OccurrenceSet : Type 0
 OccurrenceSet = ℕ → Bool
 
--- Returns the tree in which the factor `v` replaces each occurrence in the set `uses` that is a whole factor.
--- Occurrences of names are numbered in text order within the module, and the first occurrence in this tree has number
--- `k`.
+-- Returns the tree in which the factor `v` replaces each whole factor in the set `uses`. A whole
+-- factor is a name without selectors in an expression. Occurrences of names are numbered in text
+-- order within the module, and the first occurrence in this tree has number `k`.
 abbrev pub inline_in_tree : {s : Sort} → OccurrenceSet → Tree Name factor → ℕ → Tree Name s → Tree Name s
 inline_in_tree uses v k none = none
 inline_in_tree uses v k (one t) = one (inline_in_tree uses v k t)
@@ -103,8 +103,8 @@ inline_in_tree uses v k (forms_block ds b) =
     forms_block (inline_in_tree uses v k ds) (inline_in_tree uses v (k + length (occurrences ds)) b)
 inline_in_tree uses v k (forms_module name b closing) = forms_module name (inline_in_tree uses v k b) closing
 
--- returns the module in which the factor `v` replaces each occurrence in the set `uses` that is a
--- whole factor
+-- Returns the module in which the factor `v` replaces each whole factor in the set `uses`. A whole
+-- factor is a name without selectors in an expression.
 abbrev pub inlined : Tree Name module_text → OccurrenceSet → Tree Name factor → Tree Name module_text
 inlined m uses v = inline_in_tree uses v 0 m
 
@@ -152,7 +152,7 @@ single_occurrence occurrence k = k == occurrence
 abbrev pub occurrences_bound_to_ordinal : Tree Name module_text → ℕ → OccurrenceSet
 occurrences_bound_to_ordinal m d k = same_ordinal (ordinal_bound_at_occurrence m k) d
 
--- Returns the module in which the factor `v` replaces each whole factor that is a use of the
--- constant with ordinal `d`. The declaration of this constant is removed.
+-- Returns the module without the declaration of the constant with ordinal `d`. The factor `v`
+-- replaces each use of this constant that is a whole factor, that is, a name without selectors.
 abbrev pub inlined_everywhere_and_removed : Tree Name module_text → ℕ → Tree Name factor → Tree Name module_text
 inlined_everywhere_and_removed m d v = module_without_constant d (inlined m (occurrences_bound_to_ordinal m d) v)

@@ -7,8 +7,9 @@ use Rattle.ob0_language_names.specs.BlockParts.{formal_parameter_names, formal_p
 use Rattle.ob0_language_names.specs.Scopes.{Scope, ordinal_after_names, ordinal_after_procedure, body_scope, declare_names, first_procedure_ordinal, numbered, predeclared_count, renamed}
 use Rattle.std.specs.List.{list_any}
 
--- returns the label of each occurrence of a looked-up name, in text order: the ordinal of the declaration that the
--- occurrence is bound to, or the name as written if the occurrence is unbound
+-- Returns the label of each occurrence of a looked-up name, in text order. The label is the ordinal
+-- of the declaration to which the occurrence is bound, or the name as written if the occurrence is
+-- unbound.
 abbrev pub bindings : Tree Name module_text → List Label
 bindings m = occurrences (numbered m)
 
@@ -54,14 +55,16 @@ declares_ordinal own d = list_any (λ b. b.1 == d) own
 abbrev pub another_declaration_has_name : Scope Name → ℕ → Name → Bool
 another_declaration_has_name own d new = list_any (λ b. same_name b.0 new && not (b.1 == d)) own
 
--- returns whether the block that declares the ordinal `d` has another declaration with the name `new`
+-- returns whether the block of the declaration with ordinal `d` has another declaration with the
+-- name `new`
 abbrev pub is_duplicate_name : Tree Name module_text → ℕ → Name → Bool
 is_duplicate_name m d new =
     list_any (λ own. declares_ordinal own d && another_declaration_has_name own d new)
     (scopes_in_block predeclared_count [] (module_block m))
 
--- States that the name `new` is free for the declaration with ordinal `d`. No other declaration in the block that
--- declares `d` has this name, and renaming `d` to `new` doesn't change the binding of any occurrence.
+-- States that the name `new` is free for the declaration with ordinal `d`. No other declaration in
+-- the same block has this name, and renaming the declaration to `new` changes the binding of no
+-- occurrence.
 abbrev pub IsFreeName : Tree Name module_text → ℕ → Name → Type 0
 IsFreeName m d new = (is_duplicate_name m d new ≡ false) × (bindings (renamed m d new) ≡ bindings m)
 

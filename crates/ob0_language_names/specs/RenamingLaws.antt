@@ -8,8 +8,8 @@ use Rattle.ob0_language_names.specs.Occurrences.{IsFreeName, first_name_conflict
 use Rattle.ob0_language_names.specs.Scopes.{renamed}
 use Rattle.ob0_language_names.specs.ConsistentNames.{has_consistent_names}
 
--- States that renaming a declaration to a free name keeps `has_consistent_names` true: no name is declared
--- twice in a block or record, and the closing names are right.
+-- States that renaming a declaration to a free name keeps `has_consistent_names` true. This means
+-- that no name is declared twice in a block or record, and that the closing names are right.
 abbrev pub RenamingToFreeNameKeepsConsistentNames : Type 0
 RenamingToFreeNameKeepsConsistentNames =
     (m : Tree Name module_text) (d : ℕ) (new : Name)

@@ -34,33 +34,38 @@ abbrev pub predeclared_scope : {N : Type 0} → Naming N → Scope N
 predeclared_scope naming =
     declare_names 0 (map naming.predeclared (0 ∷ 1 ∷ 2 ∷ 3 ∷ 4 ∷ 5 ∷ 6 ∷ [])) []
 
--- returns the first ordinal after these names, if the first of them has ordinal `k`
+-- returns the ordinal of the next declaration after these names, if the names' ordinals count up
+-- from `k`
 abbrev pub ordinal_after_names : {N : Type 0} → ℕ → List N → ℕ
 ordinal_after_names k [] = k
 ordinal_after_names k (x ∷ xs) = ordinal_after_names (suc k) xs
 
--- Returns the first ordinal after a block, after procedures, or after a procedure.
+-- Returns the ordinal of the next declaration after a block, after a list of procedures, or after a
+-- procedure.
 abbrev mutual
-  -- returns the first ordinal after a block whose first declaration has ordinal `k`
+  -- returns the ordinal of the next declaration after a block whose first declaration has ordinal
+  -- `k`
   pub ordinal_after_block : {N : Type 0} → ℕ → Tree N block → ℕ
   ordinal_after_block k (forms_block (declares cs ts vs ps) statements) =
       ordinal_after_procedure_list (ordinal_after_names (ordinal_after_names
       (ordinal_after_names k (constant_names (section_constants cs))) (declared_type_names (section_types ts)))
       (variable_names (section_variables vs))) ps
 
-  -- returns the first ordinal after procedures, the first of which has ordinal `k`
+  -- returns the ordinal of the next declaration after procedures, the first of which has ordinal
+  -- `k`
   pub ordinal_after_procedure_list : {N : Type 0} → ℕ → Tree N (items procedure) → ℕ
   ordinal_after_procedure_list k end = k
   ordinal_after_procedure_list k (more p rest) = ordinal_after_procedure_list (ordinal_after_procedure (suc k) p) rest
 
-  -- Returns the first ordinal after the parameters and the block of a procedure. The procedure's
-  -- name has ordinal `k - 1`, so the first declaration after it has ordinal `k`.
+  -- Returns the ordinal of the next declaration after a procedure. The procedure's name has ordinal
+  -- `k - 1`. Its first parameter, or the first declaration in its block if it has no parameters,
+  -- has ordinal `k`.
   pub ordinal_after_procedure : {N : Type 0} → ℕ → Tree N (item procedure) → ℕ
   ordinal_after_procedure k (declares_procedure x fs b closing) =
       ordinal_after_block (ordinal_after_names k (formal_parameter_names (formal_parameter_sections fs))) b
 
--- A function that returns the label that replaces a name. Its arguments are the ordinal of the name's declaration, or
--- None if the name is unbound, and the name itself.
+-- A function that returns the label that replaces a name. The first argument is the ordinal of the
+-- name's declaration, or None if the name is unbound. The second argument is the name itself.
 abbrev pub Labelling : Type 0 → Type 0 → Type 0
 Labelling N M = Option ℕ → N → M
 
@@ -68,9 +73,9 @@ Labelling N M = Option ℕ → N → M
 abbrev pub label_in_scope : {N M : Type 0} → Naming N → Labelling N M → Scope N → N → M
 label_in_scope naming label scope x = label (ordinal_in_scope naming scope x) x
 
--- Returns an expression, a written type or statements, with labels instead of names. Such a tree
--- contains no declarations. Its names are looked up in `scope`. The names of fields aren't looked
--- up: they get the labels of unbound names.
+-- Returns an expression, statements or a type as it is written, with labels instead of names. The
+-- names in such a tree are looked up in `scope`. The names of fields aren't looked up: they get the
+-- labels of unbound names.
 abbrev pub relabel_uses : {N M : Type 0} {s : Sort}
     → Naming N
     → Labelling N M
@@ -84,8 +89,8 @@ abbrev pub labels_of_declared_names : {N M : Type 0} → Labelling N M → ℕ �
 labels_of_declared_names label k [] = []
 labels_of_declared_names label k (x ∷ xs) = label (Some k) x ∷ labels_of_declared_names label (suc k) xs
 
--- returns the names in a name list after the first name, with labels instead of these declared
--- names; their ordinals count up from `k`
+-- returns the rest of a list of declared names, after the first name, with labels instead of names;
+-- the ordinals of these names count up from `k`
 abbrev pub relabel_names_after_first : {N M : Type 0}
     → Labelling N M
     → ℕ
@@ -269,8 +274,8 @@ abbrev pub body_scope : {N : Type 0} → ℕ → Tree N block → Scope N → Sc
 body_scope k b scope =
     declare_procedure_names (first_procedure_ordinal k b) (block_procedures b) (scope_before_procedures k b scope)
 
--- Returns a block, its procedures or one procedure, with labels instead of names. `scope` is the
--- scope at its start.
+-- Returns a block, a list of procedures or one procedure, with labels instead of names. `scope` has
+-- the bindings that are visible just before this part of the text.
 abbrev mutual
   -- returns a block with labels instead of names; its first declaration has ordinal `k`
   pub relabel_block : {N M : Type 0}

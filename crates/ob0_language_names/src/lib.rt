@@ -1,3 +1,3 @@
-//! Definitions and laws of the scopes of a module (docs/LANGUAGE.md, Scopes): the declaration that
-//! each name is bound to, and the renaming and inlining of a declaration.
+//! Definitions and laws of the scopes of a module (docs/LANGUAGE.md, Scopes). They are about the
+//! declaration to which each name is bound, and about renaming and inlining a declaration.
 #![tactic(auto)]

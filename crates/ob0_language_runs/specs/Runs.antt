@@ -69,7 +69,8 @@ abbrev pub read_number : State → Place → List ℤ → Progress
 read_number s p [] = stopped InputEnd s.output
 read_number s p (n ∷ rest) = store_value_at_place record s { input = rest } p (number n)
 
--- returns the modes in which the arguments of a call are passed; Stuck if the called object isn't a procedure
+-- returns the modes in which the arguments of a call are passed, by place or by value; the end
+-- Stuck if the called object isn't a procedure
 abbrev pub argument_modes_of : Option (Object Place (List ParameterMode)) → Outcome (List ParameterMode)
 argument_modes_of (Some (a_procedure modes)) = succeeds_with modes
 argument_modes_of (Some (a_standard_procedure read_procedure)) = succeeds_with (by_place ∷ [])
@@ -93,7 +94,8 @@ evaluate_argument meaning store by_place e = do
   p ← designated_place meaning store d.0 d.1
   succeeds_with (place_argument p)
 
--- evaluates the arguments of a call from left to right; Stuck if there are more or fewer arguments than modes
+-- evaluates the arguments of a call from left to right, each in the mode of its parameter; returns
+-- the end Stuck if there are more or fewer arguments than modes
 unfoldable pub evaluate_arguments : {N P : Type 0}
     → Meanings N Place P
     → Store
@@ -133,7 +135,8 @@ execute_while (suc t) condition statements s =
     continue_with_result s (condition s) (λ v. choose_by_truth_value s v
     (λ s'. continue_if_running (statements s') (execute_while t condition statements)) running)
 
--- a function that performs the call of a procedure, given by its name, with these arguments in a state
+-- a function that performs a call, given the name of the called procedure, the evaluated arguments
+-- and the state before the call
 abbrev pub CallFunction : Type 0 → Type 0
 CallFunction N = N → List Argument → State → Progress
 
@@ -229,7 +232,8 @@ unfoldable mutual
   execute_else meaning enter t (one (else_branch statements)) s =
       execute_sequence meaning enter t statements s
 
--- a procedure in a run: its text, and the number of words ARRAY and RECORD before it
+-- A procedure in a run, with its text. `constructors_before` is the count of words ARRAY and RECORD
+-- before the procedure; the procedure's array and record types are numbered from this count.
 pub record ProcedureText (N : Type 0) : Type 0 where
   pub constructors_before : ℕ
   pub text : Tree N (item procedure)
@@ -255,8 +259,9 @@ add_variables_to_frame (x ∷ xs) v f =
       store = f.store ++ v ∷ [];
     }
 
--- Returns the frame with declared variables added. In their values, each number is 0 and each truth value is FALSE. `k`
--- is the number of words ARRAY and RECORD before these declarations. Returns None if a type has an error.
+-- Returns the frame with declared variables added. In their values, each number is 0 and each truth
+-- value is FALSE. Array and record types are numbered from `k`, the count of words ARRAY and RECORD
+-- before these declarations. Returns None if a type has an error.
 unfoldable pub declare_variables : {N : Type 0}
     → Naming N
     → ℕ
@@ -270,8 +275,9 @@ declare_variables naming k (more (declares_variable ns u) gs) f =
     (add_variables_to_frame (names_in_list ns) (initial_value s) f))
     (denoted_type (meanings naming f.env) k u)
 
--- returns the environment `env` with these procedures added, each with the number of words ARRAY and RECORD before it;
--- `k` is this number for the first procedure
+-- Returns the environment `env` with these procedures added. Each procedure gets its text and the
+-- count of words ARRAY and RECORD before it; its array and record types are numbered from this
+-- count. `k` is the count for the first procedure.
 abbrev pub declare_procedures : {N : Type 0}
     → ℕ
     → Tree N (items procedure)
@@ -282,13 +288,14 @@ declare_procedures k (more p rest) env =
     declare_procedures (k + procedure_constructor_count p) rest
     ((procedure_name p, a_procedure record { constructors_before = k; text = p }) ∷ env)
 
--- returns the frame with the procedures of a block added to its environment; `k` is the number of words ARRAY and
--- RECORD before the procedures
+-- returns the frame with the procedures of a block added to its environment; array and record types
+-- are numbered from `k`, the count of words ARRAY and RECORD before the procedures
 abbrev pub declare_procedures_in_frame : {N : Type 0} → ℕ → Tree N (items procedure) → Frame N → Frame N
 declare_procedures_in_frame k ps f = record { env = declare_procedures k ps f.env; store = f.store }
 
--- Returns the frame with a block's constants, types, variables and procedures added, in this order. `k` is the number
--- of words ARRAY and RECORD before the block. Returns None if a constant, type or variable has an error.
+-- Returns the frame with a block's constants, types, variables and procedures added, in this order.
+-- Array and record types are numbered from `k`, the count of words ARRAY and RECORD before the
+-- block. Returns None if a constant, type or variable has an error.
 unfoldable pub declare_block_in_frame : {N : Type 0}
     → Naming N
     → ℕ
@@ -340,8 +347,8 @@ formal_parameter_modes end = []
 formal_parameter_modes (more (semicolon_then_section f) fs) =
     map (λ x. parameter_section_mode f) (parameter_section_names f) ++ formal_parameter_modes fs
 
--- returns a name's object with only the data that statements need: a procedure keeps only the modes of its parameters,
--- and any other object is unchanged
+-- Returns a name's object with only the data that statements need. A procedure keeps only the modes
+-- of its parameters. Any other object is unchanged.
 abbrev pub object_for_statements : {N : Type 0}
     → Option (Object Place (ProcedureText N))
     → Option (Object Place (List ParameterMode))

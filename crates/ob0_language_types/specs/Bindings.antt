@@ -1,5 +1,6 @@
--- The bindings that all declarations of a module make, newest first. The object in a binding is determined by checking
--- the declaration in the environment before it.
+-- The bindings that all declarations of a module make, newest first. A binding has a name and an
+-- object. The object results from checking the declaration in the environment that precedes the
+-- declaration.
 -- Rule: docs/LANGUAGE.md, Scopes 2 to 4.
 use Rattle.std.specs.Prelude.{ℕ, ◌+◌, ◌-◌, List, [], ◌++◌, length, take, Some, None, Option}
 use Rattle.ob0_tree.specs.Tree.{Tree, block, declares, declares_procedure, end, forms_block, item, items, module_text, more, procedure}
@@ -28,9 +29,10 @@ list_if_some (Some a) list = list a
 unfoldable mutual
   unfolding declare_procedure typed_parameters
 
-  -- returns the bindings that the declarations of a block make, including the declarations in its procedures, newest
-  -- first; an empty list if a constant, type or variable of the block has an error; `k` is the number of words ARRAY
-  -- and RECORD before the block
+  -- Returns the bindings that the declarations of a block make, including the declarations in its
+  -- procedures, newest first. The block's array and record types are numbered from `k`, the count
+  -- of words ARRAY and RECORD before the block. Returns an empty list if a constant, type or
+  -- variable of the block has an error.
   pub block_bindings : {N : Type 0}
       → Naming N
       → TypeEnvironment N
@@ -43,8 +45,9 @@ unfoldable mutual
       (constructor_count_before_procedures k (forms_block (declares cs ts vs ps) statements)) ps
       ++ added_bindings env inner)
 
-  -- Returns the bindings of a list of procedures, from the last procedure to the first. Leaves out the first procedure
-  -- that isn't well-typed and all later procedures. `k` is the number of words ARRAY and RECORD before the procedures.
+  -- Returns the bindings of a list of procedures, from the last procedure to the first. Leaves out
+  -- the first procedure that isn't well-typed and all later procedures. Array and record types are
+  -- numbered from `k`, the count of words ARRAY and RECORD before the procedures.
   pub procedure_list_bindings : {N : Type 0}
       → Naming N
       → TypeEnvironment N
@@ -57,9 +60,10 @@ unfoldable mutual
       (k + procedure_constructor_count p) rest
       ++ procedure_bindings naming env k p)
 
-  -- Returns the bindings of a procedure: first the bindings of its block, then of its parameters, then of its name.
-  -- Returns an empty list if a parameter's type has an error. `k` is the number of words ARRAY and RECORD before the
-  -- procedure.
+  -- Returns the bindings of a procedure: first the bindings of its block, then of its parameters,
+  -- then of its name. The procedure's array and record types are numbered from `k`, the count of
+  -- words ARRAY and RECORD before the procedure. Returns an empty list if a parameter's type has an
+  -- error.
   pub procedure_bindings : {N : Type 0}
       → Naming N
       → TypeEnvironment N
@@ -77,13 +81,13 @@ abbrev pub module_bindings : {N : Type 0} → Naming N → Tree N module_text �
 module_bindings naming m =
     block_bindings naming (outermost_environment naming) 0 (module_block m) ++ outermost_environment naming
 
--- returns the object in the newest binding of the ordinal `k`; None if no binding is for `k`
+-- returns the object in the newest binding of the ordinal `k`; None if `k` has no binding
 abbrev pub object_of_ordinal : TypeEnvironment Label → ℕ → Option (Object Shape Signature)
 object_of_ordinal bindings k = newest_object (suffix_from_newest_binding naming_by_label bindings (declared k))
 
--- Returns the object of the declaration with ordinal `k`. A declaration's ordinal is its number in text order, after
--- the predeclared names 0 to 6. Looks for `k` in the bindings of the numbered tree, in which ordinals replace names.
--- Returns None if no binding is for `k`.
+-- Returns the object of the declaration with ordinal `k`. A declaration's ordinal is its number in
+-- text order, after the predeclared names 0 to 6. Looks for `k` in the bindings of the numbered
+-- tree, in which ordinals replace names. Returns None if `k` has no binding there.
 abbrev pub declared_object : Tree Name module_text → ℕ → Option (Object Shape Signature)
 declared_object m k = object_of_ordinal (module_bindings naming_by_label (numbered m)) k
 

@@ -8,8 +8,9 @@ use Rattle.ob0_language_types.specs.Declarations.{constructor_count_before_varia
 use Rattle.ob0_language_types.specs.Typing.{◌>>=◌}
 use Rattle.ob0_language_types.specs.WellTyped.{TypeEnvironment, bind_typed_parameters, declare_typed_variables, bind_procedure, procedure_is_well_typed, typed_parameters}
 
--- Returns the environment `env` with the name of the procedure `p` added. Returns None if this
--- procedure isn't well-typed. `k` is the number of words ARRAY and RECORD before the procedure.
+-- Returns the environment `env` with the name of the procedure `p` added. The procedure's array and
+-- record types are numbered from `k`, the count of words ARRAY and RECORD before the procedure.
+-- Returns None if the procedure isn't well-typed.
 unfoldable pub declare_procedure : {N : Type 0}
     → Naming N
     → TypeEnvironment N
@@ -23,9 +24,9 @@ declare_procedure naming env k p = do
       then Some (bind_procedure (procedure_name p) ps env)
       else None
 
--- Returns the environment `env` with a block's constants, types and variables added. Returns None
--- if one of these declarations has an error. `k` is the number of words ARRAY and RECORD before the
--- block.
+-- Returns the environment `env` with a block's constants, types and variables added. The block's
+-- array and record types are numbered from `k`, the count of words ARRAY and RECORD before the
+-- block. Returns None if one of these declarations has an error.
 abbrev pub declare_block : {N : Type 0}
     → Naming N
     → TypeEnvironment N

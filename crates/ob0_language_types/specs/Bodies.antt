@@ -22,9 +22,9 @@ pub record BodyWithEnvironment (N : Type 0) : Type 0 where
 unfoldable mutual
   unfolding typed_parameters
 
-  -- Returns the bodies of a block's procedures, then the block's own body. Returns an empty list if
-  -- a constant, type or variable of the block has an error. `k` is the number of words ARRAY and
-  -- RECORD before the block.
+  -- Returns the bodies of a block's procedures, then the block's own body. The block's array and
+  -- record types are numbered from `k`, the count of words ARRAY and RECORD before the block.
+  -- Returns an empty list if a constant, type or variable of the block has an error.
   pub block_bodies : {N : Type 0}
       → Naming N
       → TypeEnvironment N
@@ -37,9 +37,9 @@ unfoldable mutual
       (constructor_count_before_procedures k (forms_block (declares cs ts vs ps) statements)) statements ps)
 
   -- Returns the bodies of a list of procedures in text order, then the body `statements` of the
-  -- block that contains these procedures. If a parameter's type has an error, the result ends
-  -- before the bodies of that parameter's procedure. `k` is the number of words ARRAY and RECORD
-  -- before the procedures.
+  -- block that contains these procedures. Array and record types are numbered from `k`, the count
+  -- of words ARRAY and RECORD before the procedures. If a parameter's type has an error, the result
+  -- ends before the bodies of that parameter's procedure.
   pub procedure_list_bodies : {N : Type 0}
       → Naming N
       → TypeEnvironment N
@@ -55,8 +55,9 @@ unfoldable mutual
       ++ procedure_list_bodies naming (bind_procedure (procedure_name p) ps env)
       (k + procedure_constructor_count p) statements rest)
 
-  -- returns the bodies of a procedure's block; `env` already binds the procedure's name and
-  -- parameters; `k` is the number of words ARRAY and RECORD before the procedure
+  -- Returns the bodies of a procedure's block. `env` already binds the procedure's name and
+  -- parameters. The procedure's array and record types are numbered from `k`, the count of words
+  -- ARRAY and RECORD before the procedure.
   pub procedure_bodies : {N : Type 0}
       → Naming N
       → TypeEnvironment N
@@ -70,14 +71,13 @@ unfoldable mutual
 abbrev pub module_bodies : {N : Type 0} → Naming N → Tree N module_text → List (BodyWithEnvironment N)
 module_bodies naming m = block_bodies naming (outermost_environment naming) 0 (module_block m)
 
--- States that the property `Q` holds for each of these environments of a block: after its
--- variables, at the start of each procedure's block, and after its procedures. The same must hold
--- within each procedure.
+-- States that the property `Q` holds for a block's environments: after its variables, at the start
+-- of each procedure's block, and after its procedures. The same must hold inside each procedure.
 abbrev mutual
-  -- States that `Q` holds for the environment after a block's constants, types and variables, and
-  -- that `HoldsForProcedureListEnvironments` holds for the block's procedures in this environment. States nothing if a
-  -- constant, type or variable has an error. `k` is the number of words ARRAY and RECORD before the
-  -- block.
+  -- States that `Q` holds for the environment after a block's constants, types and variables.
+  -- `HoldsForProcedureListEnvironments` must also hold for the block's procedures in this
+  -- environment. The block's array and record types are numbered from `k`, the count of words ARRAY
+  -- and RECORD before the block. States nothing if a constant, type or variable has an error.
   pub HoldsForBlockEnvironments : (TypeEnvironment Label → Type 0)
       → TypeEnvironment Label
       → ℕ
@@ -89,10 +89,11 @@ abbrev mutual
       → Q inner
       × HoldsForProcedureListEnvironments Q inner (constructor_count_before_procedures k (forms_block (declares cs ts vs ps) statements)) ps
 
-  -- States that `Q` holds for the environment of each procedure's block, for the environments
-  -- within that block, and for the environment after all procedures. If a parameter's type has an
-  -- error, states nothing about that parameter's procedure and the environments after it. `k` is
-  -- the number of words ARRAY and RECORD before the procedures.
+  -- States that `Q` holds for the environment at the start of each procedure's block and for the
+  -- environments inside that block. `Q` must also hold for the environment after all procedures.
+  -- Array and record types are numbered from `k`, the count of words ARRAY and RECORD before the
+  -- procedures. If a parameter's type has an error, states nothing about that parameter's procedure
+  -- and the environments after it.
   pub HoldsForProcedureListEnvironments : (TypeEnvironment Label → Type 0)
       → TypeEnvironment Label
       → ℕ
@@ -106,8 +107,9 @@ abbrev mutual
       × HoldsForProcedureEnvironments Q (bind_typed_parameters ps (bind_procedure (procedure_name p) ps env)) k p
       × HoldsForProcedureListEnvironments Q (bind_procedure (procedure_name p) ps env) (k + procedure_constructor_count p) rest
 
-  -- states that `HoldsForBlockEnvironments` holds for a procedure's block; `k` is the number of
-  -- words ARRAY and RECORD before the procedure
+  -- States that `HoldsForBlockEnvironments` holds for a procedure's block. The procedure's array
+  -- and record types are numbered from `k`, the count of words ARRAY and RECORD before the
+  -- procedure.
   pub HoldsForProcedureEnvironments : (TypeEnvironment Label → Type 0)
       → TypeEnvironment Label
       → ℕ
@@ -116,8 +118,8 @@ abbrev mutual
   HoldsForProcedureEnvironments Q env k (declares_procedure x fs b closing) =
       HoldsForBlockEnvironments Q env (k + formals_constructor_count (formal_parameter_sections fs)) b
 
--- States that environments agree with declarations. Let the statements of a block in a well-typed
--- module be checked in an environment that binds an ordinal to an object. Then `declared_object`
+-- States that environments agree with declarations. Let a block's statements be checked in an
+-- environment that binds an ordinal to an object. If the module is well-typed, `declared_object`
 -- returns the same object for this ordinal. An ordinal is the number of a declaration in text
 -- order.
 abbrev pub BindingsMatchDeclarations : Type 0

@@ -38,7 +38,8 @@ predeclared_constants =
 
 -- Returns the value of the constant with ordinal `d` in a list of constant declarations. `known` is
 -- the environment before the list. The first declaration in the list has ordinal `k`. Returns None
--- if the list doesn't declare `d`, or if this constant or an earlier one in the list has no value.
+-- if the list doesn't declare this constant, or if this constant or an earlier one in the list has
+-- no value.
 unfoldable pub constant_value_in_section : ConstantEnvironment → ℕ → ℕ → Tree Name (items constant) → Option Value
 unfolding constant_expression_value
 constant_value_in_section known d k end = None
@@ -46,15 +47,15 @@ constant_value_in_section known d k (more (declares_constant x e) cs) = do
   v ← constant_expression_value (meanings naming_by_spelling known) e
   if k == d then Some v else constant_value_in_section ((x, a_constant v) ∷ known) d (suc k) cs
 
--- Returns the value of the constant with ordinal `d`. Returns None if no CONST section declares
--- `d`. Also returns None if this constant, an earlier constant in its section or a constant of an
--- enclosing block has no value.
+-- Returns the value of the constant with ordinal `d`. Returns None if no CONST section declares a
+-- constant with this ordinal. Also returns None if this constant, an earlier constant in its
+-- section or a constant of an enclosing block has no value.
 unfoldable mutual
   unfolding constant_value_in_section declare_constants
 
-  -- returns the value of the constant with ordinal `d` in a block or its procedures; the block's
-  -- first declaration has ordinal `k`; None if they don't declare this constant or its value can't
-  -- be computed
+  -- Returns the value of the constant with ordinal `d` in a block or its procedures. The block's
+  -- first declaration has ordinal `k`. Returns None if the block and its procedures don't declare
+  -- this constant, or its value can't be computed.
   pub constant_value_in_block : ConstantEnvironment → ℕ → ℕ → Tree Name block → Option Value
   constant_value_in_block known d k (forms_block (declares cs ts vs ps) statements) =
       if nat_lt d (first_type_ordinal k (forms_block (declares cs ts vs ps) statements))
@@ -86,9 +87,9 @@ unfoldable mutual
       (ordinal_after_names k (formal_parameter_names (formal_parameter_sections fs))) b
 
 -- Returns the value of the constant with ordinal `d`. A declaration's ordinal is its number in text
--- order, after the predeclared names 0 to 6. Returns None if no CONST section declares `d`. Also
--- returns None if this constant, an earlier constant in its section or a constant of an enclosing
--- block has no value.
+-- order, after the predeclared names 0 to 6. Returns None if no CONST section declares a constant
+-- with this ordinal. Also returns None if this constant, an earlier constant in its section or a
+-- constant of an enclosing block has no value.
 unfoldable pub constant_value_in_module : Tree Name module_text → ℕ → Option Value
 unfolding constant_value_in_block
 constant_value_in_module m d =

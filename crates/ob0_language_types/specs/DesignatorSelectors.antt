@@ -5,7 +5,8 @@ use Rattle.ob0_tree.specs.Tree.{Tree, items, selector}
 use Rattle.ob0_tree.specs.View.{items_of, selector_of}
 use Rattle.ob0_tree.specs.declared.tree.Designator.{Designator, out-Designator}
 
--- returns the selectors of a designator of the code, as a tree of the definitions
+-- converts the selectors of a `Designator`, which is a type of the code, to a tree of the
+-- definitions
 abbrev pub selectors_of_designator : Designator → Tree ℕ (items selector)
 selectors_of_designator d = items_of selector_of (out-Designator d).selectors.items
 

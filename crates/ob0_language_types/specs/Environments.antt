@@ -9,8 +9,8 @@ use Rattle.ob0_language_values.specs.Values.{boolean_shape, integer_shape, truth
 abbrev pub Environment : Type 0 → Type 0 → Type 0 → Type 0
 Environment N V P = List (N × Object V P)
 
--- returns the part of an environment that begins with the newest binding of the name `x`; an empty list if no binding
--- is for `x`
+-- returns the part of an environment that begins with the newest binding of the name `x`; an empty
+-- list if `x` has no binding
 abbrev pub suffix_from_newest_binding : {N V P : Type 0} → Naming N → Environment N V P → N → Environment N V P
 suffix_from_newest_binding naming [] x = []
 suffix_from_newest_binding naming (b ∷ env) x =

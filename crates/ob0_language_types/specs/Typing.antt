@@ -1,5 +1,5 @@
--- The types that written types denote, the types of expressions, and the values of constant
--- expressions.
+-- The type that a written type denotes, the types of expressions, and the values of constant
+-- expressions. A written type is a type as it is written in the text.
 -- Rule: docs/LANGUAGE.md, Types 1 to 7, Nesting and limits 2.
 use Rattle.std.specs.Prelude.{ℕ, suc, ◌+◌, ◌*◌, max, ◌&&◌, List, [], ◌∷◌, map, pos, if◌then◌else◌, nat_lt, nat_le, Some, None, Option, option_map, option_and_then}
 use Rattle.ob0_tree.specs.declared.tree.Relation.{Relation}
@@ -24,16 +24,17 @@ infixl 20 ◌>>=◌
 abbrev pub ◌>>=◌ : {A B : Type 0} → Option A → (A → Option B) → Option B
 ◌>>=◌ o next = option_and_then next o
 
--- returns the type of `+`, `-` or OR with operands of these types: INTEGER if `+` or `-` has two INTEGER operands,
--- BOOLEAN if OR has two BOOLEAN operands, otherwise None
+-- Returns the type of `+`, `-` or OR with operands of these types. The type is INTEGER if `+` or
+-- `-` has two INTEGER operands, and BOOLEAN if OR has two BOOLEAN operands. Otherwise returns None.
 abbrev pub addition_type : AddOperator → Shape → Shape → Option Shape
 addition_type add_operator.Add integer_shape integer_shape = Some integer_shape
 addition_type add_operator.Subtract integer_shape integer_shape = Some integer_shape
 addition_type add_operator.Or boolean_shape boolean_shape = Some boolean_shape
 addition_type _ _ _ = None
 
--- returns the type of `*`, DIV, MOD or `&` with operands of these types: INTEGER if `*`, DIV or MOD has two INTEGER
--- operands, BOOLEAN if `&` has two BOOLEAN operands, otherwise None
+-- Returns the type of `*`, DIV, MOD or `&` with operands of these types. The type is INTEGER if
+-- `*`, DIV or MOD has two INTEGER operands, and BOOLEAN if `&` has two BOOLEAN operands. Otherwise
+-- returns None.
 abbrev pub multiplication_type : MultiplyOperator → Shape → Shape → Option Shape
 multiplication_type multiply_operator.Multiply integer_shape integer_shape = Some integer_shape
 multiplication_type multiply_operator.Divide integer_shape integer_shape = Some integer_shape
@@ -49,7 +50,7 @@ relation_type relation.Equal boolean_shape boolean_shape = Some boolean_shape
 relation_type relation.NotEqual boolean_shape boolean_shape = Some boolean_shape
 relation_type _ _ _ = None
 
--- returns the type of an operand with an optional sign; None for a sign before an operand that
+-- returns the type of an operand with an optional sign; None if there is a sign and the operand
 -- isn't INTEGER
 abbrev pub signed_operand_type : Option Sign → Shape → Option Shape
 signed_operand_type None s = Some s
@@ -169,8 +170,8 @@ abbrev pub value_of_constant_object : {V P : Type 0} → Option (Object V P) →
 value_of_constant_object (Some (a_constant v)) = Some v
 value_of_constant_object _ = None
 
--- returns the meanings of names in constant expressions: constants keep their meaning, and any other name means
--- nothing, because a constant expression may contain no other names
+-- Returns the meanings of names in constant expressions. The names of constants keep their meaning.
+-- Any other name means nothing, because a constant expression may contain no other names.
 abbrev pub meanings_in_constant_expressions : {N V P W Q : Type 0} → Meanings N V P → Meanings N W Q
 meanings_in_constant_expressions meaning =
     record {
@@ -206,10 +207,10 @@ abbrev pub array_length_from_value : Value → Option ℕ
 array_length_from_value (number (pos (suc n))) = if nat_lt n max_scalars_in_type then Some (suc n) else None
 array_length_from_value _ = None
 
--- Returns the number of scalars in a type. An empty record counts as one.
+-- Returns the number of scalars in a type. A record without fields counts as one scalar.
 abbrev mutual
-  -- returns the number of scalars in a type; an array has the scalars of all its elements, and a record has the scalars
-  -- of all its fields but at least one
+  -- Returns the number of scalars in a type. An array has the scalars of all its elements. A record
+  -- has the scalars of all its fields, or one scalar if it has no fields.
   pub scalars : Shape → ℕ
   scalars integer_shape = 1
   scalars boolean_shape = 1
@@ -243,26 +244,29 @@ abbrev pub type_within_limits : Shape → Option Shape
 type_within_limits s =
     if nat_le (scalars s) max_scalars_in_type && nat_le (depth s) max_type_depth then Some s else None
 
--- Returns the number of words ARRAY and RECORD in a type's text.
+-- Counts the words ARRAY and RECORD in a type as it is written. Array and record types are numbered
+-- by these counts.
 abbrev mutual
-  -- returns the number of words ARRAY and RECORD in a type; a name counts 0, even if it means an array or a record
+  -- counts the words ARRAY and RECORD in a type as it is written, to number array and record types;
+  -- a type's name counts 0, even if it means an array or a record
   pub constructor_count : {N : Type 0} → Tree N written_type → ℕ
   constructor_count (named_type x) = 0
   constructor_count (array_type e t) = suc (constructor_count t)
   constructor_count (record_type g rest) = suc (group_constructor_count g + later_groups_constructor_count rest)
 
-  -- returns the number of words ARRAY and RECORD in a group of fields, such as `x, y: T`, whose type is written once
-  -- for all its names
+  -- counts the words ARRAY and RECORD in a group of fields, such as `x, y: T`, to number array and
+  -- record types; the type is written once for all names of the group
   pub group_constructor_count : {N : Type 0} → Tree N fields → ℕ
   group_constructor_count no_fields = 0
   group_constructor_count (some_fields ns t) = constructor_count t
 
-  -- returns the number of words ARRAY and RECORD in the groups of fields after the first group
+  -- counts the words ARRAY and RECORD in the groups of fields after the first group, to number
+  -- array and record types
   pub later_groups_constructor_count : {N : Type 0} → Tree N (items fields_after_semicolon) → ℕ
   later_groups_constructor_count end = 0
   later_groups_constructor_count (more (semicolon_then_fields g) rest) = group_constructor_count g + later_groups_constructor_count rest
 
--- returns the type that a type's name means; None for any other object
+-- returns the type `s` of the object `a_type s`, which is a type; None for any other object
 abbrev pub type_of_type_object : {V P : Type 0} → Option (Object V P) → Option Shape
 type_of_type_object (Some (a_type s)) = Some s
 type_of_type_object _ = None
@@ -277,8 +281,9 @@ prepend_fields (x ∷ xs) s rest = next_field_shape x s (prepend_fields xs s res
 unfoldable mutual
   unfolding constant_expression_value
 
-  -- Returns the type that a written type denotes: a name's type, or an array or a record within the limits. Returns
-  -- None if the written type has an error. `k` is the number of words ARRAY and RECORD before the written type.
+  -- Returns the type that a written type denotes: a name's type, or an array or a record within the
+  -- limits. Array and record types are numbered from `k`, the count of words ARRAY and RECORD
+  -- before the written type. Returns None if the written type has an error.
   pub denoted_type : {N V P : Type 0} → Meanings N V P → ℕ → Tree N written_type → Option Shape
   denoted_type meaning k (named_type x) = type_of_type_object (meaning.object_for x)
   denoted_type meaning k (array_type e t) = do
@@ -291,8 +296,9 @@ unfoldable mutual
     fs ← denoted_group_fields meaning (suc k) later g
     type_within_limits (record_shape k fs)
 
-  -- Returns the fields of a group, followed by the fields `later`. Returns None if the group's type
-  -- has an error. `k` is the number of words ARRAY and RECORD before the group.
+  -- Returns the fields of a group, followed by the fields `later`. The group's array and record
+  -- types are numbered from `k`, the count of words ARRAY and RECORD before the group. Returns None
+  -- if the group's type has an error.
   pub denoted_group_fields : {N V P : Type 0}
       → Meanings N V P
       → ℕ
@@ -304,8 +310,9 @@ unfoldable mutual
     s ← denoted_type meaning k t
     Some (prepend_fields (map meaning.written (names_in_list ns)) s later)
 
-  -- Returns the fields of the groups after a record's first group, in text order. Returns None if a group's type has an
-  -- error. `k` is the number of words ARRAY and RECORD before these groups.
+  -- Returns the fields of the groups after a record's first group, in text order. The groups' array
+  -- and record types are numbered from `k`, the count of words ARRAY and RECORD before these
+  -- groups. Returns None if a group's type has an error.
   pub denoted_further_fields : {N V P : Type 0}
       → Meanings N V P
       → ℕ
@@ -322,8 +329,8 @@ abbrev pub lone_designator : {N : Type 0} → Tree N expression → Option (N ×
 lone_designator (compares (sum None (product (designator x path) end) end) none) = Some (x, path)
 lone_designator _ = None
 
--- returns the type that belongs to an object: the type itself if the object is a type, or the type of a variable,
--- parameter or constant; None for any other object
+-- Returns the type itself if the object is a type, or the type of a variable, parameter or
+-- constant. Returns None for any other object.
 abbrev pub type_of_object : {P : Type 0} → Option (Object Shape P) → Option Shape
 type_of_object (Some (a_type s)) = Some s
 type_of_object (Some (a_variable s)) = Some s

@@ -14,8 +14,9 @@ use Rattle.ob0_language_values.specs.Values.{FieldShapes, Shape, array_shape, bo
 
 -- Returns whether two types are equal.
 abbrev mutual
-  -- returns whether two types are equal: both are the same scalar type, or both come from the same ARRAY or RECORD of
-  -- the text and their parts are equal
+  -- Returns whether two types are equal. Scalar types are equal if both are INTEGER or both are
+  -- BOOLEAN. Array and record types are equal if both come from the same ARRAY or RECORD of the
+  -- text and their parts are equal.
   pub same_shape : Shape → Shape → Bool
   same_shape integer_shape integer_shape = true
   same_shape boolean_shape boolean_shape = true
@@ -125,8 +126,8 @@ unfoldable pub condition_is_boolean : {N P : Type 0} → Meanings N Shape P → 
 unfolding type_of_expression
 condition_is_boolean meaning e = same_known_shape (Some boolean_shape) (type_of_expression meaning e)
 
--- Returns whether a statement is well-typed: both sides of an assignment have the same type, the arguments of a call
--- match the procedure's parameters, and conditions are BOOLEAN.
+-- Returns whether a statement is well-typed. Both sides of an assignment must have the same type.
+-- The arguments of a call must match the procedure's parameters. Conditions must be BOOLEAN.
 unfoldable mutual
   unfolding condition_is_boolean call_is_well_typed
 
@@ -175,9 +176,9 @@ abbrev pub bind_names : {N V P : Type 0}
 bind_names [] o env = env
 bind_names (x ∷ xs) o env = bind_names xs o ((x, o) ∷ env)
 
--- Returns the environment `env` with variables added. The variables of a group (`x, y: T`) are visible only after the
--- group's type. `k` is the number of words ARRAY and RECORD before these declarations. Returns None if a type has an
--- error.
+-- Returns the environment `env` with variables added. The variables of a group (`x, y: T`) are
+-- visible only after the group's type. Array and record types are numbered from `k`, the count of
+-- words ARRAY and RECORD before these declarations. Returns None if a type has an error.
 unfoldable pub declare_typed_variables : {N : Type 0}
     → Naming N
     → ℕ
@@ -195,9 +196,10 @@ pub record TypedParameter (N : Type 0) : Type 0 where
   pub name : N
   pub formal : FormalParameter
 
--- Returns the parameters of a procedure heading, with their names and types. The names of a section are visible in the
--- later sections. The procedure's name isn't visible yet. `k` is the number of words ARRAY and RECORD before the
--- parameters. Returns None if a type has an error.
+-- Returns the parameters of a procedure heading, with their names, modes and types. The names of a
+-- section are visible in the later sections. The procedure's name isn't visible yet. Array and
+-- record types are numbered from `k`, the count of words ARRAY and RECORD before the parameters.
+-- Returns None if a type has an error.
 unfoldable pub typed_parameters : {N : Type 0}
     → Naming N
     → TypeEnvironment N
@@ -247,7 +249,8 @@ option_satisfies (Some a) test = test a
 unfoldable mutual
   unfolding declare_constants_and_types declare_typed_variables typed_parameters body_is_well_typed
 
-  -- returns whether a block is well-typed; `k` is the number of words ARRAY and RECORD before the block
+  -- returns whether a block is well-typed; its array and record types are numbered from `k`, the
+  -- count of words ARRAY and RECORD before the block
   pub block_is_well_typed : {N : Type 0} → Naming N → TypeEnvironment N → ℕ → Tree N block → Bool
   block_is_well_typed naming env k (forms_block (declares cs ts vs ps) statements) =
       option_satisfies (do
@@ -257,9 +260,10 @@ unfoldable mutual
       (λ inner. procedures_and_body_are_well_typed naming inner
       (constructor_count_before_procedures k (forms_block (declares cs ts vs ps) statements)) statements ps)
 
-  -- Returns whether each procedure of a block is well-typed in the environment that has the earlier procedures. The
-  -- block's body `statements` must also be well-typed in the environment that has all procedures. `k` is the number of
-  -- words ARRAY and RECORD before the procedures.
+  -- Returns whether each procedure of a block is well-typed in the environment that has the earlier
+  -- procedures. The block's body `statements` must also be well-typed in the environment that has
+  -- all procedures. Array and record types are numbered from `k`, the count of words ARRAY and
+  -- RECORD before the procedures.
   pub procedures_and_body_are_well_typed : {N : Type 0}
       → Naming N
       → TypeEnvironment N
@@ -274,8 +278,9 @@ unfoldable mutual
       && procedures_and_body_are_well_typed naming (bind_procedure (procedure_name p) ps env) (k + procedure_constructor_count p)
       statements rest)
 
-  -- returns whether a procedure's block is well-typed; `env` already binds the procedure's name and parameters; `k` is
-  -- the number of words ARRAY and RECORD before the procedure
+  -- Returns whether a procedure's block is well-typed. `env` already binds the procedure's name and
+  -- parameters. Array and record types are numbered from `k`, the count of words ARRAY and RECORD
+  -- before the procedure.
   pub procedure_is_well_typed : {N : Type 0}
       → Naming N
       → TypeEnvironment N
@@ -291,8 +296,8 @@ unfoldable pub passes_type_check : {N : Type 0} → Naming N → Tree N module_t
 unfolding block_is_well_typed
 passes_type_check naming m = block_is_well_typed naming (outermost_environment naming) 0 (module_block m)
 
--- states that a module is well-typed: it passes the type check, it declares no name twice in a block or record, and its
--- closing names are right
+-- States that a module is well-typed. It passes the type check, declares no name twice in a block
+-- or record, and has the right closing names.
 unfoldable pub WellTyped : Tree Name module_text → Type 0
 unfolding passes_type_check
 WellTyped m = IsTrue (has_consistent_names m) × IsTrue (passes_type_check naming_by_spelling m)

@@ -3,8 +3,8 @@
 
 ghost use Rattle.ob0_language_types.specs.Bodies.{BindingsMatchDeclarations};
 
-/// Proves that environments agree with declarations. Let the statements of a block in a well-typed
-/// module be checked in an environment that binds an ordinal to an object. Then `declared_object`
+/// Proves that environments agree with declarations. Let a block's statements be checked in an
+/// environment that binds an ordinal to an object. If the module is well-typed, `declared_object`
 /// returns the same object for this ordinal. An ordinal is the number of a declaration in text
 /// order.
 pub fn bindings_match_declarations()

@@ -25,8 +25,8 @@ abbrev pub scalar_outcome : Result Scalar OperatorFault → Outcome Value
 scalar_outcome (Ok s) = succeeds_with (scalar_value s)
 scalar_outcome (Err f) = ends_run_with (end_for_fault f)
 
--- returns the outcome of an operation on 32-bit numbers: the number, or Overflow for None, which
--- means that the result doesn't fit in 32 bits
+-- Returns the outcome of an operation on 32-bit numbers, given its result. The outcome is the
+-- number, or the end Overflow if the result is None, which means that it doesn't fit in 32 bits.
 abbrev pub number_outcome : Option ℤ → Outcome Value
 number_outcome None = ends_run_with Overflow
 number_outcome (Some n) = succeeds_with (number n)

@@ -13,11 +13,12 @@ use Rattle.ob0_language_names.specs.Names.{Name, same_name}
 pub use Rattle.ob0_language_values.specs.Division.{checked_division, quotient, remainder}
 
 infixl 20 ◌>>=◌
--- The type of a variable or value. `k` is the number of words ARRAY and RECORD in the module before the word that
--- constructs the type. This number differs for each such word, so two types are the same exactly if their shapes are
--- equal.
+-- The type of a variable or value. Array and record types have a number, `k`, so that two types are
+-- the same exactly if their shapes are equal. `k` counts the words ARRAY and RECORD in the module
+-- before the word that constructs the type.
 mutual
-  -- a type: INTEGER, BOOLEAN, an array with its length, or a record
+  -- a type: INTEGER, BOOLEAN, an array with its length and the type of its elements, or a record
+  -- with its fields
   pub data Shape : Type 0 where
     integer_shape : Shape
     boolean_shape : Shape
@@ -30,7 +31,8 @@ mutual
     next_field_shape : Name → Shape → FieldShapes → FieldShapes
 
 -- A value: a number, a truth value, an array's elements, or a record's members. `k` is the number
--- of words ARRAY and RECORD before the RECORD that constructs the record's type.
+-- of the record's type: it counts the words ARRAY and RECORD before the RECORD that constructs this
+-- type.
 mutual
   -- a value, which is a scalar, an array or a record
   pub data Value : Type 0 where
@@ -50,8 +52,8 @@ mutual
     next_member : Name → Value → Members → Members
 
 -- The reason why a run ended. Done: the module's body ended. Overflow, Divisor, Index and InputEnd:
--- a fault. CallBound and TurnBound: a bound on calls or on loop iterations. Stuck: a step that has
--- no meaning.
+-- an operation, an index or a Read failed. CallBound and TurnBound: the run reached the bound on
+-- open calls or on loop iterations. Stuck: a step has no meaning.
 pub data End : Type 0 where
   Done Overflow Divisor Index InputEnd CallBound TurnBound Stuck : End
 
@@ -66,7 +68,8 @@ abbrev pub ◌>>=◌ : {A B : Type 0} → Outcome A → (A → Outcome B) → Ou
 ◌>>=◌ (succeeds_with a) next = next a
 ◌>>=◌ (ends_run_with e) next = ends_run_with e
 
--- returns an optional result as an outcome: the result, or the end Stuck if it is None
+-- converts an optional result to an outcome: the result itself, or the end Stuck if the argument is
+-- None
 abbrev pub result_or_stuck : {A : Type 0} → Option A → Outcome A
 result_or_stuck None = ends_run_with Stuck
 result_or_stuck (Some a) = succeeds_with a
@@ -80,21 +83,24 @@ fits_in_32_bits (negsuc n) = nat_lt n (2 ^ 31)
 abbrev pub checked_number : ℤ → Outcome Value
 checked_number n = if fits_in_32_bits n then succeeds_with (number n) else ends_run_with Overflow
 
--- returns the outcome of a DIV or MOD, given its result: the end Divisor if the result is None, the end Overflow if the
--- result doesn't fit in 32 bits, otherwise the result
+-- Returns the outcome of a DIV or MOD, given its result. The outcome is the end Divisor if the
+-- result is None, and the end Overflow if the result doesn't fit in 32 bits. Otherwise the outcome
+-- is the result.
 abbrev pub division_outcome : Option ℤ → Outcome Value
 division_outcome None = ends_run_with Divisor
 division_outcome (Some n) = checked_number n
 
--- returns the result of `+`, `-` or OR; Stuck for operands for which the operator isn't defined
+-- Returns the result of `+`, `-` or OR. Returns the end Overflow if a number doesn't fit in 32
+-- bits. Returns the end Stuck if the operator isn't defined for the operands.
 abbrev pub add : AddOperator → Value → Value → Outcome Value
 add add_operator.Add (number a) (number b) = checked_number (a +ℤ b)
 add add_operator.Subtract (number a) (number b) = checked_number (a -ℤ b)
 add add_operator.Or (truth a) (truth b) = succeeds_with (truth (a || b))
 add _ _ _ = ends_run_with Stuck
 
--- returns the result of `*`, DIV, MOD or `&`; Stuck for operands for which the operator isn't
--- defined
+-- Returns the result of `*`, DIV, MOD or `&`. Returns the end Overflow if a number doesn't fit in
+-- 32 bits, and Divisor if the divisor of DIV or MOD is below 1. Returns Stuck if the operator isn't
+-- defined for the operands.
 abbrev pub multiply : MultiplyOperator → Value → Value → Outcome Value
 multiply multiply_operator.Multiply (number a) (number b) = checked_number (a *ℤ b)
 multiply multiply_operator.Divide (number a) (number b) = division_outcome (checked_division quotient a b)
@@ -127,22 +133,22 @@ compare_numbers relation.Greater a b = int_lt b a
 compare_numbers relation.GreaterEqual a b = int_le b a
 
 -- returns the truth value of a relation between two numbers, or of `=` or `#` between two truth
--- values; Stuck for other operands
+-- values; the end Stuck for other operands
 abbrev pub apply_relation : Relation → Value → Value → Outcome Value
 apply_relation r (number a) (number b) = succeeds_with (truth (compare_numbers r a b))
 apply_relation relation.Equal (truth a) (truth b) = succeeds_with (truth (same_truth a b))
 apply_relation relation.NotEqual (truth a) (truth b) = succeeds_with (truth (not (same_truth a b)))
 apply_relation _ _ _ = ends_run_with Stuck
 
--- returns the value with an optional sign applied; Overflow if the result doesn't fit in 32 bits, Stuck for a sign
--- before a value that isn't a number
+-- returns the value with an optional sign applied; the end Overflow if the result doesn't fit in 32
+-- bits, the end Stuck if a value that isn't a number has a sign
 abbrev pub apply_sign : Option Sign → Value → Outcome Value
 apply_sign None v = succeeds_with v
 apply_sign (Some sign.Plus) (number a) = checked_number a
 apply_sign (Some sign.Minus) (number a) = checked_number (neg_ℤ a)
 apply_sign _ _ = ends_run_with Stuck
 
--- returns the result of `~`; Stuck for any value that isn't a truth value
+-- returns the result of `~`; the end Stuck if the value isn't a truth value
 abbrev pub negate : Value → Outcome Value
 negate (truth b) = succeeds_with (truth (not b))
 negate _ = ends_run_with Stuck
@@ -169,8 +175,8 @@ nth_value no_value n = None
 nth_value (next_value v rest) zero = Some v
 nth_value (next_value v rest) (suc n) = nth_value rest n
 
--- returns the elements of an array with the element at index `n` replaced by `new`; unchanged if there is no such
--- element
+-- replaces the element at index `n` of an array by `new`; returns the elements unchanged if there
+-- is no such element
 abbrev pub with_nth_value : Values → ℕ → Value → Values
 with_nth_value no_value n new = no_value
 with_nth_value (next_value v rest) zero new = next_value new rest
@@ -181,8 +187,8 @@ abbrev pub named_member : Members → Name → Option Value
 named_member no_member x = None
 named_member (next_member y v rest) x = if same_name x y then Some v else named_member rest x
 
--- returns the members of a record, in which `new` replaces the value of the first member with the name `x`; unchanged
--- if there is no such member
+-- replaces the value of the first member with the name `x` of a record by `new`; returns the
+-- members unchanged if there is no such member
 abbrev pub with_named_member : Members → Name → Value → Members
 with_named_member no_member x new = no_member
 with_named_member (next_member y v rest) x new =
@@ -195,8 +201,8 @@ value_at_step (elements vs) (at_index i) = nth_value vs i
 value_at_step (members k ms) (at_field x) = named_member ms x
 value_at_step _ _ = None
 
--- returns a value in which `new` replaces the element or member that one step selects; unchanged if
--- the step selects nothing
+-- replaces the element or member that one step selects in a value by `new`; returns the value
+-- unchanged if the step selects nothing
 abbrev pub with_value_at_step : Value → PathStep → Value → Value
 with_value_at_step (elements vs) (at_index i) new = elements (with_nth_value vs i new)
 with_value_at_step (members k ms) (at_field x) new = members k (with_named_member ms x new)

@@ -261,11 +261,12 @@ fn compare_truth_values(relation: Relation, a: bool, b: bool) -> Result<Scalar, 
     }
 }
 
-/// Returns the operand with its sign. Without a sign the operand is returned unchanged.
+/// Applies the sign to the operand. If there is no sign, returns the operand unchanged.
 ///
 /// # Errors
 ///
-/// `Overflow` for the negative of the least 32-bit number, `Operand` if a truth value has a sign.
+/// `Overflow` if the sign is minus and the operand is the least 32-bit number. `Operand` if a truth
+/// value has a sign.
 pub fn apply_sign(sign: Option<Sign>, operand: Scalar) -> Result<Scalar, OperatorFault>
     ensures { scalar_outcome result ≡ apply_sign sign (scalar_value operand) }
 {
@@ -285,7 +286,7 @@ pub fn apply_sign(sign: Option<Sign>, operand: Scalar) -> Result<Scalar, Operato
 ///
 /// # Errors
 ///
-/// `Operand` for a number.
+/// `Operand` if the operand is a number.
 pub fn negate(operand: Scalar) -> Result<Scalar, OperatorFault>
     ensures { scalar_outcome result ≡ negate (scalar_value operand) }
 {

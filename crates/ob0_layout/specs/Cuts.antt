@@ -1,5 +1,5 @@
 -- Defines the gaps that the code finds while it visits the tokens and comments of a text. Also
--- defines each gap as a cut: a range of bytes and its replacement.
+-- defines the cut for each gap: the gap's range of bytes and its replacement.
 -- Rule: none; used in private contracts about gaps and indents.
 use Rattle.std.specs.Prelude.{◌≤◌, ℕ, Bool, true, ◌&&◌, ◌==◌, if◌then◌else◌, nat_lt, Option, Some, None, List, [], ◌∷◌, filter}
 use Rattle.ob0_scan.specs.declared.lexeme.LexemeKind.{LexemeKind}

@@ -32,15 +32,15 @@ gaps_of_lexemes indent len (a ∷ bs) =
 abbrev pub all_gaps : Indent → List ℕ → List LineRole → List Lexeme → List Cut
 all_gaps indent text ss lexemes = gaps_of_lexemes indent (length text) (lexemes_with_roles 0 0 true ss lexemes)
 
--- Returns whether formatting changes the gap that the cut `c` replaces, that is, whether the gap's
--- bytes differ from the replacement.
+-- Returns whether formatting changes the gap that the cut `c` replaces: the gap's bytes differ from
+-- the replacement.
 abbrev pub formatting_changes_gap : List ℕ → Cut → Bool
 formatting_changes_gap text c = not (bytes_eq (slice_range text c.from c.to) c.new)
 
--- Returns those cuts of `cs` that change the bytes that they replace, in the same order.
+-- Returns the cuts of `cs` whose replacement differs from the replaced bytes, in the same order.
 abbrev pub changed_gaps : List ℕ → List Cut → List Cut
 changed_gaps text cs = filter (formatting_changes_gap text) cs
 
--- States that the bytes of `text` that the cut `c` replaces are only white space.
+-- States that the cut `c` replaces only white space of `text`.
 abbrev pub ReplacesOnlyWhiteSpace : List ℕ → Cut → Type 0
 ReplacesOnlyWhiteSpace text c = AllPass is_white_space (slice_range text c.from c.to)

@@ -18,8 +18,8 @@ abbrev pub optional_sign_role : Option Sign → List LineRole
 optional_sign_role None = []
 optional_sign_role (Some s) = JoinsNextToken ∷ []
 
--- Returns a list with the role of the separator that comes before an item of a list. If the item is
--- the first one (the argument is true), it has no separator, and the result is empty.
+-- Returns a list with the role of the separator that comes before an item of a list. If the
+-- argument is true, the item is the first one and has no separator, and the result is empty.
 abbrev pub separator_role_unless_first : Bool → List LineRole
 separator_role_unless_first true = []
 separator_role_unless_first false = Plain ∷ []
@@ -28,8 +28,8 @@ separator_role_unless_first false = Plain ∷ []
 -- of a statement, or the level of the block for declarations and bodies. The module has level 0,
 -- and a procedure is one level deeper than the block that declares it. The statements of a body are
 -- one level deeper than its block. Statements inside a statement are one level deeper than that
--- statement. A construct that never begins a line, such as an expression, doesn't use `k`, which is
--- then 0.
+-- statement. For a construct that never begins a line, such as an expression, `k` is 0 and isn't
+-- used.
 abbrev pub line_roles : {N : Type 0} {s : Sort} → ℕ → Tree N s → List LineRole
 line_roles k none = []
 line_roles k (one t) = line_roles k t

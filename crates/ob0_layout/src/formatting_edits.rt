@@ -59,8 +59,8 @@ pub fn format<T: TextStore>(
     Ok(gap_edits(alloc, store, &gap_sites, indent)?)
 }
 
-/// Returns whether a text of `len` bytes has at most `MAX_TEXT_LENGTH` bytes after the gaps `gap_sites`
-/// are formatted.
+/// Returns whether a text of `len` bytes has at most `MAX_TEXT_LENGTH` bytes after formatting.
+/// Formatting changes only the gaps `gap_sites`.
 fn is_formatted_text_within_limit(gap_sites: &[GapSite], len: usize, indent: Indent) -> bool
     requires length { len ≤ max_text_length }
     requires within { All (GapLiesInText len) gap_sites.now }

@@ -160,8 +160,8 @@ fn gap_at_text_end(before: Option<KindAndRole>) -> Gap
     }
 }
 
-/// Returns the indentation level of the line that has the next token, or 0 if no token is left.
-/// `level` is the level of the current line, and `roles` has the roles of the remaining tokens.
+/// Returns the indentation level of the next token's line, or 0 if no token is left. `level` is the
+/// level of the current line, and `roles` has the roles of the remaining tokens.
 fn next_token_line_level(level: u32, roles: &[LineRole]) -> u32
     ensures { result ≡ next_token_line_level level roles.now }
 {
@@ -197,8 +197,9 @@ fn without_first_item<T>(items: &[T]) -> &[T]
     &items[1..]
 }
 
-/// Returns the role of a comment. If `broken` is true, because a line break comes before the
-/// comment, the comment begins a line of the level `level`. Otherwise its role is `Plain`.
+/// Returns the role of a comment. `broken` is true if the comment is preceded by a line break or by
+/// the start of the text. Then the comment begins a line of the level `level`. Otherwise its role
+/// is `Plain`.
 fn comment_role(broken: bool, level: u32) -> LineRole
     ensures { result ≡ comment_role broken level }
 {
@@ -209,8 +210,9 @@ fn comment_role(broken: bool, level: u32) -> LineRole
     }
 }
 
-/// Returns whether a comment begins a line, given the bytes of the gap before it. It begins a line
-/// if the gap has a line break or is at the start of the text (`before` is None).
+/// Returns whether a comment begins a line. It does if the gap before the comment has a line break,
+/// or if the comment is the first token or comment of the text (`before` is None). `gap` has the
+/// bytes of that gap.
 fn comment_begins_line(before: Option<KindAndRole>, gap: &[u8]) -> bool
     ensures { result ≡ (is_none before || contains_line_break gap.now) }
 {

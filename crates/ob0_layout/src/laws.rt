@@ -45,8 +45,8 @@ pub fn formatting_is_idempotent()
         → formatted_text indent tree again.lexemes ≡ formatted_text indent tree scan.lexemes }
 {}
 
-/// Proves three facts: replacing the gaps that formatting changes gives the formatted text, the
-/// formatted text is UTF-8, and `length_from_place_with_cuts` computes the length of the formatted text in
+/// Proves that replacing the gaps that formatting changes gives the formatted text. Also proves
+/// that the formatted text is UTF-8, and that `length_from_place_with_cuts` computes its length in
 /// bytes.
 pub fn replacing_gaps_gives_formatted_text()
     ensures utf8 { (indent : Indent) (s : TextWithTokens) (scan : IsScan s)

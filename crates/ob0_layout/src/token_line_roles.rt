@@ -31,8 +31,8 @@ pub(crate) fn line_roles(alloc: Global, module: &Module) -> Result<Vec<LineRole>
     Ok(out)
 }
 
-/// Returns `level` plus 1. Fails exactly if the sum doesn't fit in 32 bits. No module is nested that
-/// deeply.
+/// Returns `level` plus 1. Fails exactly if the sum doesn't fit in 32 bits. No module is nested
+/// that deeply.
 fn deeper_level(level: u32) -> Result<u32, AllocError>
     ensures { MatchResult result (λ k. k ≡ level + 1) (λ _. 2 ^ 32 ≤ level + 1) }
 {
@@ -42,7 +42,7 @@ fn deeper_level(level: u32) -> Result<u32, AllocError>
     }
 }
 
-/// Appends the line role `Plain`, for one token.
+/// Appends the line role `Plain` to `out`, for one token.
 fn add_plain_role(out: &mut Vec<LineRole>) -> Result<(), AllocError>
     ensures { IfOk result (λ _. out.new.items ≡ out.old.items ++ (Plain ∷ [])) }
 {
@@ -170,8 +170,8 @@ fn add_selector_roles(out: &mut Vec<LineRole>, s: &Selector) -> Result<(), Alloc
     }
 }
 
-/// Appends the role of the separator before an item of a list. Appends nothing if the item is the
-/// first one of its list (`first`).
+/// Appends the role of the separator before an item of a list. If `first` is true, the item is the
+/// first one of its list, and nothing is appended.
 fn add_separator_role_unless_first(out: &mut Vec<LineRole>, first: bool) -> Result<(), AllocError>
     ensures { IfOk result (λ _. out.new.items ≡ out.old.items ++ separator_role_unless_first first) }
 {
@@ -229,7 +229,7 @@ fn add_statement_roles(out: &mut Vec<LineRole>, level: u32, s: &Statement) -> Re
     }
 }
 
-/// Appends the line role `BeginsLine(level)`, for one token that begins a line of the level `level`.
+/// Appends the line role `BeginsLine(level)` to `out`, for one token that begins a line.
 fn add_line_start_role(out: &mut Vec<LineRole>, level: u32) -> Result<(), AllocError>
     ensures { IfOk result (λ _. out.new.items ≡ out.old.items ++ (BeginsLine level ∷ [])) }
 {
@@ -340,7 +340,7 @@ fn add_name_list_roles(
     Ok(())
 }
 
-/// Appends the roles of a written type's tokens.
+/// Appends the roles of the tokens of a written type: a type as it stands in the text.
 #[cycle(types)]
 fn add_written_type_roles(out: &mut Vec<LineRole>, t: &WrittenType) -> Result<(), AllocError>
     ensures { IfOk result (λ _. out.new.items ≡ out.old.items ++ line_roles 0 (type_of t.now)) }

@@ -13,9 +13,8 @@ use Rattle.ob0_tree.specs.TokenIndexLeaves.{indexed_terminal}
 use Rattle.ob0_parse_descent.specs.Descent.{DescentEnd, Done, Expects, TooDeepAt, TextDescentEndsWith}
 use Rattle.ob0_parse_descent.specs.declared.refusal.ExpectedSyntax.TheVariants as expected
 
--- Returns the tokens of a text as they are spelled by a tree whose leaves are token indexes,
--- followed by the end of the text. The tokens are given by their kinds, and the first has the index
--- `i`.
+-- Returns the tokens of the given kinds, as they are spelled by a tree whose leaves are token
+-- indexes. The first token has the index `i`. The end of the text follows the last token.
 abbrev pub indexed_terminals_of_kinds_with_end : ℕ → List TokenKind → List (Terminal ℕ)
 indexed_terminals_of_kinds_with_end i [] = EndOfText ∷ []
 indexed_terminals_of_kinds_with_end i (k ∷ ks) = indexed_terminal i k ∷ indexed_terminals_of_kinds_with_end (i + 1) ks
@@ -96,8 +95,9 @@ pub record ExampleDescentsStopWhereExpected : Type 0 where
   -- `MODULE M; BEGIN WriteLn END M.`: the descent reads the whole text.
   pub whole_module : DescentOfKindsEndsWith (module_head_kinds ++ (reserved_word_kind reserved.Begin ∷ identifier_kind ∷ module_end_kinds)) Done
 
--- States that the descent stops at the 101st of 101 nested constructs, in three example texts: with
--- IF statements, with procedures and with array types.
+-- States that the descent stops at the 101st of 101 nested constructs in three example texts. The
+-- constructs are IF statements in the first text, procedures in the second, and array types in the
+-- third.
 pub record DeepExampleDescentsStopAtLevel101 : Type 0 where
   -- The text is `MODULE M; BEGIN`, 101 times `IF TRUE THEN`, 101 times END, and `END M.`
   pub ifs : DescentOfKindsEndsWith (module_head_kinds

@@ -18,10 +18,12 @@ NoModuleBeginsWithTokens s i = (t : Tree (List ℕ) module_text) (more : List (T
     → nesting t ≤ max_nesting
     → spell t ++ (EndOfText ∷ []) ≡ take (i + 1) (terminals_of_text s ++ (EndOfText ∷ [])) ++ more → ⊥
 
--- States that the parser's refusal is right. The refusal `Syntax` or `TooDeep` at the token `i`,
--- which may be the end of the text, is right if two conditions hold. No module with at most
--- `max_nesting` levels begins with the tokens up to and including `i`. The descent stops at `i` for
--- the reason that the refusal gives. The refusal `Memory` is always right.
+-- States that the parser's refusal is right. The refusal `Memory`, a failed allocation, is always
+-- right. The refusal `Syntax` or `TooDeep` at the token `i`, which may be the end of the text, is
+-- right if two conditions hold:
+-- - No module with at most `max_nesting` levels of nesting begins with the tokens up to and
+--   including `i`.
+-- - The descent stops at `i` for the reason that the refusal gives.
 abbrev pub IsRightParseRefusal : TextWithTokens → ParseRefusal → Type 0
 IsRightParseRefusal s (Syntax i expected) =
     (i ≤ length s.tokens) × NoModuleBeginsWithTokens s i × TextDescentEndsWith (indexed_terminals s.tokens) (Expects i expected)

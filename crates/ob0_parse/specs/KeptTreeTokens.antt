@@ -1,4 +1,4 @@
--- States which tokens belong to the trees that are kept from earlier parses, before and after a
+-- Defines when the trees that are kept from earlier parses match the tokens of a text, also after a
 -- change of the text.
 -- Rule: none; used in the contracts of `KeptTrees` and of `reparse_tree`.
 use Rattle.std.specs.declared.vec.Vec.{Vec}
@@ -23,8 +23,8 @@ use Rattle.ob0_parse.specs.declared.kept_trees.ReusableConstruct.TheVariants as 
 use Rattle.ob0_parse.specs.declared.kept_trees.KeptTree.{KeptTree}
 use Rattle.ob0_parse.specs.declared.kept_trees.KeptTrees.{KeptTrees}
 
--- Returns tokens as they are spelled by a tree whose leaves are token indexes, given the kinds of
--- the tokens. The first token has the index `i`.
+-- Returns the tokens of the given kinds, as they are spelled by a tree whose leaves are token
+-- indexes. The first token has the index `i`.
 abbrev pub indexed_terminals_of_kinds : ℕ → List TokenKind → List (Terminal ℕ)
 indexed_terminals_of_kinds i [] = []
 indexed_terminals_of_kinds i (k ∷ ks) = indexed_terminal i k ∷ indexed_terminals_of_kinds (i + 1) ks
@@ -39,9 +39,9 @@ abbrev pub tree_of_construct : (c : ReusableConstruct) → Tree ℕ (sort_of c)
 tree_of_construct (construct.Procedure p) = procedure_of p
 tree_of_construct (construct.Body statements) = body_of (Some statements)
 
--- States that `at..next` is a range of one or more tokens of `ts`, that these tokens have the kinds
--- that the tree `t` spells, and that `t` isn't nested too deeply. The leaves of `t` are token
--- indexes in a text in which the first token of `t` has the index `from`.
+-- States that `at..next` is a range of one or more tokens of `ts`, and that these tokens have the
+-- kinds that the tree `t` spells. Also states that `t` isn't nested too deeply. The leaves of `t`
+-- are token indexes in a text in which the first token of `t` has the index `from`.
 pub record ShiftedTreeMatchesTokens {s : Sort} (ts : List Token) (from at next : ℕ) (t : Tree ℕ s) : Type 0 where
   pub spelled : spell t ≡ indexed_terminals_of_kinds from (slice_range (token_kinds_without_values ts) at next)
   pub shallow : nesting t ≤ max_nesting
@@ -58,8 +58,8 @@ TreeMatchesTokens ts at next t = ShiftedTreeMatchesTokens ts at at next t
 abbrev pub KeptTreeMatchesTokens : List Token → KeptTree → Type 0
 KeptTreeMatchesTokens ts k = ShiftedTreeMatchesTokens ts k.from k.at k.next (tree_of_construct k.construct)
 
--- States about every kept tree in `k` that the tokens of `ts` in the tree's range have the kinds
--- that the tree spells (`KeptTreeMatchesTokens`).
+-- States that every kept tree in `k` matches the tokens `ts`: the tokens in the tree's range have
+-- the kinds that the tree spells (`KeptTreeMatchesTokens`).
 pub record KeptTreesMatchTokens (ts : List Token) (k : KeptTrees) : Type 0 where
   pub trees : All (KeptTreeMatchesTokens ts) k.trees.items
 
@@ -73,9 +73,8 @@ pub record TokensContainProcedures (ts : List Token) (ps : List Procedure) : Typ
   pub shallow : nesting (items_of procedure_of ps) ≤ max_nesting
   pub within : next ≤ length ts
 
--- States that the tokens `ts` are the tokens of a module that ends with the procedures `ps`, the
--- body `statements` and the closing name with the token index `closing`. END is the token after the
--- body and before the closing name.
+-- States that `ts` has the tokens of the last parts of a module. These parts are the procedures
+-- `ps`, the body `statements`, END, and the closing name with the token index `closing`.
 pub record ModuleEndsWithParts
     (ts : List Token) (ps : List Procedure) (statements : Option (Vec Statement Global)) (closing : ℕ)
     : Type 0 where
@@ -86,8 +85,8 @@ pub record ModuleEndsWithParts
   pub within : next ≤ length ts
   pub closed : next + 1 ≡ closing
 
--- States that `b` can replace the kept tree `a` after a change of the text, if `there` is true. So
--- if `a` belongs to the tokens of the old text, `b` belongs to the tokens of the new text
+-- States that if `there` is true, `b` can replace the kept tree `a` after a change of the text.
+-- This means that if `a` matches the tokens of the old text, `b` matches the tokens of the new text
 -- (`KeptTreeMatchesTokens`). This must hold for any two texts that share the tokens described by
 -- `same`.
 abbrev pub RelocatesTree : CommonPrefixAndSuffix → KeptTree → KeptTree → Bool → Type 0
@@ -98,6 +97,7 @@ RelocatesTree same a b there =
 abbrev pub TokenEndsTree : List Token → ReusableConstruct → ℕ → Type 0
 TokenEndsTree ts c next = NextTokenEndsConstruct (max_continuing_rank (sort_of c)) (remaining_terminals ts next)
 
--- States that the construct `x.0` has the tokens `at..x.1` of `ts`, as if the parser had read it.
+-- States that the construct `x.0` has the tokens `at..x.1` of `ts`, as if the parser had read it
+-- there.
 abbrev pub IsReadConstructAt : List Token → ℕ → ReusableConstruct × ℕ → Type 0
 IsReadConstructAt ts at x = IsReadTree (tree_of_construct x.0) max_nesting ts at x.1 × (at < x.1)

@@ -1,5 +1,5 @@
--- States which results of the parser are right, for a module and for the procedures that are
--- declared directly in it. The parser stores these procedures in a separate list.
+-- States when the result of parsing a module, or the procedures that are declared directly in it,
+-- is right. The parser stores these procedures in a separate list (`ps`).
 -- Rule: none; used in private contracts of the parser.
 use Rattle.std.specs.Prelude.{ℕ, List, [], ◌∷◌, Result, Ok, Err, length}
 use Rattle.ob0_scan.specs.declared.lexeme.Token.{Token}
@@ -26,8 +26,8 @@ abbrev pub ReadsModuleProcedures : List Procedure → List Token → ℕ → Res
 ReadsModuleProcedures ps ts at (Ok next) = IsReadTree (items_of procedure_of ps) max_nesting ts at next
 ReadsModuleProcedures ps ts at (Err e) = FailsToRead (nonterminal (items procedure) max_nesting ∷ []) ts at e
 
--- States that the result of parsing a module is right. The tree of a parsed module, with the
--- procedures `ps`, spells the tokens, from the first to the last. If the result is a refusal, the
+-- States that the result of parsing a module is right. The tree of a parsed module, which has the
+-- procedures `ps`, spells all tokens from the first to the last. If the result is a refusal, the
 -- tokens can't be read as a module, for the reason that the refusal gives.
 abbrev pub ReadsModule : List Procedure
     → List Token

@@ -10,7 +10,7 @@ use Rattle.ob0_parse.specs.declared.leaf_shifts.TokenIndexShift.{TokenIndexShift
 abbrev pub shifted_leaf : TokenIndexShift → ℕ → ℕ
 shifted_leaf by i = min (i - by.from + by.to) (2 ^ 64 - 1)
 
--- Returns the tree with each leaf shifted by the distance from `by.from` to `by.to`. The leaves are
--- token indexes.
+-- Returns the tree with each leaf, a token index, shifted by the distance from `by.from` to `by.to`
+-- (`shifted_leaf`).
 abbrev pub tree_with_shifted_leaves : {s : Sort} → TokenIndexShift → Tree ℕ s → Tree ℕ s
 tree_with_shifted_leaves by t = mapped_tree (shifted_leaf by) (shifted_leaf by) t

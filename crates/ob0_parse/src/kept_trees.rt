@@ -1,23 +1,23 @@
 //! Keeps the trees of procedures and of the module's body from earlier parses, so that a later
 //! parse can reuse them. Each tree is kept with the range of its tokens in the present text.
 //!
-//! `ShiftedTreeMatchesTokens` states that the tokens in a tree's range have the kinds that the tree spells, and
-//! that the tree's leaves are the indexes of these tokens in the present or an earlier text. So a
-//! tree still fits a changed text if that text has tokens of the same kinds
-//! (`KeptTrees::move_to_changed_text`). If a text has a syntax error, the procedures before the error are kept.
-//! The older trees after the error are also kept.
+//! `ShiftedTreeMatchesTokens` states that the tokens in a tree's range have the kinds that the tree
+//! spells. It also states that the tree's leaves are the indexes of these tokens in the present or
+//! an earlier text. So a tree can still be reused for a changed text that has tokens of the same
+//! kinds (`KeptTrees::move_to_changed_text`). If a text has a syntax error, the procedures before
+//! the error are kept. The trees from earlier texts after the error are also kept.
 //!
-//! A kept tree can be reused, whichever parse made it, if the token after the tree can't continue
-//! the tree. No token can continue a procedure, because a procedure ends with a semicolon
-//! (`stops_zero`). The token after a reused body is END, which can't continue a body. In both cases
-//! no other tree has the same tokens (the lemma `same`). The descent reads every tree that the
-//! tokens spell (the lemma `finishes`). So the tree fulfils `IsReadTree` if it spells the tokens
-//! (the lemma `is_read_tree_at`).
+//! Whichever parse made a kept tree, the tree can be reused if the token after it can't continue
+//! it. No token can continue a procedure, because a procedure ends with a semicolon (`stops_zero`).
+//! The token after a reused body is END, which can't continue a body. In both cases no other tree
+//! has the same tokens (the lemma `same`). The descent reads every tree that the tokens spell (the
+//! lemma `finishes`). So the tree fulfils `IsReadTree` if it spells the tokens (the lemma
+//! `is_read_tree_at`).
 //!
-//! The leaves of a procedure determine the range of its tokens. Its name is its second token, and
-//! its closing name is its last token but one. The leaves of a body don't determine the range of
-//! its tokens. The tree of a module gives the index of BEGIN only if the module has a procedure:
-//! BEGIN is then the token after the last procedure.
+//! The leaves of a procedure determine the range of its tokens. A procedure's name is its second
+//! token, and its closing name is its second-last token. The leaves of a body don't determine the
+//! range of its tokens. The index of BEGIN is known from a module's tree only if the module has a
+//! procedure: BEGIN is then the token after the last procedure.
 //!
 //! The leaves of a kept tree stay unchanged until a parser reaches the tree's tokens. Then
 //! `shift_token_indexes` adds to each leaf the distance that the tokens have moved, by a walk in
@@ -116,10 +116,10 @@ impl KeptTrees {
     }
 }
 
-/// Returns the body of a module with the range of its tokens. The module has the procedures
-/// `procedures`, and its closing name has the token index `closing`. BEGIN is the token after the
-/// last procedure, and END is the token before the closing name. Returns None if the module has no
-/// body or no procedures, or if an index would be out of range.
+/// Returns the kept tree of a module's body (`body`), with the range of its tokens. The module has
+/// the procedures `procedures`, and its closing name has the token index `closing`. BEGIN is the
+/// token after the last procedure, and END is the token before the closing name. Returns None if
+/// the module has no body or no procedures, or if an index would be out of range.
 fn kept_tree_of_body(
     procedures: &Vec<Procedure>,
     body: Option<Vec<Statement>>,
@@ -171,7 +171,7 @@ pub(crate) fn keep_procedures(
 
 /// Removes from `kept` the tree that begins at the token `at`, and adapts its leaves to the present
 /// text. Returns that tree and the index of the token after it. Returns None if no kept tree begins
-/// at the token `at`, or if the next token could continue the tree. Drops the trees that begin
+/// at the token `at`, or if the token after the tree could continue it. Drops the trees that begin
 /// before the token `at`.
 pub(crate) fn take_tree_at(
     parser: &Parser<'_>,
@@ -197,7 +197,8 @@ pub(crate) fn take_tree_at(
 
 impl KeptTree {
     /// Changes the tree's range to the range of its tokens in the changed text, and returns true.
-    /// Returns false if the changed text doesn't have these tokens.
+    /// Returns false if the changed text doesn't have these tokens. `same` describes the tokens
+    /// that the old and the changed text share.
     fn move_to_changed_text(&mut self, same: CommonPrefixAndSuffix) -> bool
         ensures { RelocatesTree same self.old self.new result }
     {

@@ -17,7 +17,7 @@ pub fn descent_end_is_unique()
 {}
 
 /// Proves that the descent reads each module to its end. So a text in which the descent stops
-/// earlier is no module.
+/// earlier isn't a module.
 pub fn descent_reads_modules()
     ensures { (text : TextWithTokens) (tree : Tree (List ℕ) module_text)
         → IsModuleWithTree text tree

@@ -14,9 +14,9 @@ use ob0_tree::{
     TypeDeclaration, VariableDeclaration, While, WrittenType,
 };
 
-/// A shift of token indexes by a change of the text: the token with the index `from` in the old
-/// text has the index `to` in the changed text. The index of every later token of the tree is
-/// shifted by the same distance.
+/// A shift of a tree's token indexes by a change of the text. The tree's first token has the index
+/// `from` in the old text and the index `to` in the changed text. The indexes of the tree's other
+/// tokens are shifted by the same distance.
 #[derive(Clone, Copy)]
 pub(crate) struct TokenIndexShift {
     pub from: usize,
@@ -25,7 +25,7 @@ pub(crate) struct TokenIndexShift {
 
 impl TokenIndexShift {
     /// Returns the index that a token has after the shift, given its index `leaf` before the shift.
-    /// The result is at most the largest `usize`. An index below `from` counts as `from`.
+    /// The result is capped at the largest `usize`. An index below `from` counts as `from`.
     fn shifted_leaf(self, leaf: usize) -> usize
         ensures { result ≡ shifted_leaf self leaf }
     {

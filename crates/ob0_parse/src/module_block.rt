@@ -20,9 +20,9 @@ use ob0_tree::{
     VariableDeclaration,
 };
 
-/// Parses the block of a module, its declarations and its body, beginning at the token `at`. Stores
-/// the procedures in `procedures`. Returns the other parts of the block, and the index of the token
-/// after the block. The trees in `kept` that are reused are removed from `kept`.
+/// Parses the block of a module (its declarations and its body), beginning at the token `at`.
+/// Stores the procedures in `procedures`. Returns the other parts of the block, and the index of
+/// the token after the block. Reused trees are removed from `kept`.
 fn parse_module_block(
     parser: &Parser<'_>,
     at: usize,

@@ -40,8 +40,8 @@ pub fn parse_tree(alloc: Global, tokens: &Tokens) -> Result<ModuleTree, ParseRef
 /// Returns the tree of the module that the tokens spell. Returns a refusal if the tokens spell no
 /// module or an allocation fails. Reuses the procedures and the body that `kept` has from earlier
 /// parses. The tokens in the range of each kept tree must have the kinds that the tree spells
-/// (`KeptTreesMatchTokens`). If the result is a refusal, the procedures that this parse made or
-/// reused are in `kept`.
+/// (`KeptTreesMatchTokens`). If the result is a refusal, `kept` then also has the procedures that
+/// this parse made or reused.
 pub fn reparse_tree(
     alloc: Global,
     tokens: &Tokens,

@@ -45,8 +45,9 @@ abbrev pub symbol_part : Symbol → ProductionPart
 symbol_part s = token (kind.Symbol s)
 
 -- Returns the choice for a construct that opens a level of nesting, given the number of levels
--- left. `inside` returns the construct's parts, given the levels left inside the construct, which
--- are one less. If no level is left, the construct is too deep (LANGUAGE.md, Nesting and limits).
+-- left. `inside` returns the construct's parts, given the number of levels left inside the
+-- construct, which is one less. If no level is left, the construct is too deep (LANGUAGE.md,
+-- Nesting and limits).
 abbrev pub nested_construct_choice : ℕ → (ℕ → List ProductionPart) → ProductionChoice
 nested_construct_choice zero inside = too_deep
 nested_construct_choice (suc room) inside = parts (inside room)
@@ -82,7 +83,7 @@ abbrev pub operator_with_operand_choice : Sort → ℕ → List (Terminal ℕ) �
 operator_with_operand_choice s room (WordOrSymbol k ∷ tokens) = parts (token k ∷ nonterminal s room ∷ [])
 operator_with_operand_choice s room tokens = missing expected.Expression
 
--- Returns the production of an item that the next tokens determine, with `room` levels of nesting
+-- Returns the production that the next tokens determine for an item, with `room` levels of nesting
 -- left. This function is used only if the next token begins the item, so its value for any other
 -- token doesn't matter.
 abbrev pub chosen_item_production : GrammarItem → (room : ℕ) → List (Terminal ℕ) → ProductionChoice
@@ -189,8 +190,9 @@ chosen_production factor room (WordOrSymbol (kind.Symbol symbol.Not) ∷ tokens)
     nested_construct_choice room (λ inner. symbol_part symbol.Not ∷ nonterminal factor inner ∷ [])
 chosen_production factor room tokens = missing expected.Expression
 -- statement = [assignment | call | if | while | repeat]
--- assignment = ident {selector} ":=" expression, call = ident [arguments]: if a selector follows the
--- identifier, the statement is an assignment
+-- assignment = ident {selector} ":=" expression
+-- call = ident [arguments]
+-- If a selector or `:=` follows the identifier, the statement is an assignment.
 chosen_production statement room (Name n ∷ tokens) =
     if is_assignment_next tokens
     then parts (name ∷ nonterminal (items selector) room ∷ symbol_part symbol.Becomes ∷ nonterminal expression room ∷ [])
@@ -287,9 +289,9 @@ syntax_expected_for_kind (kind.Symbol symbol) = Some (expected.Symbol symbol)
 syntax_expected_for_kind kind.Identifier = None
 syntax_expected_for_kind (kind.Integer value) = None
 
--- Returns the token that a syntax error reports as expected if a part of a production is missing.
--- The result is None for an integer, because an integer is a part only if the next token is an
--- integer. The result is also None for a construct, because the descent reads the parts of its
+-- Returns the token that a syntax error reports as expected if this part of a production is
+-- missing. Returns None for an integer, which is never missing: it is a part only if the next token
+-- is an integer. Returns None for a construct, because the descent reads the parts of its
 -- production instead.
 abbrev pub syntax_expected_for_part : ProductionPart → Option ExpectedSyntax
 syntax_expected_for_part (token k) = syntax_expected_for_kind k
@@ -343,7 +345,7 @@ DescentEndIsUnique =
     → Descends ps i tokens b
     → a ≡ b
 
--- States that the descent through a whole text, read as a module, has the end `o`. The last of
--- `tokens` is the end of the text. At most 100 levels of nesting are allowed.
+-- States that the descent through a whole text, read as a module, has the end `o`. The end of the
+-- text is the last item of `tokens`. At most 100 levels of nesting are allowed.
 abbrev pub TextDescentEndsWith : List (Terminal ℕ) → DescentEnd → Type 0
 TextDescentEndsWith tokens o = Descends (nonterminal module_text max_nesting ∷ text_end ∷ []) 0 tokens o

@@ -5,7 +5,8 @@ use Rattle.ob0_scan.specs.LexemeClasses.{reserved_word_text, symbol_text}
 use Rattle.ob0_parse_descent.specs.declared.refusal.ExpectedSyntax.{ExpectedSyntax}
 use Rattle.ob0_parse_descent.specs.declared.refusal.ExpectedSyntax.TheVariants as expected
 
--- Returns the text for an expected token or construct. A reserved word or symbol is spelled out.
+-- Returns the text for an expected token or construct. The text for a reserved word or symbol is
+-- its spelling.
 abbrev pub expected_text : ExpectedSyntax → List ℕ
 expected_text expected.Type = codes "type"
 expected_text expected.Expression = codes "expression"

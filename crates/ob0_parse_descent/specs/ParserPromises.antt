@@ -1,5 +1,5 @@
--- Defines the promises of the parser's functions: which tokens a function has read as a tree, or
--- why it can't read a tree from the given token.
+-- Defines when the results of the parser's functions are right. Such a result says which tokens a
+-- tree was read from, or why no tree can be read at the given token.
 -- Rule: none; used in the contracts of the parser.
 use Rattle.std.specs.declared.vec.Vec.{Vec}
 use Rattle.std.specs.declared.alloc.Global.{Global}
@@ -69,9 +69,10 @@ pub record HaveSameFirstToken (xs w : List (Terminal ℕ)) : Type 0 where
   pub is : xs ≡ head ∷ following
   pub alike : w ≡ head ∷ other
 
--- States that if the descent over the parts `following`, starting at the token `next`, has some
--- end, then the descent over the parts `ps`, starting at the token `at`, has the same end. This
--- also holds if further parts `more` follow in both lists.
+-- States that two descents have the same end. The first reads the parts `ps`, starting at the token
+-- `at`. The second reads the parts `following`, starting at the token `next`. Every end of the
+-- second descent is also an end of the first, even if the same further parts (`more`) follow in
+-- both.
 pub record DescentsHaveSameEnd (ps following : List ProductionPart) (ts : List Token) (at next : ℕ) : Type 0 where
   pub stops_as_following : (o : DescentEnd) (more : List ProductionPart)
       → Descends (following ++ more) next (remaining_terminals ts next) o
@@ -79,9 +80,9 @@ pub record DescentsHaveSameEnd (ps following : List ProductionPart) (ts : List T
 
 -- States that the tree `t` spells the tokens `at..next`, that the descent reads `t` there, and that
 -- `t` has at most `room` levels of nesting. The field `only` states that `t` is the only such tree.
--- Take any list of tokens that begins with the tokens of `t` and the token at `next`. If a tree `u`
--- of the same sort spells the beginning of this list, and the token after `u` can't continue `u`
--- (`NextTokenEndsConstruct`), then `u` is `t`.
+-- It covers every list of tokens that begins with the tokens of `t` and the token at `next`.
+-- Suppose that a tree `u` of the same sort spells the beginning of this list. If the token after
+-- `u` can't continue `u` (`NextTokenEndsConstruct`), then `u` is `t`.
 pub record IsReadTree {s : Sort} (t : Tree ℕ s) (room : ℕ) (ts : List Token) (at next : ℕ) : Type 0 where
   pub spelled : remaining_terminals ts at ≡ spell t ++ remaining_terminals ts next
   pub shallow : nesting t ≤ room
@@ -94,10 +95,10 @@ pub record IsReadTree {s : Sort} (t : Tree ℕ s) (room : ℕ) (ts : List Token)
   pub within : next ≤ length ts
   pub forward : at ≤ next
 
--- States that the refusal of the parts `parts` reports the right token. If the refusal is a syntax
--- error or too deep nesting at the token `i`, the tokens `at..=i`, followed by any tokens, don't
--- begin with the parts. The end of the text counts as a token. For a failed allocation it states
--- nothing.
+-- States that the refusal of the parts `parts` reports the right token. If the refusal is `Syntax`
+-- or `TooDeep` at the token `i`, no list of tokens that begins with the tokens `at..=i` begins with
+-- the parts. The end of the text counts as a token. States nothing about the refusal `Memory`, a
+-- failed allocation.
 abbrev pub IsRightRefusalOfParts : List ProductionPart → List Token → ℕ → ParseRefusal → Type 0
 IsRightRefusalOfParts parts ts at (Syntax i expected) = (i ≤ length ts) × CantBeginWithParts parts (remaining_terminals ts at) (remaining_terminals ts (i + 1))
 IsRightRefusalOfParts parts ts at (TooDeep i) = (i ≤ length ts) × CantBeginWithParts parts (remaining_terminals ts at) (remaining_terminals ts (i + 1))
@@ -109,15 +110,16 @@ abbrev pub DescentEndsWith : List ProductionPart → List Token → ℕ → Desc
 DescentEndsWith parts ts at o = (more : List ProductionPart) → Descends (parts ++ more) at (remaining_terminals ts at) o
 
 -- States that the descent over the parts `parts`, starting at the token `at`, stops at the token
--- and for the reason that the refusal gives. For a failed allocation it states nothing.
+-- and for the reason that the refusal gives. States nothing about the refusal `Memory`, a failed
+-- allocation.
 abbrev pub DescentEndsAsRefusalSays : List ProductionPart → List Token → ℕ → ParseRefusal → Type 0
 DescentEndsAsRefusalSays parts ts at (Syntax i expected) = DescentEndsWith parts ts at (Expects i expected)
 DescentEndsAsRefusalSays parts ts at (TooDeep i) = DescentEndsWith parts ts at (TooDeepAt i)
 DescentEndsAsRefusalSays parts ts at Memory = Unit {0}
 
--- States that the refusal `e` is right: the parts `parts` can't be read starting at the token `at`,
--- and the descent over these parts stops at the token and for the reason that `e` gives. The
--- refusal `Memory` is always right.
+-- States that the refusal `e` is right. The parts `parts` can't be read starting at the token `at`.
+-- The descent over these parts stops at the token and for the reason that `e` gives. The refusal
+-- `Memory`, a failed allocation, is always right.
 pub record FailsToRead
     (parts : List ProductionPart) (ts : List Token) (at : ℕ) (e : ParseRefusal) : Type 0 where
   pub why : IsRightRefusalOfParts parts ts at e
@@ -144,8 +146,8 @@ pub record IsTokenOtherThan (x : Terminal ℕ) (ts : List Token) (at : ℕ) : Ty
   pub differs : fault ≢ x
   pub within : at ≤ length ts
 
--- States that the token at the index `at`, which may be the end of the text, isn't an identifier (7
--- is the rank of identifiers).
+-- States that the token at the index `at`, which may be the end of the text, isn't an identifier.
+-- Identifiers are the only tokens with the rank 7.
 pub record IsNotIdentifier (ts : List Token) (at : ℕ) : Type 0 where
   pub fault : Terminal ℕ
   pub here : remaining_terminals ts at ≡ fault ∷ remaining_terminals ts (at + 1)
@@ -187,14 +189,15 @@ abbrev pub OpensNestingLevel : ℕ → ℕ → Result ℕ ParseRefusal → Type 
 OpensNestingLevel at room (Ok inner) = room ≡ inner + 1
 OpensNestingLevel at room (Err e) = (room ≡ 0) × (e ≡ TooDeep at)
 
--- States that the token at the index `at` is the whole factor `f`, and that the next token, if
--- there is one, has a rank above `level` (see `NextTokenEndsConstruct`).
+-- States that the token at the index `at` is the whole factor `f`. Also states that the next token,
+-- if there is one, has a rank above `level`. So the next token can't continue a construct that only
+-- tokens with a rank up to `level` can continue (`NextTokenEndsConstruct`).
 pub record IsSingleTokenFactor (level : ℕ) (f : Tree ℕ factor) (ts : List Token) (at : ℕ) : Type 0 where
   pub taken : (room : ℕ) → IsReadTree f room ts at (at + 1)
   pub stops : NextTokenEndsConstruct level (remaining_terminals ts (at + 1))
 
--- States that the token at the index `at` begins the item `i`, but that the item can't be read, for
--- the reason that the refusal `e` gives.
+-- States that the token at the index `at` begins the item `i`, but the item can't be read. The
+-- refusal `e` gives the right reason.
 pub record ItemBeginsButCantBeRead
     (i : GrammarItem) (room : ℕ) (ts : List Token) (at : ℕ) (e : ParseRefusal) : Type 0 where
   pub is_here : NextTokenHasRank (item_start_rank i) (remaining_terminals ts at)
@@ -240,15 +243,16 @@ ReadsDesignator room ts at (Ok x) =
 ReadsDesignator room ts at (Err e) = FailsToRead (name ∷ nonterminal (items selector) room ∷ []) ts at e
 
 -- States that the operator found for a token of the kind `k` is right. `mark` returns the kind of
--- token that spells an operator, and `r` is the rank of these tokens. If an operator was found,
--- tokens of the kind `k` spell it. If no operator was found (None), the rank of `k` isn't `r`.
+-- token that spells a given operator, and `r` is the rank of all such kinds. If an operator was
+-- found, tokens of the kind `k` spell it. If no operator was found (None), the rank of `k` isn't
+-- `r`.
 abbrev pub IsOperatorOfKind : {A : Type 0} → (A → TokenKind) → ℕ → TokenKind → Option A → Type 0
 IsOperatorOfKind mark r k (Some a) = k ≡ mark a
 IsOperatorOfKind mark r k None = kind_rank k ≢ r
 
--- States that the tokens `at..next` are the list `xs`: its first element, then the further
+-- States that the tokens `at..next` spell the list `xs`: its first element, then the further
 -- elements, each with the separator before it. `view` returns the tree of the first element, and
--- `further` returns the tree of a further element.
+-- `further` returns the tree of a further element with its separator.
 pub record IsReadList
     {A : Type 0} {s : Sort} {i : GrammarItem} (view : A → Tree ℕ s) (further : A → Tree ℕ (item i))
     (xs : List A) (room : ℕ) (ts : List Token) (at next : ℕ) : Type 0 where

@@ -1,7 +1,8 @@
--- Defines at which token a construct ends. Each token has a rank. For each construct `max_continuing_rank` gives
--- the highest rank of a token that can continue the construct once it is complete. The construct
--- ends before a token with a higher rank. A token begins an item exactly if the token has the rank
--- of the item.
+-- Defines ranks of tokens, which determine at which token a construct ends. `max_continuing_rank`
+-- gives the highest rank of a token that can continue a construct once it is complete. The
+-- construct ends before any token with a higher rank. An item (a repeated or optional part of a
+-- production) also has a rank, `item_start_rank`. A token begins the item exactly if it has this
+-- rank.
 -- Rule: docs/LANGUAGE.md, Grammar 1.
 use Rattle.std.specs.Prelude.{◌≡◌, ℕ, ◌<◌, min, List, [], ◌∷◌, Bool, true, false, Option, Some, None}
 use Rattle.ob0_scan.specs.declared.lexeme.TokenKind.{TokenKind}
@@ -54,7 +55,7 @@ terminal_rank (Number n) = 17
 terminal_rank (WordOrSymbol k) = kind_rank k
 terminal_rank EndOfText = 17
 
--- Returns the rank of the tokens that begin an item.
+-- Returns the rank of the tokens that begin an item (a repeated or optional part of a production).
 abbrev pub item_start_rank : GrammarItem → ℕ
 item_start_rank selector = 1
 item_start_rank multiplier = 2
@@ -78,8 +79,8 @@ item_start_rank variables = 14
 item_start_rank procedure = 15
 item_start_rank body = 16
 
--- Returns the highest rank of a token that can continue a single item. Returns 0 if no token can
--- continue the item.
+-- Returns the highest rank of a token that can continue a single item once it is complete. Returns
+-- 0 if no token can continue the item.
 abbrev pub item_max_continuing_rank : GrammarItem → ℕ
 item_max_continuing_rank selector = 0
 item_max_continuing_rank multiplier = 1
@@ -103,8 +104,8 @@ item_max_continuing_rank variables = 7
 item_max_continuing_rank procedure = 0
 item_max_continuing_rank body = 9
 
--- Returns the highest rank of a token that can continue a construct. Returns 0 if no token can
--- continue the construct.
+-- Returns the highest rank of a token that can continue a construct once it is complete. Returns 0
+-- if no token can continue the construct.
 abbrev pub max_continuing_rank : Sort → ℕ
 max_continuing_rank (item i) = item_max_continuing_rank i
 max_continuing_rank (items i) = item_start_rank i
@@ -145,9 +146,9 @@ may_begin_expression (Some (kind.Symbol symbol.LeftParen)) = true
 may_begin_expression (Some (kind.Symbol symbol.Not)) = true
 may_begin_expression _ = false
 
--- Returns the rank, capped at 5, of a token of this kind: the lower the rank, the more strongly the
--- token binds the operand before it. Only operators and the tokens that begin a selector have a
--- rank below 5. At the end of the text (None) the result is 5.
+-- Returns the rank of a token of this kind, capped at 5. A token with a lower rank binds the
+-- operand before it more strongly. Only operators and the tokens that begin a selector have a rank
+-- below 5. At the end of the text (None) the result is 5.
 abbrev pub binding_rank : Option TokenKind → ℕ
 binding_rank None = 5
 binding_rank (Some k) = min (kind_rank k) 5

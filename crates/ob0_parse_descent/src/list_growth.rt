@@ -1,4 +1,5 @@
-//! Adds items to lists whose capacity doubles when they are full, beginning with room for one item.
+//! Adds items to lists. The capacity of such a list begins with one item and doubles whenever the
+//! list is full.
 
 ghost use Rattle.std.specs.Prelude.{◌≡◌, ◌≤◌, ◌++◌, ◌∷◌, [], ◌<◌, OnErr, OnOk, vec_capacity, vec_len};
 

@@ -22,21 +22,24 @@ use ob0_tree::{
 };
 use std::alloc::{AllocError, Global};
 
-/// The rank of `.` and `[`, which begin a selector. The lower its rank, the more strongly a token
-/// binds the operand before it (see `binding_rank`).
+/// The binding rank (`binding_rank`) of `.` and `[`, the tokens that begin a selector. A token with
+/// a lower rank binds the operand before it more strongly.
 const SELECTOR_RANK: u8 = 1;
 
-/// The rank of `*`, DIV, MOD and `&` (see `binding_rank`).
+/// The binding rank (`binding_rank`) of `*`, DIV, MOD and `&`. Tokens with a lower rank bind more
+/// strongly.
 const MULTIPLICATION_RANK: u8 = 2;
 
-/// The rank of `+`, `-` and OR (see `binding_rank`).
+/// The binding rank (`binding_rank`) of `+`, `-` and OR. Tokens with a lower rank bind more
+/// strongly.
 const ADDITION_RANK: u8 = 3;
 
-/// The rank of the relations `=`, `#`, `<`, `<=`, `>` and `>=` (see `binding_rank`).
+/// The binding rank (`binding_rank`) of the relations `=`, `#`, `<`, `<=`, `>` and `>=`. Tokens
+/// with a lower rank bind more strongly.
 const COMPARISON_RANK: u8 = 4;
 
-/// The rank of each token that neither begins a selector nor is an operator. Such a token doesn't
-/// bind the operand before it (see `binding_rank`).
+/// The binding rank (`binding_rank`) of every other token: it is no operator and begins no
+/// selector. Such a token doesn't bind the operand before it.
 const NON_OPERATOR_RANK: u8 = 5;
 
 /// The result of parsing a construct: the construct's tree and the index of the token after the
@@ -56,8 +59,8 @@ pub struct Parser<'t> {
 }
 
 impl<'t> Parser<'t> {
-    /// Returns the kind of the token with the index `at`, or None if `at` is the end of the text
-    /// (the number of tokens).
+    /// Returns the kind of the token with the index `at`. Returns None at the end of the text,
+    /// which means that `at` is the number of tokens.
     pub fn kind(&self, at: usize) -> Option<TokenKind>
         requires { at ≤ length self.now.tokens.now }
         ensures here { remaining_terminals self.now.tokens.now at
@@ -114,8 +117,8 @@ impl<'t> Parser<'t> {
         }
     }
 
-    /// If the token at `at` is an identifier, returns its index and the index of the next token.
-    /// Otherwise returns a syntax error: an identifier is expected at `at`.
+    /// Returns `at` and `at + 1` if the token at `at` is an identifier. Otherwise returns a syntax
+    /// error: an identifier is expected at `at`.
     pub fn expect_identifier(&self, at: usize) -> ConstructResult<usize>
         requires { at ≤ length self.now.tokens.now }
         ensures { ReadsIdentifier self.now.tokens.now at result }
@@ -164,8 +167,8 @@ impl<'t> Parser<'t> {
         Ok((Names { first, more }, next))
     }
 
-    /// Parses an expression, `simple [relation simple]`. If the expression is a single token,
-    /// returns its tree without parsing the parts.
+    /// Parses an expression, `simple [relation simple]`. If it is a single token, returns its tree
+    /// directly, otherwise calls `parse_expression_parts`.
     #[cycle(expressions)]
     #[inline(always)]
     pub(crate) fn parse_expression(&self, at: usize, room: u32) -> ConstructResult<Expression>
@@ -196,7 +199,7 @@ impl<'t> Parser<'t> {
         Ok((Expression::CompoundExpression(compound), end))
     }
 
-    /// Returns the expression that consists only of the simple expression `side` and has no
+    /// Returns the expression that consists only of the simple expression `side`, without a
     /// comparison. If `side` is a single factor, the result is an `Expression::Factor`, which needs
     /// no box.
     #[inline(always)]
@@ -233,10 +236,9 @@ impl<'t> Parser<'t> {
         Ok(Some((Comparison { relation, right }, next)))
     }
 
-    /// Returns the factor that consists only of the token at `at`. Returns None if that token is
-    /// neither an identifier nor an integer, or if the next token can continue the construct that
-    /// the caller parses. Only a token whose rank (`binding_rank`) is at most `level` can continue
-    /// that construct.
+    /// Returns the token at `at` as a factor. Returns None if that token is neither an identifier
+    /// nor an integer. Also returns None if the next token can continue the construct that the
+    /// caller parses: if its binding rank (`binding_rank`) is at most `level`.
     #[inline(always)]
     fn single_token_factor(&self, at: usize, level: u8) -> Option<Factor>
         requires within { at ≤ length self.now.tokens.now }
@@ -492,8 +494,8 @@ impl<'t> Parser<'t> {
     }
 }
 
-/// Returns the rank of the token `next`: the lower the rank, the more strongly the token binds the
-/// operand before it. At the end of the text (None) the rank is `NON_OPERATOR_RANK`.
+/// Returns the binding rank of the token `next`. A token with a lower rank binds the operand before
+/// it more strongly. At the end of the text (None) the rank is `NON_OPERATOR_RANK`.
 #[inline(always)]
 fn binding_rank(next: Option<TokenKind>) -> u8
     ensures { result ≡ binding_rank next }

@@ -1,5 +1,5 @@
--- Defines the hover text of a name from its object: the constant, type, variable or procedure that
--- it is declared as.
+-- Defines the hover text of a name, given the constant, type, variable or procedure that the name
+-- is declared as.
 -- Rule: docs/PROTOCOL.md, JSON shapes 3.
 use Rattle.std.specs.Prelude.{ℕ, ◌+◌, ◌-◌, Bool, true, false, List, [], ◌∷◌, drop, map, nat_lt, if◌then◌else◌, Option, Some, None, option_and_then}
 use Rattle.ob0_tree.specs.declared.tree.Role.TheVariants as role
@@ -35,7 +35,8 @@ hover_parameter_of_formal name f =
 
 -- Returns the `HoverParameter` of each parameter in a procedure's signature. The first argument has
 -- the names that the text declares after the procedure's name, which begin with the parameters'
--- names. If there are fewer names than parameters, the remaining parameters are left out.
+-- names. If there are fewer names than parameters, the result has no entry for the remaining
+-- parameters.
 abbrev pub hover_parameters_of_signature : List Name → Signature → List HoverParameter
 hover_parameters_of_signature (x ∷ xs) (f ∷ fs) = hover_parameter_of_formal x f ∷ hover_parameters_of_signature xs fs
 hover_parameters_of_signature [] fs = []

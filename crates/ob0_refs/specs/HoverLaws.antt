@@ -11,8 +11,8 @@ use Rattle.ob0_language_names.specs.BlockParts.{formal_parameter_names, formal_p
 use Rattle.ob0_scope_table.specs.Resolution.{declaring_names, declaration_token}
 use Rattle.ob0_refs.specs.DeclarationTexts.{names_declared_after_declaration}
 
--- Returns the heading of each procedure, in text order. Here a heading is a pair: the token of the
--- procedure's name, and the tokens of its parameters' names.
+-- Returns the heading of each procedure, in text order. Here a heading is a pair of token indexes:
+-- the index of the procedure's name, and the list of the indexes of its parameters' names.
 abbrev mutual
   -- returns the heading of each procedure in a block, at any depth
   pub block_headings : Tree ℕ block → List (ℕ × List ℕ)

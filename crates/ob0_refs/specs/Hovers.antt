@@ -12,7 +12,7 @@ abbrev pub truth_text : Bool → List ℕ
 truth_text true = codes "TRUE"
 truth_text false = codes "FALSE"
 
--- returns the text of a constant's value: its decimal digits, TRUE or FALSE
+-- returns the text of a constant's value: a decimal number, TRUE or FALSE
 abbrev pub scalar_text : Scalar → List ℕ
 scalar_text (scalar.Number n) = signed_decimal n
 scalar_text (scalar.Truth b) = truth_text b

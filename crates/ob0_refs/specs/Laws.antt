@@ -27,9 +27,9 @@ FieldsHaveDefinitions =
     → is_some (definition_at_offset r offset) ≡ true
 
 -- States that renaming at the byte offset `offset` finds a field of the record with the ordinal
--- `k`, and no name. The renaming changes the field's identifiers (`field_tokens_in_module`). These are
--- exactly the references to the field, including its declaration. The identifier at the offset is
--- one of them and has the span `span`.
+-- `k`, and no name. The renaming changes the field's identifiers (`field_tokens_in_module`). These
+-- identifiers are exactly the references to the field, including its declaration. The identifier at
+-- the offset is one of them and has the span `span`.
 pub record RenamesFieldAtOffset (r : Resolution) (offset : ℕ) (span : Span) (k : ℕ) : Type 0 where
   pub token : ℕ
   pub no_name : name_at_offset r.module_read offset ≡ None

@@ -36,8 +36,8 @@ abbrev pub answer_about_field : ParsedModule → FieldIdentifier → answer.At
 answer_about_field m x =
     record { span = token_span m.source x.token; of = answer_of.Field x.owner (field_index_or_zero m x) }
 
--- returns the answer about the identifier with this token index and this meaning: its span and what
--- it refers to
+-- returns the answer about the identifier with this token index and this meaning: its span, and the
+-- declaration or field to which it refers
 abbrev pub answer_about_identifier : ParsedModule → ℕ → IdentifierMeaning → answer.At
 answer_about_identifier m token (Name ordinal) = answer_about_name m (record { token = token; ordinal = ordinal })
 answer_about_identifier m token (Field k) = answer_about_field m (record { token = token; owner = k })
@@ -50,7 +50,7 @@ answer_at_offset r offset =
 
 -- ---- prepareRename: the span of the name or field, if it can be renamed
 
--- returns the span of the identifier with this token index and this meaning, or None if it is a
+-- returns the span of the identifier with this token index and this meaning, or None for a
 -- predeclared name
 abbrev pub renamable_span_of_identifier : ParsedModule → ℕ → IdentifierMeaning → Option Span
 renamable_span_of_identifier m token (Name ordinal) =

@@ -1,5 +1,6 @@
-//! Defines the types of the answers about an identifier. They say what it refers to, what its hover
-//! text is, and at which span a new name for its declaration has a conflict.
+//! Defines the answers about an identifier. `At` and `Of` say to which declaration or field the
+//! identifier refers. `Hover` has its hover text. `NameConflict` shows at which span a new name for
+//! its declaration has a conflict.
 
 use ob0_scan::Span;
 
@@ -11,7 +12,7 @@ pub enum Of {
     Declared(usize),
     Predeclared,
     /// A field, given by its record's ordinal and its index among the record's fields, counted from
-    /// 0. A record's ordinal is the number of the words ARRAY and RECORD that come before its word
+    /// 0. The ordinals number array and record types from 0, in the order of their words ARRAY and
     /// RECORD in the text.
     Field { ordinal: usize, index: usize },
 }
@@ -32,8 +33,8 @@ pub struct Hover {
 }
 
 /// The first conflict of a new name for a declaration. If another declaration of the same block has
-/// the new name, `span` is the span of the old name where it is declared. Otherwise `span` is the
-/// span of the first looked-up name whose binding would change. Spans are in bytes.
+/// the new name, `span` is the span of the identifier that declares the old name. Otherwise `span`
+/// is the span of the first looked-up name whose binding would change. Spans are in bytes.
 #[derive(Clone, Copy, PartialEq, Eq)]
 pub struct NameConflict {
     pub span: Span,

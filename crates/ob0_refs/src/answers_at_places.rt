@@ -2,13 +2,13 @@
 //! finds the declaration or field to which the identifier at the offset refers (`at`).
 //!
 //! Each public function first finds the meaning of the identifier at the offset
-//! (`identifier_meaning_at_offset` of `ob0_types`). Then it has one case for a name and one for a field.
-//! The hover text is made in the same way (`hovers_at_places`). Renaming also uses
+//! (`identifier_meaning_at_offset` of `ob0_types`). Then it treats a name and a field separately.
+//! `hovers_at_places` makes the hover text in the same way. Renaming also uses
 //! `identifier_meaning_at_offset`, so it renames the name or field that these answers are about.
 //!
-//! The references to a field are the identifiers that its renaming changes. References to a name
-//! take one pass over the table of ordinals, starting at the declaring token. References to a field
-//! take one pass over the module's fields.
+//! The references to a field are the identifiers that its renaming changes. The references to a
+//! name are found in one pass over the table of ordinals, which starts at the declaring token. The
+//! references to a field are found in one pass over the module's fields.
 
 ghost use Rattle.std.specs.Prelude.{◌≡◌, IfOk, Some};
 ghost use Rattle.ob0_refs.specs.Questions.{AreReferencesAtOffset, answer_about_field, answer_about_identifier, definition_of_identifier, definition_at_offset, definition_of_field, field_reference_spans, field_reference_tokens, field_index_or_zero, answer_at_offset, references_of_identifier, list_without_optional_token, renamable_span_at_offset, renamable_span_of_identifier};
@@ -42,7 +42,8 @@ pub fn at(well_typed: &WellTyped<'_>, offset: usize) -> Option<At>
     }
 }
 
-/// Returns the answer about an identifier: its span and what it refers to.
+/// Returns the answer about an identifier: its span, and the declaration or field to which it
+/// refers.
 fn answer_about_identifier(well_typed: &WellTyped<'_>, found: IdentifierWithMeaning) -> At
     ensures { result ≡ answer_about_identifier well_typed.now.module_read found.token found.means }
 {

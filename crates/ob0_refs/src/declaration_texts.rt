@@ -1,9 +1,9 @@
 //! Makes the hover texts of names and fields, from their entries in the table of declarations.
 //!
 //! A procedure's signature doesn't have the names of its parameters, so they are read from the
-//! module's text. They are the first names that the text declares after the procedure's name, as
-//! many as the signature has parameters. Predeclared names are recognized by their ordinals (0 to
-//! 6).
+//! module's text. If the signature has n parameters, their names are the first n names that the
+//! text declares after the procedure's name. Predeclared names are recognized by their ordinals (0
+//! to 6).
 
 ghost use Rattle.std.specs.Prelude.{◌≡◌, ◌+◌, ◌-◌, [], IfOk, Some, drop, map, option_map, string_bytes};
 ghost use Rattle.ob0_tree.specs.ParsedModule.{tree_of};
@@ -171,7 +171,8 @@ fn declaring_tokens_after_declaration<'r>(names: &'r Resolved<'_>, ordinal: usiz
 
 /// Returns the parameters of a procedure for its hover text, each with its name and the text of its
 /// type. `formals` is the procedure's signature. `following` has the token indexes of the declaring
-/// identifiers after the procedure's name, the first of which are the parameters' names.
+/// identifiers after the procedure's name. The first of these identifiers are the parameters'
+/// names.
 fn hover_parameters_of_signature<'s>(
     alloc: Global,
     known: &DeclarationTable,

@@ -1,4 +1,5 @@
-//! Makes the answer of `at` about a name: the name's span, and what the name refers to.
+//! Makes the answer of `at` about a name: the name's span, and the declaration to which the name
+//! refers.
 
 ghost use Rattle.std.specs.Prelude.{◌≡◌};
 ghost use Rattle.ob0_refs.specs.NameAnswers.{answer_about_name, referent_of_ordinal};
@@ -7,7 +8,8 @@ use crate::answer_types::{At, Of};
 use ob0_scope::BoundName;
 use ob0_scope_table::{PREDECLARED_COUNT, Resolved, token_span};
 
-/// Returns the span of a name, in bytes, and what the name refers to.
+/// Returns the span of a name, in bytes, and the declaration to which the name refers (or
+/// Predeclared).
 pub(crate) fn answer_about_name(names: &Resolved, name: BoundName) -> At
     ensures { result ≡ answer_about_name names.now.module_read name }
 {
@@ -17,8 +19,8 @@ pub(crate) fn answer_about_name(names: &Resolved, name: BoundName) -> At
     }
 }
 
-/// Returns Predeclared for the ordinals 0 to 6. For any other ordinal, returns the declaration of
-/// the text that has this ordinal.
+/// Returns the declaration of the text that has this ordinal. The ordinals 0 to 6 are predeclared
+/// names, and the result for them is Predeclared.
 fn referent_of_ordinal(ordinal: usize) -> Of
     ensures { result ≡ referent_of_ordinal ordinal }
 {

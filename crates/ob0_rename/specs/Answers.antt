@@ -49,8 +49,8 @@ pub record RenamesDeclaration (r : Renaming) (d : ℕ) (edits : List Edit) : Typ
   pub writes : WritesNewName r (tokens_to_rename (module_of_renaming r) d r.new)
       (renamed (named_tree_of_renaming r) d r.new) edits
 
--- States that the given refusal is the first one that applies to the new name of the declaration
--- with the ordinal `d`, in the order of the cases below.
+-- States that the given refusal is the first one, in the order of the cases below, that applies to
+-- renaming the declaration with the ordinal `d`.
 abbrev pub IsFirstRefusalForDeclaration : Renaming → ℕ → EditRefusal → Type 0
 IsFirstRefusalForDeclaration r d refusal.NoName = ⊥
 IsFirstRefusalForDeclaration r d refusal.Predeclared = ⊥
@@ -74,7 +74,7 @@ IsFirstRefusalForDeclaration r d refusal.CommentInside = ⊥
 IsFirstRefusalForDeclaration r d refusal.Memory = ⊥
 
 -- States that the answer is edits that rename the declaration with the ordinal `d`, or the first
--- refusal that applies, or `Memory`.
+-- refusal that applies. The answer can also be `Memory` (a failed allocation).
 abbrev pub AnswersRenamingOfDeclaration : Renaming → ℕ → Result (Vec Edit Global) EditRefusal → Type 0
 AnswersRenamingOfDeclaration r d (Ok edits) = RenamesDeclaration r d edits.items
 AnswersRenamingOfDeclaration r d (Err why) = (why ≡ refusal.Memory) ⊎ IsFirstRefusalForDeclaration r d why
@@ -91,9 +91,9 @@ pub record RenamesField (r : Renaming) (k : ℕ) (f : Name) (edits : List Edit) 
   pub writes : WritesNewName r (field_tokens_to_rename r.names k f r.new)
       (module_with_renamed_field (named_tree_of_renaming r) k f r.new) edits
 
--- States that the given refusal is the first one that applies to the new name of the field `f` of
--- the record with the ordinal `k`, in the order of the cases below. Only another field of that
--- record can conflict with the new name, so `Captures` never applies.
+-- States that the given refusal is the first one, in the order of the cases below, that applies to
+-- renaming the field `f`. The field belongs to the record with the ordinal `k`. Only another field
+-- of that record can conflict with the new name, so `Captures` never applies.
 abbrev pub IsFirstRefusalForField : Renaming → ℕ → Name → EditRefusal → Type 0
 IsFirstRefusalForField r k f refusal.NoName = ⊥
 IsFirstRefusalForField r k f refusal.Predeclared = ⊥
@@ -113,7 +113,7 @@ IsFirstRefusalForField r k f refusal.CommentInside = ⊥
 IsFirstRefusalForField r k f refusal.Memory = ⊥
 
 -- States that the answer is edits that rename the field `f` of the record with the ordinal `k`, or
--- the first refusal that applies, or `Memory`.
+-- the first refusal that applies. The answer can also be `Memory` (a failed allocation).
 abbrev pub AnswersRenamingOfField : Renaming → ℕ → Name → Result (Vec Edit Global) EditRefusal → Type 0
 AnswersRenamingOfField r k f (Ok edits) = RenamesField r k f edits.items
 AnswersRenamingOfField r k f (Err why) = (why ≡ refusal.Memory) ⊎ IsFirstRefusalForField r k f why
@@ -127,8 +127,9 @@ IsFirstRefusalForTarget r why =
     ((d : ℕ) × TargetsDeclaration r d × IsFirstRefusalForDeclaration r d why)
     ⊎ ((k : ℕ) × ((f : Name) × TargetsField r k f × IsFirstRefusalForField r k f why))
 
--- States that the given refusal is the one that applies to the renaming. Either the place is on no
--- name and no field, or the name at the place is predeclared, or the new name is refused.
+-- States that the given refusal is the one that applies to the renaming. There are three kinds of
+-- refusals: the place is on no name and no field, the name at the place is predeclared, or the new
+-- name is refused.
 abbrev pub IsRenameRefusal : Renaming → EditRefusal → Type 0
 IsRenameRefusal r refusal.NoName = renaming_target r ≡ nothing
 IsRenameRefusal r refusal.Predeclared = renaming_target r ≡ predeclared
@@ -148,7 +149,7 @@ AreRenameEdits r edits =
     ⊎ ((k : ℕ) × ((f : Name) × TargetsField r k f × RenamesField r k f edits))
 
 -- States that the answer is edits that rename the declaration or field at the renaming's place, or
--- the refusal that applies to the renaming, or `Memory`.
+-- the refusal that applies. The answer can also be `Memory` (a failed allocation).
 abbrev pub RenameAnswers : Renaming → Result (Vec Edit Global) EditRefusal → Type 0
 RenameAnswers r (Ok edits) = AreRenameEdits r edits.items
 RenameAnswers r (Err why) = (why ≡ refusal.Memory) ⊎ IsRenameRefusal r why

@@ -71,8 +71,8 @@ abbrev pub target_of_optional_field : TextWithTokens → Option FieldIdentifier 
 target_of_optional_field source None = nothing
 target_of_optional_field source (Some x) = record_field x.owner (token_text_at source x.token)
 
--- Returns the target for the name. If there is no name (None), returns the target for the field.
--- The name and the field were looked up at the same place.
+-- Returns the target at a place, given the name and the field that were looked up at this place. If
+-- there is no name (None), returns the target for the field `f`.
 abbrev pub target_of_name_or_field : TextWithTokens → Option named.BoundName → Option FieldIdentifier → RenameTarget
 target_of_name_or_field source (Some n) f = target_of_ordinal n.ordinal
 target_of_name_or_field source None f = target_of_optional_field source f
@@ -83,8 +83,8 @@ abbrev pub rename_target_at : Resolution → ℕ → RenameTarget
 rename_target_at names offset =
     target_of_name_or_field names.module_read.source (name_at_offset names.module_read offset) (module_field_at_offset names offset)
 
--- Returns the target of the renaming: what the identifier at the position `r.place` refers to, or
--- `nothing`.
+-- Returns the target of the renaming, which is found at the position `r.place`. Returns `nothing`
+-- if no name and no field is at that position.
 abbrev pub renaming_target : Renaming → RenameTarget
 renaming_target r = rename_target_at r.names (offset_of (width_of r.unit) r.text r.place)
 
@@ -111,9 +111,9 @@ declaration_has_name m d new =
     elim (declaring_token m d)
     [ Some token ↦ same_name (token_text_at m.source token) new | None ↦ false ]
 
--- Returns the indexes of the tokens at which the name of the declaration with the ordinal `d` is
--- declared, used or repeated as a closing name, in text order. The list is empty if the declaration
--- already has the name `new`.
+-- Returns the indexes, in text order, of the tokens that declare, use or repeat (after END) the
+-- name of the declaration with the ordinal `d`. The list is empty if the declaration already has
+-- the name `new`.
 abbrev pub tokens_to_rename : read.ParsedModule → ℕ → Name → List ℕ
 tokens_to_rename m d new = if declaration_has_name m d new then [] else tokens_bound_to_declaration m d true
 

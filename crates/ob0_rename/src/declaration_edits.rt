@@ -34,12 +34,16 @@ use std::alloc::Global;
 /// If the present name is already `new`, there are no edits. The place may be in the name or at its
 /// end.
 ///
-/// If several refusals apply, the first in this order is returned: `NoName` (the place is on
-/// neither a declared name nor a field; the module's name is neither), `Predeclared` (the name at
-/// the place is predeclared), `BadName` (`new` isn't an identifier), `Duplicate`, `Captures`,
-/// `TooLong`. `Duplicate` has the range of the other declaration's name, or of the other field's
-/// name in the record. `Captures` has the range of the first occurrence that would be bound to
-/// another declaration. A field is never refused with `Captures`.
+/// If several refusals apply, the first in this order is returned:
+/// - `NoName`: `place` is neither on a declared name nor on a field. The module's name doesn't
+///   count as a declared name.
+/// - `Predeclared`: the name at `place` is predeclared.
+/// - `BadName`: `new` isn't an identifier.
+/// - `Duplicate`: another declaration of the block, or another field of the record, has the name
+///   `new`. The range is the range of that name.
+/// - `Captures`: an occurrence (a name that is looked up) would be bound to another declaration.
+///   The range is the range of the first such occurrence. A field is never refused with `Captures`.
+/// - `TooLong`: the edited text would be longer than a text may be.
 pub fn rename<T: TextStore>(
     alloc: Global,
     store: &T,

@@ -29,8 +29,8 @@ use std::alloc::{AllocError, Global};
 
 /// Returns the edits that rename a field to `new`, in text order, or the first refusal that
 /// applies. The token with the index `token` declares or selects the field. `owner` is the ordinal
-/// of the field's record: the number of words ARRAY and RECORD that precede the record's word
-/// RECORD in the text.
+/// of the field's record. The ordinals number array and record types from 0, in the order of their
+/// words ARRAY and RECORD in the text.
 pub(crate) fn rename_field<T: TextStore>(
     alloc: Global,
     store: &T,
@@ -77,9 +77,9 @@ pub(crate) fn rename_field<T: TextStore>(
     }
 }
 
-/// Returns the index of the token that declares another field of the record `owner` with the name
-/// `new`. Returns None if no field of that record has the name `new`, or if `new` is the present
-/// name `old`. `owner` is the record's ordinal.
+/// Returns the index of the token that declares another field with the name `new` in the record
+/// with the ordinal `owner`. Returns None if no field of that record has this name, or if `new` is
+/// the present name `old`.
 fn conflicting_field_token(
     well_typed: &WellTyped<'_>,
     owner: usize,

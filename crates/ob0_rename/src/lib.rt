@@ -1,6 +1,6 @@
-//! Renames a declaration or a field of a well-typed module. The result is the edits, which give a
-//! module with the same runs, or a refusal (docs/PROTOCOL.md, Requests on documents and Refusals of
-//! edits).
+//! Renames a declaration or a field of a well-typed module. The result is edits or a refusal
+//! (docs/PROTOCOL.md, Requests on documents and Refusals of edits). The edited module has the same
+//! runs.
 #![tactic(auto)]
 
 mod declaration_edits;

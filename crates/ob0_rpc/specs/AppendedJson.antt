@@ -1,5 +1,5 @@
--- States what it means to append the text of a JSON value, of list items or of an object's members
--- to the bytes of an output.
+-- Defines what it means to append JSON text to an output's bytes: the text of a value, of list
+-- items, or of an object's members.
 -- Rule: none; used in the contracts of functions that write JSON.
 use Rattle.std.specs.Prelude.{◌≡◌, ◌++◌, ℕ, List, [], ◌∷◌, Bool, true, Option, Some, None, ⊤}
 use Rattle.std.specs.Str.{IsUtf8}
@@ -8,14 +8,15 @@ use Rattle.serde_json.specs.Data.{Data, Members, member, no_members, null}
 use Rattle.serde_json.specs.Read.{of_json}
 use Rattle.serde_json.specs.Written.{comma_if, compact_text, outline}
 
--- States that the value's compact JSON text is UTF-8 and reads back as the value. For that, whole
--- numbers must fit in 64 bits, members must occur once and in order, and texts must be UTF-8.
+-- States that the value's compact JSON text (without added white space) is UTF-8, and that reading
+-- this text gives the value. For that, whole numbers must fit in 64 bits, and texts must be UTF-8.
+-- The members of an object must have different names, in byte order.
 pub record ReadsBack (value : Data) : Type 0 where
   pub reads : of_json (outline value) ≡ Some value
   pub numbers : HasNumbers (outline value)
   pub utf8 : IsUtf8 (compact_text value)
 
--- States that each of these values reads back from its text.
+-- States that each of these values reads back from its text (`ReadsBack`).
 abbrev pub AllReadBack : List Data → Type 0
 AllReadBack [] = ⊤
 AllReadBack (value ∷ values) = ReadsBack value × AllReadBack values
@@ -44,9 +45,9 @@ pub record AppendsListItem (needs_comma : Bool) (value : Data) (old new : List �
   pub text : new ≡ old ++ (comma_if needs_comma ++ compact_text value)
   pub reads : ReadsBack value
 
--- States that `new` is `old` followed by one member of an object: the byte `before` (an opening
--- brace or a comma), the name in quotes, a colon and the value's text. The value's text reads back
--- as the value.
+-- States that `new` is `old` followed by one member of an object. The added bytes are `before` (an
+-- opening brace or a comma), the name in quotes, a colon and the value's text. The value's text
+-- reads back as the value.
 pub record AppendsMember (before : ℕ) (name : List ℕ) (value : Data)
     (old new : List ℕ) : Type 0 where
   pub text : new ≡ old ++ before ∷ 34 ∷ (name ++ 34 ∷ 58 ∷ compact_text value)

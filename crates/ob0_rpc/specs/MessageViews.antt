@@ -26,7 +26,8 @@ json_of_id (Signed z) = number (of_integer z)
 json_of_id (Unsigned n) = number (unsigned n)
 json_of_id (Text t) = string (string_bytes t)
 
--- Returns the JSON value of the id in an error response. None becomes null.
+-- Returns the JSON value of the id in an error response. If there is no id (None), the value is
+-- null.
 abbrev pub id_or_null : Option Id → Data
 id_or_null (Some id) = json_of_id id
 id_or_null None = null
@@ -40,7 +41,7 @@ message_view Ignored = response
 
 -- States that reading this JSON value may give this result. The result is the message that the
 -- value means, or the error `NotAMessage` if the value isn't a message. The error `Memory` (out of
--- memory) is always allowed, and no other error is.
+-- memory) is always allowed. No other error is allowed.
 abbrev pub InterpretsMessage : Data → Result Incoming RpcFault → Type 0
 InterpretsMessage d (Ok incoming) = meaning_of_message d ≡ message_view incoming
 InterpretsMessage d (Err NotAMessage) = meaning_of_message d ≡ not_a_message
@@ -49,9 +50,9 @@ InterpretsMessage d (Err NotJson) = ⊥
 InterpretsMessage d (Err UnknownMethod) = ⊥
 InterpretsMessage d (Err BadParams) = ⊥
 
--- States that reading this content (the bytes received as one message) may give this result. The
--- result is `NotJson` if the content isn't JSON. Otherwise `InterpretsMessage` must hold for the content's
--- JSON value and the result. `Memory` is always allowed.
+-- States that reading this content (the bytes received as one message) may give this result. If the
+-- content isn't JSON, the result is `NotJson`. Otherwise `InterpretsMessage` holds for the
+-- content's JSON value and the result. The error `Memory` (out of memory) is always allowed.
 abbrev pub ReadsMessage : List ℕ → Result Incoming RpcFault → Type 0
 ReadsMessage content (Err NotJson) = IsJsonOfContent content None
 ReadsMessage content (Err Memory) = Unit {0}
@@ -61,8 +62,8 @@ ReadsMessage content r = (d : Data) × IsJsonOfContent content (Some d) × Inter
 abbrev pub document_place_view : DocumentPosition → DocumentPlace
 document_place_view place = record { uri = string_bytes place.uri; position = place.position }
 
--- Translates the code's list of requested kinds. Each kind becomes bytes of UTF-8. None means that
--- all kinds are requested.
+-- Translates the list of requested kinds of code actions from the code into the specs. Each kind,
+-- such as `refactor.inline`, becomes its bytes of UTF-8. None means that all kinds are requested.
 abbrev pub action_kinds_view : Option (Vec (String Global) Global) → Option (List (List ℕ))
 action_kinds_view kinds = option_map (λ texts. map string_bytes texts.items) kinds
 
@@ -81,7 +82,8 @@ request_view (called.TheVariants.CodeAction uri range only) =
 request_view (called.TheVariants.Formatting uri indent) = formatting (string_bytes uri) indent
 
 -- States that the code's result agrees with `requested`, the request or error that the specs
--- define. `Memory` is always allowed, and `NotJson` and `NotAMessage` never are.
+-- define. The error `Memory` (out of memory) is always allowed. The errors `NotJson` and
+-- `NotAMessage` are never allowed.
 abbrev pub ReadsClientRequest : Result ClientRequest RpcFault → Result called.ClientRequest RpcFault → Type 0
 ReadsClientRequest requested (Ok call) = requested ≡ Ok (request_view call)
 ReadsClientRequest requested (Err UnknownMethod) = requested ≡ Err UnknownMethod
@@ -90,8 +92,8 @@ ReadsClientRequest requested (Err Memory) = Unit {0}
 ReadsClientRequest requested (Err NotJson) = ⊥
 ReadsClientRequest requested (Err NotAMessage) = ⊥
 
--- Translates the code's `ClientNotification` into a `NotificationMeaning`. Uris become bytes of UTF-8, and
--- texts of documents become characters.
+-- Translates the code's `ClientNotification` into a `NotificationMeaning`. Uris become bytes of
+-- UTF-8, and texts of documents become characters.
 abbrev pub notification_view : noted.ClientNotification → NotificationMeaning
 notification_view noted.TheVariants.Exit = exits
 notification_view (noted.TheVariants.Open uri version text) =
@@ -103,7 +105,7 @@ notification_view (noted.TheVariants.Unreadable uri) = unreadable (option_map st
 notification_view noted.TheVariants.Other = other
 
 -- States that the code's result is the notification with this method and these params. The error
--- `Memory` (out of memory) is always allowed, and no other error is.
+-- `Memory` (out of memory) is always allowed. No other error is allowed.
 abbrev pub ReadsNotification : List ℕ → Data → Result noted.ClientNotification RpcFault → Type 0
 ReadsNotification method params (Ok note) = notification_by_method method params ≡ notification_view note
 ReadsNotification method params (Err Memory) = Unit {0}

@@ -25,7 +25,7 @@ pub data ClientRequest : Type 0 where
   shutdown : ClientRequest
   hover : DocumentPlace → ClientRequest
   definition : DocumentPlace → ClientRequest
-  -- A request for references. The Bool is true exactly if the declaration is also requested.
+  -- A request for references. The Bool is true if the declaration is requested as well.
   references : DocumentPlace → Bool → ClientRequest
   prepare_rename : DocumentPlace → ClientRequest
   -- A request to rename the name or field at a position, with the new name.
@@ -48,7 +48,7 @@ member_at_path (name ∷ names) d = option_and_then (member_at_path names) (get 
 abbrev pub is_true : Option Data → Bool
 is_true found = unwrap_or (option_and_then as_bool found) false
 
--- Returns whether the second argument is `Some` of a text that equals `text`.
+-- Returns whether the second argument is a text that equals `text`. For None, returns false.
 abbrev pub is_equal_text : List ℕ → Option (List ℕ) → Bool
 is_equal_text text None = false
 is_equal_text text (Some other) = bytes_eq other text
@@ -138,16 +138,17 @@ texts_of_items no_items = Some []
 texts_of_items (item d ds) =
     option_and_then (λ text. option_map (λ texts. text ∷ texts) (texts_of_items ds)) (as_str d)
 
--- Returns the texts of a list that may be missing. Some None means that the list is absent or null.
--- None means that the list or one of its items can't be read.
+-- Returns the texts in an optional list. The result Some None means that the list is absent or
+-- null. The result None means that the list or one of its items can't be read.
 abbrev pub texts_of_optional_list : Option Data → Option (Option (List (List ℕ)))
 texts_of_optional_list found =
     if is_absent_or_null found
     then Some None
     else option_map Some (option_and_then texts_of_items (option_and_then as_array found))
 
--- Returns the kinds of code actions that the object `context` requests. Some None means that all
--- kinds are requested. None means that the kinds can't be read or the context isn't an object.
+-- Returns the kinds of code actions that the object `context` requests. The result Some None means
+-- that all kinds are requested. The result None means that the kinds can't be read or the context
+-- isn't an object.
 abbrev pub requested_action_kinds : Data → Option (Option (List (List ℕ)))
 requested_action_kinds context = if is_some (as_object context) then texts_of_optional_list (get (codes "only") context) else None
 
@@ -170,8 +171,8 @@ code_action_request_of params =
     (option_and_then requested_action_kinds (get (codes "context") params))
 
 -- Returns the indentation for these values of `tabSize` and `insertSpaces`, or None if either is
--- None. If `insertSpaces` is true, one level of indentation is `indent_spaces_for_tab_size size` spaces,
--- otherwise one tab.
+-- None. If `insertSpaces` is true, one level of indentation is `indent_spaces_for_tab_size size`
+-- spaces, otherwise one tab.
 abbrev pub indent_from_parts : Option ℕ → Option Bool → Option Indent
 indent_from_parts (Some size) (Some spaces) = Some (if spaces then Spaces (indent_spaces_for_tab_size size) else Tab)
 indent_from_parts (Some size) None = None

@@ -11,7 +11,7 @@ use serde_json::{Number, Value};
 use std::alloc::{AllocError, AllocFailed, Global};
 use thiserror::Error;
 
-/// The id of a request: a whole number that fits in 64 bits, with or without sign, or a text.
+/// The id of a request: a whole number that fits in 64 bits (signed or unsigned), or a text.
 #[derive(Drop)]
 pub enum Id {
     Signed(i64),
@@ -19,8 +19,8 @@ pub enum Id {
     Text(String),
 }
 
-/// A message that has been read: a request (its id, its method and its params), a notification (its
-/// method and its params), or a response, which is ignored.
+/// A message that has been read. A request has an id, a method and params. A notification has a
+/// method and params. A response is ignored.
 #[derive(Drop)]
 pub enum Incoming {
     Request(Id, String, Value),

@@ -1,10 +1,11 @@
 //! Writes JSON values directly into the text of a message.
 //!
-//! Each message that the server sends, and each part of it, has a type that defines its JSON value
-//! and writes it (`WriteJson`). No `serde_json::Value` is made first. The contract of a function
-//! that writes a JSON value is `AppendsValue`: the function appends the value's compact text, and
-//! that text reads back as the value. A text in which no byte needs an escape is written in one
-//! piece.
+//! Each type of message that the server sends implements `WriteJson`, and so does each type of its
+//! parts. The trait defines the JSON value of the message or part, and writes it. No
+//! `serde_json::Value` is made first. The contract of a function that writes a JSON value is
+//! `AppendsValue`. It states that the function appends the value's compact text (without added
+//! white space), and that reading this text gives the value. A text in which no byte needs an
+//! escape is written in one piece.
 ghost use Rattle.std.specs.Prelude.{◌≡◌, ◌<◌, ◌≤◌, ◌^◌, ◌++◌, [], ◌∷◌, true, false, OnOk, map};
 ghost use Rattle.std.specs.Char.{digit_char};
 ghost use Rattle.json.specs.Print.{escape, escape_byte, escape_letter};
@@ -115,8 +116,8 @@ fn write_all_list_items<W: WriteJson>(out: &mut Vec<u8>, values: &[W]) -> Result
 }
 
 /// Writes one item of a list of `count` items. If `needs_comma` is true, a comma is written before
-/// the item. Otherwise the item is the first, and capacity is reserved for the other items, as if
-/// each were about as long as the first.
+/// the item. Otherwise the item is the first of the list. In that case, capacity is reserved for
+/// the other items, as if each were about as long as the first.
 fn write_list_item_and_reserve<W: WriteJson>(
     out: &mut Vec<u8>,
     count: usize,
@@ -133,8 +134,9 @@ fn write_list_item_and_reserve<W: WriteJson>(
     Ok(())
 }
 
-/// Returns the capacity in bytes to reserve for all but one of the `count` items of a list, if each
-/// is about `len` bytes long. The result is at most 2^26.
+/// Returns the number of bytes to reserve for the items of a list after its first item, which is
+/// already written. The list has `count` items, each about `len` bytes long. The result is at most
+/// 2^26.
 fn capacity_for_other_items(count: usize, len: usize) -> usize
     ensures { result ≤ 2 ^ 26 }
 {
@@ -151,8 +153,8 @@ pub fn begin_list(out: &mut Vec<u8>) -> Result<(), AllocError>
     write_verbatim(out, b"[")
 }
 
-/// Writes one item of a list, after a comma if `needs_comma` is true. The caller sets `needs_comma`
-/// for each item except the first.
+/// Writes one item of a list. If `needs_comma` is true, a comma is written before the item. The
+/// caller passes false for the first item and true for each other item.
 #[inline(always)]
 pub fn write_list_item<W: WriteJson>(
     out: &mut Vec<u8>,
@@ -191,8 +193,8 @@ fn write_json_string(out: &mut Vec<u8>, text: &str) -> Result<(), AllocError>
     write_verbatim(out, b"\"")
 }
 
-/// Writes a text as it stands in a JSON string, but without the quotes around it. Characters that
-/// need an escape are escaped.
+/// Writes the text of a JSON string without the quotes around it. Characters that need an escape
+/// are escaped.
 pub(crate) fn write_escaped_text(out: &mut Vec<u8>, text: &[u8]) -> Result<(), AllocError>
     ensures { OnOk result (out.new.items ≡ out.old.items ++ escape text.now) }
 {

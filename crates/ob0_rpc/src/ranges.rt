@@ -1,6 +1,8 @@
-//! Writes positions, ranges and edits as JSON. The text of a range is built backwards, from its
-//! last byte to its first. A number's digits are computed from the last to the first, so each digit
-//! is written directly to its final position in the buffer.
+//! Writes positions, ranges and edits as JSON.
+//!
+//! The text of a range is built backwards, from its last byte to its first. The reason is that the
+//! digits of a number are computed from the last to the first. So each digit is written directly to
+//! its final position in the buffer.
 //!
 //! The text of a range is built in a fixed array on the stack and copied once. If it were appended
 //! piece by piece, each piece would cost a capacity check and a copy.
@@ -17,7 +19,7 @@ use ob0_text::{Edit, Position, Range};
 use std::alloc::AllocError;
 
 /// The size in bytes of the buffer in which the text of a range is built. The range takes at most
-/// 160 bytes. The other 16 bytes are for the text of an edit around its range: `","range":` before
+/// 160 bytes. The other 16 bytes are for the parts of an edit around its range: `","range":` before
 /// the range, and `}` after it.
 const RANGE_BUFFER_SIZE: usize = 176;
 
@@ -49,8 +51,8 @@ impl WriteJson for Edit {
     }
 }
 
-/// Writes the part of an edit that follows its new text: the closing quote of the new text, the
-/// member `range`, and the closing brace of the edit.
+/// Writes the last part of an edit: the closing quote of the new text, the member `range`, and the
+/// closing brace of the edit.
 fn write_range_and_end_of_edit(
     out: &mut Vec<u8>,
     start: Position,

@@ -250,9 +250,9 @@ fn spaces_per_level(size: u64) -> u8
     size.min(MAX_INDENT as u64).max(1) as u8
 }
 
-/// Returns the kinds of code actions that the object `context` requests (its member `only`).
-/// `Some(None)` means that all kinds are requested. `None` means that the context isn't an object,
-/// or that the kinds can't be read.
+/// Returns the kinds of code actions that the object `context` requests in its member `only`. The
+/// result `Some(None)` means that all kinds are requested. The result `None` means that the context
+/// isn't an object, or that the kinds can't be read.
 fn read_requested_action_kinds(
     alloc: Global,
     context: Option<&Value>,
@@ -269,8 +269,9 @@ fn read_requested_action_kinds(
     read_texts_of_optional_list(alloc, context.get("only"))
 }
 
-/// Returns the items of the member `only` as texts. `Some(None)` means that the member is absent or
-/// null. `None` means that the member isn't a list, or that an item isn't a text.
+/// Returns the items of the member `only` as texts. The result `Some(None)` means that the member
+/// is absent or null. The result `None` means that the member isn't a list, or that an item isn't a
+/// text.
 fn read_texts_of_optional_list(
     alloc: Global,
     only: Option<&Value>,

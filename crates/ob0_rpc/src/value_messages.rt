@@ -1,5 +1,5 @@
-//! Writes responses whose result is a `serde_json::Value`, and notifications whose params are such a
-//! value.
+//! Writes responses whose result is a `serde_json::Value`, and notifications whose params are a
+//! `serde_json::Value`.
 ghost use Rattle.std.specs.Prelude.{◌≡◌, ◌≤◌, false, IfOk};
 ghost use Rattle.serde_json.specs.Data.{depth};
 ghost use Rattle.serde_json.specs.View.{view};

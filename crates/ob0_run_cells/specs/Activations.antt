@@ -1,11 +1,12 @@
--- States where lowered code finds the variables and procedures of a module, and when a program is
--- correct code for a module (`ProgramMeansModule`). A placement (`Placement`) has the place of each
--- name of an environment: a slot for a variable, a target for a procedure. Variables of the module
--- are `in_module_activation`, at offsets that begin with 0. Variables of a procedure are `in_activation 0`,
--- after its value parameters. VAR parameters are `by_reference 0`, by their index among the VAR
--- parameters. A procedure may have any index, if the entry of the routine table at this index is
+-- States where lowered code finds the variables and procedures of a module. Also states when a
+-- program is correct code for a module (`ProgramMeansModule`). A placement (`Placement`) gives each
+-- name of an environment its place. A variable has a slot, its place as the running activation sees
+-- it. A procedure has a target, the routine that a call reaches. The module's variables are
+-- `in_module_activation`, at offsets that begin with 0. A procedure's variables are
+-- `in_activation 0`, after its value parameters. A VAR parameter is `by_reference 0`, with its
+-- index among the VAR parameters. A procedure may have any index at which the routine table has
 -- correct code for the procedure's block. `PlacementMatchesActivation` states that each binding of
--- an activation has the right place. For a procedure, this is stated with the placement at its
+-- an activation has the right place. For a procedure, it uses the placement at the procedure's
 -- declaration (`BindingIsPlaced`). So no slot has to be translated back to an outer level.
 -- Rule: docs/LANGUAGE.md, Runs 1, 6.
 use Rattle.std.specs.Prelude.{◌≡◌, ℕ, suc, ◌+◌, true, false, List, [], ◌∷◌, drop, slice_get, Some}
@@ -50,7 +51,8 @@ slot_of_binding_place nowhere = in_module_activation 0
 slot_of_binding_place (in_slot s) = s
 slot_of_binding_place (at_target t) = in_module_activation 0
 
--- returns the target of a procedure, or index 0 and 0 levels out if the place isn't a target
+-- returns the target of a procedure; if the place isn't a target, the target with index 0 that is 0
+-- levels out
 abbrev pub target_of_binding_place : BindingPlace → Target
 target_of_binding_place nowhere = record { procedure = 0; up = 0 }
 target_of_binding_place (in_slot s) = record { procedure = 0; up = 0 }
@@ -62,8 +64,8 @@ abbrev pub slot_of_first_binding : {N : Type 0} → Placement N → Slot
 slot_of_first_binding [] = in_module_activation 0
 slot_of_first_binding (b ∷ placement) = slot_of_binding_place b.1
 
--- Returns the target of the first binding of a placement. Returns index 0 and 0 levels out if this
--- binding has no target or the placement is empty.
+-- Returns the target of the first binding of a placement. If this binding has no target or the
+-- placement is empty, returns the target with index 0 that is 0 levels out.
 abbrev pub target_of_first_binding : {N : Type 0} → Placement N → Target
 target_of_first_binding [] = record { procedure = 0; up = 0 }
 target_of_first_binding (b ∷ placement) = target_of_binding_place b.1
@@ -72,8 +74,8 @@ target_of_first_binding (b ∷ placement) = target_of_binding_place b.1
 abbrev pub slot_in_placement : {N : Type 0} → Naming N → Placement N → N → Slot
 slot_in_placement naming placement x = slot_of_first_binding (suffix_from_latest_binding naming placement x)
 
--- returns the target of a name in a placement, or index 0 and 0 levels out if the name has no
--- target
+-- returns the target of a name in a placement; if the name has no target, the target with index 0
+-- that is 0 levels out
 abbrev pub target_in_placement : {N : Type 0} → Naming N → Placement N → N → Target
 target_in_placement naming placement x = target_of_first_binding (suffix_from_latest_binding naming placement x)
 
@@ -103,7 +105,8 @@ pub record PlacementState (N : Type 0) : Type 0 where
   pub var_parameters_so_far : ℕ
 
 -- Adds the name `x` to a placement. A variable or a value parameter gets the next `n` cells, and
--- `at` converts the offset of these cells to a slot. A VAR parameter gets the next index.
+-- `at` converts the offset of these cells to a slot. A VAR parameter gets the next index among the
+-- VAR parameters.
 abbrev pub add_name_to_placement : {N : Type 0} → (ℕ → Slot) → ParameterMode → N → ℕ → PlacementState N → PlacementState N
 add_name_to_placement at by_value x n p =
     record p { placement = (x, in_slot (at p.cells)) ∷ p.placement; cells = p.cells + n }
@@ -138,8 +141,8 @@ place_parameters [] p = p
 place_parameters (q ∷ ps) p =
     place_parameters ps (add_name_to_placement (in_activation 0) q.formal.mode q.name (size q.formal.shape) p)
 
--- Adds names to a placement that have no place in lowered code, such as the names of constants and
--- types.
+-- Adds names to a placement, each without a place in lowered code (`nowhere`). Names of constants
+-- and types, for example, have no place.
 abbrev pub add_names_without_place : {N : Type 0} → List N → Placement N → Placement N
 add_names_without_place [] placement = placement
 add_names_without_place (x ∷ xs) placement = add_names_without_place xs ((x, nowhere) ∷ placement)
@@ -154,7 +157,7 @@ place_declarations at size_of b p =
           (add_names_without_place (constant_names (block_constants b)) p.placement);
     }
 
--- States that an object is a variable of `n` cells, or no variable.
+-- States that an object is a variable of `n` cells, or isn't a variable.
 abbrev pub HasSizeIfVariable : ℕ → Object Shape Signature → Type 0
 HasSizeIfVariable n (a_variable s) = n ≡ size s
 HasSizeIfVariable n other = Unit {0}
@@ -198,10 +201,10 @@ pub record RoutineTable (N : Type 0) : Type 0 where
 abbrev pub routine_table_by_label : List lowered.Routine → RoutineTable Label
 routine_table_by_label routines = record { routines = routines; naming = naming_by_label }
 
--- Runs 6: states that the routine at an index of the table is correct code for a procedure
--- (`text`). The procedure is declared in the environment `checked`, with the placement `placement`.
--- `Means` says that a routine is correct, in the environment and the placement that include the
--- procedure and its parameters.
+-- States that the routine at the index `index` of the table is correct code for the procedure
+-- `text` (LANGUAGE.md, Runs 6). The procedure is declared in the environment `checked`, with the
+-- placement `placement`. `Means` says when a routine is correct, given the environment and the
+-- placement that include the procedure and its parameters.
 pub record RoutineAtIndexMeansProcedure {N : Type 0} (table : RoutineTable N) (checked : TypeEnvironment N)
     (placement : Placement N) (x : N) (k : ℕ) (text : Tree N (item procedure)) (index : ℕ)
     (Means : TypeEnvironment N → PlacementState N → lowered.Routine → Type 0) : Type 0 where
@@ -213,10 +216,10 @@ pub record RoutineAtIndexMeansProcedure {N : Type 0} (table : RoutineTable N) (c
   pub means : Means (bind_typed_parameters parameters (bind_procedure x parameters checked))
       (placement_inside_procedure parameters ((x, local_procedure_target index) ∷ placement)) routine
 
--- Runs 1 and 6: states that the variables of a block have `cells` cells, which follow the cells of
--- `p`. `size_of` returns the number of cells of each variable. `Inside` is the fact that has to
--- hold for the block's procedures and statements. It is about the environment and the placement
--- that include the block's declarations.
+-- States that the variables of a block have `cells` cells, which follow the cells of `p`
+-- (LANGUAGE.md, Runs 1 and 6). `size_of` returns the number of cells of each variable. `Inside`
+-- says what must hold for the block's procedures and statements, given the environment and the
+-- placement with the block's declarations.
 pub record BlockIsPlaced {N : Type 0} (table : RoutineTable N) (at : ℕ → Slot)
     (checked : TypeEnvironment N) (p : PlacementState N) (k cells : ℕ) (b : Tree N block)
     (Inside : TypeEnvironment N → Placement N → Type 0) : Type 0 where
@@ -233,9 +236,9 @@ pub record BlockIsPlaced {N : Type 0} (table : RoutineTable N) (at : ℕ → Slo
 -- States that code is correct for a block, for its procedures, and for the procedures inside them.
 -- `cells` is the number of cells of the variables that the block declares outside its procedures.
 abbrev mutual
-  -- Runs 1 and 6: states that the cells of a block's variables follow the cells of `p`. Also states
-  -- that the table has correct code for the block's procedures, and that `code` is correct code for
-  -- the block's statements.
+  -- States that the cells of a block's variables follow the cells of `p` (LANGUAGE.md, Runs 1 and
+  -- 6). Also states that the table has correct code for the block's procedures, and that `code` is
+  -- correct code for the block's statements.
   pub CodeMeansBlock : {N : Type 0}
       → RoutineTable N
       → (ℕ → Slot)
@@ -251,8 +254,8 @@ abbrev mutual
       (λ inner placement. RoutinesMeanProcedures table inner placement
       (constructor_count_before_procedures k (forms_block (declares cs ts vs ps) statements)) code statements ps)
 
-  -- Runs 6: states that the table has correct code for each of these procedures. Also states that
-  -- `code` is correct code for the statements of the block in which they are declared.
+  -- States that the table has correct code for each of these procedures (LANGUAGE.md, Runs 6). Also
+  -- states that `code` is correct code for the statements of the block in which they are declared.
   pub RoutinesMeanProcedures : {N : Type 0}
       → RoutineTable N
       → TypeEnvironment N
@@ -272,7 +275,7 @@ abbrev mutual
       ((procedure_name p, local_procedure_target index) ∷ placement) (k + procedure_constructor_count p) code
       statements rest
 
-  -- Runs 6: states that a routine is correct code for the block of a procedure
+  -- states that a routine is correct code for the block of a procedure (LANGUAGE.md, Runs 6)
   pub RoutineMeansProcedure : {N : Type 0}
       → RoutineTable N
       → TypeEnvironment N
@@ -286,9 +289,9 @@ abbrev mutual
       routine.cells routine.body b
 
 -- States that one binding has the right place, as seen from the activations `ls`. A variable's slot
--- has the address of the variable's place (Runs 1). A procedure's routine is correct code for the
--- procedure's block, in the environment and a placement at the procedure's declaration (Runs 6).
--- Other bindings have no place.
+-- must have the address of the variable's place (LANGUAGE.md, Runs 1). A procedure's routine must
+-- be correct code for the procedure's block, in the environment and a placement at the procedure's
+-- declaration (Runs 6). Other bindings have no place.
 abbrev pub BindingIsPlaced : {N : Type 0}
     → RoutineTable N
     → StoreTyping
@@ -316,8 +319,8 @@ BindingIsPlaced table typing ls checked Fits x (a_standard_procedure p) nowhere 
 BindingIsPlaced table typing ls checked Fits x _ _ _ = ⊥
 
 -- States that the first bindings of an environment, a placement and an activation have the same
--- name. `Here` is the fact about these bindings, and `Further` is the fact about the bindings after
--- them.
+-- name. Also states `Here`, which is about these bindings, and `Further`, which is about the
+-- bindings after them.
 pub record FirstBindingsAgree {N : Type 0} (checked placed active : N) (Here Further : Type 0)
     : Type 0 where
   pub activation_name_agrees : checked ≡ active
@@ -325,9 +328,9 @@ pub record FirstBindingsAgree {N : Type 0} (checked placed active : N) (Here Fur
   pub here : Here
   pub further : Further
 
--- Runs 1 and 6: states that each binding of an activation has the right place (`BindingIsPlaced`),
--- as seen from the activations `ls`. The environment, the placement and the activation have to bind
--- the same names.
+-- States that each binding of an activation has the right place, as seen from the activations `ls`
+-- (`BindingIsPlaced`; LANGUAGE.md, Runs 1 and 6). The environment, the placement and the activation
+-- have to bind the same names.
 abbrev pub PlacementMatchesActivation : {N : Type 0}
     → RoutineTable N
     → StoreTyping

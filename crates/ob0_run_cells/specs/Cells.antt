@@ -88,7 +88,7 @@ address typing p =
 abbrev pub cells_at_address : ℕ → ℕ → List ℤ → List ℤ
 cells_at_address address n cells = take n (drop address cells)
 
--- returns the list `cells` with the cells `new` in place of the cells that begin at an address; as
--- many cells are replaced as `new` has
+-- returns the list `cells` after its cells were overwritten by the cells `new`, one by one,
+-- beginning at the index `address`
 abbrev pub cells_after_overwrite : ℕ → List ℤ → List ℤ → List ℤ
 cells_after_overwrite address new cells = take address cells ++ (new ++ drop (address + length new) cells)

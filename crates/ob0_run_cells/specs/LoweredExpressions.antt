@@ -1,9 +1,10 @@
 -- States when lowered places, numbers and truths are correct. They must have the same outcome as
--- the module's designators and expressions, at each moment of a run (`Moment`). Each such fact, for
--- example `NumberHasOutcome`, relates lowered code to a function from moments to outcomes
--- (`OutcomeByMoment`). The fact doesn't mention the tree of an expression, so operators need no
--- types. Only places and variables need types. The value of an array or a record is in the cells at
--- a place (`PlaceHoldsValue`), even if its expression is in parentheses.
+-- the module's designators and expressions at each moment of a run. A moment (`Moment`) has the
+-- store, the meanings of names, and the visible activations. Each fact about code, for example
+-- `NumberHasOutcome`, relates the code to a function from moments to outcomes (`OutcomeByMoment`).
+-- The fact doesn't mention the tree of an expression, so operators need no types. Only places and
+-- variables need types. The value of an array or a record is in the cells at a place
+-- (`PlaceHoldsValue`), even if its expression is in parentheses.
 -- Rule: docs/LANGUAGE.md, Runs 2 to 4.
 use Rattle.std.specs.Prelude.{◌≡◌, ℕ, zero, suc, ◌+◌, ◌^◌, ◌<◌, List, ◌++◌, slice_index_or, Some}
 use Rattle.ob0_tree.specs.declared.tree.Relation.{Relation}
@@ -82,12 +83,14 @@ abbrev pub outcome_of : {A B : Type 0} → (A → B) → machine.StepResult A �
 outcome_of f (machine.gives a) = succeeds_with (f a)
 outcome_of f (machine.ends e) = ends_run_with (end_of e)
 
--- The type of an evaluation: a function that returns the outcome at each moment.
+-- The type of an evaluation: a function that returns the outcome at each moment of a run
+-- (`Moment`).
 abbrev pub OutcomeByMoment : Type 0 → Type 0 → Type 0
 OutcomeByMoment N A = Moment N → Outcome A
 
--- states that a number of lowered code and the evaluation `value` have the same outcome, at each
--- moment that belongs to the checked module (`IsMomentOfModule`)
+-- States that the lowered number `n` and the evaluation `value` have the same outcome at each
+-- moment of the checked module (`IsMomentOfModule`). A moment has the store, the meanings of names,
+-- and the activations of a run.
 abbrev pub NumberHasOutcome : {N : Type 0}
     → TypeMeanings N
     → (N → Slot)
@@ -99,8 +102,9 @@ NumberHasOutcome {N} checked slots n value =
     → IsMomentOfModule checked slots m
     → outcome_of number (machine.number_value m.levels (cells_of_store m.store) n) ≡ value m
 
--- states that a truth of lowered code and the evaluation `value` have the same outcome, at each
--- moment that belongs to the checked module (`IsMomentOfModule`)
+-- States that the lowered truth `t` and the evaluation `value` have the same outcome at each moment
+-- of the checked module (`IsMomentOfModule`). A moment has the store, the meanings of names, and
+-- the activations of a run.
 abbrev pub TruthHasOutcome : {N : Type 0}
     → TypeMeanings N
     → (N → Slot)
@@ -117,9 +121,9 @@ abbrev pub PlaceOutcomeHasType : StoreTyping → Shape → Outcome Place → Typ
 PlaceOutcomeHasType typing s (succeeds_with p) = PlaceHasType typing p s
 PlaceOutcomeHasType typing s (ends_run_with e) = Unit {0}
 
--- States that the lowered place `q` and the evaluation `value` agree at each moment that belongs to
--- the checked module (`IsMomentOfModule`). Both have the same address, or end the run with the same
--- end. Also states that the place that `value` returns has values of the type `s`.
+-- States that the lowered place `q` and the evaluation `value` agree at each moment of the checked
+-- module (`IsMomentOfModule`). Both lead to the same address, or both end the run in the same way.
+-- Also states that the place that `value` returns has values of the type `s`.
 abbrev pub PlaceHasOutcome : {N : Type 0}
     → TypeMeanings N
     → (N → Slot)
@@ -150,23 +154,23 @@ PlaceHoldsValue {N} checked slots q s value =
     → IsMomentOfModule checked slots m
     → value m ≡ (place m >>= (λ p. result_or_stuck (read_place m.store p))))
 
--- returns the value of an expression at a moment
+-- returns the value of an expression at the moment `m` of a run, or the end of the run
 abbrev pub value_of_expression : {N : Type 0} → Tree N expression → OutcomeByMoment N Value
 value_of_expression e m = evaluate m.active m.store e
 
--- returns the value of a simple expression at a moment
+-- returns the value of a simple expression at the moment `m` of a run, or the end of the run
 abbrev pub value_of_simple_expression : {N : Type 0} → Tree N simple → OutcomeByMoment N Value
 value_of_simple_expression e m = evaluate_simple_expression m.active m.store e
 
--- returns the value of a term at a moment
+-- returns the value of a term at the moment `m` of a run, or the end of the run
 abbrev pub value_of_term : {N : Type 0} → Tree N term → OutcomeByMoment N Value
 value_of_term e m = evaluate_term m.active m.store e
 
--- returns the value of a factor at a moment
+-- returns the value of a factor at the moment `m` of a run, or the end of the run
 abbrev pub value_of_factor : {N : Type 0} → Tree N factor → OutcomeByMoment N Value
 value_of_factor e m = evaluate_factor m.active m.store e
 
--- returns the place of a designator at a moment
+-- returns the place of a designator at the moment `m` of a run, or the end of the run
 abbrev pub place_of_designator : {N : Type 0} → N → Tree N (items selector) → OutcomeByMoment N Place
 place_of_designator x path m = designated_place m.active m.store x path
 

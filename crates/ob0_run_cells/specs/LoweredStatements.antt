@@ -88,9 +88,9 @@ LoweredCallsRepresentCalls {N} checked targets b =
 abbrev pub moment_with_store : {N : Type 0} → BodyContext N → Store → Moment N
 moment_with_store b store = record { typing = b.typing; store = store; active = b.active; levels = b.levels }
 
--- States that a body belongs to a checked module. All its moments belong to the module
--- (`IsMomentOfModule`), and a lowered call of a procedure's target has the effect of the
--- procedure's call.
+-- States that a body belongs to a checked module. For each store with the body's types, the moment
+-- with this store belongs to the module (`IsMomentOfModule`). A lowered call of a procedure's
+-- target has the effect of the procedure's call.
 pub record IsBodyOfModule {N : Type 0} (checked : TypeMeanings N) (slots : N → Slot) (targets : N → Target)
     (b : BodyContext N) : Type 0 where
   pub is_moment : (store : Store)

@@ -1,4 +1,4 @@
--- States the law that a lowered program has the same output and the same end as its module
+-- States the law that a lowered program has the same output as its module, and ends in the same way
 -- (`LoweringKeepsRuns`).
 -- Rule: none; the law is used by `ob0_run`.
 use Rattle.std.specs.Prelude.{◌≡◌, ℕ, IfSome, List, map, ℤ}

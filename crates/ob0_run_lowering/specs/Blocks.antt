@@ -2,9 +2,9 @@
 -- its heading, a procedure gets an index in the table of procedures, with a placeholder there. At
 -- the procedure's end, its code replaces the placeholder. Code calls procedures by their indices,
 -- so code is correct only together with a table. A clause about code holds for each table that has
--- the procedures that were added together with this code (`HasRoutinesFromIndex`). So the code is
+-- the procedures that were lowered along with this code (`HasRoutinesFromIndex`). So the code is
 -- also correct for a longer table, and no clause mentions the final table. `LowersProcedures` is
--- about some procedures of a block, and holds for any procedures and statements that follow in the
+-- about some procedures of a block. It holds for any procedures and statements that follow in the
 -- block. The loop over a block's procedures composes such facts (`goes_then`).
 -- Rule: none; used in contracts of lowering.
 use Rattle.std.specs.Prelude.{◌≡◌, ℕ, ◌≤◌, true, List, length, Some, slice_get}

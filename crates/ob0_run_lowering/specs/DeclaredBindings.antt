@@ -33,7 +33,7 @@ abbrev pub BlockBindingsAreDeclared : ObjectByOrdinal → TypeEnvironment Label 
 BlockBindingsAreDeclared objects = HoldsForBlockEnvironments (BindingsAreDeclared objects)
 
 -- States that `BindingsAreDeclared` holds for each environment in which some procedures and their
--- blocks are checked, and for the environment after the last of these procedures.
+-- blocks are checked. It must also hold for the environment after the last of these procedures.
 abbrev pub ProcedureBindingsAreDeclared : ObjectByOrdinal
     → TypeEnvironment Label
     → ℕ

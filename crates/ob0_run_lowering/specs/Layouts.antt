@@ -36,7 +36,7 @@ AreLayoutsOfTypes (s ∷ shapes) (l ∷ layouts) = IsLayoutOfType s l × AreLayo
 AreLayoutsOfTypes _ _ = ⊥
 
 -- States that a layout is right for a record type. For None, states that the type is
--- `faulty_shape`.
+-- `faulty_shape`, the shape of a faulty type.
 abbrev pub IsLayoutOfRecord : Option (Bor RecordLayout) → Shape → Type 0
 IsLayoutOfRecord None s = s ≡ faulty_shape
 IsLayoutOfRecord (Some r) s = (k : ℕ) × (fs : FieldShapes) × (s ≡ record_shape k fs) × IsLayoutOfFields fs r.now

@@ -89,8 +89,8 @@ abbrev pub variable_slot_at_depth : ℕ → ℕ → Slot
 variable_slot_at_depth zero = in_module_activation
 variable_slot_at_depth (suc depth) = in_activation 0
 
--- states that a site is the slot of the next variable of a frame, which comes after the cells so
--- far
+-- states that a site is the slot of the next variable of the frame `f`, directly after the frame's
+-- cells so far
 abbrev pub IsSiteOfNextVariable : Frame → LoweredSite → Type 0
 IsSiteOfNextVariable f s =
     (depth_of_site s ≤ f.depth) × (place_seen_from_depth f.depth s ≡ in_slot (variable_slot_at_depth f.depth f.cells))

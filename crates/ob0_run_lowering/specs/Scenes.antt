@@ -42,7 +42,7 @@ abbrev pub slot_of_label : Scene → Label → Slot
 slot_of_label scene x = slot_of_binding_place (place_of_label scene x)
 
 -- Returns the target of the procedure that a label refers to, as seen from the scene's body. If the
--- label refers to no procedure, this is index 0, and 0 levels out.
+-- label refers to no procedure, returns the target with index 0 that is 0 levels out.
 abbrev pub target_of_label : Scene → Label → Target
 target_of_label scene x = target_of_binding_place (place_of_label scene x)
 

@@ -26,7 +26,8 @@ expression_code_of (code.Truth t) = a_truth (truth_of t)
 expression_code_of (code.Block q n) = a_block (place_of q) n
 expression_code_of code.NoCode = no_code
 
--- converts a `TypedPlace` to a `PlaceWithShape`, given the types of the table of types
+-- converts a `TypedPlace` to a `PlaceWithShape`; the list `shapes` has the array and record types
+-- of the table of declarations
 abbrev pub place_with_shape_of : List Shape → TypedPlace → PlaceWithShape
 place_with_shape_of shapes l = record { place = place_of l.place; shape = type_shape shapes l.type_id }
 

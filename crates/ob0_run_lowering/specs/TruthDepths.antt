@@ -21,14 +21,14 @@ disjunction_depth (truth.Either' pointer left right) = suc (disjunction_depth le
 disjunction_depth (truth.Any' pointer first shape row) = suc (disjunction_depth first)
 disjunction_depth _ = 0
 
--- returns the number of nested conjunctions (`conjunction_depth`) of an expression's code, or 0 if the code
--- isn't a truth
+-- returns how many conjunctions follow one another in the first operands of an expression's code
+-- (`conjunction_depth`), or 0 if the code isn't a truth
 abbrev pub conjunction_depth_of_code : LoweredExpression → ℕ
 conjunction_depth_of_code (code.Truth t) = conjunction_depth t
 conjunction_depth_of_code _ = 0
 
--- returns the number of nested disjunctions (`disjunction_depth`) of an expression's code, or 0 if the code
--- isn't a truth
+-- returns how many disjunctions follow one another in the first operands of an expression's code
+-- (`disjunction_depth`), or 0 if the code isn't a truth
 abbrev pub disjunction_depth_of_code : LoweredExpression → ℕ
 disjunction_depth_of_code (code.Truth t) = disjunction_depth t
 disjunction_depth_of_code _ = 0

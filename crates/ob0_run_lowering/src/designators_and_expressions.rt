@@ -1,13 +1,14 @@
 //! Lowers designators and expressions. Loops visit the operands of a chain of operators and the
 //! selectors of a designator. Recursion visits nested expressions.
 //!
-//! Code and meaning are separate. `specs/OperationCodes` and `specs/TreeCodes` define the code of a tree by
-//! functions that compute it (`expression_code`), and each function here returns this code. An
-//! induction over trees (`proofs/TreesMean`) shows by the laws of `ob0_run_cells` that this code is
-//! correct for the tree. No proof about a function mentions moments of a run (`Moment`) or cells.
-//! The types of places come from the table of declarations. Only the field `bound` of
-//! `SceneAgreesWithChecker` relates these types to the types that the checker found. The table also
-//! has types of variables that aren't in scope, and nothing is claimed about these types.
+//! Code and meaning are separate. `specs/OperationCodes` and `specs/TreeCodes` define the code of a
+//! tree by functions that compute it (`expression_code`), and each function here returns this code.
+//! An induction over trees (`proofs/TreesMean`) shows by the laws of `ob0_run_cells` that this code
+//! is correct for the tree. No proof about a function mentions cells, or moments of a run
+//! (`Moment`: the store, the names and the activations). The types of places come from the table of
+//! declarations. Only the field `bound` of `SceneAgreesWithChecker` relates these types to the
+//! types that the checker found. The table also has types of variables that aren't in scope, and
+//! nothing is claimed about these types.
 
 ghost use Rattle.std.specs.Prelude.{◌≡◌, IfOk, Some, option_and_then, option_map, pos};
 ghost use Rattle.ob0_tree.specs.TokenIndexLeaves.{token_value_at};

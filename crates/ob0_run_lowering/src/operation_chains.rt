@@ -157,7 +157,7 @@ fn operation_on_variable(
 }
 
 /// Returns the operation on two numbers. If the left number is an operation or a chain, the result
-/// is one chain. If it is a variable, see `operation_on_variable`.
+/// is one chain. If the left number is a variable, the result is made by `operation_on_variable`.
 pub(crate) fn operation_on_numbers(
     alloc: Global,
     operator: Operator,

@@ -23,8 +23,8 @@ use ob0_tree::{Block, Procedure};
 use ob0_types_table::DeclarationTable;
 use std::alloc::{AllocError, Global};
 
-/// The state while a module is lowered. `visible` has the site in lowered code of each declaration
-/// in scope (`LoweredSite`). `procedures` has the code of the procedures so far.
+/// The state while a module is lowered. For each declaration in scope, `visible` has its site in
+/// lowered code (`LoweredSite`). `procedures` has the code of the procedures so far.
 #[derive(Drop)]
 pub(crate) struct Lowering {
     pub(crate) visible: VisibleSites,

@@ -39,7 +39,8 @@ pub struct CallTarget {
 }
 
 impl CallTarget {
-    /// Returns the target for a name that isn't a procedure's name: index 0, and 0 levels out.
+    /// Returns the target for a name that isn't a procedure's name: the target with index 0 that is
+    /// 0 levels out.
     fn fallback_target() -> CallTarget
         ensures { result ≡ record { procedure = 0; up = 0 } }
     {
@@ -94,7 +95,8 @@ impl<'s, 'k, 't> Scene<'s, 'k, 't> {
     }
 
     /// Returns the target of a call of the procedure that the name at a token refers to. The call
-    /// is in the scene's body. For any other name, the target is index 0, and 0 levels out.
+    /// is in the scene's body. For any other name, returns the target with index 0 that is 0 levels
+    /// out.
     pub fn call_target_at_token(&self, name: usize) -> CallTarget
         ensures { record { procedure = result.procedure; up = result.up }
             ≡ target_of_label self.now (label_at_token self.now.resolved.now name) }

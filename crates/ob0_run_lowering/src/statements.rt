@@ -1,9 +1,10 @@
 //! Lowers statements.
 //!
-//! Each loop visits parts: statements, branches or arguments. Its invariant (`SequenceMade`,
-//! `BranchesMade`, `ArgumentsMade`) is about any correct code for the remaining parts. The code so
-//! far, followed by that code, is correct for the whole. At the end of the loop no part remains. An
-//! empty statement has no code, so there may be fewer instructions than statements.
+//! Each loop visits the parts of a tree: statements, branches or arguments. Its invariant
+//! (`SequenceMade`, `BranchesMade`, `ArgumentsMade`) is about the code so far, followed by any
+//! correct code for the remaining parts. Together they are correct code for all parts. At the end
+//! of the loop no part remains, so the code so far is correct for all of them. An empty statement
+//! has no code, so there may be fewer instructions than statements.
 
 ghost use Rattle.std.specs.Prelude.{◌≡◌, ◌++◌, IfOk, OnOk, option_map, option_to_list};
 ghost use Rattle.ob0_tree.specs.View as view;

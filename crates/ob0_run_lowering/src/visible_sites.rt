@@ -1,5 +1,5 @@
-//! Gives each variable of a block or a heading its cells, and each VAR parameter its index. Stores
-//! the site in lowered code of each declaration in scope (`LoweredSite`).
+//! Gives each variable of a block or a heading its cells, and each VAR parameter its index. For
+//! each declaration in scope, stores its site in lowered code (`LoweredSite`).
 //!
 //! Each declaration of a module has an ordinal, which is its index in the table of sites. A
 //! declaration comes into scope by a binding: its site is stored at its ordinal. The binding hides
@@ -41,7 +41,8 @@ pub(crate) struct Frame {
     pub(crate) var_parameter_count: usize,
 }
 
-/// Returns the site of the next variable of an activation, which comes after the cells so far.
+/// Returns the site of the next variable of an activation. The variable comes directly after the
+/// cells so far.
 fn site_of_next_variable(frame: Frame) -> LoweredSite
     ensures { IsSiteOfNextVariable frame result }
 {

@@ -8,11 +8,12 @@ pub use Rattle.ob0_language_values.specs.Values.{fits_in_32_bits, same_truth}
 use Rattle.ob0_run_machine.specs.LoweredSyntax.{Place, in_module, in_own_activation, outside, passed, element, Number, literal, cell, negative, operation, Operator, sum, difference, product, quotient, remainder, Comparator, equal, not_equal, less, less_equal, greater, greater_equal, Truth, constant, flag, negation, both, either, related, same, different}
 
 infixl 20 ◌>>=◌
--- The end of a run: Done, or the reason why the run ended before the end of the program.
+-- The way in which a run ends: Done after its last statement, or the reason why it stops earlier.
 pub data MachineEnd : Type 0 where
   Done Overflow Divisor Index InputEnd CallBound TurnBound : MachineEnd
 
--- The outcome of an evaluation: a value, or the end of the run that the evaluation causes.
+-- The outcome of an evaluation: a value (`gives`), or the end of the run if the evaluation has a
+-- fault (`ends`).
 pub data StepResult (A : Type 0) : Type 0 where
   gives : A → StepResult A
   ends : MachineEnd → StepResult A

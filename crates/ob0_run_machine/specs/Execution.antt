@@ -34,8 +34,8 @@ abbrev pub continue_with_result : {A : Type 0} → MachineState → StepResult A
 continue_with_result s (gives a) next = next a
 continue_with_result s (ends e) next = stopped e s.output
 
--- Applies the step `next` to the state of a run. Changes nothing if the run has ended or is
--- `no_room`.
+-- Applies the step `next` to the state of a run. Changes nothing if the run has ended, or if it
+-- needs too many cells (`no_room`).
 abbrev pub continue_run : MachineProgress → (MachineState → MachineProgress) → MachineProgress
 continue_run (running s) next = next s
 continue_run (stopped e out) next = stopped e out
@@ -96,9 +96,9 @@ pub record CallArguments : Type 0 where
 abbrev pub add_passed_cells : CallArguments → List ℤ → CallArguments
 add_passed_cells p more = record p { cells = p.cells ++ more }
 
--- Evaluates an argument over the cells before the call (`before`), and returns the passed arguments
--- with this one added. An argument for a VAR parameter adds an address, any other argument adds the
--- cells of its value. If the evaluation ends the run, returns this end.
+-- Evaluates an argument over the cells before the call (`before`). Returns `done`, the arguments
+-- passed so far, with this one added. An argument for a VAR parameter adds an address, any other
+-- argument adds the cells of its value. If the evaluation ends the run, returns this end.
 abbrev pub pass_argument : Levels → (before : List ℤ) → LoweredArgument → CallArguments
     → StepResult CallArguments
 pass_argument ls before (by_place p) done =
@@ -110,9 +110,9 @@ pass_argument ls before (by_truth t) done =
 pass_argument ls before (by_block p n) done =
     place_address ls before p >>= (λ a. gives (add_passed_cells done (block_or_zeros_at_address before a n)))
 
--- Evaluates and passes a list of arguments, from left to right, and returns the passed arguments
--- with these added. `before` has the cells before the call. If an evaluation ends the run, returns
--- this end.
+-- Evaluates and passes a list of arguments, from left to right. Returns `done`, the arguments
+-- passed so far, with these added. `before` has the cells before the call. If an evaluation ends
+-- the run, returns this end.
 abbrev pub pass_arguments : Levels → (before : List ℤ) → List LoweredArgument → CallArguments
     → StepResult CallArguments
 pass_arguments ls before [] done = gives done
@@ -159,8 +159,8 @@ levels_in_call ls base up p = record { base = base; addresses = p.addresses } �
 -- Defines the run of statements. An assignment computes the address of its place, then evaluates
 -- its right side, then stores the value.
 unfoldable mutual
-  -- Returns the run of one statement. `enter` is the effect of calls. Each execution of a loop may
-  -- make at most `t` iterations.
+  -- Returns the run of one statement. `enter` says what a call does after its arguments have been
+  -- passed (`CallEffect`). Each execution of a loop may make at most `t` iterations.
   pub execute : CallEffect → ℕ → Levels → Instruction → MachineState → MachineProgress
   execute enter t ls (stores_number p n) s =
       continue_with_result s (place_address ls s.cells p)
@@ -202,8 +202,8 @@ unfoldable mutual
       choose_by_truth s (truth_value ls s.cells c) (execute_sequence enter t ls body)
       (execute_branches enter t ls rest otherwise)
 
--- Drops all cells of a run's state except the first `n`. Changes nothing if the run has ended or is
--- `no_room`.
+-- Drops all cells of a run's state except the first `n`. Changes nothing if the run has ended, or
+-- if it needs too many cells (`no_room`).
 abbrev pub drop_variables : ℕ → MachineProgress → MachineProgress
 drop_variables n (running s) = running record s { cells = take n s.cells }
 drop_variables n (stopped e out) = stopped e out
@@ -239,8 +239,8 @@ pub record MachineRun : Type 0 where
   pub output : List OutputItem
   pub ending : MachineEnd
 
--- Returns the output and the end of a run. The end is Done if the run reached the end of the
--- program. Returns None for `no_room`.
+-- Returns the output and the end of a run. The end is Done if nothing stopped the run. Returns None
+-- if the run needs too many cells (`no_room`).
 abbrev pub run_result : MachineProgress → Option MachineRun
 run_result (running s) = Some (record { output = s.output; ending = Done })
 run_result (stopped e out) = Some (record { output = out; ending = e })

@@ -1,7 +1,7 @@
--- Converts values of the machine's types (`src/code.rt`) to lowered code (`LoweredSyntax`), which defines
--- their meaning. A row (`Row_of-ChainLink`, ..) is a list inside a recursive type, in the form over
--- which definitions can recurse. So some conversions have two forms, one for a row and one for a
--- list.
+-- Converts values of the machine's types (`src/code.rt`) to lowered code (`LoweredSyntax`), which
+-- defines their meaning. Definitions see a list inside a recursive type as a row
+-- (`Row_of-ChainLink`, ..), over which they can recurse. So some conversions exist twice, once for
+-- a row and once for a list.
 -- Rule: none; used in contracts to give values of the code a meaning.
 use Rattle.std.specs.Prelude.{List, [], ◌∷◌, ℤ, map}
 use Rattle.ob0_run_machine.specs.declared.code.Place as place
@@ -121,7 +121,8 @@ abbrev mutual
       lowered.operation lowered.product (lowered.cell (variable_of v)) right
   operation_with_link (link.Other o n) left = lowered.operation (operator_of o) left (number_of n)
 
-  -- returns the lowered operations that apply a list of links to the number `left`, in order
+  -- Returns the lowered operations that apply a row of links to the number `left`, in order. A link
+  -- is a binary operator with one of its operands.
   pub operation_with_row_of_links : {n : _} → number.Row_of-ChainLink n → lowered.Number → lowered.Number
   operation_with_row_of_links number.end_of-ChainLink left = left
   operation_with_row_of_links (number.more_of-ChainLink l row) left = operation_with_row_of_links row (operation_with_link l left)
@@ -136,8 +137,8 @@ element_of e =
 abbrev pub operation_of : Operation → lowered.Number
 operation_of o = operation_with_link (out-Operation o).link (first_operand_of (out-Operation o).first)
 
--- returns the lowered operations that apply a list of links to the number `left`, one link after
--- the other
+-- Returns the lowered operations that apply a list of links to the number `left`, in order. A link
+-- is a binary operator with one of its operands.
 abbrev pub operation_with_links : lowered.Number → List ChainLink → lowered.Number
 operation_with_links left [] = left
 operation_with_links left (l ∷ ls) = operation_with_links (operation_with_link l left) ls
@@ -188,12 +189,14 @@ abbrev mutual
   truth_of (truth.Different' pointer left right) =
       lowered.different (truth_of left) (truth_of right)
 
-  -- returns the conjunction of the truth `left` and the truths of a row, nested on the left
+  -- returns the conjunction of the truth `left` and the truths of a row (a list inside a recursive
+  -- type), nested on the left
   pub conjunction_with_row : {n : _} → truth.Row_of-Truth n → lowered.Truth → lowered.Truth
   conjunction_with_row truth.end_of-Truth left = left
   conjunction_with_row (truth.more_of-Truth t row) left = conjunction_with_row row (lowered.both left (truth_of t))
 
-  -- returns the disjunction of the truth `left` and the truths of a row, nested on the left
+  -- returns the disjunction of the truth `left` and the truths of a row (a list inside a recursive
+  -- type), nested on the left
   pub disjunction_with_row : {n : _} → truth.Row_of-Truth n → lowered.Truth → lowered.Truth
   disjunction_with_row truth.end_of-Truth left = left
   disjunction_with_row (truth.more_of-Truth t row) left = disjunction_with_row row (lowered.either left (truth_of t))
@@ -261,13 +264,13 @@ abbrev mutual
       lowered.chooses_branch (lowered.branch (truth_of c) (statements_of_row body) (branches_of_row branches))
       (statements_of_row otherwise)
 
-  -- converts a list of statements to lowered statements
+  -- converts a row of statements (a list inside a recursive type) to lowered statements
   pub statements_of_row : {n : _} → statement.Row_of-Instruction n → lowered.InstructionList
   statements_of_row statement.end_of-Instruction = lowered.no_statement
   statements_of_row (statement.more_of-Instruction s row) =
       lowered.next_statement (statement_of s) (statements_of_row row)
 
-  -- converts a list of branches to lowered branches
+  -- converts a row of branches (a list inside a recursive type) to lowered branches
   pub branches_of_row : {n : _} → if_statement.Row_of-Branch n → lowered.Branches
   branches_of_row if_statement.end_of-Branch = lowered.no_branch
   branches_of_row (if_statement.more_of-Branch c shape body row) =

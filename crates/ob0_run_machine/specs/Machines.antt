@@ -103,8 +103,8 @@ pub record StepHasEffect (post : CallPostcondition) (r : Result (Unit {0}) StopR
       → CallsHaveEffect post enters
       → IsProgressAfterStep r m' (doing enters (state_of m))
 
--- Returns the call arguments with these cells and addresses. The cells are all cells so far, with
--- the passed values at the end.
+-- Returns the passed arguments of a call, with the cells `cells` and the addresses `addresses`.
+-- `cells` has all cells so far, with the passed values at the end.
 abbrev pub passed_arguments : List ℤ → List ℕ → CallArguments
 passed_arguments cells addresses = record { cells = cells; addresses = addresses }
 
@@ -123,7 +123,8 @@ StopsArgumentPassing (Some e) memory o = o ≡ ends e
 StopsArgumentPassing None memory o = has_failed memory ≡ true
 
 -- States that `o` is the outcome of passing arguments, given the machine's result. If the result is
--- Ok, `o` gives these cells and addresses. If it is an error, the run ends as `StopsArgumentPassing` says.
+-- Ok, `o` gives the cells `cells` and the addresses `addresses`. If the result is an error, the run
+-- ends as `StopsArgumentPassing` says.
 abbrev pub IsOutcomeOfArgumentPassing : Result (Unit {0}) StopReason → Memory → List ℤ → List ℕ → StepResult CallArguments → Type 0
 IsOutcomeOfArgumentPassing (Ok done) memory cells addresses o = o ≡ gives (passed_arguments cells addresses)
 IsOutcomeOfArgumentPassing (Err s) memory cells addresses o = StopsArgumentPassing (end_of_stop_reason s) memory o

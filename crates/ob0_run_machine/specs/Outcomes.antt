@@ -29,9 +29,9 @@ abbrev pub ReturnsEnd : Option MachineEnd → Result End AllocError → Type 0
 ReturnsEnd (Some e) r = (x : End) × (r ≡ Ok x) × (meaning_of_end x ≡ e)
 ReturnsEnd None r = IsErr r
 
--- States that the second result is the end of a run whose statements returned the first result. It
--- is Done if the statements returned normally, an error if an allocation failed, otherwise the end
--- for their `StopReason`.
+-- States that the second result is the end of a run whose statements returned the first result. The
+-- second result is Done if the statements returned normally, and an error if an allocation failed.
+-- Otherwise it is the end that belongs to the `StopReason` of the statements.
 abbrev pub IsEndAfterExecution : Result (Unit {0}) StopReason → Result End AllocError → Type 0
 IsEndAfterExecution (Ok done) r = r ≡ Ok code.Done
 IsEndAfterExecution (Err s) r = ReturnsEnd (end_of_stop_reason s) r

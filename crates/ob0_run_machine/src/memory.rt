@@ -99,9 +99,9 @@ impl Memory {
         }
     }
 
-    /// Adds at the end of `cells` a copy of the `count` cells that begin at the address `from`.
-    /// Only the first `base` cells are copied from: if `base` is less than `from + count`, adds
-    /// `count` zeros instead.
+    /// Adds at the end of `cells` a copy of the `count` cells that begin at the address `from`. All
+    /// copied cells must be among the first `base` cells. If `base` is less than `from + count`,
+    /// adds `count` zeros instead.
     pub(crate) fn push_copied_cells(
         &mut self,
         cells: &mut Vec<i32>,

@@ -63,9 +63,9 @@ fn execute(
     run_sequence(&program.body, &level, turns, machine, &enter)
 }
 
-/// Converts the result of a program's statements to the end of the run: Done for Ok, otherwise the
-/// end with the same name as the `StopReason`. Returns an error exactly if an allocation failed
-/// (`StopReason::Memory`).
+/// Converts the result of a program's statements to the end of the run. This is Done for Ok,
+/// otherwise the end with the same name as the `StopReason`. Returns an error exactly if an
+/// allocation failed (`StopReason::Memory`).
 fn end_of(executed: Result<(), StopReason>) -> Result<End, AllocError>
     ensures { IsEndAfterExecution executed result }
 {

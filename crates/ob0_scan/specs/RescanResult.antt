@@ -1,4 +1,5 @@
--- Defines the result of turning the tokens of an old text into the tokens of a changed text.
+-- Defines when the result of `rescan_in_place` is right. This function scans a changed text and
+-- reuses the tokens of the old text.
 -- Rule: none; used in contracts of `rescan_in_place`.
 use Rattle.std.specs.Prelude.{◌≡◌, ℕ, List, true}
 use Rattle.ob0_scan.specs.declared.tokens.RescanWithComparison.{RescanWithComparison}
@@ -6,11 +7,12 @@ use Rattle.ob0_scan.specs.TextWithTokens.{TextWithTokens, IsScanOf}
 use Rattle.ob0_scan.specs.ReusedLexemes.{ReusesOldLexemes, token_kinds_without_values, spellings_of_identifiers_in, words_of_tokens}
 use Rattle.ob0_scan.specs.SamePrefixAndSuffix.{PrefixAndSuffixHaveSameKinds, PrefixAndSuffixHaveSameWords}
 
--- States that `r` has the scan of the new text, reuses old tokens as `ReusesOldLexemes` says, and compares
--- the tokens correctly with the old ones. If `same_kinds` is true, all tokens have the same kinds
--- as the old tokens. If `same_names` is true, the identifiers have the same spellings. If
--- `same_words` is true, all tokens have the same kinds and spellings. The tokens in the two parts
--- that `same` describes always have the same kinds and spellings.
+-- States that `r` has the scan of the new text, reuses old tokens as `ReusesOldLexemes` says, and
+-- compares the tokens correctly with the old ones. If `same_kinds` is true, all tokens have the
+-- same kinds as the old tokens. If `same_names` is true, the identifiers have the same spellings as
+-- in the old text. If `same_words` is true, all tokens have the same kinds and spellings as the old
+-- tokens. The tokens in the two parts that `same` describes always have the same kinds and
+-- spellings as in the old text.
 pub record IsRescanOf (old : TextWithTokens) (new : List ℕ) (from removed added : ℕ) (r : RescanWithComparison)
     : Type 0 where
   pub scan : IsScanOf new r.rescan.tokens

@@ -47,16 +47,16 @@ pub record SpansAreInOrder (tokens : List Token) (comments : List Span) : Type 0
   pub comment_starts_ascend : IsNonDecreasingBy (λ (c : Span). c.start) comments
   pub comment_ends_ascend : IsNonDecreasingBy (λ (c : Span). c.end) comments
 
--- States that the span can be shifted by `added - removed` bytes without leaving the numbers from 0
--- to 2^32 - 1: its start is at least `removed`, and its end plus `added` is below 2^32.
+-- States that the span can be shifted by `added - removed` bytes so that its bounds still fit in 32
+-- bits. Its start is at least `removed` and at most its end. Its end plus `added` is below 2^32.
 pub record IsShiftable (removed added : ℕ) (span : Span) : Type 0 where
   pub start_at_least_removed : removed ≤ span.start
   pub ordered : span.start ≤ span.end
   pub small : span.end + added < 2 ^ 32
 
--- States that one lexeme, which begins at the byte offset `s.at`, changes the scanner `s` to the
--- scanner `t`. `t` has the tokens and comments of `s`, and also this lexeme if it is a token or a
--- comment. White space adds nothing. The scanner `s` has found no fault.
+-- States that the scanner `s` becomes the scanner `t` by reading one lexeme, which begins at the
+-- byte offset `s.at`. `t` has the tokens and comments of `s`, and also this lexeme if it is a token
+-- or a comment. White space adds nothing. The scanner `s` has found no fault.
 pub record AddsOneLexeme (s t : Scanner) : Type 0 where
   pub kind : LexemeKind
   pub len : ℕ
@@ -77,9 +77,9 @@ pub record AddsNewLexemes (old : TextWithTokens) (from removed added : ℕ) (s t
   pub comments_new_behind_change : All (λ (c : Span). MatchesNoOldLexemeAfterChange old from removed added c) comments
 
 -- States that a scan of the new text can stop at the byte offset `at`, which is after the change.
--- Either the new text ends there (`end` is its length in bytes), or an old token or comment begins
--- at the corresponding offset in the old text. `tokens` and `comments` are the old tokens and
--- comments that begin at this offset or later.
+-- Either `at` is `end`, the length of the new text, or an old token or comment begins at the
+-- corresponding offset in the old text. `tokens` and `comments` are the old tokens and comments
+-- that begin at this offset or later.
 pub record RescanCanStopAt (old : TextWithTokens) (end from removed added at : ℕ) (tokens : List Token)
     (comments : List Span) : Type 0 where
   pub behind_change : from + added ≤ at
@@ -103,10 +103,10 @@ scan_with_new_middle old new removed added b = record {
       ++ map (span_after_shift removed added) (drop b.old_end.comments old.comments));
 }
 
--- States that `b` has the correct middle part of the scan of the new text. If the tokens and
--- comments in `b` replace the old ones with the indexes in `b`, and the spans of the later old ones
--- are shifted, the result is the scan of the new text. The old tokens and comments that are kept
--- are the ones that `ReusesOldLexemes` describes.
+-- States that `b` has the correct middle part of the scan of the new text. The tokens and comments
+-- in `b` replace the old ones in the index ranges of `b`. The spans of all later old ones are
+-- shifted. The result (`scan_with_new_middle`) must be the scan of the new text. The old tokens and
+-- comments that are kept are the ones that `ReusesOldLexemes` describes.
 pub record IsRescannedMiddle (old : TextWithTokens) (new : List ℕ) (from removed added : ℕ) (b : RescannedMiddle)
     : Type 0 where
   pub tokens_ordered : b.old_start.tokens ≤ b.old_end.tokens

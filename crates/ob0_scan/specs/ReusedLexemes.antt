@@ -78,9 +78,9 @@ pub record NoLexemeBeginsAt (s : TextWithTokens) (place : ℕ) : Type 0 where
   pub tokens : All (λ (t : Token). t.span.start ≢ place) s.tokens
   pub comments : All (λ (c : Span). c.start ≢ place) s.comments
 
--- States about a span of the new text: if the span begins after the change, no token or comment
--- begins at the corresponding offset in the old text. If the span begins before the end of the
--- changed bytes, states nothing.
+-- States that a span of the new text has no counterpart in the old text. This means that no token
+-- or comment of the old text begins at the offset that corresponds to the span's start. States
+-- nothing if the span begins before the end of the changed bytes.
 abbrev pub MatchesNoOldLexemeAfterChange : TextWithTokens → ℕ → ℕ → ℕ → Span → Type 0
 MatchesNoOldLexemeAfterChange old from removed added span =
     from + added ≤ span.start → NoLexemeBeginsAt old (span.start + removed - added)
@@ -89,8 +89,8 @@ MatchesNoOldLexemeAfterChange old from removed added span =
 -- ones that end before the change. The last part has the old ones that begin at `place` or later,
 -- after the change, with shifted spans. The part between them has `read` tokens and comments. If
 -- one of these begins after the change, no old token or comment begins at the corresponding place
--- in the old text. So the last part, unless it is empty, starts at the first place after the change
--- at which tokens or comments of both texts begin.
+-- in the old text. So a non-empty last part starts at the first place after the change at which a
+-- token or comment begins in both texts.
 pub record ReusesOldLexemes (old new : TextWithTokens) (from removed added read : ℕ) : Type 0 where
   pub place : ℕ
   pub behind_change : from + removed ≤ place

@@ -7,8 +7,8 @@ use Rattle.ob0_scan.specs.ReusedLexemes.{token_kinds_without_values, words_of_to
 use Rattle.ob0_scan.specs.TextWithTokens.{TextWithTokens}
 
 -- States that two parts of the new tokens have the same kinds as in the old text. The first part is
--- the first `prefix` tokens of both texts. The second part reaches to the last token. This part
--- starts at the index `old_suffix` among the old tokens, and at the index `new_suffix` among the
+-- the first `prefix` tokens of both texts. The second part reaches to the last token of each text.
+-- It starts at the index `old_suffix` among the old tokens and at the index `new_suffix` among the
 -- new tokens. No token is in both parts. The values of integers may differ.
 pub record PrefixAndSuffixHaveSameKinds (s : CommonPrefixAndSuffix) (old new : List Token) : Type 0 where
   pub old_range : s.prefix ≤ s.old_suffix

@@ -41,8 +41,8 @@ pub record IsFirstLexeme (l : Lexeme) (after : List ℕ) : Type 0 where
       → length prefix ≤ length l.text
   pub precedes : LexemeMayPrecedeText l.kind after
 
--- States that each lexeme in the list is the first lexeme of the text that consists of this lexeme,
--- all later lexemes and the text `after`.
+-- States that each lexeme in the list is the first lexeme of the remaining text. The remaining text
+-- consists of this lexeme, all later lexemes and the text `after`.
 abbrev pub AreLeadingLexemes : List Lexeme → List ℕ → Type 0
 AreLeadingLexemes [] after = Unit {0}
 AreLeadingLexemes (l ∷ lexemes) after = IsFirstLexeme l (text_of_lexemes lexemes ++ after) × AreLeadingLexemes lexemes after

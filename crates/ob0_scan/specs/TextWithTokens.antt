@@ -15,8 +15,8 @@ pub record Word : Type 0 where
   pub kind : TokenKind
   pub text : List ℕ
 
--- If the lexeme is a token, returns a list with one word: the kind and the text of this token. For
--- white space and comments the list is empty. The second argument is the lexeme's kind.
+-- Returns a list with one word, the kind and text of the lexeme, if the lexeme is a token. Returns
+-- the empty list for white space and comments. The second argument is the lexeme's kind.
 abbrev pub words_of_one_lexeme : Lexeme → LexemeKind → List Word
 words_of_one_lexeme l lexeme.WhiteSpace = []
 words_of_one_lexeme l lexeme.Comment = []
@@ -39,8 +39,8 @@ word_of_token text token = record { kind = token.kind; text = text_in_span text 
 abbrev pub span_with_length : ℕ → ℕ → Span
 span_with_length start len = record { start = start; end = start + len }
 
--- If the lexeme is a token, returns a list with this token: its kind and span. For white space and
--- comments the list is empty.
+-- Returns a list with one token, which has the lexeme's kind and span, if the lexeme is a token.
+-- Returns the empty list for white space and comments.
 abbrev pub tokens_of_one_lexeme : LexemeKind → Span → List Token
 tokens_of_one_lexeme lexeme.WhiteSpace span = []
 tokens_of_one_lexeme lexeme.Comment span = []
@@ -85,8 +85,8 @@ pub record TextWithTokens : Type 0 where
   pub tokens : List Token
   pub comments : List Span
 
--- States that the tokens and comments in `s` are exactly the ones among the lexemes of its text, in
--- text order, and that the text isn't too long.
+-- States that `s` has exactly the tokens and comments of its text, in text order. Also states that
+-- the text isn't too long.
 pub record IsScan (s : TextWithTokens) : Type 0 where
   pub utf8 : IsUtf8 s.text
   pub short : length s.text ≤ max_text_length

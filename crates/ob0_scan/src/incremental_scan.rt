@@ -1,10 +1,11 @@
-//! Scans a text that was changed at one place, and reuses the tokens and comments that an older
-//! scan found before the change and after it.
+//! Scans a text that was changed at one place. Reuses the tokens and comments that an older scan
+//! found before and after the change.
 //!
 //! `rescan_in_place` takes the tokens of the old text and turns them into the tokens of the new
 //! text. If the new text has faults, the function returns the faults and the old tokens. `rescan`
 //! does the same with a copy of the old tokens. Both functions return the tokens and comments that
-//! `scan` of the new text returns. `ReusesOldLexemes` (`specs/ReusedLexemes`) says which of these are old:
+//! `scan` of the new text returns. `ReusesOldLexemes` (`specs/ReusedLexemes`) says which of these
+//! are reused from the old scan:
 //! - Before the change: each token and comment that ends before it. (A token that ends right at the
 //!   change may continue with the inserted text.)
 //! - After the change, shifted by `added - removed` bytes: each token and comment that begins at a
@@ -17,37 +18,38 @@
 //!
 //! Binary search finds the old tokens and comments before the change
 //! (`LexemeSlices::lexemes_ending_before`). A scanner continues at the end of the last of them.
-//! White space isn't kept, so the white space there is read again. Once the scanner is after the
-//! change, it tests before each step whether an old token or comment begins at the corresponding
-//! place in the old text. Binary search also finds the first old tokens and comments after the
-//! change (`lexemes_beginning_at_or_after`). Before each step, `skip_lexemes_before` skips the old
-//! ones that begin before that place. So all these tests together visit each old token at most
-//! once. The spans of a scan are in order (`SpansAreInOrder`), so binary search finds the same
-//! number as visiting them one by one (`proofs/Halved`).
+//! White space isn't kept, so the white space there is read again. After the change, the scanner
+//! tests before each step whether it can stop. It stops if an old token or comment begins at the
+//! corresponding place in the old text. Binary search also finds the first old tokens and comments
+//! after the change (`lexemes_beginning_at_or_after`). Before each test, `skip_lexemes_before`
+//! skips the old ones that begin before the corresponding place. So all these tests together visit
+//! each old token at most once. The spans of a scan are in order (`SpansAreInOrder`), so a binary
+//! search gives the same count as a linear search (`proofs/Halved`).
 //!
 //! The newly read tokens and comments are placed between the two reused parts
 //! (`IsRescannedMiddle`). When reading is complete, the second reused part is moved within its
 //! list, and the newly read tokens are inserted before it (`splice_tokens`, `splice_comments`). So
 //! memory holds the tokens of only one text at a time, and the heap isn't fragmented by a second
 //! list. Only the changed bytes of the text are replaced, and the bytes after them are moved
-//! (`ReplacedRange::replace`). If a change begins or ends inside a character, the new text is
-//! written over the old text.
+//! (`ReplacedRange::replace`). If a change begins or ends inside a character, the whole new text is
+//! copied instead.
 //!
-//! The change needn't begin and end between characters: a lexeme's last byte is ASCII, so the scan
-//! begins and stops at character borders anyway. After a fault, the scanner doesn't look for
+//! The change may begin or end inside a character. The scan begins and stops at character borders
+//! anyway, because a lexeme's last byte is ASCII. After a fault, the scanner doesn't look for
 //! reusable tokens but reads to the end. So the faults are the same as the faults that `scan`
 //! reports, each once. Spans fit in 32 bits, because a text has at most 1,048,576 bytes (the field
-//! `short` of `IsScannedUpToOffset`, and `IsShiftable` for shifted spans). Callers have to show
-//! `ReplacesRange`. The law `new_middle_replaces_range` proves this fact for texts joined from
-//! parts, and `Difference::between` of `ob0_analysis` ensures it for any two texts.
+//! `short` of `IsScannedUpToOffset`, and `IsShiftable` for shifted spans). Callers have to prove
+//! `ReplacesRange`: the two texts are equal before and after the change. The law
+//! `new_middle_replaces_range` proves it for texts joined from parts, and `TextDifference::between`
+//! of `ob0_analysis` ensures it for any two texts.
 //!
 //! In the proof, `proofs/AtLexemes` gives the places of the tokens and comments in a list of
 //! lexemes. `Fronts` splits off the old lexemes before the change. `Reusing` joins old and new
 //! lexemes at both borders of the reread part: a lexeme depends only on its bytes and the next
-//! byte, and texts with equal rests have equal lexemes there. `RescannedMiddle` collects the newly
-//! read tokens, and `Kept` is about the reused old tokens. `Named` shows that reused tokens have
-//! the same spelling in both texts. No clause counts steps, so it isn't proved that old tokens
-//! aren't scanned again.
+//! byte, so two texts with the same ending have the same lexemes there. `RescannedMiddle` collects
+//! the newly read tokens, and `Kept` is about the reused old tokens. `Named` shows that reused
+//! tokens have the same spelling in both texts. No contract counts steps. So it isn't proved that
+//! reused tokens aren't also scanned again.
 
 ghost use Rattle.std.specs.Prelude.{◌≡◌, ℕ, List, [], false, ◌+◌, ◌-◌, ◌<◌, ◌≤◌, true, IfOk, IfErr, OnOk, length, take, drop};
 ghost use Rattle.ob0_scan.specs.declared.lexeme.TokenKind.TheVariants.{Identifier, Integer};
@@ -75,9 +77,9 @@ pub(crate) struct LexemeCounts {
     pub(crate) comments: usize,
 }
 
-/// The newly scanned tokens and comments, and the indexes of the old ones that they replace. These
-/// are the old tokens `old_start.tokens..old_end.tokens` and the old comments
-/// `old_start.comments..old_end.comments`.
+/// The newly scanned tokens and comments, and the index ranges of the old ones that they replace.
+/// `tokens` replaces the old tokens `old_start.tokens..old_end.tokens`, and `comments` replaces the
+/// old comments `old_start.comments..old_end.comments`.
 #[derive(Drop)]
 pub(crate) struct RescannedMiddle {
     pub(crate) old_start: LexemeCounts,
@@ -87,7 +89,9 @@ pub(crate) struct RescannedMiddle {
 }
 
 impl RescannedMiddle {
-    /// Returns whether the new tokens have the same kinds as the old tokens that they replace.
+    /// Returns whether the new tokens have the same kinds as the old tokens that they replace: both
+    /// lists are equally long and have the same kinds at the same indexes. The values of integers
+    /// may differ.
     fn has_same_kinds_as_replaced_tokens(&self, old: &[Token]) -> bool
         requires ordered { self.now.old_start.tokens ≤ self.now.old_end.tokens }
         requires inside { self.now.old_end.tokens ≤ length old.now }
@@ -101,8 +105,8 @@ impl RescannedMiddle {
         )
     }
 
-    /// Returns whether the new tokens have the same names as the old tokens that they replace: both
-    /// lists are equally long and have the same identifiers at the same indexes.
+    /// Returns whether the new tokens have the same names as the old tokens that they replace. Both
+    /// lists must be equally long and have the same identifiers at the same indexes.
     fn has_same_names_as_replaced_tokens(&self, new_text: &str, old: &Tokens) -> bool
         requires ordered { self.now.old_start.tokens ≤ self.now.old_end.tokens }
         requires inside { self.now.old_end.tokens ≤ length old.now.tokens }
@@ -154,7 +158,8 @@ fn have_same_words(new_text: &[u8], new: &[Token], old_text: &[u8], old: &[Token
     true
 }
 
-/// Returns whether a token of one text and a token of another have the same kind and spelling.
+/// Returns whether the token `new` of one text and the token `old` of another text have the same
+/// kind and spelling.
 fn is_same_word(new_text: &[u8], new: Token, old_text: &[u8], old: Token) -> bool
     ensures { result ≡ true → word_of_token new_text.now new ≡ word_of_token old_text.now old }
 {
@@ -177,8 +182,8 @@ fn have_same_names(new_text: &[u8], new: &[Token], old_text: &[u8], old: &[Token
     true
 }
 
-/// Returns whether a token of one text and a token of another are identifiers with the same
-/// spelling, or neither is an identifier.
+/// Returns whether the tokens `new` and `old` of two texts are identifiers with the same spelling.
+/// Also returns true if neither token is an identifier.
 fn is_same_name(new_text: &[u8], new: Token, old_text: &[u8], old: Token) -> bool
     ensures { result ≡ true → name_or_empty new.kind (text_in_span new_text.now new.span)
         ≡ name_or_empty old.kind (text_in_span old_text.now old.span) }
@@ -303,11 +308,11 @@ pub fn rescan(
     }
 }
 
-/// Makes the tokens and comments of `new_text` out of the old ones. `from`, `removed` and `added`
-/// describe the change, as in `rescan`. In contrast to `rescan`, this function works in place: the
-/// old tokens before the change aren't copied. The result also compares the new tokens with the old
-/// tokens. If the new text has faults, the faults are returned with the old tokens. If an
-/// allocation fails, the old tokens are lost.
+/// Returns the tokens and comments of `new_text`, made from `old`, the tokens and comments of the
+/// old text. `from`, `removed` and `added` describe the change, as in `rescan`. In contrast to
+/// `rescan`, this function works in place: the old tokens before the change aren't copied. The
+/// result also compares the new tokens with the old tokens. If the new text has faults, the faults
+/// are returned with the old tokens. If an allocation fails, the old tokens are lost.
 pub fn rescan_in_place(
     alloc: Global,
     old: Tokens,
@@ -428,10 +433,10 @@ fn rescan_middle(
     })
 }
 
-/// Moves the scanner, one lexeme at a time, until it is after the change and an old token or
-/// comment begins at the corresponding place in the old text. Returns the old tokens and comments
-/// that begin at that place or later. If the scanner reaches no such place, or finds a fault, it
-/// moves to the end of the text, and no tokens or comments are returned.
+/// Moves the scanner, one lexeme at a time, until it is after the change and can stop. It can stop
+/// if an old token or comment begins at the corresponding place in the old text. Returns the old
+/// tokens and comments that begin there or later. If there is no such place or a fault is found,
+/// moves the scanner to the end of the text and returns empty lists.
 fn scan_until_old_lexeme<'o>(
     scanner: &mut Scanner,
     old: &'o Tokens,

@@ -146,7 +146,8 @@ fn one_byte_symbol(byte: u8) -> Option<Symbol>
     }
 }
 
-/// Returns the kind of a word: the reserved word that it spells, or otherwise an identifier.
+/// Returns the kind of a word: the kind of the reserved word that it spells, or `Identifier` if it
+/// spells none.
 #[inline(always)]
 fn word_kind(word: &[u8]) -> TokenKind
     requires { IsIdentifierOrReservedWord word.now }
@@ -158,7 +159,7 @@ fn word_kind(word: &[u8]) -> TokenKind
     }
 }
 
-/// Returns the word at the beginning of a text that begins with a letter.
+/// Returns the identifier or reserved word at the beginning of a text that begins with a letter.
 #[inline(always)]
 fn leading_word(text: &str) -> LeadingLexemeOrFault
     requires { IsTrue (is_ascii_alphabetic (slice_index text.now 0)) }

@@ -1,13 +1,14 @@
-//! Finds, by binary search, the tokens and comments of an older scan that lie before a change of
-//! the text, and the ones that lie after the change. Replaces the tokens and comments between these
-//! two parts, and shifts the spans of the part after the change.
+//! Finds the tokens and comments of an older scan that lie before a change of the text, and the
+//! ones that lie after it. Replaces the tokens and comments between these two parts, and shifts the
+//! spans of the part after the change.
 //!
-//! The spans of a scan are in order (`SpansAreInOrder`), so binary search finds the same number as
-//! visiting them one by one (`proofs/Halved`). The items of a `Vec` from an index to its end are
-//! changed by a loop over indexes (`for index in first..items.len()`). The loop's invariant is
-//! `ChangedTo`: the items with smaller indexes are changed, and the other items aren't. A call with
-//! `&mut items[first..]` isn't used, because the proof would have no name for the list after such a
-//! call.
+//! The two parts are found by binary search. The spans of a scan are in order (`SpansAreInOrder`),
+//! so a binary search gives the same count as a linear search (`proofs/Halved`).
+//!
+//! Spans are shifted by a loop over indexes (`for index in first..tokens.len()`). The loop's
+//! invariant is `ChangedTo`: the items from `first` up to the current index are changed, and the
+//! other items aren't. A call with `&mut items[first..]` isn't used, because the proof would have
+//! no name for the list that such a call leaves.
 
 ghost use Rattle.std.specs.Prelude.{◌≡◌, ◌+◌, ◌-◌, ◌<◌, ◌≤◌, ◌^◌, ◌||◌, ◌++◌, OnOk, length, map, take, drop, nat_lt, option_copied, string_bytes};
 ghost use Rattle.std.specs.List.{All, prefix_len};
@@ -31,7 +32,7 @@ pub(crate) struct ReplacedRange {
 
 impl ReplacedRange {
     /// Returns the byte offset in the old text that corresponds to the byte offset `offset` in the
-    /// new text. It is meant for places after the changed bytes.
+    /// new text. The result is useful only if `offset` is at or after the end of the changed bytes.
     pub(crate) fn offset_in_old_text(self, offset: usize) -> usize
         requires following { self.added ≤ offset }
         requires small { offset + self.removed < 2 ^ 64 }
@@ -40,9 +41,9 @@ impl ReplacedRange {
         offset - self.added + self.removed
     }
 
-    /// Turns the old text into the new text. Only the changed bytes are written, and the bytes
-    /// after them are moved. If the change begins or ends inside a character, the whole new text is
-    /// copied. If an allocation fails, nothing is promised about `old`.
+    /// Replaces the old text `old` by the new text `new`. Only the changed bytes are written, and
+    /// the bytes after them are moved. If the change begins or ends inside a character, the whole
+    /// new text is copied. If an allocation fails, nothing is promised about `old`.
     pub(crate) fn replace(self, old: &mut String, new: &str) -> Result<(), AllocError>
         requires { ReplacesRange (string_bytes old.old) new.now self.from self.removed self.added }
         ensures { OnOk result (string_bytes old.new ≡ new.now) }
@@ -97,7 +98,7 @@ impl<'t> LexemeSlices<'t> {
     }
 
     /// Returns the tokens and comments without the leading ones that begin before the byte offset
-    /// `offset`, by binary search.
+    /// `offset`. Finds them by binary search.
     pub(crate) fn lexemes_beginning_at_or_after(self, offset: usize) -> LexemeSlices<'t>
         requires { SpansAreInOrder self.tokens.now self.comments.now }
         ensures tokens { result.tokens.now ≡ tokens_beginning_at_or_after offset self.entry.tokens.now }
@@ -112,7 +113,7 @@ impl<'t> LexemeSlices<'t> {
     }
 
     /// Returns the tokens and comments without the leading ones that begin before the byte offset
-    /// `offset`. The skipped ones should be few, because they are visited one by one.
+    /// `offset`. Visits the skipped ones one by one, so this is fast only if they are few.
     pub(crate) fn skip_lexemes_before(self, offset: usize) -> LexemeSlices<'t>
         ensures tokens { result.tokens.now ≡ tokens_beginning_at_or_after offset self.entry.tokens.now }
         ensures comments { result.comments.now ≡ comments_beginning_at_or_after offset self.entry.comments.now }
@@ -185,7 +186,8 @@ fn comment_end_or_zero(comment: Option<&Span>) -> usize
     }
 }
 
-/// Returns the number of leading tokens that end before a byte offset, by binary search.
+/// Returns the number of leading tokens that end before the byte offset `offset`. Finds it by
+/// binary search.
 fn count_tokens_ending_before(tokens: &[Token], offset: usize) -> usize
     requires { IsNonDecreasingBy (λ (t : Token). t.span.end) tokens.now }
     ensures bound { result ≤ length tokens.now }
@@ -194,7 +196,8 @@ fn count_tokens_ending_before(tokens: &[Token], offset: usize) -> usize
     tokens.partition_point(|token| (token.span.end as usize) < offset)
 }
 
-/// Returns the number of leading comments that end before a byte offset, by binary search.
+/// Returns the number of leading comments that end before the byte offset `offset`. Finds it by
+/// binary search.
 fn count_comments_ending_before(comments: &[Span], offset: usize) -> usize
     requires { IsNonDecreasingBy (λ (c : Span). c.end) comments.now }
     ensures bound { result ≤ length comments.now }
@@ -203,7 +206,8 @@ fn count_comments_ending_before(comments: &[Span], offset: usize) -> usize
     comments.partition_point(|comment| (comment.end as usize) < offset)
 }
 
-/// Returns the number of leading tokens that begin before a byte offset, by binary search.
+/// Returns the number of leading tokens that begin before the byte offset `offset`. Finds it by
+/// binary search.
 fn count_tokens_beginning_before(tokens: &[Token], offset: usize) -> usize
     requires { IsNonDecreasingBy (λ (t : Token). t.span.start) tokens.now }
     ensures bound { result ≤ length tokens.now }
@@ -212,7 +216,8 @@ fn count_tokens_beginning_before(tokens: &[Token], offset: usize) -> usize
     tokens.partition_point(|token| (token.span.start as usize) < offset)
 }
 
-/// Returns the number of leading comments that begin before a byte offset, by binary search.
+/// Returns the number of leading comments that begin before the byte offset `offset`. Finds it by
+/// binary search.
 fn count_comments_beginning_before(comments: &[Span], offset: usize) -> usize
     requires { IsNonDecreasingBy (λ (c : Span). c.start) comments.now }
     ensures bound { result ≤ length comments.now }
@@ -221,8 +226,8 @@ fn count_comments_beginning_before(comments: &[Span], offset: usize) -> usize
     comments.partition_point(|comment| (comment.start as usize) < offset)
 }
 
-/// Returns the number of leading tokens that begin before a byte offset. The tokens are visited one
-/// by one.
+/// Returns the number of leading tokens that begin before the byte offset `offset`. Visits the
+/// tokens one by one.
 fn count_tokens_beginning_before_linearly(tokens: &[Token], offset: usize) -> usize
     ensures bound { result ≤ length tokens.now }
     ensures count { result ≡ prefix_len (λ (t : Token). nat_lt t.span.start offset) tokens.now }
@@ -233,8 +238,8 @@ fn count_tokens_beginning_before_linearly(tokens: &[Token], offset: usize) -> us
         .count()
 }
 
-/// Returns the number of leading comments that begin before a byte offset. The comments are visited
-/// one by one.
+/// Returns the number of leading comments that begin before the byte offset `offset`. Visits the
+/// comments one by one.
 fn count_comments_beginning_before_linearly(comments: &[Span], offset: usize) -> usize
     ensures bound { result ≤ length comments.now }
     ensures count { result ≡ prefix_len (λ (c : Span). nat_lt c.start offset) comments.now }

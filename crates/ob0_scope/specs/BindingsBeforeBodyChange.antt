@@ -8,8 +8,9 @@ use Rattle.ob0_scope_table.specs.Resolution.{IsResolution}
 use Rattle.ob0_scope_table.specs.declared.resolved.Bindings.{Bindings}
 use Rattle.std.specs.Prelude.{ℕ}
 
--- States that only tokens of one body changed, and that `b` has the bindings of the module before this change. The
--- changed tokens have the indexes from `low` up to, but not including, `high`.
+-- States that only the spellings of tokens in one body of the module `m` changed. `b` has the
+-- bindings of the module before this change. The changed tokens have the indexes from `low` up to,
+-- but not including, `high`.
 pub record AreBindingsBeforeBodyChange (m : ParsedModule) (b : Bindings) (low high : ℕ) : Type 0 where
   pub old : TextWithTokens
   pub change : ChangesSpellingsInOneBody old m low high

@@ -7,8 +7,9 @@ use Rattle.ob0_scope_table.specs.BodyReplacement.{ReplacesStatementsOfOneBody, P
 use Rattle.ob0_scope_table.specs.Resolution.{IsResolution}
 use Rattle.ob0_scope_table.specs.declared.resolved.Bindings.{Bindings}
 
--- States that `b` has the bindings of an older module, and that `m` is that module with the statements of one body
--- replaced. `s` gives the unchanged tokens at the start and at the end of the text.
+-- States that `b` has the bindings of an older module, and that `m` is that module with the
+-- statements of one body replaced. `s` says which tokens at the start and at the end of the text
+-- are unchanged.
 pub record AreBindingsBeforeBodyReplacement (m : ParsedModule) (b : Bindings) (s : CommonPrefixAndSuffix) : Type 0 where
   pub old : ParsedModule
   pub path : PathToBody

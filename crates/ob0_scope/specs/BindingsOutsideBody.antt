@@ -1,5 +1,5 @@
--- The data about a module's names that is kept when the statements of one body are replaced: the
--- data about the tokens before that body, and about the tokens after it, which have moved.
+-- The data about a module's names that is kept when the statements of one body are replaced. This
+-- is the data about the tokens before that body, and about the tokens after it, which have moved.
 -- Rule: none; used in private contracts about bindings that are kept when one body is replaced (`body_range.rt`).
 use Rattle.std.specs.Prelude.{◌≡◌, ℕ, ◌+◌, ◌-◌, ◌^◌, min, nat_lt, List, [], ◌∷◌, ◌++◌, Option, Some, None, if◌then◌else◌, is_some, length, take, drop, replicate}
 use Rattle.ob0_scan.specs.declared.tokens.CommonPrefixAndSuffix.{CommonPrefixAndSuffix}
@@ -13,8 +13,9 @@ use Rattle.ob0_scope_table.specs.declared.resolved.Bindings.{Bindings}
 use Rattle.ob0_scope.specs.BindingsBeforeBodyReplacement.{AreBindingsBeforeBodyReplacement}
 use Rattle.ob0_scope.specs.declared.body_range.BodyRange.{BodyRange}
 
--- the token indexes of the identifiers seen so far while a body is walked: the first identifier
--- (None if there is none yet) and all occurrences of names (identifiers with the role `LookedUpName`)
+-- The token indexes of identifiers seen so far while a body is walked. `first` is the first
+-- identifier, or None if there is none yet. `uses` has all occurrences of names, which are the
+-- identifiers with the role `LookedUpName`.
 pub record BodyNamesView : Type 0 where
   pub first : Option ℕ
   pub uses : List ℕ
@@ -58,8 +59,8 @@ shifted_tokens_after_body range (i ∷ is) =
     if nat_lt i range.old_closing then shifted_tokens_after_body range is
     else shifted_token range i ∷ shifted_tokens_after_body range is
 
--- returns a list of tokens of the old text with their indexes in the changed text; the tokens in the old body are
--- replaced by `own`, the tokens in the new body
+-- converts a list of token indexes of the old text to indexes in the changed text; the tokens in
+-- the old body are replaced by `own`, the tokens in the new body
 abbrev pub tokens_in_changed_text : BodyRange → List ℕ → List ℕ → List ℕ
 tokens_in_changed_text range tokens own = tokens_before_body range tokens ++ (own ++ shifted_tokens_after_body range tokens)
 
@@ -67,8 +68,8 @@ tokens_in_changed_text range tokens own = tokens_before_body range tokens ++ (ow
 abbrev pub resized_with_none : ℕ → List (Option ℕ) → List (Option ℕ)
 resized_with_none n table = take n table ++ replicate (n - length table) None
 
--- returns a table of ordinals with each entry at its token's new index; the entries of the new body
--- are None
+-- Converts the old module's table of ordinals to a table for the changed text: each entry moves to
+-- its token's new index. The entries of the new body are None.
 abbrev pub ordinals_in_changed_text : BodyRange → List (Option ℕ) → List (Option ℕ)
 ordinals_in_changed_text range table =
     resized_with_none range.closing (take range.first table) ++ drop range.old_closing table

@@ -15,8 +15,8 @@ use Rattle.ob0_scope_table.specs.Spans.{is_in_span_or_at_end}
 use Rattle.ob0_language_names.specs.Scopes.{numbered, renamed}
 use Rattle.ob0_scope.specs.declared.bound_names.BoundName as named
 
--- an identifier, bound or not: its role, its token, and its label, which has the declaration's
--- ordinal if the identifier is bound
+-- an identifier: its role, its token and its label; the label is the declaration's ordinal, or the
+-- identifier's spelling if the identifier is unbound
 abbrev pub LabelledIdentifier : Type 0
 LabelledIdentifier = (Role × ℕ) × Label
 
@@ -25,7 +25,8 @@ abbrev pub labelled_identifiers : ParsedModule → List LabelledIdentifier
 labelled_identifiers m =
     zip (identifiers role.DeclaringName (tree_of m)) (identifier_names (numbered (named_tree_of m)))
 
--- returns the first identifier that contains a byte offset or ends there; None if there is none
+-- returns the first identifier that contains a byte offset or ends there; None if there is no such
+-- identifier
 abbrev pub identifier_at_offset : ParsedModule → ℕ → Option LabelledIdentifier
 identifier_at_offset m offset = find (λ s. is_in_span_or_at_end offset (token_span m.source s.0.1)) (labelled_identifiers m)
 
@@ -34,8 +35,8 @@ identifier_at_offset m offset = find (λ s. is_in_span_or_at_end offset (token_s
 abbrev pub bound_name_of : LabelledIdentifier → Option named.BoundName
 bound_name_of s = option_map (λ ordinal. record { token = s.0.1; ordinal = ordinal }) (label_ordinal s.1)
 
--- returns the name that contains a byte offset or ends there; None if there is none, or if it is a
--- field, the module's name or an unbound name
+-- returns the bound name that contains a byte offset or ends there; None if no identifier is at the
+-- offset, or the identifier is a field, the module's name or an unbound name
 abbrev pub name_at_offset : ParsedModule → ℕ → Option named.BoundName
 name_at_offset m offset = option_and_then bound_name_of (identifier_at_offset m offset)
 

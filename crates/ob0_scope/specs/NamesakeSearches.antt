@@ -13,8 +13,8 @@ use Rattle.ob0_language_names.specs.BlockParts.{formal_parameter_names, formal_p
 use Rattle.ob0_scope_table.specs.Resolution.{ordinal_in}
 use Rattle.ob0_language_names.specs.Scopes.{same_ordinal}
 
--- A search for another declaration with a given name: the text, the ordinal to which each token is bound, the
--- declaration whose block is searched, and the name (`new`).
+-- A search for another declaration with the name `new`, in the block of the declaration with the
+-- ordinal `declaration`. `ordinals` has the ordinal to which each token is bound.
 pub record NamesakeSearchView : Type 0 where
   pub source : TextWithTokens
   pub ordinals : List (Option ℕ)
@@ -56,14 +56,15 @@ abbrev mutual
       option_or (namesake_among s (own ++ names_declared_in_block (forms_block (declares cs ts vs ps) statements)))
       (namesake_in_procedure_list s ps)
 
-  -- searches procedures in order until an ordinal is found in one, and returns this ordinal; None if there is none
+  -- searches procedures in order until an ordinal is found in one, and returns this ordinal; None
+  -- if no ordinal is found
   pub namesake_in_procedure_list : NamesakeSearchView → Tree ℕ (items procedure) → Option ℕ
   namesake_in_procedure_list s end = None
   namesake_in_procedure_list s (more p rest) =
       option_or (namesake_in_procedure s p) (namesake_in_procedure_list s rest)
 
-  -- returns the ordinal found in a procedure's block, to which the parameters belong; None if there
-  -- is none
+  -- returns the ordinal found in a procedure's block, to which the parameters belong; None if no
+  -- ordinal is found
   pub namesake_in_procedure : NamesakeSearchView → Tree ℕ (item procedure) → Option ℕ
   namesake_in_procedure s (declares_procedure x fs b closing) =
       namesake_in_block s (formal_parameter_names (formal_parameter_sections fs)) b

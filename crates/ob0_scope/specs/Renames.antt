@@ -16,8 +16,8 @@ use Rattle.ob0_scope_table.specs.Resolution.{Resolution, ordinal_in}
 use Rattle.ob0_language_names.specs.Scopes.{Scope, label_from_ordinal, numbered, predeclared_count, renamed}
 use Rattle.ob0_scope_numbering.specs.IdentifierSpellings.{Spellings, spelling_at_token}
 
--- returns the ordinal of the first declaration in a scope that has the name `new` and an ordinal other than `d`; None
--- if there is none
+-- returns the ordinal of the first declaration in a scope that has the name `new` and an ordinal
+-- other than `d`; None if there is no such declaration
 abbrev pub other_declaration_with_name : Scope Name → ℕ → Name → Option ℕ
 other_declaration_with_name [] d new = None
 other_declaration_with_name (b ∷ own) d new =
@@ -32,8 +32,8 @@ namesake_in_scopes (own ∷ others) d new =
     option_or (if declares_ordinal own d then other_declaration_with_name own d new else None)
     (namesake_in_scopes others d new)
 
--- returns the ordinal of the last declaration with the name `new`, other than `d`, in the block
--- that declares `d`; None if there is none
+-- Finds the last other declaration with the name `new` in the block of the declaration with ordinal
+-- `d`. Returns the ordinal of this other declaration, or None if there is no such declaration.
 abbrev pub namesake_ordinal : Tree Name module_text → ℕ → Name → Option ℕ
 namesake_ordinal m d new = namesake_in_scopes (scopes_in_block predeclared_count [] (module_block m)) d new
 
@@ -42,8 +42,8 @@ abbrev pub conflict_of : reported.FirstConflict → NameConflict
 conflict_of (reports.Duplicate other) = at_declaration
 conflict_of (reports.Occurrence k) = at_occurrence k
 
--- returns the ordinal of the other declaration if the conflict is with another declaration of the same block;
--- otherwise, and for no conflict, None
+-- returns the ordinal of the other declaration if the conflict is with another declaration of the
+-- same block; None for any other conflict, and if there is no conflict
 abbrev pub other_declaration_in_conflict : Option reported.FirstConflict → Option ℕ
 other_declaration_in_conflict None = None
 other_declaration_in_conflict (Some (reports.Duplicate other)) = Some other

@@ -1,5 +1,6 @@
--- The bindings of a text whose tokens have the same kinds as before, and whose identifiers or all
--- tokens have the same spellings.
+-- Laws about two texts that have the same tree and the same bindings. The tokens of both texts have
+-- the same kinds. In one law only the identifiers have the same spellings, in the other law all
+-- tokens do.
 -- Rule: docs/LANGUAGE.md, Scopes 2 to 4.
 use Rattle.std.specs.Prelude.{◌≡◌, []}
 use Rattle.ob0_scan.specs.ReusedLexemes.{token_kinds_without_values, spellings_of_identifiers_in, words_of_tokens}
@@ -10,14 +11,15 @@ use Rattle.ob0_scope_table.specs.Bindings.{resolution_with_bindings}
 use Rattle.ob0_scope_table.specs.Resolution.{IsResolution}
 use Rattle.ob0_scope_table.specs.declared.resolved.Bindings.{Bindings}
 
--- states that the tokens of two texts have the same kinds, one by one, and their identifiers the same spellings
+-- states that the tokens of two texts have the same kinds, in order, and that the identifiers of
+-- both texts have the same spellings
 pub record HaveSameKindsAndNames (old new : TextWithTokens) : Type 0 where
   pub same_kinds : token_kinds_without_values new.tokens ≡ token_kinds_without_values old.tokens
   pub same_names : spellings_of_identifiers_in new.text new.tokens ≡ spellings_of_identifiers_in old.text old.tokens
 
--- States that the bindings of a module without scope faults are also the bindings of the same
--- tree with another text's tokens. The tokens of both texts must have the same kinds, and their
--- identifiers the same spellings. The tree must also be the tree of the other text's module.
+-- States that two texts with the same tree have the same bindings, if the first text has no scope
+-- faults. The tree has token indexes in place of names. The tokens of both texts must have the same
+-- kinds, and their identifiers the same spellings.
 abbrev pub BindingsDependOnlyOnNames : Type 0
 BindingsDependOnlyOnNames =
     (old new : TextWithTokens) (tree : ModuleTree) (b : Bindings)
@@ -27,9 +29,8 @@ BindingsDependOnlyOnNames =
     → b.faults.items ≡ []
     → IsResolution (resolution_with_bindings (parsed_module new tree) b)
 
--- States that the bindings of a module are also the bindings of the same tree with the tokens of another text. The
--- tokens of both texts must have the same kinds and spellings. The tree must also be the tree of the other text's
--- module.
+-- States that two texts with the same tree have the same bindings. The tree has token indexes in
+-- place of names. The tokens of both texts must have the same kinds and spellings.
 abbrev pub BindingsDependOnlyOnSpellings : Type 0
 BindingsDependOnlyOnSpellings =
     (old new : TextWithTokens) (tree : ModuleTree) (b : Bindings)

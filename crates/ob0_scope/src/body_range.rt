@@ -30,8 +30,9 @@ pub(crate) struct BodyWithClosingName<'t> {
     pub(crate) closing: usize,
 }
 
-/// The token indexes of the identifiers seen so far while a body is walked: the first identifier
-/// (None if there is none yet) and all occurrences of names (identifiers with the role `LookedUpName`).
+/// The token indexes of identifiers seen so far while a body is walked. `first` is the first
+/// identifier, or None if there is none yet. `uses` has all occurrences of names, which are the
+/// identifiers with the role `LookedUpName`.
 #[derive(Drop)]
 pub(crate) struct BodyNames {
     pub(crate) first: Option<usize>,
@@ -113,8 +114,9 @@ fn find_body_in_procedure<'t>(p: &'t Procedure, low: usize) -> BodyWithClosingNa
     find_body_in_block(&p.block, p.closing, low)
 }
 
-/// Returns the old token index of the closing name that follows the replaced statements, given its
-/// index in the changed text. A result over 2^64 - 1 becomes 2^64 - 1.
+/// Returns the old token index of the closing name that follows the replaced statements. `closing`
+/// is the closing name's index in the changed text. `same` says which tokens at the start and at
+/// the end of the text are unchanged. A result over 2^64 - 1 becomes 2^64 - 1.
 pub(crate) fn old_closing_token(same: CommonPrefixAndSuffix, closing: usize) -> usize
     ensures { result ≡ old_closing_token same closing }
 {
@@ -167,9 +169,8 @@ impl BodyRange {
         Ok(())
     }
 
-    /// Returns the token indexes in the changed text for the list `tokens`, which has token indexes
-    /// in the old text. The tokens of the old body are replaced by `own`, the tokens of the new
-    /// body.
+    /// Converts the list `tokens` of token indexes of the old text to indexes in the changed text.
+    /// The tokens of the old body are replaced by `own`, the tokens of the new body.
     pub(crate) fn tokens_in_changed_text(
         self,
         alloc: Global,
@@ -185,8 +186,8 @@ impl BodyRange {
         Ok(all)
     }
 
-    /// Returns the table `old`, which has the ordinals of the old module by token index, with each
-    /// entry moved to its token's new index. The entries of the new body are None.
+    /// Converts the old module's table of ordinals, `old`, to a table for the changed text: each
+    /// entry moves to its token's new index. The entries of the new body are None.
     pub(crate) fn ordinals_in_changed_text(
         self,
         alloc: Global,

@@ -55,9 +55,9 @@ pub fn rebind_changed_body(
 }
 
 /// Returns the bindings of a module after the statements of one body were replaced. `old` has the
-/// bindings before the replacement. `same` gives the unchanged tokens at the start and at the end
-/// of the text. Only the names in the new body are bound again. If the new body has no identifiers,
-/// all names of the module are bound again.
+/// bindings before the replacement. `same` says which tokens at the start and at the end of the
+/// text are unchanged. Only the names in the new body are bound again. If the new body has no
+/// identifiers, all names of the module are bound again.
 pub fn rebind_replaced_body(
     alloc: Global,
     read: &Module<'_>,
@@ -86,7 +86,7 @@ pub fn rebind_replaced_body(
 
 /// Returns the bindings of a module after the statements of one body were replaced. `old` has the
 /// bindings before the replacement. `range` is the token range of the new statements, and `own` has
-/// their occurrences. Only the names in the new statements are bound again.
+/// the tokens of the names that are looked up in them. Only these names are bound again.
 fn rebind_body_range(
     alloc: Global,
     read: &Module<'_>,

@@ -1,9 +1,9 @@
 //! Finds the name at an offset of a module's text, and the tokens that are bound to a declaration.
 //!
-//! In the definitions, each identifier of the tree has a role, a token, and a label: the ordinal to
-//! which the identifier is bound, or else its spelling. The definitions don't use a table of
-//! ordinals. The code doesn't walk the tree. It reads the tokens that are bound to a declaration
-//! from the table of ordinals, starting at the declaring token.
+//! In the definitions, each identifier of the tree has a role, a token and a label. The label is
+//! the ordinal to which the identifier is bound, or else its spelling. The definitions don't use a
+//! table of ordinals. The code doesn't walk the tree. It reads the tokens that are bound to a
+//! declaration from the table of ordinals, starting at the declaring token.
 
 ghost use Rattle.std.specs.Prelude.{◌≡◌, ◌≤◌, IfOk, false, length, nat_lt, true};
 ghost use Rattle.std.specs.List.{position_from};
@@ -67,8 +67,8 @@ pub fn tokens_bound_to_declaration(
     )
 }
 
-/// Returns the token to omit from the tokens bound to a declaration. This is the declaring token,
-/// or None if `include` is true, because then it is included.
+/// Returns the token to omit from the tokens bound to a declaration. This is the token `declaring`.
+/// If `include` is true, no token is omitted, and the result is None.
 fn omitted_token(include: bool, declaring: Option<usize>) -> Option<usize>
     ensures { result ≡ omitted_token include declaring }
 {

@@ -1,6 +1,6 @@
 //! Finds the duplicate declarations and wrong closing names of a module. A declaration is a
 //! duplicate if an earlier name in its block has the same spelling. A field is a duplicate if an
-//! earlier field of its record does.
+//! earlier field of its record has the same spelling.
 //!
 //! `DeclarationFaultCollector` has the faults found so far, and each check appends more faults. If
 //! a block or record has at most 16 names, each name is compared with all names before it. If there
@@ -134,7 +134,7 @@ fn append_field_names(out: &mut Vec<usize>, group: &OptionalFieldGroup) -> Resul
     }
 }
 
-/// Appends the tokens of the names that a CONST section declares.
+/// Appends to `out` the tokens of the names that a CONST section declares.
 fn append_constant_names(
     out: &mut Vec<usize>,
     section: &Option<Vec<ConstantDeclaration>>,
@@ -150,7 +150,7 @@ fn append_constant_names(
     Ok(())
 }
 
-/// Appends the tokens of the names that a TYPE section declares.
+/// Appends to `out` the tokens of the names that a TYPE section declares.
 fn append_type_names(
     out: &mut Vec<usize>,
     section: &Option<Vec<TypeDeclaration>>,
@@ -166,7 +166,7 @@ fn append_type_names(
     Ok(())
 }
 
-/// Appends the tokens of the names that a VAR section declares.
+/// Appends to `out` the tokens of the names that a VAR section declares.
 fn append_variable_names(
     out: &mut Vec<usize>,
     section: &Option<Vec<VariableDeclaration>>,
@@ -182,7 +182,7 @@ fn append_variable_names(
     Ok(())
 }
 
-/// Appends the tokens of the names of formal parameters.
+/// Appends to `out` the tokens of the names of formal parameters.
 pub(crate) fn append_formal_parameter_names(
     out: &mut Vec<usize>,
     formals: &Option<Vec<ParameterSection>>,
@@ -421,8 +421,9 @@ impl DeclarationFaultCollector {
         Ok(())
     }
 
-    /// Reports the wrong closing name of a procedure, and the duplicate fields in its parameters'
-    /// types. Then reports all such faults in the procedure's block (`check_block`).
+    /// Reports a procedure's closing name if it differs from the procedure's name. Then reports the
+    /// duplicate fields in the types of the parameters, and the faults in the procedure's block
+    /// (`check_block`).
     #[cycle(blocks)]
     fn check_procedure(&mut self, tokens: &Tokens, p: &Procedure) -> Result<(), AllocError>
         ensures { OnOk result (self.new

@@ -1,10 +1,10 @@
 //! Finds the first conflict that arises if a declaration is renamed to a given new name.
 //!
 //! If no token of the text has the new name, and the declaration isn't predeclared, the name is
-//! free and no walk is needed. Otherwise two walks are needed. The first walk searches the block of
-//! the declaration for another declaration with that name, and examines each name once. The second
-//! walk finds the first occurrence that would be bound to another declaration. This walk takes O(n
-//! log n) time for n names.
+//! free and the module isn't walked. Otherwise the module is walked at most twice. The first walk
+//! searches the block of the declaration for another declaration with the new name, and examines
+//! each declared name once. If it finds none, the second walk finds the first occurrence that would
+//! be bound to another declaration. The second walk takes O(n log n) time for n names.
 
 ghost use Rattle.std.specs.Prelude.{◌≡◌, ◌↔◌, IfOk, None, not, option_map, true};
 ghost use Rattle.std.specs.List.{position_from};
@@ -126,9 +126,9 @@ fn have_same_binding(a: Option<usize>, b: Option<usize>) -> bool
     }
 }
 
-/// Returns the ordinal of another declaration with the name `new` in the block that declares
-/// `declaration`. If there are several such declarations, returns the ordinal of the last. Returns
-/// None if there is no such declaration.
+/// Returns the ordinal of another declaration with the name `new` in the block of the declaration
+/// with the ordinal `declaration`. If there are several such declarations, returns the ordinal of
+/// the last. Returns None if there is no such declaration.
 fn namesake_ordinal(
     alloc: Global,
     names: &Resolved,
@@ -147,8 +147,8 @@ fn namesake_ordinal(
     sought.find_namesake_in_block(alloc, Vec::new(alloc), names.module().block())
 }
 
-/// A search for another declaration with a given name: the text, the ordinal to which each token is
-/// bound, the declaration whose block is searched, and the name (`new`).
+/// A search for another declaration with the name `new`, in the block of the declaration with the
+/// ordinal `declaration`. `ordinals` has the ordinal to which each token is bound.
 #[derive(Drop)]
 struct NamesakeSearch<'t> {
     tokens: &'t Tokens,

@@ -1,6 +1,7 @@
--- Defines the walk over a module's identifiers that goes only to the body that contains a token. In each
--- block around the body, the walk visits the constants, types and variables. The procedures that come
--- before the body only get visible names. The walk ends with the body's statements.
+-- Defines the walk over a module's identifiers that goes only to the body (the statements of a
+-- block) that contains a token. In each block around the body, the walk visits the constants, types
+-- and variables. It doesn't visit the procedures before the body, but makes their names visible.
+-- The walk ends with the body's statements.
 -- Rule: none; used in contracts of the walk over identifiers.
 use Rattle.std.specs.Prelude.{ℕ, ◌+◌, nat_lt, List, [], ◌∷◌, ◌++◌, Option, length, drop, if◌then◌else◌}
 use Rattle.ob0_tree.specs.Tree.{Tree, block, body, declares, declares_procedure, end, forms_block, forms_module, item, items, maybe, module_text, more, procedure}
@@ -67,7 +68,7 @@ module _ {M : Type 0} {put_ordinal : ℕ → Option ℕ → M → M} (all : List
 abbrev pub initial_walk_state_with_table : Spellings → List (Option ℕ) → tabling.WalkState
 initial_walk_state_with_table spellings table = state_before_module spellings table
 
--- Returns the state after the walk to the body that contains the token `low`, in which the ordinals
--- are entered into a table. `all` has the declaring tokens of the whole module, in text order.
+-- Returns the state after the walk to the body that contains the token `low`. This walk enters the
+-- ordinals into a table. `all` has the declaring tokens of the whole module, in text order.
 abbrev pub renumber_body_in_module : List ℕ → ℕ → Tree ℕ module_text → tabling.WalkState → tabling.WalkState
 renumber_body_in_module all low (forms_module x b closing) v = renumber_block all low b v

@@ -34,6 +34,7 @@ spelling_at_token w i =
 abbrev pub original_spellings : TextWithTokens → Spellings
 original_spellings source = record { source = source; ordinals = []; declaration = None; new = [] }
 
--- returns a tree of token indexes in which each identifier has its spelling in place of its index
+-- converts a tree of token indexes: each identifier's index is replaced by the identifier's
+-- spelling, and each integer's index by the integer's value
 abbrev pub tree_with_spellings : {s : Sort} → Spellings → Tree ℕ s → Tree Name s
 tree_with_spellings w t = mapped_tree (spelling_at_token w) (token_value_at w.source) t

@@ -1,7 +1,8 @@
--- Defines the walk over a module's identifiers in text order, by the state after each part of the
--- module. The walk gives each identifier the ordinal of its declaration, which is the declaration's
--- number in text order. The function `put_ordinal` says how the ordinals are collected. It is a
--- parameter of the state's type (`WalkState`), so it needn't be an argument of the functions below.
+-- Defines the walk over a module's identifiers in text order. Each visiting function returns the
+-- state after a part of the module, given the state before that part. The walk gives each
+-- identifier the ordinal of its declaration, which is the declaration's number in text order. The
+-- function `put_ordinal` says how the ordinals are collected. This function is a parameter of the
+-- state's type (`WalkState`), so it needn't be an argument of the functions below.
 -- Rule: none; used in contracts of the walk over identifiers.
 use Rattle.std.specs.Prelude.{ℕ, ◌+◌, ◌-◌, List, [], ◌∷◌, ◌++◌, Option, Some, None, map, length, drop}
 use Rattle.ob0_tree.specs.declared.tree.Role.{Role}
@@ -100,7 +101,7 @@ module _ {M : Type 0} {put_ordinal : ℕ → Option ℕ → M → M} where
   abbrev pub visit_identifiers : List (Role × ℕ) → WalkState put_ordinal → WalkState put_ordinal
   visit_identifiers xs v = state_after_identifiers visit_identifier xs v
 
-  -- visits a part that declares nothing
+  -- visits the identifiers of a tree that declares nothing: an expression, a type or statements
   abbrev pub visit_nondeclaring_tree : {s : Sort} → Tree ℕ s → WalkState put_ordinal → WalkState put_ordinal
   visit_nondeclaring_tree t v = state_after_visit visit_identifier t v
 

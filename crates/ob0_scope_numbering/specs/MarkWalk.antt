@@ -1,5 +1,6 @@
 -- Defines the walk over a module's identifiers in text order that collects their ordinals in a list
--- of marks. The order of the visits is defined in `IdentifierWalk`.
+-- of marks. A mark is a token with its ordinal. The order of the visits is defined in
+-- `IdentifierWalk`.
 -- Rule: none; used in contracts of the walk over identifiers.
 use Rattle.std.specs.Prelude.{ℕ, List, [], ◌∷◌, ◌++◌, Option}
 use Rattle.ob0_scope_numbering.specs.OrdinalMarks.{OrdinalMark}

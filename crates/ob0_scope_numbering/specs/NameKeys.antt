@@ -29,6 +29,6 @@ NameKey = ℕ × Bor Name
 abbrev pub compare_keys : NameKey → NameKey → Ordering
 compare_keys a b = ordering_then (nat_cmp a.0 b.0) (slice_cmp nat_cmp a.1.now b.1.now)
 
--- compares a name with a key by their numbers, and by their names if the numbers are equal
+-- compares the key that the name `x` would have with the key `key`, as `compare_keys` does
 abbrev pub compare_name_with_key : Name → NameKey → Ordering
 compare_name_with_key x key = ordering_then (nat_cmp (number_from_last_bytes x) key.0) (slice_cmp nat_cmp x key.1.now)

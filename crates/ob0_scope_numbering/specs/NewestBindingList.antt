@@ -18,8 +18,8 @@ abbrev pub position_of_name : List NameEntry → Name → Option ℕ
 position_of_name [] x = None
 position_of_name (e ∷ es) x = if same_name x e.name.now then Some 0 else option_map suc (position_of_name es x)
 
--- states that after a change the newest binding of the name `x` has the index `newest` (None: no
--- binding), and that all other names keep their newest bindings
+-- States that after a change the newest binding of the name `x` has the index `newest`. If `newest`
+-- is None, `x` has no binding. All other names keep their newest bindings.
 abbrev pub SetsNewestBinding : List NameEntry → List NameEntry → Name → Option ℕ → Type 0
 SetsNewestBinding before after x newest =
     (y : Name) → newest_binding_in after y ≡ (if same_name x y then newest else newest_binding_in before y)

@@ -4,8 +4,8 @@
 -- Rule: none; used in contracts of the walk over identifiers.
 use Rattle.std.specs.Prelude.{ℕ, List, [], ◌∷◌, Option, Some, slice_set}
 
--- the token of an identifier, with the ordinal of the identifier's declaration, or None if there is
--- none
+-- the token of an identifier, with the ordinal of the identifier's declaration; the ordinal is None
+-- if the identifier isn't bound to a declaration
 pub record OrdinalMark : Type 0 where
   pub token : ℕ
   pub ordinal : Option ℕ

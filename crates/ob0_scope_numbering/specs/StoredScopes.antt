@@ -18,14 +18,15 @@ abbrev pub newest_binding_index : Name → List Binding → Option ℕ
 newest_binding_index x [] = None
 newest_binding_index x (b ∷ bs) = if same_name x b.name.now then Some (length bs) else newest_binding_index x bs
 
--- States that each binding has the index, counted from the oldest one, of the binding that it
--- hides, or None if it hides none. The bindings are given newest first.
+-- States that each binding's `hidden_binding_index` is the index of the binding that it hides, or
+-- None if it hides none. The bindings are given newest first, but their indexes count from the
+-- oldest binding.
 abbrev pub HiddenBindingIndexesAreCorrect : List Binding → Type 0
 HiddenBindingIndexesAreCorrect [] = Unit {0}
 HiddenBindingIndexesAreCorrect (b ∷ bs) = (b.hidden_binding_index ≡ newest_binding_index b.name.now bs) × HiddenBindingIndexesAreCorrect bs
 
--- States that the list `newest` has the index of each name's newest binding. Also, each binding has
--- the index of the binding that it hides. The bindings are given oldest first.
+-- States that the list `newest` has the index of each name's newest binding. Each binding must also
+-- have the index of the binding that it hides. The bindings are given oldest first.
 pub record HasCorrectBindingIndexes (newest : List NameEntry) (bindings : List Binding) : Type 0 where
   pub found : (x : Name) → newest_binding_in newest x ≡ newest_binding_index x (reverse bindings)
   pub hidden_binding_index : HiddenBindingIndexesAreCorrect (reverse bindings)

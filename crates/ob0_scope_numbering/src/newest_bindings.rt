@@ -1,9 +1,10 @@
 //! Finds the newest binding of each name.
 //!
-//! A list has each name that was ever bound, with the index of its newest binding. A map has the
-//! position of each name in this list. A name keeps its position. So hiding or removing a binding
-//! changes only the list and allocates nothing. A binding has the position of its name, so the name
-//! isn't read when the binding is removed.
+//! The list `entries` has each name that was ever bound, with the index of the name's newest
+//! binding. The map `name_positions` has the position of each name in this list. A name keeps its
+//! position even if it has no binding any more. So hiding or removing a binding of a known name
+//! changes only an entry of the list and allocates nothing. A binding has the position of its name,
+//! so the name isn't read when the binding is removed.
 //!
 //! A key of the map is a name preceded by a number made of the name's last eight bytes. Nearly all
 //! comparisons of keys are between two numbers. If the numbers are equal, the names are compared,
@@ -81,9 +82,9 @@ fn name_fingerprint(name: &str) -> u64 {
     ends << 16 | u64::from(bytes[len - 2]) << 8 | u64::from(bytes[len - 3])
 }
 
-/// Returns the index of a name in the table of recent names: the ten highest bits of the product of
-/// the name's fingerprint (`name_fingerprint`) and a large constant. These bits depend on all bits
-/// of the fingerprint.
+/// Returns the index of a name in the table of recent names. The index is the ten highest bits of
+/// the name's fingerprint (`name_fingerprint`) times a large constant. These bits depend on all
+/// bits of the fingerprint.
 fn recent_name_table_index(name: &str) -> usize {
     (name_fingerprint(name).wrapping_mul(0x9E37_79B9_7F4A_7C15) >> 54) as usize
 }

@@ -1,5 +1,6 @@
 //! Visits the declarations of a module in text order, and assigns to each identifier the ordinal of
-//! its declaration: the declaration's number in text order, after the predeclared names.
+//! its declaration. An ordinal is a declaration's number in text order, after the predeclared
+//! names.
 //!
 //! Expressions, types and statements declare nothing. The walk of `ob0_tree` visits them, with
 //! `NumberingWalk` as its `Visitor`. The contract of each function is an equation between whole
@@ -169,9 +170,9 @@ fn visit_module<'t>(
     Ok(numbering)
 }
 
-/// Numbers the names in the body that contains the token `low` again, and returns the changed
-/// table. `table` has the ordinals of all other identifiers. `all` has the declaring tokens of the
-/// whole module, in text order.
+/// Looks up the names in one body again, and returns the table of ordinals with the results. A body
+/// is the statements of a block; this one contains the token `low`. `table` has the ordinals of all
+/// other identifiers. `all` has the declaring tokens of the whole module, in text order.
 pub fn renumber_body(
     alloc: Global,
     read: &Module<'_>,
@@ -518,9 +519,9 @@ impl<'t> NumberingWalk<'t> {
         self.make_name_visible(token, ordinal_at_index(next))
     }
 
-    /// Visits a procedure again, on the way to the body that contains the token `low`: its name,
-    /// its parameters, and the parts of its block that `renumber_block` visits. `all` has the
-    /// declaring tokens of the whole module, in text order.
+    /// Visits a procedure again, on the way to the body that contains the token `low`. Visits the
+    /// procedure's name, its parameters, and the parts of its block that `renumber_block` visits.
+    /// `all` has the declaring tokens of the whole module, in text order.
     #[cycle(blocks_again)]
     fn renumber_procedure(
         &mut self,

@@ -1,5 +1,5 @@
-//! Defines a scope: the names that are visible at a point of a module's text, with the ordinals of
-//! the declarations to which they are bound.
+//! Defines a scope: the names that are visible at a point of a module's text, each with the ordinal
+//! of its declaration.
 
 ghost use Rattle.std.specs.Prelude.{◌≡◌, [], ◌∷◌, OnErr, OnOk, IfOk, length, drop, ◌-◌};
 ghost use Rattle.ob0_scope_numbering.specs.StoredScopes.{with_scope};

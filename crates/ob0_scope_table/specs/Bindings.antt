@@ -1,4 +1,4 @@
--- Joins a module to the bindings of its names.
+-- Defines how a parsed module and the bindings of its names are joined to a resolved module.
 -- Rule: docs/LANGUAGE.md, Scopes 2 to 4.
 use Rattle.ob0_tree.specs.ParsedModule.{ParsedModule}
 use Rattle.ob0_scope_table.specs.Resolution.{Resolution}

@@ -11,15 +11,15 @@ use Rattle.ob0_tree.specs.ParsedModule.{TreeMatchesText, ParsedModule, tree_of}
 use Rattle.ob0_tree.specs.Tree.{Tree, block, body, declares, declares_procedure, end, forms_block, forms_module, item, items, mapped_tree, maybe, module_text, more, none, procedure}
 use Rattle.ob0_scope_table.specs.SpellingChangesInOneBody.{closing_name, is_range_in_one_body, is_outside_range}
 
--- A path to a body in the tree. It lists, from the outermost block inwards, the procedure to enter
--- in each block, counted from 0. The path leads to the body of the procedure that is entered last. An
--- empty path leads to the body of the block in which the path starts.
+-- A path to a body in the tree. It is a list of numbers: for each block, from the outermost
+-- inwards, the number of the procedure to enter, counted from 0. The path leads to the body of the
+-- procedure that is entered last. An empty path leads to the body of the block in which the path
+-- starts.
 abbrev pub PathToBody : Type 0
 PathToBody = List ℕ
 
 -- Returns the path to the same body after a procedure is inserted before all procedures of the
--- block in which the path starts. So the first number of the path, if there is one, is increased by
--- 1.
+-- block in which the path starts. This increases the path's first number, if there is one, by 1.
 abbrev pub path_after_inserting_first_procedure : PathToBody → PathToBody
 path_after_inserting_first_procedure [] = []
 path_after_inserting_first_procedure (k ∷ path) = suc k ∷ path
@@ -31,15 +31,16 @@ abbrev mutual
   path_to_body_in_block low (forms_block (declares cs ts vs ps) statements) = path_to_body_in_procedure_list low ps
 
   -- Returns the path into the first procedure whose closing name is at or after the token `low`. If
-  -- there is no such procedure, the path is empty: it leads to the statements of the procedures' own
-  -- block.
+  -- there is no such procedure, the path is empty and leads to the statements of the block that has
+  -- these procedures.
   pub path_to_body_in_procedure_list : ℕ → Tree ℕ (items procedure) → PathToBody
   path_to_body_in_procedure_list low end = []
   path_to_body_in_procedure_list low (more p ps) =
       if nat_lt (closing_name p) low then path_after_inserting_first_procedure (path_to_body_in_procedure_list low ps)
       else zero ∷ path_to_body_in_procedure low p
 
-  -- returns the path from a procedure to the body that contains the token `low`, if a body contains it
+  -- returns the path from a procedure to the body that contains the token `low`, if a body contains
+  -- it
   pub path_to_body_in_procedure : ℕ → Tree ℕ (item procedure) → PathToBody
   path_to_body_in_procedure low (declares_procedure x fs b closing) = path_to_body_in_block low b
 
@@ -55,8 +56,8 @@ abbrev mutual
   block_without_body (k ∷ path) (forms_block (declares cs ts vs ps) statements) =
       forms_block (declares cs ts vs (procedure_list_without_body k path ps)) statements
 
-  -- Returns these procedures, with one change: procedure `k`, counted from 0, loses the statements to
-  -- which the path leads from that procedure. Changes nothing if there is no procedure `k`.
+  -- Returns a list of procedures without the statements to which a path leads from procedure `k`,
+  -- counted from 0. Returns the list unchanged if there is no procedure `k`.
   pub procedure_list_without_body : {N : Type 0}
       → ℕ
       → PathToBody
@@ -82,8 +83,8 @@ abbrev mutual
   body_at_path_in_block [] (forms_block ds statements) = statements
   body_at_path_in_block (k ∷ path) (forms_block (declares cs ts vs ps) statements) = body_at_path_in_procedure_list k path ps
 
-  -- Returns the statements to which a path leads from procedure `k`, counted from 0. Returns `none`
-  -- if there is no such procedure.
+  -- Returns the statements to which a path leads from procedure `k` of a list, counted from 0.
+  -- Returns `none` if there is no such procedure.
   pub body_at_path_in_procedure_list : {N : Type 0} → ℕ → PathToBody → Tree N (items procedure) → Tree N (maybe body)
   body_at_path_in_procedure_list k path end = none
   body_at_path_in_procedure_list zero path (more p ps) = body_at_path_in_procedure path p
@@ -99,15 +100,15 @@ body_at_path path (forms_module x b closing) = body_at_path_in_block path b
 
 -- Returns the closing name of the block to which a path leads.
 abbrev mutual
-  -- Returns the closing name of the block to which a path leads from a block. The closing name of
-  -- the block itself is `own`.
+  -- Returns the closing name of the block to which a path leads from the block `b`. `own` is the
+  -- closing name of `b` itself.
   pub closing_name_at_path_in_block : {N : Type 0} → PathToBody → N → Tree N block → N
   closing_name_at_path_in_block [] own b = own
   closing_name_at_path_in_block (k ∷ path) own (forms_block (declares cs ts vs ps) statements) =
       closing_name_at_path_in_procedure_list k path own ps
 
-  -- Returns the closing name of the block to which a path leads from procedure `k`, counted from 0.
-  -- Returns `own` if there is no such procedure.
+  -- Returns the closing name of the block to which a path leads from procedure `k` of a list,
+  -- counted from 0. Returns `own` if there is no such procedure.
   pub closing_name_at_path_in_procedure_list : {N : Type 0} → ℕ → PathToBody → N → Tree N (items procedure) → N
   closing_name_at_path_in_procedure_list k path own end = own
   closing_name_at_path_in_procedure_list zero path own (more p ps) = closing_name_at_path_in_procedure path p
@@ -126,11 +127,12 @@ closing_name_at_path path (forms_module x b closing) = closing_name_at_path_in_b
 abbrev pub shifted_token_index : CommonPrefixAndSuffix → ℕ → ℕ
 shifted_token_index s i = if nat_lt i s.prefix then i else s.new_suffix + (i - s.old_suffix)
 
--- States that two modules are the same except for the statements of one body, to which `path` leads.
--- In these statements, the tokens `s.prefix..s.new_suffix` of the module `new` replace the tokens
--- `s.prefix..s.old_suffix` of the module `old`. All other tokens have the same spellings. The tokens
--- after the replaced ones may have other indexes. In both modules, the body's first identifier is
--- before the replaced tokens, and the closing name of its block is after them.
+-- States that two modules are the same except for the statements of one body, to which `path`
+-- leads. In these statements, the tokens `s.prefix..s.new_suffix` of the module `new` replace the
+-- tokens `s.prefix..s.old_suffix` of the module `old`. All other tokens have the same spellings in
+-- both modules. The tokens after the replaced ones may have different indexes. In both modules, the
+-- body's first identifier is before the replaced tokens, and the closing name of its block is after
+-- them.
 pub record ReplacesStatementsOfOneBody (old new : ParsedModule) (path : PathToBody) (s : CommonPrefixAndSuffix) : Type 0 where
   pub old_range : s.prefix ≤ s.old_suffix
   pub new_range : s.prefix ≤ s.new_suffix

@@ -9,8 +9,8 @@ use Rattle.ob0_scope_table.specs.BodyReplacement.{body_at_path, body_at_path_in_
 use Rattle.ob0_scope_table.specs.SpellingChangesInOneBody.{is_range_in_body_of_block, is_range_in_one_body, is_range_in_body_of_procedure}
 use Rattle.ob0_scope_table.specs.declared.one_body.BodyBounds.{BodyBounds}
 
--- returns the specification's `Tree` for the program's `ModuleTree`, with token indexes in place of
--- names
+-- Returns the specification's `Tree` for the code's `ModuleTree`. It has token indexes in place of
+-- names and numbers.
 abbrev pub module_tree_of : ModuleTree → Tree ℕ module_text
 module_tree_of t = forms_module t.name (block_of t.block) t.closing
 

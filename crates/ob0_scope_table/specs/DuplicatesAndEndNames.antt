@@ -1,6 +1,6 @@
--- Defines the faults of duplicate declarations (including fields) and wrong closing names, in the order
--- in which they are reported. The trees have token indexes in place of names. The argument `spelling`
--- gives the spelling of each token.
+-- Defines the faults of duplicate declarations (including fields) and wrong closing names, in the
+-- order in which they are reported. The trees have token indexes in place of names. The argument
+-- `spelling` returns the spelling of the token with a given index.
 -- Rule: docs/LANGUAGE.md, Faults of scopes and types, `Duplicate`, `EndName`.
 use Rattle.std.specs.Prelude.{ℕ, Bool, not, List, [], ◌∷◌, ◌++◌, if◌then◌else◌}
 use Rattle.ob0_scan.specs.declared.fault.FaultCode.TheVariants as code
@@ -27,7 +27,7 @@ duplicate_faults spelling before (x ∷ xs) =
 
 -- Returns a list with only the fault `EndName` if a closing name is wrong, otherwise an empty list.
 -- The closing name of a module or procedure (at the token `closing`) is wrong if it differs from
--- its name (at the token `x`).
+-- the name (at the token `x`).
 abbrev pub closing_name_faults : (ℕ → Name) → ℕ → ℕ → List FaultAtTokens
 closing_name_faults spelling x closing =
     fault_unless (same_name (spelling x) (spelling closing)) (fault_at_token code.EndName closing)
@@ -35,8 +35,8 @@ closing_name_faults spelling x closing =
 -- Returns the faults of duplicate fields in a written type. The faults of an outer record come
 -- before the faults of the records inside it.
 abbrev mutual
-  -- returns the faults of duplicate fields in a written type: of an outer record first, then of the
-  -- records inside it
+  -- Returns the faults of duplicate fields in a written type. The faults of an outer record come
+  -- first, then the faults of the records inside it.
   pub duplicate_field_faults : (ℕ → Name) → Tree ℕ written_type → List FaultAtTokens
   duplicate_field_faults spelling (named_type x) = []
   duplicate_field_faults spelling (array_type e t) = duplicate_field_faults spelling t
@@ -71,12 +71,13 @@ duplicate_field_faults_in_formals spelling end = []
 duplicate_field_faults_in_formals spelling (more (semicolon_then_section s) fs) =
     duplicate_field_faults spelling (parameter_section_type s) ++ duplicate_field_faults_in_formals spelling fs
 
--- Returns the faults of duplicate declarations and wrong closing names in a block, in procedures, or in
--- one procedure.
+-- Returns the faults of duplicate declarations and wrong closing names in a block, in procedures,
+-- or in one procedure.
 abbrev mutual
-  -- Returns the faults of a block: first of duplicate names in the block, then of duplicate fields in its
-  -- types and variables, then of its procedures. In a procedure's block, `own` has the tokens of the
-  -- names of the procedure's parameters, which count as declared in the block.
+  -- Returns the faults of a block: first of duplicate names in the block, then of duplicate fields
+  -- in its types and variables, then of its procedures. In a procedure's block, `own` has the
+  -- tokens of the names of the procedure's parameters, which count as declared in the block. In a
+  -- module's block, `own` is empty.
   pub block_declaration_faults : (ℕ → Name) → List ℕ → Tree ℕ block → List FaultAtTokens
   block_declaration_faults spelling own (forms_block (declares cs ts vs ps) statements) =
       duplicate_faults spelling [] (own ++ names_declared_in_block (forms_block (declares cs ts vs ps) statements))
@@ -102,6 +103,7 @@ abbrev pub tree_declaration_faults : (ℕ → Name) → Tree ℕ module_text →
 tree_declaration_faults spelling (forms_module x b closing) =
     closing_name_faults spelling x closing ++ block_declaration_faults spelling [] b
 
--- returns the faults of all duplicate declarations (including fields) and wrong closing names in a module
+-- returns the faults of all duplicate declarations (including fields) and wrong closing names in a
+-- module
 abbrev pub declaration_faults : ParsedModule → List FaultAtTokens
 declaration_faults m = tree_declaration_faults (token_text_at m.source) (tree_of m)

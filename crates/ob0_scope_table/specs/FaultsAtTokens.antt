@@ -11,8 +11,8 @@ use Rattle.ob0_scope_table.specs.declared.faults.FaultAtTokens.{FaultAtTokens}
 abbrev pub fault_at_token : FaultCode → ℕ → FaultAtTokens
 fault_at_token c token = record { code = c; first = token; last = token }
 
--- Returns the index of a token in a text with `count` tokens. A token that doesn't exist counts as
--- the last token. Returns 0 if the text has no tokens.
+-- Returns the index `token`, or the index of the last token if there is no token with the index
+-- `token`. The text has `count` tokens. Returns 0 if the text has no tokens.
 abbrev pub clamped_token_index : ℕ → ℕ → ℕ
 clamped_token_index count token = min token (count - 1)
 

@@ -7,8 +7,8 @@ use Rattle.std.specs.Prelude.{ℕ, zero, suc, min, Option, Some, None, option_ma
 abbrev pub max_entry_ordinal : ℕ
 max_entry_ordinal = 4294967294
 
--- Returns an optional ordinal as an entry stores it. An ordinal above the greatest one that an entry can
--- have (`max_entry_ordinal`) is stored as the greatest one.
+-- Returns an optional ordinal as an entry stores it. An ordinal above `max_entry_ordinal` is stored
+-- as `max_entry_ordinal`.
 abbrev pub stored_ordinal : Option ℕ → Option ℕ
 stored_ordinal ordinal = option_map (λ n. min n max_entry_ordinal) ordinal
 

@@ -1,6 +1,6 @@
--- Defines a resolved module: a module with the declaration to which each name is bound, and the faults of
--- names. An ordinal is a declaration's number: 0 to 6 for the predeclared names, then 7 upwards for the
--- text's declarations in text order.
+-- Defines a resolved module: a module with the declaration to which each name is bound, and with
+-- the faults of its names. An ordinal is a declaration's number: 0 to 6 for the predeclared names,
+-- then 7 upwards for the text's declarations in text order.
 -- Rule: docs/LANGUAGE.md, Scopes, Faults of scopes and types, `Undeclared`.
 use Rattle.std.specs.Prelude.{◌≡◌, ℕ, ◌-◌, nat_lt, Bool, true, false, not, ◌==◌, List, [], ◌∷◌, ◌++◌, Option, None, slice_get, slice_index_or, if◌then◌else◌, is_some}
 use Rattle.std.specs.List.{filter, list_any}
@@ -42,16 +42,16 @@ declaring_names ((role.ClosingName, n) ∷ xs) = declaring_names xs
 declaring_names ((role.FieldName, n) ∷ xs) = declaring_names xs
 declaring_names ((role.ModuleName, n) ∷ xs) = declaring_names xs
 
--- Returns the token at which the name with the ordinal `ordinal` is declared, given the tokens of all
--- declaring names in text order. Returns None for a predeclared name, and if no declaration has this
--- ordinal.
+-- Returns the token at which the name with the ordinal `ordinal` is declared, given the tokens of
+-- all declaring names in text order. Returns None for a predeclared name, and if no declaration has
+-- this ordinal.
 abbrev pub declaration_token : List ℕ → ℕ → Option ℕ
 declaration_token declaration_tokens ordinal =
     if nat_lt ordinal predeclared_count
     then None
     else slice_get declaration_tokens (ordinal - predeclared_count)
 
--- returns whether a label is the label of an unbound name: a spelling instead of an ordinal
+-- Returns whether a label is the label of an unbound name: a spelling instead of an ordinal.
 abbrev pub is_unbound : Label → Bool
 is_unbound (declared k) = false
 is_unbound (as_written x) = true
@@ -70,18 +70,18 @@ is_undeclared_fault fault = elim (fault.code) [ code.Undeclared ↦ true | _ ↦
 abbrev pub token_span : TextWithTokens → ℕ → Span
 token_span source token = spans.token_span source token
 
--- Returns a fault `Undeclared` for each looked-up name that has no ordinal in the table `ordinals`. The
--- looked-up names are given by their tokens.
+-- Returns a fault `Undeclared` for each looked-up name that has no ordinal in the table `ordinals`.
+-- The looked-up names are given by their tokens.
 abbrev pub undeclared_faults_from_table : List (Option ℕ) → List ℕ → List FaultAtTokens
 undeclared_faults_from_table ordinals [] = []
 undeclared_faults_from_table ordinals (token ∷ tokens) =
     if is_some (ordinal_in ordinals token) then undeclared_faults_from_table ordinals tokens
     else fault_at_token code.Undeclared token ∷ undeclared_faults_from_table ordinals tokens
 
--- A module with its resolved names. `ordinals` has an entry for each token: the ordinal (the number)
--- of the identifier's declaration, or None. `declaration_tokens` has the tokens of the declaring names in
--- text order. The first of these names has the ordinal `predeclared_count`. `uses` has the tokens of
--- the looked-up names in text order, and `faults` the faults of names.
+-- A module with its resolved names. `ordinals` has an entry for each token: the ordinal (the
+-- number) of the identifier's declaration, or None. `declaration_tokens` has the tokens of the
+-- declaring names in text order. The first of these names has the ordinal `predeclared_count`.
+-- `uses` has the tokens of the looked-up names in text order. `faults` has the faults of names.
 pub record Resolution : Type 0 where
   pub module_read : ParsedModule
   pub ordinals : List (Option ℕ)
@@ -90,20 +90,20 @@ pub record Resolution : Type 0 where
   pub faults : List FaultAtTokens
 
 -- States that the table of ordinals gives each identifier the label that the scope rules give it. A
--- label is the ordinal of a name's declaration, or an identifier's spelling. The tree with the labels
--- according to the table (`label_from_table`) must equal the tree with the labels according to the scope rules
--- (`numbered`).
+-- label is the ordinal of a name's declaration, or an identifier's spelling. The tree with the
+-- labels according to the table (`label_from_table`) must equal the tree with the labels according
+-- to the scope rules (`numbered`).
 abbrev pub IsNumberingTable : ParsedModule → List (Option ℕ) → Type 0
 IsNumberingTable m ordinals =
     numbered (named_tree_of m) ≡ mapped_tree (label_from_table m.source ordinals) (token_value_at m.source) (tree_of m)
 
--- returns a pair: the ordinal of a name's declaration, or None for an unbound name, and the name's
--- spelling
+-- Returns a pair: a name's optional ordinal and its spelling. The ordinal is the number of the
+-- name's declaration, or None if the name is unbound.
 abbrev pub ordinal_and_spelling : Labelling Name (Option ℕ × Name)
 ordinal_and_spelling ordinal x = (ordinal, x)
 
--- returns a pair: the ordinal to which the identifier at a token is bound, or None if it is
--- unbound, and the identifier's spelling
+-- Returns a pair of an optional ordinal and the spelling of the identifier at a token. The ordinal
+-- is the one that the table `ordinals` has for this token, or None if it has none.
 abbrev pub ordinal_and_spelling_at_token : TextWithTokens → List (Option ℕ) → ℕ → Option ℕ × Name
 ordinal_and_spelling_at_token source ordinals token = (ordinal_in ordinals token, token_text_at source token)
 
@@ -131,8 +131,8 @@ undeclared_faults m = undeclared_faults_from_labels (occurrences (tree_of m)) (b
 
 -- States that these are the faults of a module's names. Duplicate declarations and wrong closing
 -- names come first (`declaration_faults`). A fault for each undeclared name follows, in text order.
--- The list has a fault `Duplicate` or `EndName` exactly if a name is declared twice in a block or
--- record, or a closing name is wrong.
+-- The list has a fault `Duplicate` or `EndName` exactly if the module has such a fault: a name
+-- declared twice in a block or record, or a wrong closing name.
 pub record AreNameFaultsOf (m : ParsedModule) (faults : List FaultAtTokens) : Type 0 where
   pub by_kind : faults ≡ declaration_faults m ++ undeclared_faults m
   pub declared_twice : list_any is_duplicate_or_end_name_fault faults ≡ not (has_consistent_names (named_tree_of m))

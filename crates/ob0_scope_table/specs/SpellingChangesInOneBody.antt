@@ -1,5 +1,5 @@
--- Defines a change of the spellings of tokens inside one body (the statements of one block). The tokens
--- outside the changed range keep their spellings.
+-- Defines a change of the spellings of tokens inside one body (the statements of one block). The
+-- tokens outside the changed range keep their spellings.
 -- Rule: none; used in contracts about a change of spellings in one body.
 use Rattle.std.specs.Prelude.{◌≡◌, ℕ, Bool, true, false, ◌&&◌, ◌||◌, nat_le, nat_lt, List, [], ◌∷◌, if◌then◌else◌, slice_get}
 use Rattle.ob0_scan.specs.ReusedLexemes.{token_kinds_without_values, words_of_tokens}
@@ -34,11 +34,11 @@ abbrev mutual
   is_range_in_body_of_block low high (forms_block (declares cs ts vs ps) statements) =
       is_range_in_body_of_procedures_or_statements low high ps statements
 
-  -- Returns whether one body of a block contains the tokens from `low` up to, but not including,
-  -- `high`. The block has these procedures and these statements. If a procedure's closing name is
-  -- at or after `low`, the body must be in the first such procedure. Otherwise, `low` must be at or
-  -- after the first identifier of the statements. The caller checks that `high` is at or before the
-  -- closing name of the block.
+  -- Returns whether one body of a block with these procedures and statements contains the tokens
+  -- from `low` up to, but not including, `high`. If a procedure's closing name is at or after
+  -- `low`, the body must be in the first such procedure. If there is no such procedure, `low` must
+  -- be at or after the first identifier of the statements. The caller checks that `high` is at or
+  -- before the closing name of the block.
   pub is_range_in_body_of_procedures_or_statements : ℕ → ℕ → Tree ℕ (items procedure) → Tree ℕ (maybe body) → Bool
   is_range_in_body_of_procedures_or_statements low high end statements = first_identifier_is_at_or_before_token low (identifiers role.DeclaringName statements)
   is_range_in_body_of_procedures_or_statements low high (more p ps) statements =
@@ -56,10 +56,10 @@ abbrev mutual
 abbrev pub is_range_in_one_body : ℕ → ℕ → Tree ℕ module_text → Bool
 is_range_in_one_body low high (forms_module x b closing) = nat_le high closing && is_range_in_body_of_block low high b
 
--- States that the text of the module `m` differs from the text `old` only in the spellings of tokens
--- in one body. The tokens of both texts have the same kinds, one by one. The tokens from `low` up
--- to, but not including, `high` are inside one body of `m`. All other tokens also have the same
--- spellings in both texts.
+-- States that the text of the module `m` differs from the text `old` only in the spellings of
+-- tokens in one body. The tokens of both texts have the same kinds, one by one. The tokens from
+-- `low` up to, but not including, `high` are inside one body of `m`. All other tokens also have the
+-- same spellings in both texts.
 pub record ChangesSpellingsInOneBody (old : TextWithTokens) (m : ParsedModule) (low high : ℕ) : Type 0 where
   pub old_scan : IsScan old
   pub new_scan : IsScan m.source

@@ -1,5 +1,6 @@
-//! Defines faults whose places are token indexes, and gives such faults their spans in a text. A
-//! change of only white space or comments changes no token index, so it changes no such fault.
+//! Defines faults whose places are token indexes, and gives such faults their spans in a text. If
+//! only white space or comments of a text change, all token indexes stay the same, and so do these
+//! faults.
 
 ghost use Rattle.std.specs.Prelude.{◌≡◌, IfOk, map};
 ghost use Rattle.ob0_scope_table.specs.FaultsAtTokens.{fault_at_token, fault_with_span};

@@ -1,7 +1,7 @@
 //! Finds the body (the statements of one block) that contains a range of tokens, if there is one. A
-//! range is the tokens from `low` up to, but not including, `high`. A body contains it if `low` is
-//! at or after the body's first identifier, and `high` is at or before the closing name of the
-//! body's block.
+//! range has the tokens from `low` up to, but not including, `high`. A body contains the range if
+//! two conditions hold. `low` is at or after the body's first identifier, and `high` is at or
+//! before the closing name of the body's block.
 
 ghost use Rattle.std.specs.Prelude.{◌≡◌};
 ghost use Rattle.ob0_tree.specs.ParsedModule.{tree_of};

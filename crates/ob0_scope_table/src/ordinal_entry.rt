@@ -1,4 +1,5 @@
-//! Stores an entry of a table of ordinals in 32 bits. An ordinal is a declaration's number.
+//! Defines an entry of a table of ordinals, which is stored in 32 bits. An ordinal is a
+//! declaration's number.
 
 ghost use Rattle.std.specs.Prelude.{◌≡◌};
 ghost use Rattle.ob0_scope_table.specs.OrdinalEntries.{stored_ordinal};
@@ -9,7 +10,7 @@ use std::marker::Model;
 const MAX_ENTRY_ORDINAL: usize = 4294967294;
 
 /// An optional ordinal (a declaration's number) in 32 bits: the ordinal plus 1, or 0 for None. A
-/// text has far fewer declarations than an entry has values, so entries can hold all ordinals.
+/// text has far fewer than 2^32 declarations, so an entry can hold every ordinal of a text.
 #[derive(Clone, Copy)]
 pub struct OrdinalEntry {
     number: u32,
@@ -27,8 +28,8 @@ impl Model for OrdinalEntry {
 }
 
 impl OrdinalEntry {
-    /// Returns the entry for an optional ordinal. An ordinal above the greatest one that an entry
-    /// can have is stored as the greatest one.
+    /// Returns the entry for an optional ordinal. An ordinal above `MAX_ENTRY_ORDINAL` is stored as
+    /// `MAX_ENTRY_ORDINAL`.
     pub fn new(ordinal: Option<usize>) -> OrdinalEntry
         ensures { result ≡ stored_ordinal ordinal }
     {

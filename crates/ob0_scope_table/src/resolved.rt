@@ -16,10 +16,10 @@ use std::marker::Model;
 
 /// The bindings of a module's names, as token indexes and ordinals (the numbers of declarations).
 /// `ordinals` has an entry for each token: the ordinal of the identifier's declaration, or None.
-/// `declaration_tokens` has the tokens of the declaring names, and `occurrences` the tokens of the
-/// looked-up names, both in text order. `faults` has the faults of names: duplicate declarations,
-/// wrong closing names and undeclared names. All places are token indexes, so a change of only
-/// white space or comments changes nothing here. Bindings borrow nothing.
+/// `declaration_tokens` has the tokens of the declaring names, and `occurrences` has the tokens of
+/// the looked-up names, both in text order. `faults` has the faults of names: duplicate
+/// declarations, wrong closing names and undeclared names. All places are token indexes, so the
+/// bindings stay right if only white space or comments change. Bindings borrow nothing.
 #[derive(Drop)]
 pub struct Bindings {
     pub ordinals: Vec<OrdinalEntry>,
@@ -31,7 +31,7 @@ pub struct Bindings {
 /// A module in which each name is bound to its declaration. Declarations are identified by
 /// ordinals. The predeclared names have the ordinals 0 to 6. The declarations of the text have the
 /// ordinals from 7 upwards, in text order. The invariant `IsResolution` states that all parts are
-/// correct for the text. The contract of `module` states this invariant.
+/// correct for the text. The contract of the method `module` states this invariant.
 #[derive(Drop)]
 pub struct Resolved<'t> {
     module: &'t Module<'t>,
@@ -107,9 +107,9 @@ impl<'t> Resolved<'t> {
         self.module.tokens()
     }
 
-    /// Returns the ordinal of the declaration to which the looked-up name with this number is
-    /// bound. Looked-up names are counted from 0 in text order. Returns None if the name is unbound
-    /// or there is no such name.
+    /// Returns the ordinal of the declaration to which the looked-up name with the number
+    /// `occurrence` is bound. Looked-up names are numbered from 0 in text order. Returns None if
+    /// the name is unbound or there is no such name.
     pub fn declaration_of(&self, occurrence: usize) -> Option<usize>
         ensures { result ≡ ordinal_bound_at_occurrence (named_tree_of self.now.module_read) occurrence }
     {
@@ -121,8 +121,8 @@ impl<'t> Resolved<'t> {
         }
     }
 
-    /// Returns the token index of the looked-up name with this number, counted from 0 in text
-    /// order. Returns None if there is no such name.
+    /// Returns the token index of the looked-up name with the number `occurrence`. Looked-up names
+    /// are numbered from 0 in text order. Returns None if there is no such name.
     pub fn occurrence_token(&self, occurrence: usize) -> Option<usize>
         ensures { result ≡ slice_get self.now.uses occurrence }
     {
@@ -176,8 +176,8 @@ impl<'t> Resolved<'t> {
         self.bindings().occurrences.as_slice()
     }
 
-    /// Returns the faults of names. Duplicate declarations in a block or record and wrong closing
-    /// names come first. The undeclared names follow, in text order.
+    /// Returns the faults of names. The faults for duplicate declarations in a block or record and
+    /// for wrong closing names come first. The faults for undeclared names follow, in text order.
     pub fn faults(&self) -> &[FaultAtTokens]
         ensures { result.now ≡ self.now.faults }
     {

@@ -1,5 +1,5 @@
-//! Finds a token's ordinal (the number of the declaration to which its identifier is bound) and its
-//! span, and compares its spelling with a name.
+//! Finds a token's ordinal and its span, and compares its spelling with a name. The ordinal is the
+//! number of the declaration to which the token's identifier is bound.
 
 ghost use Rattle.std.specs.Prelude.{◌≡◌};
 ghost use Rattle.ob0_tree.specs.TokenIndexLeaves.{token_text_at};
@@ -32,8 +32,8 @@ pub fn same_ordinal(found: Option<usize>, ordinal: usize) -> bool
     }
 }
 
-/// Returns the span of a token, in bytes. If there is no such token, the span is empty and at the
-/// text's start.
+/// Returns the span, in bytes, of the token with the index `token`. If there is no such token, the
+/// span is empty and at the text's start.
 pub fn token_span(tokens: &Tokens, token: usize) -> Span
     ensures { result ≡ token_span tokens.now token }
 {
@@ -43,8 +43,8 @@ pub fn token_span(tokens: &Tokens, token: usize) -> Span
     }
 }
 
-/// Returns whether a token has this name as its spelling. A token that doesn't exist has the empty
-/// spelling.
+/// Returns whether the token with the index `token` has the spelling `name`. A token that doesn't
+/// exist has the empty spelling.
 pub fn has_spelling(tokens: &Tokens, token: usize, name: &str) -> bool
     ensures { result ≡ same_name (token_text_at tokens.now token) name.now }
 {

@@ -11,8 +11,8 @@ pub record ReadStatistics : Type 0 where
 abbrev pub no_reads : ReadStatistics
 no_reads = record { count = 0; longest_buffer = 0 }
 
--- Returns the statistics `reads`, updated for one more read into a buffer of `len` bytes. `count`
--- isn't increased above 2^64 - 1.
+-- Returns the statistics `reads`, updated for one more read into a buffer of `len` bytes. The count
+-- stops at 2^64 - 1.
 abbrev pub statistics_after_read : ℕ → ReadStatistics → ReadStatistics
 statistics_after_read len reads =
     record { count = min (reads.count + 1) (2 ^ 64 - 1); longest_buffer = max reads.longest_buffer len }

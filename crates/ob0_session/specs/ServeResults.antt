@@ -1,5 +1,6 @@
 -- Defines which bytes the server has written when `serve` returns. `Serves` relates the bytes
--- written to the bytes read, for each result of `serve`.
+-- written to the bytes read, for each result of `serve`. The bytes are frames: each frame is one
+-- message, a head followed by its content.
 use Rattle.std.specs.Prelude.{◌≡◌, ◌≢◌, ◌≤◌, ◌+◌, ◌-◌, ◌^◌, ◌*◌, ◌⊎◌, ℕ, min, max, List, [], ◌++◌, Bool, true, false, Result, Ok, Err, length}
 use Rattle.std.specs.List.{flat_map}
 use Rattle.ob0_frame.specs.Frames.{frame}
@@ -11,10 +12,10 @@ use Rattle.ob0_session.specs.Devices.{ReadStatistics}
 use Rattle.ob0_session.specs.declared.serve_loop.ServeFault.{ServeFault}
 use Rattle.ob0_session.specs.declared.serve_loop.ServeFault.TheVariants.{BadHead, Truncated, Read, Write, Memory, TooManyReads}
 
--- States that the bytes `taken` are the frames of the message contents `answered`, then the frames
--- of the contents `waiting`, then the `rest`: unfinished bytes (`Open`) or a bad head (`Broken`).
--- The bytes `put` are the frames of valid answers to `answered`. After these answers, the session
--- is in the state `after`.
+-- States which message contents the server has answered. The bytes `taken` are the frames of the
+-- contents `answered`, then of the contents `waiting`, then the `rest`: unfinished bytes (`Open`)
+-- or a bad head (`Broken`). The bytes `put` are the frames of valid answers to the contents
+-- `answered`. After these answers, the session is in the state `after`.
 pub record AnswersAllButWaiting (taken : List ℕ) (waiting : List (List ℕ)) (rest : StreamRest)
     (after : ServerState) (put : List ℕ) : Type 0 where
   pub answered : List (List ℕ)
@@ -23,31 +24,32 @@ pub record AnswersAllButWaiting (taken : List ℕ) (waiting : List (List ℕ)) (
   pub conversation : IsConversation start answered sent after
   pub frames : put ≡ flat_map frame sent
 
--- States that the bytes `put` are the frames of valid answers to all message contents in the bytes
--- `taken`, and that the conversation hasn't ended. `rest` is the rest of the stream after the last
--- complete message: unfinished bytes (`Open`), or a bad head (`Broken`).
+-- States that the server has answered all message contents in the bytes `taken`, and that the
+-- conversation hasn't ended. The bytes `put` are the frames of these answers. `rest` is the rest of
+-- the stream after the last complete message: unfinished bytes (`Open`), or a bad head (`Broken`).
 pub record AnswersAllContents (taken : List ℕ) (rest : StreamRest) (put : List ℕ) : Type 0 where
   pub after : ServerState
   pub served : AnswersAllButWaiting taken [] rest after put
   pub not_ended : HasNotEnded after.phase
 
--- States that the bytes `put` are the frames of valid answers to the first message contents in the
--- bytes `taken`: none, some or all. The other contents (`waiting`) still wait.
+-- States that the server has answered a prefix of the message contents in the bytes `taken`: no
+-- contents, some or all. The bytes `put` are the frames of these answers. The other contents
+-- (`waiting`) aren't answered yet.
 pub record AnswersSomeContents (taken put : List ℕ) : Type 0 where
   pub after : ServerState
   pub waiting : List (List ℕ)
   pub rest : StreamRest
   pub served : AnswersAllButWaiting taken waiting rest after put
 
--- States that the bytes `put` are the frames of valid answers to the first message contents in the
--- bytes `taken`, and that an `exit` among these contents ended the conversation with this status.
--- Contents after the `exit` get no answer.
+-- States that an `exit` among the message contents in the bytes `taken` has ended the conversation
+-- with this status. The bytes `put` are the frames of the answers to the contents before the
+-- `exit`. Contents after the `exit` get no answer.
 abbrev pub EndsByExit : ℕ → (taken put : List ℕ) → Type 0
 EndsByExit status taken put = (s : AnswersSomeContents taken put) × (s.after.phase ≡ Ended status)
 
 -- States that the bytes `put` are the frames of valid answers to the message contents `answered`.
--- If the bytes `taken` can be split into a list of message contents, `answered` is a prefix of that
--- list. Only this is stated after a failed allocation, because the framer may then not know the
+-- If the bytes `taken` can be split into message contents, `answered` is a prefix of the list of
+-- these contents. After a failed allocation no more is stated, because the framer may not know the
 -- contents in the last bytes that were read.
 pub record AnswersPrefixOfContents (taken put : List ℕ) : Type 0 where
   pub after : ServerState
@@ -58,8 +60,8 @@ pub record AnswersPrefixOfContents (taken put : List ℕ) : Type 0 where
   pub conversation : IsConversation start answered sent after
   pub frames : put ≡ flat_map frame sent
 
--- States that neither the reader (`r`) nor the writer (`w`) has failed, and that the fact `flushed`
--- holds.
+-- States that neither the reader (`r`) nor the writer (`w`) has failed, and that the condition
+-- `flushed` holds.
 abbrev pub NoDeviceFailedAndFlushed : (reader_failed writer_failed : Bool) (flushed : Type 0) → Type 0
 NoDeviceFailedAndFlushed r w flushed = (r ≡ false) × (w ≡ false) × flushed
 
@@ -92,7 +94,7 @@ UsesAllReads before after = after.count ≡ min (before.count + max_reads) (2 ^ 
 
 -- States that `serve`, with this result, may have read the bytes `taken` and written the bytes
 -- `put`. The reader has failed exactly if the result is `Read`, and the writer exactly if the
--- result is `Write`. Three parameters are facts, each of which holds for some results:
+-- result is `Write`. Three parameters are facts, which are stated only for some results:
 -- - `at_end` (the input is at its end): for `Truncated`, and for the status of a conversation
 --   without an `exit`;
 -- - `all_read` (`max_reads` reads were made): for `TooManyReads`;
@@ -103,8 +105,7 @@ abbrev pub Serves : Result ℕ ServeFault
 Serves (Ok status) taken put at_end all_read r w flushed =
     (EndsByExit status taken put ⊎ (AnswersAllContents taken (Open []) put × at_end × (status ≡ 1)))
     × NoDeviceFailedAndFlushed r w flushed
--- BadHead: all message contents are answered, and no message can begin with the bytes that follow
--- their frames.
+-- BadHead: all complete messages are answered, and no message can begin with the bytes after them.
 Serves (Err BadHead) taken put at_end all_read r w flushed =
     AnswersAllContents taken Broken put × NoDeviceFailedAndFlushed r w flushed
 Serves (Err Truncated) taken put at_end all_read r w flushed =

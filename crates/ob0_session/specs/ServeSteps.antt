@@ -1,5 +1,6 @@
--- States which bytes the steps of `serve` append to the writer: sending messages, answering the
--- message contents that wait in the framer, and flushing after a fault.
+-- States which bytes the steps of `serve` append to the writer. The steps are: sending messages,
+-- answering the message contents that wait in the framer, and flushing after a fault. A frame is
+-- one message as bytes, a head followed by its content.
 -- Rule: none; used in the contracts of the private functions that `serve` calls.
 use Rattle.std.specs.Prelude.{◌≡◌, ℕ, List, [], ◌++◌, ◌⊎◌, Bool, true, false, Option, Result, Ok, Err, ⊤}
 use Rattle.std.specs.Io.KnownBytes.{Appends}
@@ -14,14 +15,15 @@ use Rattle.ob0_session_server.specs.declared.session.Next.{Next}
 use Rattle.ob0_session_server.specs.declared.session.Next.TheVariants.{Continue, End}
 
 -- States that a prefix of `bytes` was appended to a writer. `old` and `new` are the writer's bytes
--- before and after. If they are unknown (None), nothing is stated about them.
+-- before and after. If these bytes aren't known (None), nothing is stated about them.
 abbrev pub AppendsPrefix : Option (List ℕ) → Option (List ℕ) → List ℕ → Type 0
 AppendsPrefix old new bytes =
     (front : List ℕ) × (back : List ℕ) × (bytes ≡ front ++ back) × Appends old new front
 
 -- States that sending these messages may have this result. With Ok, the frames of all messages were
--- written. With `Memory`, nothing was written. With `Write`, the device failed, and a prefix of the
--- frames was written. Other faults never occur.
+-- written. With `Memory`, nothing was written. With `Write`, a prefix of the frames was written,
+-- and the writer has failed (`failed` is true). With Ok and `Memory`, `failed` is false. Other
+-- faults never occur.
 abbrev pub SendsFrames : Option (List ℕ)
     → Option (List ℕ)
     → List (List ℕ)
@@ -36,8 +38,8 @@ SendsFrames old new messages (Err Write) failed =
 SendsFrames old new messages (Err fault) failed = ⊥
 
 -- States that all waiting message contents are answered, except the contents `left` at the end of
--- the list, which still wait. The answers take the session from the state `before` to the state
--- `after`. The bytes `frames` are the frames of the answers.
+-- the list. The answers take the session from the state `before` to the state `after`. The bytes
+-- `frames` are the frames of the answers.
 pub record AnswersAllButRemaining (waiting : List (List ℕ)) (before after : ServerState)
     (left : List (List ℕ)) (frames : List ℕ) : Type 0 where
   pub answered : List (List ℕ)
@@ -55,7 +57,7 @@ pub record AnswersAllWaiting (waiting : List (List ℕ)) (before : ServerState) 
   pub not_ended : HasNotEnded after.phase
   pub not_failed : failed ≡ false
 
--- States that the first of the waiting message contents are answered, and that the conversation has
+-- States that a prefix of the waiting message contents is answered, and that the conversation has
 -- then ended with this status. The other contents, `left`, still wait. The bytes `put` are the
 -- frames of the answers. The writer hasn't failed.
 pub record AnswersUntilExit (status : ℕ) (waiting : List (List ℕ)) (before : ServerState)
@@ -64,9 +66,9 @@ pub record AnswersUntilExit (status : ℕ) (waiting : List (List ℕ)) (before :
   pub ended : after.phase ≡ Ended status
   pub not_failed : failed ≡ false
 
--- States that the first of the waiting message contents are answered and the others, `later`, are
--- not. The bytes `put` are the frames of the answers. The writer hasn't failed. This is the outcome
--- if an allocation fails (`Memory`).
+-- States that a prefix of the waiting message contents is answered, and that the other contents,
+-- `later`, aren't. The bytes `put` are the frames of the answers. The writer hasn't failed. This is
+-- the outcome if an allocation fails (`Memory`).
 pub record AnswersUntilOutOfMemory (waiting : List (List ℕ)) (before : ServerState) (put : List ℕ)
     (failed : Bool) : Type 0 where
   pub after : ServerState
@@ -74,8 +76,9 @@ pub record AnswersUntilOutOfMemory (waiting : List (List ℕ)) (before : ServerS
   pub answered : AnswersAllButRemaining waiting before after later put
   pub not_failed : failed ≡ false
 
--- States that the writer has failed. The bytes `put` are a prefix of the frames of the answers to
--- the first of the waiting message contents. The others, `later`, aren't answered.
+-- States that the writer has failed while the waiting message contents were answered. The bytes
+-- `put` are a prefix of the frames of the answers to the contents before `later`. The contents
+-- `later` aren't answered.
 pub record AnswersUntilWriteFailure (waiting : List (List ℕ)) (before : ServerState) (put : List ℕ)
     (failed : Bool) : Type 0 where
   pub after : ServerState

@@ -1,8 +1,8 @@
-//! Declares the devices that `serve` reads from and writes to. Ghost functions record the calls of
-//! a device and their failures.
+//! Declares the devices that `serve` reads from and writes to. Ghost members, which only contracts
+//! use, record the calls of a device and their failures.
 //!
 //! std's contracts don't count the calls of a reader, and don't record whether a call failed. The
-//! contract of `serve` states both, for every device that implements these traits. `Noted` turns
+//! contract of `serve` needs both, for every device that implements these traits. `Noted` turns
 //! each reader or writer of std into such a device.
 ghost use Rattle.std.specs.Prelude.{◌≡◌, ◌≢◌, ◌||◌, ◌<◌, ℕ, List, [], Option, Bool, true, false, length, is_err, IfOk, OnOk, OnErr};
 ghost use Rattle.std.specs.Io.{ReadsAtMost, WritesAtMost};

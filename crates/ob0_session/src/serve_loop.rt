@@ -1,12 +1,14 @@
 //! Serves a conversation over a stream: reads pieces, answers each complete content, writes frames
-//! and flushes them (docs/PROTOCOL.md, Framing and The program).
+//! (messages with their heads) and flushes them (docs/PROTOCOL.md, Framing and The program).
 //!
 //! `Serves` states for each result of `serve` which device has failed. For `Read` only the reader
 //! has failed, for `Write` only the writer, and for any other result neither. Everything written is
-//! flushed, unless the result is `Write`. `LeavesWriterFlushed` states that the writer is flushed on
-//! return if it was flushed at the call, or if something was written. So `serve` must flush after its
-//! last write, unless it returns `Write`. If an allocation fails, the answers that are already written
-//! are flushed before the return (`flush_after_fault`). If that flush fails, the result is `Write`.
+//! flushed, unless the result is `Write`.
+//!
+//! `LeavesWriterFlushed` states that the writer is flushed on return if it was flushed at the call,
+//! or if something was written. So `serve` must flush after its last write, unless it returns
+//! `Write`. If an allocation fails, the answers that are already written are flushed before the
+//! return (`flush_after_fault`). If that flush fails, the result is `Write`.
 
 ghost use Rattle.std.specs.Prelude.{◌≡◌, ◌≢◌, ◌++◌, List, ℕ, [], true, false, IfOk, OnOk, OnErr, length, map, MatchResult};
 ghost use Rattle.std.specs.Io.KnownBytes.{Appends, Consumes, IsAtEnd, Keeps};
@@ -50,8 +52,9 @@ pub enum ServeFault {
     TooManyReads,
 }
 
-/// Returns the program's exit status after this fault: 3 if the bytes aren't framed messages, 5 if an
-/// allocation failed, and 4 if a device can't be read or written, or if there were too many reads.
+/// Returns the program's exit status after this fault. The status is 3 if the bytes aren't framed
+/// messages, and 5 if an allocation failed. It is 4 if a device can't be read or written, or if
+/// there were too many reads.
 pub fn status_of(fault: ServeFault) -> u8
     ensures { result ≡ status_of fault }
 {
@@ -64,8 +67,8 @@ pub fn status_of(fault: ServeFault) -> u8
 
 /// Serves one conversation, and returns the exit status with which the conversation ends. The
 /// output is flushed after each piece of input, but the contract covers only the flush before the
-/// return (`LeavesWriterFlushed`). At most 2^40 pieces are read, each of at most 8,192 bytes. If a flush
-/// fails, returns the fault `Write`.
+/// return (`LeavesWriterFlushed`). At most 2^40 pieces are read, each of at most 8,192 bytes. If a
+/// flush fails, returns the fault `Write`.
 pub fn serve<R: InputDevice, W: OutputDevice>(
     alloc: Global,
     reader: &mut R,
@@ -128,9 +131,9 @@ fn flush_after_fault<W: OutputDevice>(fault: ServeFault, writer: &mut W) -> Serv
     }
 }
 
-// Passes a piece to the framer, which splits the stream into messages. Returns true if more messages
-// can follow, and false if the framer has found a bad head. If an allocation fails, returns
-// `Memory`.
+// Passes a piece to the framer, which splits the stream into messages. Returns true if more
+// messages can follow, and false if the framer has found a bad head. If an allocation fails,
+// returns `Memory`.
 fn feed_piece(framer: &mut Framer, piece: &[u8]) -> Result<bool, ServeFault>
     ensures taken { OnOk result (FeedsFramer framer.old piece.now framer.new) }
     ensures can_continue { IfOk result (λ can_continue. can_continue ≡ true → framer.new.rest ≢ Broken) }

@@ -49,8 +49,8 @@ actions_request_view r version =
       only = action_kinds_view r.only.now;
     }
 
--- Returns whether this kind of actions includes inlining. `refactor.inline`, `refactor` and the
--- empty text do.
+-- Returns whether this kind of code actions includes inlining: `refactor.inline`, `refactor` or the
+-- empty text.
 abbrev pub kind_includes_inlining : List ℕ → Bool
 kind_includes_inlining kind =
     bytes_eq kind [] || bytes_eq kind (codes "refactor") || bytes_eq kind (codes "refactor.inline")
@@ -61,18 +61,18 @@ abbrev pub requested_kinds_include_inlining : Option (List (List ℕ)) → Bool
 requested_kinds_include_inlining (Some kinds) = list_any kind_includes_inlining kinds
 requested_kinds_include_inlining None = true
 
--- Returns whether the client accepts literal code actions, which aren't commands, and the requested
--- kinds include inlining. If `only` is None, all kinds are requested.
+-- Returns whether two conditions hold: the client accepts code actions that aren't commands, and
+-- the requested kinds include inlining. If `only` is None, all kinds are requested.
 abbrev pub client_wants_inlining : ClientFeatures → Option (List (List ℕ)) → Bool
 client_wants_inlining client only = client.accepts_literal_actions && requested_kinds_include_inlining only
 
--- Returns whether the client of this request accepts literal code actions, and the requested kinds
--- include inlining.
+-- Returns whether two conditions hold: the client of this request accepts code actions that aren't
+-- commands, and the requested kinds include inlining.
 abbrev pub wants_inlining : VersionedActionsRequest → Bool
 wants_inlining requested = client_wants_inlining requested.client requested.only
 
--- Returns the byte offset in the text at which actions apply: the start of the range, or its end if
--- the end comes first.
+-- Returns the byte offset in the text at which actions apply: the offset at which the range starts
+-- or ends, whichever is smaller.
 abbrev pub first_offset_in_range : Unit → List ℕ → Range → ℕ
 first_offset_in_range unit text range =
     min (offset_of (width_of unit) text range.start) (offset_of (width_of unit) text range.end)
@@ -91,14 +91,15 @@ abbrev pub inlining_action_value : VersionedActionsRequest → InliningKind → 
 inlining_action_value requested how edits =
     code_action_value (workspace_edit_value requested.client requested.uri requested.version edits) (inlining_title how)
 
--- Returns a list with the JSON value of the code action that applies these edits. If the inlining
--- is refused (the edits are None), the list is empty.
+-- Returns a list with one item, the JSON value of the code action that applies these edits. If the
+-- inlining is refused (the edits are None), the list is empty.
 abbrev pub offered_action_values : VersionedActionsRequest → InliningKind → Option (Vec Edit Global) → List Data
 offered_action_values requested how (Some edits) = inlining_action_value requested how edits.items ∷ []
 offered_action_values requested how None = []
 
 -- Returns the JSON array of the offered actions: to inline a constant at one use, then to inline it
--- everywhere. An action whose edits are None isn't offered.
+-- everywhere. `here` and `everywhere` are the edits of the two actions. An action whose edits are
+-- None isn't offered.
 abbrev pub actions_array : VersionedActionsRequest
     → Option (Vec Edit Global)
     → Option (Vec Edit Global)
@@ -108,9 +109,9 @@ actions_array requested here everywhere =
     (offered_action_values requested OneUse here ++ offered_action_values requested Everywhere everywhere))
 
 -- States that the request asks for inlining (`wants_inlining`) and that the text is a well-typed
--- module. The JSON value lists the actions that are offered for the request's range: those at the
--- range's first byte offset (`first_offset_in_range`). `here` and `everywhere` are the edits of the
--- two actions. The edits of an action that isn't offered are None.
+-- module. The JSON value lists the actions that are offered at the first byte offset of the
+-- request's range (`first_offset_in_range`). `here` and `everywhere` are the edits of the two
+-- actions. The edits of an action that isn't offered are None.
 pub record ListsInlinings (unit : Unit) (requested : VersionedActionsRequest) (text : List ℕ)
     (value : Data) : Type 0 where
   pub here : Option (Vec Edit Global)

@@ -1,5 +1,6 @@
--- Defines the diagnostics of a text. An analysis reports diagnoses, which have byte offsets
--- (`ReportedDiagnosis`). A `Diagnostic`, which is sent to the client, has positions instead.
+-- Defines the diagnostics of a text. An analysis reports diagnoses, whose spans are byte offsets
+-- (`ReportedDiagnosis`). The client receives diagnostics, whose ranges are positions
+-- (`Diagnostic`).
 -- Rule: docs/PROTOCOL.md, Publishing 3, JSON shapes 2.
 use Rattle.std.specs.Prelude.{◌≡◌, ℕ, ℤ, List, Some, map}
 use Rattle.ob0_rpc.specs.WrittenMessages.{Writes}
@@ -10,9 +11,8 @@ use Rattle.ob0_analysis.specs.ReportedErrors.{ReportedDiagnosis, ReportsErrorsOf
 use Rattle.ob0_analysis.specs.TextBytes.{utf8}
 use Rattle.ob0_session_json.specs.JsonShapes.{Diagnostic, publication}
 
--- Returns the diagnostic for a diagnosis of the text: the same code and message, but with the
--- positions of the byte offsets at which the diagnosis starts and ends. Positions are counted in
--- `unit`.
+-- Returns the diagnostic for a diagnosis of the text. It has the same code and message. Its start
+-- and end are the positions at which the diagnosis starts and ends, counted in `unit`.
 abbrev pub diagnostic_of : Unit → List ℕ → ReportedDiagnosis → Diagnostic
 diagnostic_of unit text c = record {
   code = c.code;

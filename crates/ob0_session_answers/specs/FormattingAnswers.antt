@@ -15,8 +15,8 @@ use Rattle.ob0_edits.specs.FormattingEdits.{FormattedTextIsTooLong, FormatsText}
 use Rattle.ob0_session_json.specs.JsonShapes.{edit_list_value, edit_refusal_message}
 
 -- States that the message answers a request with this id to format the text with this indentation.
--- The message contains the edits, or it refuses the request because the formatted text is too long
--- or because the text isn't a well-typed module.
+-- The message contains the edits, or it refuses the request. The request is refused if the
+-- formatted text is too long, or if the text isn't a well-typed module.
 abbrev pub AnswersFormattingRequest : Unit → Data → Indent → List ℕ → Data → Type 0
 AnswersFormattingRequest unit id indent text message =
     ((edits : List Edit)

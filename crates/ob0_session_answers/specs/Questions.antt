@@ -39,7 +39,8 @@ range_value_of_span unit text span =
 abbrev pub location_value_of_span : Unit → List ℕ → List ℕ → Span → Data
 location_value_of_span unit uri text span = location_value_of_range uri (range_of (width_of unit) text span)
 
--- Returns the JSON value of a hover text with its range.
+-- Returns the JSON value of a hover result: the hover text, and the range of the name or field that
+-- it describes.
 abbrev pub hover_value_with_range : Unit → List ℕ → HoverTextWithSpan → Data
 hover_value_with_range unit text shown = hover_value shown.text (range_value_of_span unit text shown.span)
 
@@ -52,16 +53,16 @@ value_or_null None = null
 abbrev pub offset_of_place : Unit → List ℕ → DocumentPlace → ℕ
 offset_of_place unit text at = offset_of (width_of unit) text at.position
 
--- States that the JSON value lists, in text order, the locations of all references to the name or
--- field at the position. The list contains the declaration if `include` is true.
+-- States that the JSON value is the list of the locations of all references to the name or field at
+-- the position, in text order. The list contains the declaration if `include` is true.
 abbrev pub AnswersReferencesQuestion : Unit → List ℕ → DocumentPlace → Bool → Resolution → Data → Type 0
 AnswersReferencesQuestion unit text at include names value =
     (spans : List Span)
     × AreReferencesAtOffset names (offset_of_place unit text at) include spans
     × (value ≡ array (items_of (map (location_value_of_span unit at.uri text) spans)))
 
--- States that the JSON value answers the question about a well-typed module. `names` is the
--- resolution of the module's names.
+-- States that the JSON value answers the question about a well-typed module. `names` says which
+-- declaration each name of the module refers to.
 abbrev pub AnswersQuestionInModule : Unit → List ℕ → DocumentPlace → NameQuestion → Resolution → Data → Type 0
 AnswersQuestionInModule unit text at hover_question names value =
     value

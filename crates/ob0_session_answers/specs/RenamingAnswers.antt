@@ -17,8 +17,8 @@ use Rattle.ob0_analysis.specs.TextBytes.{utf8}
 use Rattle.ob0_session_json.specs.JsonShapes.{edit_refusal_message, workspace_edit_value}
 use Rattle.ob0_session_answers.specs.declared.rename_request.RenameRequest.{RenameRequest}
 
--- A request for renaming: its id, the client's capabilities, the document and position, the
--- document's version, and the new name.
+-- A request for renaming: its id, the client's capabilities, the document and the position (`at`),
+-- the document's version, and the new name.
 pub record VersionedRenameRequest : Type 0 where
   pub id : Data
   pub client : ClientFeatures
@@ -43,9 +43,10 @@ abbrev pub edits_for_client : VersionedRenameRequest → List Edit → Data
 edits_for_client requested edits =
     workspace_edit_value requested.client requested.at.uri requested.version edits
 
--- States that the message answers the request for renaming in a document with this text. It
--- contains the edits, or refuses the renaming for a reason (`IsRenameRefusedInText`), or refuses the
--- request because the text isn't a well-typed module. Positions are counted in `unit`.
+-- States that the message answers the request for renaming in a document with this text. The
+-- message contains the edits, or it refuses the request. The request is refused if the renaming is
+-- refused (`IsRenameRefusedInText`), or if the text isn't a well-typed module. Positions are
+-- counted in `unit`.
 abbrev pub AnswersRenameRequest : Unit → VersionedRenameRequest → List ℕ → Data → Type 0
 AnswersRenameRequest unit requested text message =
     ((edits : List Edit)

@@ -1,10 +1,11 @@
 //! Answers requests for code actions, which inline a constant at one use or everywhere.
 //!
 //! `inlining_edits` of `ob0_edits` computes the edits. A range may end before its start, so actions
-//! apply at whichever end has the smaller byte offset (`first_position_in_range`, `first_offset_in_range`).
-//! Because offsets are compared, no law about the order of positions is needed. An action's title
-//! and edits depend on its `InliningKind` (`OneUse` or `Everywhere`). To add an action, add a variant
-//! of `InliningKind` and its title (`inlining_title`, here and in `specs/Actions.antt`).
+//! apply at its start or its end, whichever has the smaller byte offset (`first_position_in_range`,
+//! `first_offset_in_range`). Because offsets are compared, no law about the order of positions is
+//! needed. An action's title and edits depend on its `InliningKind` (`OneUse` or `Everywhere`). To
+//! add an action, add a variant of `InliningKind` and its title (`inlining_title`, here and in
+//! `specs/Actions.antt`).
 
 ghost use Rattle.std.specs.Prelude.{◌≡◌, IfOk, map, string_bytes};
 ghost use Rattle.std.specs.List.{list_any};
@@ -25,8 +26,8 @@ use ob0_session_json::edits::{CodeAction, WorkspaceEdit};
 use ob0_text::{Edit, Position, Range, TextStore};
 use std::alloc::{AllocError, Global};
 
-/// Returns the position at which actions apply: the start of the range, or its end if the end comes
-/// first.
+/// Returns the position at which actions apply: the start or the end of the range, whichever has
+/// the smaller byte offset.
 fn first_position_in_range<T: TextStore>(store: &T, range: Range) -> Position
     ensures { offset_of (width_of (T.unit_of store.now)) (T.content store.now) result
         ≡ place_in (T.unit_of store.now) (T.content store.now) range }
@@ -72,8 +73,8 @@ impl<'a, T: TextStore> DocumentRequest<T> for ActionsRequest<'a> {
 }
 
 impl<'a> ActionsRequest<'a> {
-    /// Returns whether the client accepts literal code actions, which aren't commands, and the
-    /// requested kinds include inlining. If `only` is None, all kinds are requested.
+    /// Returns whether two conditions hold: the client accepts code actions that aren't commands,
+    /// and the requested kinds include inlining. If `only` is None, all kinds are requested.
     fn wants_inlining(&self) -> bool
         ensures { result ≡ wants self.now.client (action_kinds_view self.now.only.now) }
     {
@@ -186,8 +187,8 @@ fn any_kind_includes_inlining(kinds: &[String]) -> bool
     false
 }
 
-/// Returns whether this kind of actions includes inlining. `refactor.inline`, `refactor` and the
-/// empty text do.
+/// Returns whether this kind of code actions includes inlining: `refactor.inline`, `refactor` or
+/// the empty text.
 fn kind_includes_inlining(kind: &str) -> bool
     ensures { result ≡ of_kind kind.now }
 {

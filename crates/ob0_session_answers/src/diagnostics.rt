@@ -1,9 +1,9 @@
 //! Computes the diagnostics of a text, and the message that publishes them.
 //!
-//! The byte offsets at which the diagnostics start and end are sorted. Their positions are found in
-//! one pass over the text (`TextStore::positions`). The position of each offset is then looked up
-//! by binary search. If the search finds nothing, the store computes the position, so no proof is
-//! needed that each search succeeds.
+//! The byte offsets at which the diagnostics start and end are sorted. The positions of all these
+//! offsets are found in one pass over the text (`TextStore::positions`). The position of each
+//! offset is then looked up by binary search. If a search doesn't find the offset, the store
+//! computes the position. So no proof is needed that each search succeeds.
 
 ghost use Rattle.std.specs.Prelude.{◌≡◌, List, IfOk, map};
 ghost use Rattle.std.specs.Str.{chars};
@@ -91,9 +91,9 @@ fn sorted_offsets_of(alloc: Global, reported: &[Diagnosis]) -> Result<Vec<usize>
     Ok(offsets)
 }
 
-/// Converts each diagnosis, which has byte offsets, to a diagnostic with positions, in the same
-/// order. `positions` has the position of each byte offset in `offsets`, item by item. The offsets
-/// are in ascending order.
+/// Converts each diagnosis in `reported`, which has byte offsets, to a diagnostic with positions,
+/// in the same order. `offsets` are byte offsets in ascending order. The n-th of the `positions` is
+/// the position of the n-th offset.
 fn convert_diagnoses_with_positions<T: TextStore>(
     alloc: Global,
     store: &T,

@@ -1,8 +1,9 @@
 //! Answers requests about the name or field at a position: hover, definition, references and
 //! prepareRename.
 //!
-//! Each request is a type that computes its answer from a document (`DocumentRequest`). To do so,
-//! it asks a question about the document's module. Each question is also a type (`Question`).
+//! Each request is a type that computes its answer from a document (`DocumentRequest`). For that,
+//! it asks the document's analysis a question (`Question`), which is answered if the text is a
+//! well-typed module. Each question is also a type.
 
 ghost use Rattle.std.specs.Prelude.{◌≡◌, IfOk, option_map, map};
 ghost use Rattle.serde_json.specs.Data.{array};
@@ -45,8 +46,8 @@ impl Question for HoverQuestion {
     }
 }
 
-/// The question for the span at which the name or field at a byte offset is declared. The answer is
-/// None if there is no such declaration.
+/// The question for the declaration of the name or field at a byte offset. The answer is the
+/// declaration's span, or None if there is no such declaration.
 #[derive(Drop)]
 struct DefinitionQuestion {
     offset: usize,

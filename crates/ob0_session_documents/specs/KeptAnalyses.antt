@@ -1,5 +1,5 @@
--- Defines which analyses the cache contains, how a call may change it, and when each analysis in it
--- belongs to its document's current text.
+-- Defines which analyses the cache contains, and how a call may change them. Also defines when each
+-- analysis in the cache belongs to the current text of its document.
 use Rattle.std.specs.Prelude.{◌≡◌, ◌⊎◌, ℕ, ℤ, List, Contains, Option, Some, None, String, string_bytes}
 use Rattle.std.specs.Str.{chars}
 use Rattle.std.specs.declared.alloc.Global.{Global}
@@ -8,8 +8,7 @@ use Rattle.ob0_text.specs.OpenDocuments.{OpenDocuments, InStep, document_at}
 use Rattle.ob0_session_documents.specs.declared.analysis_cache.AnalysisCache.{AnalysisCache}
 
 -- States that the cache contains an analysis of the text `text` under this uri. In the specs, an
--- analysis is represented by the text that it analyses. If there is no cache yet (None), this never
--- holds.
+-- analysis is represented by its text. If there is no cache yet (None), this never holds.
 abbrev pub CacheContains : Option (LruCache (String Global) (List ℕ)) → List ℕ → List ℕ → Type 0
 CacheContains None uri text = ⊥
 CacheContains (Some cache) uri text =
@@ -32,8 +31,8 @@ KeepsOnlyOtherAnalyses old document new =
     → KeepsAnalysis new uri text
     → KeepsAnalysis old uri text × (uri ≡ document → ⊥)
 
--- States that every analysis in `new` either was already in `old` or is the analysis of this
--- document with this text.
+-- States that every analysis in `new` was already in `old` or is the added analysis: the analysis
+-- of the text `its_text` of this document.
 abbrev pub AddsOnlyThisAnalysis : AnalysisCache → List ℕ → List ℕ → AnalysisCache → Type 0
 AddsOnlyThisAnalysis old document its_text new =
     (uri text : List ℕ) → KeepsAnalysis new uri text

@@ -15,12 +15,12 @@ use lru::LruCache;
 use ob0_analysis::Analysis;
 use std::alloc::{AllocError, Global};
 
-/// The greatest total size in bytes of the kept analyses, enough for about four analyses of the
-/// longest texts. An analysis that is larger than this is also kept, but then it is the only one.
+/// The greatest total size in bytes of the kept analyses. About four analyses of the longest texts
+/// fit into it. A larger analysis is also kept, but then it is the only one.
 const MAX_TOTAL_ANALYSIS_BYTES: usize = 4_198_400;
 
-/// The number of bytes that are counted for each analysis in addition to the sizes of its uri and
-/// its data. This number also limits how many analyses of empty texts are kept.
+/// The number of bytes that are counted for each analysis in addition to its uri and its data.
+/// Because of this number, the number of kept analyses is limited even if their texts are empty.
 const OVERHEAD_BYTES_PER_ANALYSIS: usize = 1_024;
 
 /// A cache of analyses, which are found by the uris of their documents. Adding an analysis may drop
@@ -30,8 +30,8 @@ pub struct AnalysisCache {
     alloc: Global,
     /// The cache, or None until the first analysis is kept, because making a cache allocates.
     by_uri: Option<LruCache<String, Analysis>>,
-    /// The sum of `size_in_cache` over all analyses in the cache. After a failed allocation it
-    /// may be larger than that sum.
+    /// The sum of `size_in_cache` over all analyses in the cache. After a failed allocation, this
+    /// field may be larger than the sum.
     size_in_bytes: usize,
 }
 

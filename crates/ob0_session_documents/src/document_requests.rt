@@ -10,8 +10,9 @@ use std::alloc::{AllocError, Global};
 
 /// A request about an open document that is in step: the server knows the document's text.
 pub trait DocumentRequest<T: TextStore> {
-    /// States that these bytes answer the request for a document with this version, unit of
-    /// positions and text (its characters).
+    /// States that the last argument, a list of bytes, answers the request. The other arguments are
+    /// the document's version, the unit in which positions are counted, and the characters of the
+    /// document's text.
     ghost answers: { Self → ℤ → Unit → List ℕ → List ℕ → Type 0 };
 
     /// Answers the request from the document's version, its text and the analysis of this text.

@@ -13,7 +13,7 @@ use Rattle.ob0_rpc.specs.JsonShapes.{text_value, whole_number_value, range_value
 use Rattle.ob0_rpc.specs.declared.client_capabilities.ClientFeatures.{ClientFeatures}
 
 -- The value of `textDocumentSync`, {"change":2,"openClose":true}. The 2 asks the client to send
--- changes of ranges.
+-- each change as a range with its new text.
 abbrev pub document_sync_options : Data
 document_sync_options =
     object (member (codes "change") (number (unsigned 2))
@@ -33,7 +33,7 @@ code_action_options =
     object (member (codes "codeActionKinds")
     (array (item (text_value (codes "refactor.inline")) no_items)) no_members)
 
--- Returns the last members of the capabilities:
+-- Returns the last three members of the capabilities:
 -- "referencesProvider":true,"renameProvider":R,"textDocumentSync":{..}.
 abbrev pub members_after_position_encoding : ClientFeatures → Members
 members_after_position_encoding client =
@@ -42,8 +42,8 @@ members_after_position_encoding client =
     (member (codes "textDocumentSync") document_sync_options no_members))
 
 -- Returns the members of the capabilities after "definitionProvider":
--- "documentFormattingProvider":true,"hoverProvider":true, then "positionEncoding":"utf-8" if the
--- client offers that, then `members_after_position_encoding`.
+-- "documentFormattingProvider":true and "hoverProvider":true. If the client offers UTF-8,
+-- "positionEncoding":"utf-8" follows. The last members are `members_after_position_encoding`.
 abbrev pub members_after_definition_provider : ClientFeatures → Members
 members_after_definition_provider client =
     member (codes "documentFormattingProvider") (boolean true)
@@ -52,8 +52,9 @@ members_after_definition_provider client =
     then member (codes "positionEncoding") (text_value (codes "utf-8")) (members_after_position_encoding client)
     else members_after_position_encoding client))
 
--- Returns the server's capabilities: "codeActionProvider":{..} if the client accepts code actions
--- that aren't commands, then "definitionProvider":true, then `members_after_definition_provider`.
+-- Returns the server's capabilities. If the client accepts code actions that aren't commands, they
+-- begin with "codeActionProvider":{..}. Then come "definitionProvider":true and the members
+-- `members_after_definition_provider`.
 abbrev pub server_capabilities : ClientFeatures → Data
 server_capabilities client =
     let members = member (codes "definitionProvider") (boolean true) (members_after_definition_provider client) in
@@ -86,8 +87,8 @@ location_value uri range =
 abbrev pub location_value_of_range : List ℕ → Range → Data
 location_value_of_range uri range = location_value uri (range_value range.start range.end)
 
--- Returns the JSON value of a plain text, {"kind":"plaintext","value":h}. The client displays it
--- unchanged.
+-- Returns the JSON value of a text that the client displays unchanged,
+-- {"kind":"plaintext","value":h}.
 abbrev pub plain_text_value : List ℕ → Data
 plain_text_value said =
     object (member (codes "kind") (text_value (codes "plaintext"))
@@ -116,8 +117,9 @@ document_edit_value uri version es =
     object (member (codes "edits") (edit_list_value es)
     (member (codes "textDocument") (versioned_document_value uri version) no_members))
 
--- Returns the JSON value of the edits of one document: {"documentChanges":[..]} if the client
--- accepts that form, otherwise {"changes":{u:[E,..]}}, which has no version.
+-- Returns the JSON value of the edits of one document. If the client accepts edits with document
+-- versions, the value is {"documentChanges":[..]}. Otherwise it is {"changes":{u:[E,..]}}, which
+-- has no version.
 abbrev pub workspace_edit_value : ClientFeatures → List ℕ → ℤ → List Edit → Data
 workspace_edit_value client uri version es =
     if client.accepts_document_changes
@@ -126,14 +128,15 @@ workspace_edit_value client uri version es =
     else object
     (member (codes "changes") (object (member uri (edit_list_value es) no_members)) no_members)
 
--- Returns the JSON value of a code action, {"edit":W,"kind":"refactor.inline","title":t}. `edit` is
--- the JSON value of its edits.
+-- Returns the JSON value of a code action with this title,
+-- {"edit":W,"kind":"refactor.inline","title":t}. `edit` is the JSON value of the edits that the
+-- action applies.
 abbrev pub code_action_value : Data → List ℕ → Data
 code_action_value edit title =
     object (member (codes "edit") edit (member (codes "kind") (text_value (codes "refactor.inline"))
     (member (codes "title") (text_value title) no_members)))
 
--- Returns the message that refuses a request for edits. `said` is the error text in that message.
+-- Returns the error response that refuses a request for edits. `said` is the text of the error.
 abbrev pub edit_refusal_message : Data → List ℕ → Data
 edit_refusal_message id said = error_response_message id (negative_of 32803) said
 

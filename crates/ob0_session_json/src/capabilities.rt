@@ -112,8 +112,8 @@ impl WriteJson for CodeActionOptions {
     }
 }
 
-/// The value of `renameProvider`. It announces `prepareRename` if the client sends requests of that
-/// method.
+/// The value of `renameProvider`. If the client sends requests `prepareRename`, the value announces
+/// that the server answers them. Otherwise it is `true`.
 #[derive(Drop)]
 pub struct RenameProvider {
     pub announces_prepare_rename: bool,
@@ -133,7 +133,7 @@ impl WriteJson for RenameProvider {
 }
 
 /// The value of `textDocumentSync`. It asks the client to report when a document is opened, changed
-/// or closed, and to send each change as a range with its new text.
+/// or closed. Each change is to be sent as a range with its new text.
 #[derive(Drop)]
 pub struct TextDocumentSyncOptions {}
 

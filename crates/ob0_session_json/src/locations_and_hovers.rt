@@ -15,9 +15,8 @@ use ob0_rpc::{
 use ob0_text::Range;
 use std::alloc::{AllocError, Global};
 
-/// The size in bytes of the free space at the start of the buffer in which a location is built. The
-/// space is large enough for a comma and the location's text up to and including its member
-/// `range`.
+/// The size in bytes of the free space at the start of the buffer in which a location is built. A
+/// comma and the location's text up to and including its member `range` fit into this space.
 const LOCATION_START_CAPACITY: usize = 192;
 
 /// An estimate of the length in bytes of a location's text before its member `uri`. The estimate is
@@ -80,8 +79,8 @@ fn write_locations(out: &mut Vec<u8>, uri: &str, ranges: &[Range]) -> Result<(),
 }
 
 /// Returns a buffer in which the texts of locations are built, one after another. The buffer begins
-/// with 192 bytes of free space. After this space it has the bytes with which each location's text
-/// ends: a comma, the member `uri` and the closing brace.
+/// with 192 bytes of free space. Then come the bytes with which the text of each location ends: a
+/// comma, the member `uri` and the closing brace.
 fn location_buffer_with_uri(alloc: Global, uri: &str) -> Result<Vec<u8>, AllocError>
     ensures { IfOk result (λ buffer. EndsWithUriMember uri.now buffer.items) }
 {
@@ -91,9 +90,9 @@ fn location_buffer_with_uri(alloc: Global, uri: &str) -> Result<Vec<u8>, AllocEr
     Ok(buffer)
 }
 
-/// Writes a comma and the start of a location's text, up to and including the member `range`, into
-/// the free space of the buffer. These bytes end right before the index 192, at which the end of
-/// the location's text already begins. Returns the index of the comma.
+/// Writes a comma and the first part of a location's text, up to and including the member `range`,
+/// into the free space of the buffer. The written bytes end right before the index 192, at which
+/// the last part of the location's text begins. Returns the index of the comma.
 fn write_location_start(buffer: &mut [u8], range: Range) -> usize
     requires { 192 ≤ length buffer.old }
     ensures within { result < 192 }

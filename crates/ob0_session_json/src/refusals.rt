@@ -1,4 +1,4 @@
-//! Writes the messages that refuse requests for edits.
+//! Writes the error responses that refuse requests for edits.
 ghost use Rattle.std.specs.Prelude.{IfOk, codes};
 ghost use Rattle.ob0_rpc.specs.MessageViews.{json_of_id};
 ghost use Rattle.ob0_rpc.specs.WrittenMessages.{Writes};
@@ -9,15 +9,15 @@ use ob0_rpc::{Id, error};
 use ob0_text::EditRefusal;
 use std::alloc::{AllocError, Global};
 
-/// Returns the message that refuses a request for edits. `said` is the error text in that message.
+/// Returns the error response that refuses a request for edits. `said` is the text of the error.
 pub fn refusal_message(alloc: Global, id: &Id, said: &str) -> Result<Vec<u8>, AllocError>
     ensures { IfOk result (λ bytes. Writes (edit_refusal_message (json_of_id id.now) said.now) bytes.items) }
 {
     error(alloc, Some(id), -32803, said)
 }
 
-/// Returns the message that refuses a request for edits for this reason. The error text is the text
-/// of `refusal`.
+/// Returns the error response that refuses a request for edits for the reason `refusal`. The text
+/// of the error is the text of `refusal`.
 pub fn refusal_message_for_reason(
     alloc: Global,
     id: &Id,
@@ -30,7 +30,8 @@ pub fn refusal_message_for_reason(
     refusal_message(alloc, id, text.as_str())
 }
 
-/// Returns the message that refuses a request for edits in a text that isn't a well-typed module.
+/// Returns the error response that refuses a request for edits, because the document's text isn't a
+/// well-typed module.
 pub fn refusal_message_for_ill_typed_text(alloc: Global, id: &Id) -> Result<Vec<u8>, AllocError>
     ensures { IfOk result
         (λ bytes. Writes (edit_refusal_message (json_of_id id.now) (codes "ill-typed")) bytes.items) }

@@ -55,9 +55,9 @@ start = record { phase = Starting; client = no_client_features; held = no_open_d
 
 -- ---- the reply to one message
 
--- The reply to one message: nothing, one particular message, or a message that is computed from a
--- document's text. A computed message contains the text's diagnostics, or answers a request about
--- the text.
+-- The reply to one message: nothing, a given message (`fixed_reply`), or a message that is computed
+-- from a document's text. A computed message contains the text's diagnostics, or answers a request
+-- about the text.
 pub data Reply : Type 0 where
   no_reply : Reply
   -- Exactly this message.
@@ -83,8 +83,8 @@ abbrev pub SendsMessage : Data → List (List ℕ) → Type 0
 SendsMessage message sent = (bytes : List ℕ) × (sent ≡ bytes ∷ []) × Writes message bytes
 
 -- States that the session gives this reply by sending the contents `sent`. A content is the bytes
--- of one message without the header. For the reply `no_reply`, `sent` is empty. For any other reply,
--- `sent` is exactly one content: the text of a message that this reply allows.
+-- of one message without the header. For the reply `no_reply`, `sent` is empty. For any other
+-- reply, `sent` is exactly one content: the text of a message that this reply allows.
 abbrev pub AreContentsOfReply : Reply → List (List ℕ) → Type 0
 AreContentsOfReply no_reply sent = sent ≡ []
 AreContentsOfReply (fixed_reply message) sent = SendsMessage message sent
@@ -112,15 +112,17 @@ reaction_without_change s say = record { after = s; reply = say }
 abbrev pub reaction_with_phase : Phase → ServerState → Reply → Reaction
 reaction_with_phase phase s say = record { after = record s { phase = phase }; reply = say }
 
--- Returns the reaction that replaces the open documents and sends this reply.
+-- Returns the reaction that replaces the open documents by `held` and sends this reply.
 abbrev pub reaction_with_documents : OpenDocuments → ServerState → Reply → Reaction
 reaction_with_documents held s say = record { after = record s { held = held }; reply = say }
 
--- Returns the reaction that answers with this error code and text, and leaves the state unchanged.
+-- Returns the reaction that sends an error response with this id, code and text. The state is
+-- unchanged.
 abbrev pub react_with_error : ServerState → Data → ℤ → List ℕ → Reaction
 react_with_error s id code said = reaction_without_change s (fixed_reply (error_response_message id code said))
 
--- Returns the reaction that answers with the error for this fault, and leaves the state unchanged.
+-- Returns the reaction that sends the error response for this fault, with this id. The state is
+-- unchanged.
 abbrev pub react_with_fault : ServerState → Data → RpcFault → Reaction
 react_with_fault s id fault = react_with_error s id (error_code fault) (error_text fault)
 
@@ -131,9 +133,9 @@ react_with_fault s id fault = react_with_error s id (error_code fault) (error_te
 abbrev pub state_after_initialize : ClientFeatures → ServerState
 state_after_initialize client = record { phase = Running; client = client; held = no_open_documents (unit_for_client client) }
 
--- Returns the reaction to a request about a document. If the document is open and in step, the
--- function `say` makes the reply from the document's version and text. Otherwise the reply is a
--- refusal.
+-- Returns the reaction to a request about a document. The document is None if it isn't open. If it
+-- is open and in step (its text is known), the function `say` makes the reply from its version and
+-- text. Otherwise the reply is a refusal.
 abbrev pub react_to_document_request : ServerState → Data → Option Document → (ℤ → List ℕ → Reply) → Reaction
 react_to_document_request s id (Some (InStep version text)) say = reaction_without_change s (say version text)
 react_to_document_request s id (Some OutOfStep) say = reaction_without_change s (fixed_reply (edit_refusal_message id (codes "out of step")))
@@ -152,7 +154,8 @@ react_to_rename s id at new =
     react_to_document_request s id (document_at s.held at.uri) (λ version. rename_reply s.held.unit
     (record { id = id; client = s.client; at = at; version = version; new = new }))
 
--- Returns the reaction to a request for code actions in a range.
+-- Returns the reaction to a request for code actions in a range. `only` lists the requested kinds
+-- of actions, or is None if all kinds are requested.
 abbrev pub react_to_actions : ServerState
     → Data
     → List ℕ
@@ -169,8 +172,8 @@ abbrev pub react_to_formatting : ServerState → Data → List ℕ → Indent �
 react_to_formatting s id uri indent =
     react_to_document_request s id (document_at s.held uri) (λ version. formatting_reply s.held.unit id indent)
 
--- Returns the reaction to a request that has been read (`Ok`), or to a request that couldn't be
--- read because of a fault (`Err`).
+-- Returns the reaction to a request. The third argument is the request that has been read (`Ok`),
+-- or the fault that prevented reading it (`Err`).
 abbrev pub react_to_parsed_request : ServerState → Data → Result ClientRequest RpcFault → Reaction
 react_to_parsed_request s id (Ok (initialize client)) =
     record { after = state_after_initialize client; reply = fixed_reply (result_message id (capabilities client)) }
@@ -214,15 +217,15 @@ exit_status_in_phase phase = 1
 abbrev pub react_to_exit : ServerState → Reaction
 react_to_exit s = reaction_with_phase (Ended (exit_status_in_phase s.phase)) s no_reply
 
--- Returns the reply that publishes the diagnostics of the document with this uri. Returns `no_reply`
--- if the document isn't open or is out of step.
+-- Returns the reply that publishes the diagnostics of the document with this uri. Returns
+-- `no_reply` if the document isn't open or is out of step.
 abbrev pub publication_reply : Unit → List ℕ → Option Document → Reply
 publication_reply unit uri (Some (InStep version text)) = diagnostics_reply unit uri version text
 publication_reply unit uri (Some OutOfStep) = no_reply
 publication_reply unit uri None = no_reply
 
--- Returns the reaction that replaces the open documents and publishes the diagnostics of the
--- document with this uri.
+-- Returns the reaction that replaces the open documents by `held` and publishes the diagnostics of
+-- the document with this uri.
 abbrev pub react_with_publication : List ℕ → OpenDocuments → ServerState → Reaction
 react_with_publication uri held s =
     reaction_with_documents held s (publication_reply held.unit uri (document_at held uri))
@@ -261,8 +264,8 @@ react_to_message s (request id method params) = react_to_request s.phase s id me
 react_to_message s (notice method params) = react_to_notification s.phase s method params
 
 -- States that a server in the state `before` may reply to this content (the bytes of one message)
--- with the messages `sent`, and is in the state `after` once it has replied. This is the case of
--- `AnswersInPhase` in which the session has neither ended nor failed.
+-- with the messages `sent`. `after` is the server's state after the reply. `AnswersInPhase` uses
+-- this definition if the session has neither ended nor failed.
 abbrev pub AnswersBeforeSessionEnd : ServerState → List ℕ → List (List ℕ) → ServerState → Type 0
 AnswersBeforeSessionEnd before content sent after =
     (json : Option Data) × IsJsonOfContent content json
@@ -270,7 +273,7 @@ AnswersBeforeSessionEnd before content sent after =
 
 -- States that a server in this phase and in the state `before` may reply to this content with the
 -- messages `sent`. `after` is the server's state after the reply. If the session has ended, nothing
--- is sent and the state is unchanged. In the phase `Failed` (after a failed allocation) this never
+-- is sent and the state is unchanged. In the phase `Failed` (after a failed allocation), this never
 -- holds.
 abbrev pub AnswersInPhase : Phase → ServerState → List ℕ → List (List ℕ) → ServerState → Type 0
 AnswersInPhase (Ended status) before content sent after = (sent ≡ []) × (after ≡ before)
@@ -278,13 +281,13 @@ AnswersInPhase Failed before content sent after = ⊥
 AnswersInPhase phase before content sent after = AnswersBeforeSessionEnd before content sent after
 
 -- States that a server in the state `before` may reply to this content (the bytes of one message)
--- with the messages `sent`, and is in the state `after` once it has replied.
+-- with the messages `sent`. `after` is the server's state after the reply.
 abbrev pub Answers : ServerState → List ℕ → List (List ℕ) → ServerState → Type 0
 Answers before content sent after = AnswersInPhase before.phase before content sent after
 
 -- States that the messages `sent` are the messages `first`, followed by the messages `later`. The
--- messages `first` reply to this content, and `between` is the state after this reply. The fact
--- `Follows` holds for `between` and `later`.
+-- server replies to this content with `first`, and `between` is its state after that. The parameter
+-- `Follows` states a condition, which holds for `between` and `later`.
 pub record AnswersFirstContent (before : ServerState) (content : List ℕ) (sent : List (List ℕ))
     (Follows : ServerState → List (List ℕ) → Type 0) : Type 0 where
   pub between : ServerState
@@ -295,8 +298,7 @@ pub record AnswersFirstContent (before : ServerState) (content : List ℕ) (sent
   pub all : sent ≡ first ++ later
 
 -- States that a server in the state `before` may reply to these message contents, one after
--- another, with the messages `sent`, in order. The server is in the state `after` once it has
--- replied to all of them.
+-- another, with the messages `sent`, in order. `after` is the server's state after all replies.
 abbrev pub IsConversation : ServerState → List (List ℕ) → List (List ℕ) → ServerState → Type 0
 IsConversation before [] sent after = (sent ≡ []) × (after ≡ before)
 IsConversation before (content ∷ contents) sent after =

@@ -20,16 +20,16 @@ next_in_phase phase = Continue
 abbrev pub HasNotEnded : Phase → Type 0
 HasNotEnded phase = next_in_phase phase ≡ Continue
 
--- States that `step` is the result of a successful step: the session replies to the content with
--- the messages `step.send`, and `step.next` reports whether the session continues.
+-- States that `step` is the result of a successful step. The session replies to the content with
+-- the messages `step.send`. `step.next` says whether the session continues.
 pub record SessionSteps (before : ServerState) (content : List ℕ) (step : Step)
     (after : ServerState) : Type 0 where
   pub answers : Answers before content (map (λ v. v.items) step.send.items) after
   pub next : step.next ≡ next_in_phase after.phase
 
--- States that a step may fail with this fault. With `Memory`, the session fails in this step: it
--- had neither ended nor failed before. With `Failed`, the session had failed before the step, and
--- nothing changes.
+-- States that a step may fail with this fault. With the fault `Memory`, the session had neither
+-- ended nor failed before the step, and has failed after it. With the fault `Failed`, the session
+-- had already failed before the step, and nothing changes.
 abbrev pub SessionFails : ServerState → SessionFault → ServerState → Type 0
 SessionFails before Memory after =
     HasNotEnded before.phase × (before.phase ≢ phases.Failed) × (after.phase ≡ phases.Failed)

@@ -122,9 +122,9 @@ impl<T: TextStore> Session<T> {
     }
 
     /// Performs one step: reads the content of one message (its bytes without the header), and
-    /// returns the contents of the messages to send in reply. If an allocation fails, returns
-    /// `Memory`, and every step after this one returns `Failed`. If the session ended before this
-    /// step, nothing is sent, and the step's `next` is `End` with the exit status.
+    /// returns the contents of the messages to send in reply. If the session ended before this
+    /// step, nothing is sent, and the step's `next` is `End` with the exit status. If an allocation
+    /// fails, returns `Memory`, and every later step returns `Failed`.
     pub fn step(&mut self, content: &[u8]) -> Result<Step, SessionFault>
         ensures ok { IfOk result (λ step. SessionSteps self.old content.now step self.new) }
         ensures err { IfErr result (λ fault. SessionFails self.old fault self.new) }
@@ -212,9 +212,9 @@ impl<T: TextStore> Session<T> {
         Ok(Some(error(self.alloc, id, code, said)?))
     }
 
-    /// Returns the error response that reports a fault of the request with this id. If `id` is
-    /// None, the fault is that the received bytes aren't a message. If the fault is `Memory`,
-    /// returns the error `AllocError` instead. The result is never None.
+    /// Returns the error response that reports this fault. `id` is the id of the request, or None
+    /// if the received bytes aren't a message. If the fault is `Memory`, returns the error
+    /// `AllocError` instead. The result is never None.
     fn fault_message(&self, id: Option<&Id>, fault: RpcFault) -> Result<Option<Vec<u8>>, AllocError>
         ensures { IfOk result (λ sent. (fault ≢ RpcFault.Memory) × MatchesReaction
             (react_with_fault self.now (id_or_null (option_map (λ i. i.now) id.entry)) fault) sent
@@ -365,7 +365,8 @@ impl<T: TextStore> Session<T> {
         self.reply_to_document_request(id, place.uri.as_str(), &request)
     }
 
-    /// Answers a request for the code actions in a range of a document.
+    /// Answers a request for the code actions in a range of a document. `only` lists the requested
+    /// kinds of actions, or is None if all kinds are requested.
     fn reply_to_actions(
         &mut self,
         id: &Id,
@@ -402,7 +403,7 @@ impl<T: TextStore> Session<T> {
         reply_for_outcome(self.alloc, id, outcome)
     }
 
-    /// Starts the session for a client with these capabilities, without open documents.
+    /// Starts the session for a client with these capabilities. No document is open afterwards.
     fn begin_session(&mut self, client: ClientFeatures)
         ensures { self.new ≡ state_after_initialize client }
     {
@@ -555,8 +556,8 @@ impl<T: TextStore> Session<T> {
     }
 }
 
-/// Returns the reply to a request that has this outcome: the outcome's message, or a refusal if the
-/// document is out of step or isn't open. The result is never None.
+/// Returns the reply to a request that has this outcome. The reply is the outcome's message, or a
+/// refusal if the document is out of step or isn't open. The result is never None.
 fn reply_for_outcome(
     alloc: Global,
     id: &Id,

@@ -1,6 +1,6 @@
-//! Tests the types of declarations, and the conflicts and bindings if a declaration is renamed. A
-//! declaration is given by its ordinal: predeclared names have the ordinals 0 to 6, and the text's
-//! declarations follow.
+//! Tests the types of declarations, and the name conflicts and bindings after a declaration is
+//! renamed. A declaration is given by its ordinal: predeclared names have the ordinals 0 to 6, and
+//! the text's declarations follow.
 
 use crate::test_questions::TestQuestion::{
     ConflictAfterRename, OrdinalsAfterRename, TypeOfDeclaration,

@@ -183,9 +183,8 @@ fn change_and_undo_agree_with_scratch(
     )
 }
 
-/// Returns the index, from 0, of the first change after which reanalysis finds other faults than an
-/// analysis from scratch, or after which an allocation fails. Returns None if there is no such
-/// change.
+/// Returns the index, from 0, of the first change that fails: reanalysis finds other faults than an
+/// analysis from scratch, or an allocation fails. Returns None if there is no such change.
 fn first_failing_change(alloc: Global, changes: &[(&str, u64, u64, &str)]) -> Option<usize> {
     for i in 0..changes.len() {
         if change_and_undo_agree_with_scratch(alloc, &changes[i]) != Ok(true) {

@@ -11,9 +11,9 @@ use ob0_types::WellTyped;
 use std::alloc::{AllocError, Global};
 use std::process::Abort;
 
-/// Appends a description of the name at a byte offset: the declaration or field that the name
-/// refers to, the byte ranges of the declaration and of the uses, and the hover text. Appends
-/// nothing if there is no name at the offset.
+/// Appends a description of the name at a byte offset. The description has the declaration or field
+/// that the name refers to, the byte ranges of its declaration and uses, and the hover text.
+/// Appends nothing if there is no name at the offset.
 pub fn push_name_description(
     alloc: Global,
     out: &mut String,
@@ -61,8 +61,8 @@ fn push_spans(out: &mut String, spans: &[Span]) -> Result<(), AllocError> {
     Ok(())
 }
 
-/// Appends the hover at a byte offset as `push_hover` does. `name` is the range of the name there.
-/// Appends nothing if there is no hover.
+/// Appends the hover at a byte offset as `push_hover` does. `name` is the byte range of the name at
+/// the offset. Appends nothing if there is no hover.
 fn push_hover_at(
     alloc: Global,
     out: &mut String,

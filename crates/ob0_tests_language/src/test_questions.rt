@@ -27,7 +27,7 @@ pub enum TestQuestion {
     /// The ordinal of the declaration to which each occurrence would be bound if the declaration
     /// with this ordinal were renamed to this new name.
     OrdinalsAfterRename(usize, &'static str),
-    /// The declaration or field that the name with this byte offset refers to, its uses, and its
+    /// The declaration or field to which the name at this byte offset refers, its uses, and its
     /// hover text.
     NameAtOffset(usize),
     /// The hover text of each name, in text order, each followed by a bar.
@@ -37,7 +37,7 @@ pub enum TestQuestion {
     Run(&'static [i32], u32, u32),
     /// The names of nodes in the lowered body, as `push_names_of_nodes` appends them.
     NodeNames,
-    /// The text after a renaming to this new name, or the refusal. The renamed name has this line
+    /// The text after a renaming to this new name, or the refusal. The renamed name is at this line
     /// and character, both counted from 0.
     Rename(u64, u64, &'static str),
     InlineHere(u64, u64),
@@ -194,7 +194,8 @@ pub fn faults_of_analysis(alloc: Global, analysis: &Analysis) -> Result<String, 
     faults_as_text(alloc, faults.as_slice())
 }
 
-/// Returns each fault's code and byte range, and for a syntax fault the expected token.
+/// Returns a text with each fault's code and byte range. For a syntax fault, the text also has the
+/// expected token.
 fn faults_as_text(alloc: Global, faults: &[Diagnosis]) -> Result<String, AllocError> {
     let mut out = String::new(alloc);
     for fault in faults {
@@ -203,7 +204,7 @@ fn faults_as_text(alloc: Global, faults: &[Diagnosis]) -> Result<String, AllocEr
     Ok(out)
 }
 
-/// Appends a fault's code and byte range, and for a syntax fault the expected token.
+/// Appends a fault's code and byte range. For a syntax fault, also appends the expected token.
 fn push_fault(out: &mut String, fault: &Diagnosis) -> Result<(), AllocError> {
     let (code, start, end) = (fault.code, fault.span.start, fault.span.end);
     let expected = if code == "Syntax" {

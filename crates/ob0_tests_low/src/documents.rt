@@ -129,7 +129,7 @@ fn perform_all_actions<T: TextStore>(
 }
 
 /// Performs the actions of a row, with positions counted in the row's unit. Returns whether each
-/// has its expected result and leaves the document in the expected state.
+/// action has its expected result and leaves the document in the expected state.
 fn performs_as_expected<T: TextStore>(
     alloc: Global,
     row: &DocumentCase,
@@ -157,7 +157,8 @@ fn documents_change_state_as_expected(rt: HostRuntime) {
 }
 
 /// Opens a document, and tries once more if an allocation fails. Returns whether the document is
-/// open in the end, and was still closed after a failure.
+/// open in the end. If the first attempt failed, the document must still be closed after that
+/// attempt.
 fn open_with_retry(documents: &mut Documents<Lines>, uri: &str) -> bool {
     if documents.did_open(uri, 1, OPENED_TEXT).is_err() {
         if documents.get(uri).is_some() || documents.did_open(uri, 1, OPENED_TEXT).is_err() {

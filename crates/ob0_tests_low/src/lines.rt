@@ -1,5 +1,6 @@
-//! Tests the store of lines (`Lines`) by comparing it with the store of a whole text (`Whole`):
-//! after many changes of short texts, and in long lines. Also tests which lines it has.
+//! Tests the store of lines (`Lines`) by comparing it with the store of a whole text (`Whole`). The
+//! stores are compared after many changes of short texts, and in long lines. Also tests into which
+//! lines `Lines` cuts a text.
 
 use crate::cases::{TestCase, first_failing_row};
 use crate::lines::LinesCase::{CutIntoLines, LongLines, ShortText};
@@ -91,7 +92,7 @@ impl BothStores {
     }
 
     /// Changes each of the first three lines at these columns, one after another. Returns whether
-    /// both stores have the same text and report the same replaced bytes after each change.
+    /// both stores have the same text after each change.
     fn change_first_lines_at_columns(&mut self, columns: &[u64]) -> Result<bool, AllocError> {
         for line in 0..3 {
             for column in columns {
@@ -104,8 +105,8 @@ impl BothStores {
     }
 }
 
-/// Returns whether a store has the same text and the same lines as a new store of its text. Only
-/// the first 16 lines are compared.
+/// Returns whether a store has the same text and the same lines as a store newly built from its
+/// text. Only the first 16 lines are compared.
 fn has_lines_of_new_store(alloc: Global, lines: &Lines, unit: Unit) -> Result<bool, AllocError> {
     let again = Lines::from_str_in(alloc, lines.as_str(), unit)?;
     for k in 0..16 {
@@ -117,7 +118,8 @@ fn has_lines_of_new_store(alloc: Global, lines: &Lines, unit: Unit) -> Result<bo
 }
 
 /// Makes one change in both stores of a text. Returns whether both stores have the same text and
-/// convert positions and offsets alike. The store of lines must also have the lines of a new store.
+/// convert positions and offsets alike. The store of lines must also have the same lines as a store
+/// newly built from the changed text.
 fn stores_agree_after_change(
     alloc: Global,
     text: &str,
@@ -133,10 +135,10 @@ fn stores_agree_after_change(
     )
 }
 
-/// Makes two changes of the text, each in new stores. Returns whether the stores agree after each
-/// change. Both changes begin in `line`. The change `wide` ends `further` lines later, and its
-/// positions are counted in UTF-16 units. The change `narrow` ends in the same line, and its
-/// positions are counted in bytes.
+/// Makes two changes of the text, each in stores newly built from it. Returns whether the stores
+/// agree after each change. Both changes begin in `line`. The change `wide` ends `further` lines
+/// later, and its positions are counted in UTF-16 units. The change `narrow` ends in the same line,
+/// and its positions are counted in bytes.
 fn stores_agree_after_each_of_two_changes(
     alloc: Global,
     text: &str,
@@ -152,9 +154,9 @@ fn stores_agree_after_each_of_two_changes(
     )
 }
 
-/// Makes several changes of the text, each in new stores. Returns whether the stores agree after
-/// each change. Each begins in one of the first four lines, and ends there or in one of the next
-/// two.
+/// Makes several changes of the text, each in stores newly built from it. Returns whether the
+/// stores agree after each change. Each change begins in one of the first four lines, and ends in
+/// the same line or in one of the next two.
 fn stores_agree_after_each_change(
     alloc: Global,
     text: &str,
@@ -172,8 +174,8 @@ fn stores_agree_after_each_change(
 
 static REPLACEMENT_TEXTS: &[&str] = &["", "\n", "\r", "\r\n", "é", "\n\r", "a\rb"];
 
-/// Returns whether the stores agree after changes that insert each of the texts
-/// `REPLACEMENT_TEXTS`.
+/// Returns whether the stores of a text agree after changes that insert one of `REPLACEMENT_TEXTS`.
+/// Every text of this list is tried.
 fn stores_agree_after_each_replacement(alloc: Global, text: &str) -> Result<bool, AllocError> {
     for new in REPLACEMENT_TEXTS {
         if !stores_agree_after_each_change(alloc, text, new)? {
@@ -191,8 +193,8 @@ static COLUMN_SEQUENCES: &[&[u64]] = &[
     &[10, 120, 60, 64, 128, 1, 90, 89],
 ];
 
-/// Returns whether both stores of a text agree on positions far to the right in its lines, and
-/// after the lines are changed at the columns of each list (`COLUMN_SEQUENCES`).
+/// Returns whether both stores of a text agree on positions far to the right in its lines. They
+/// must also agree after the lines are changed at the columns of each list in `COLUMN_SEQUENCES`.
 fn stores_agree_in_long_lines(alloc: Global, text: &str, unit: Unit) -> Result<bool, AllocError> {
     if !both_stores_of(alloc, text, unit)?.have_same_text_and_positions(4, 160) {
         return Ok(false);

@@ -28,8 +28,8 @@ enum RescanOutcome {
     Different,
 }
 
-/// A change of a text: the text before the change, the replaced text, the new text, and the text
-/// after the change.
+/// A change of a text, as four texts: the unchanged front, the replaced text, the new text, and the
+/// unchanged rest.
 type ChangeInContext = (&'static str, &'static str, &'static str, &'static str);
 
 enum RescanCase {
@@ -58,8 +58,8 @@ fn are_same_scans(a: &Tokens, b: &Tokens) -> bool {
     a.text() == b.text() && a.tokens() == b.tokens() && a.comments() == b.comments()
 }
 
-/// Returns the outcome of a scan in place, given its result (`placed`) and the result of a scan
-/// from scratch (`scanned`). If the new text has faults, the scan in place must return tokens of
+/// Returns the outcome of `rescan_in_place`, given its result (`placed`) and the result of a scan
+/// from scratch (`scanned`). If the new text has faults, `rescan_in_place` must return tokens of
 /// the old text (`old_text`).
 fn outcome_of_scan_in_place(
     placed: &Result<RescanWithComparison, RescanRefusal>,
@@ -76,8 +76,8 @@ fn outcome_of_scan_in_place(
     }
 }
 
-/// Returns whether `found`, the result of a rescan that keeps the old tokens, has this outcome,
-/// given the result of a scan from scratch (`scanned`). The Bool of `SameTokens` is ignored.
+/// Returns whether a rescan that keeps the old tokens has this outcome. `found` is the rescan's
+/// result, and `scanned` is the result of a scan from scratch. The Bool of `SameTokens` is ignored.
 fn rescan_has_outcome(
     found: &Result<Rescan, ScanRefusal>,
     scanned: &Result<Tokens, ScanRefusal>,
@@ -104,8 +104,8 @@ struct ChangedRange {
 }
 
 /// Scans a changed text again in two ways: with the old tokens kept (`rescan`), and with the old
-/// tokens replaced in place (`rescan_in_place`). Returns the outcome that both have, or `Different`
-/// if they differ.
+/// tokens replaced in place (`rescan_in_place`). Returns the outcome of both, or `Different` if the
+/// two outcomes differ.
 fn rescan_both_ways(
     alloc: Global,
     old: Tokens,
@@ -121,9 +121,9 @@ fn rescan_both_ways(
     common_outcome_of_rescans(&beside, &placed, &scan(alloc, text), old_text)
 }
 
-/// Returns the outcome that both rescans of a changed text have, or `Different` if they differ.
-/// `beside` is the result of `rescan`, `placed` of `rescan_in_place`, and `scanned` of a scan from
-/// scratch.
+/// Returns the outcome of both rescans of a changed text, or `Different` if the two outcomes
+/// differ. `beside` is the result of `rescan`, and `placed` is the result of `rescan_in_place`.
+/// `scanned` is the result of a scan from scratch.
 fn common_outcome_of_rescans(
     beside: &Result<Rescan, ScanRefusal>,
     placed: &Result<RescanWithComparison, RescanRefusal>,

@@ -175,7 +175,7 @@ fn client_features_in_words(client: ClientFeatures) -> &'static str {
     }
 }
 
-/// Returns a request for formatting with this indentation, in words.
+/// Describes in words a request for formatting with this indentation.
 fn formatting_in_words(indent: Indent) -> &'static str {
     match indent {
         Indent::Tab => "layout by tabs",
@@ -186,7 +186,7 @@ fn formatting_in_words(indent: Indent) -> &'static str {
     }
 }
 
-/// Returns a request for code actions of these kinds, in words.
+/// Describes in words a request for code actions of these kinds.
 fn code_actions_in_words(only: &Option<Vec<String>>) -> &'static str {
     match only {
         None => "actions",

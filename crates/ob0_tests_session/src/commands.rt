@@ -1,5 +1,5 @@
-//! Tests how command lines are parsed, and that commands flush their output. The writers of these
-//! tests pass written bytes on only when they are flushed.
+//! Tests how command lines are parsed, and that commands flush their output. The tests use a writer
+//! that counts bytes, and counts as output only the bytes that were flushed.
 
 use crate::devices::{CountingWriter, FailingReader, WriterCounts};
 use ob0_cli::{CommandFault, CommandLine, command};
@@ -41,9 +41,9 @@ const RENAME_AT_KEYWORD: CommandLine<'static> = CommandLine::Rename {
 /// A command line, the bytes of its file and the bytes of the standard input.
 type CommandWithInput = (CommandLine<'static>, &'static [u8], &'static [u8]);
 
-/// Performs a command with an output writer whose first `flushes` flushes succeed; later ones fail.
-/// Returns the command's status, and the number of bytes that this writer passed on. If the command
-/// line has no file, performs nothing and returns the status 2.
+/// Performs a command with an output writer whose first `flushes` flushes succeed and whose later
+/// flushes fail. Returns the command's status, and the number of output bytes that were flushed. If
+/// the command line has no file, performs nothing and returns the status 2 and 0 bytes.
 fn status_and_passed_on_bytes(alloc: Global, call: CommandWithInput, flushes: u32) -> (u8, usize) {
     let (line, file, bytes) = call;
     let Some(_path) = line.file_path() else {
@@ -66,7 +66,7 @@ fn status_and_passed_on_bytes(alloc: Global, call: CommandWithInput, flushes: u3
 }
 
 /// Commands, each with the number of flushes that succeed, the expected status, and the expected
-/// number of bytes that the writer passes on.
+/// number of output bytes that are flushed.
 static COMMAND_CASES: &[(CommandWithInput, u32, (u8, usize))] = &[
     (
         (CHECK_COMMAND, b"", b""),

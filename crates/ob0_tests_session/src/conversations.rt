@@ -1,5 +1,5 @@
-//! Tests conversations with failing devices, and with a writer that passes bytes on only when it is
-//! flushed.
+//! Tests conversations with readers and writers that fail. Also tests that `serve` flushes the
+//! bytes that it writes.
 
 use crate::devices::{CountingWriter, FailingReader, WriterCounts};
 use ob0_session::{DeviceFault, InputDevice, Noted, OutputDevice, ServeFault, serve, status_of};
@@ -33,8 +33,8 @@ struct ConversationCase {
     result: Result<u8, ServeFault>,
 }
 
-/// Builds a table of conversations, each written `BYTES to LEN, GIVEN, READS; CAPACITY, FLUSHES =>
-/// RESULT;`.
+/// Builds a table of conversations, each written `BYTES to LEN, MAX READ LENGTH, READS; CAPACITY,
+/// FLUSHES => RESULT;`.
 macro_rules! conversation_rows {
     ($($bytes:ident to $len:expr, $max_read_length:expr, $reads:expr; $capacity:expr, $flushes:expr => $result:expr;)*) => {
         &[$(ConversationCase { bytes: $bytes, len: $len, max_read_length: $max_read_length, reads: $reads, capacity: $capacity, flushes: $flushes,
@@ -85,9 +85,9 @@ fn serve_with_failing_devices(
     }
 }
 
-/// Returns whether everything was flushed, and the recorded failures agree with the result: a
-/// failed read exactly if the result is `Read`, and a failed write exactly if the result is
-/// `Write`.
+/// Returns whether everything was flushed, and the recorded failures agree with the result. A
+/// failed read must be recorded exactly if the result is `Read`, and a failed write exactly if it
+/// is `Write`.
 fn result_matches_failures(found: ConversationEnd) -> bool {
     found.read_failed == (found.result == Err(ServeFault::Read))
         && found.write_failed == (found.result == Err(ServeFault::Write))
@@ -96,7 +96,7 @@ fn result_matches_failures(found: ConversationEnd) -> bool {
 
 /// Returns whether a conversation ends as expected when only this many flushes succeed. If a needed
 /// flush fails, the result must be `Write`. Otherwise it must be the expected result, and all
-/// written bytes must be passed on.
+/// written bytes must have been flushed.
 fn ends_as_expected_with_flushes(alloc: Global, end: &ConversationCase, flushes: u32) -> bool {
     let mut count = WriterCounts::new(end.capacity, flushes);
     let found = serve_with_failing_devices(alloc, end, &mut count);
@@ -118,7 +118,7 @@ fn needs_expected_flushes(alloc: Global, end: &ConversationCase) -> bool {
 }
 
 /// Returns the index, from 0, of the first conversation that doesn't end as expected. Returns None
-/// if all do.
+/// if all conversations end as expected.
 fn first_failing_conversation(alloc: Global, ends: &[ConversationCase]) -> Option<usize> {
     for i in 0..ends.len() {
         if !needs_expected_flushes(alloc, &ends[i]) {
@@ -134,7 +134,8 @@ fn output_is_flushed_after_each_piece(rt: HostRuntime) {
     assert!(rt; number.is_none(), "conversation {number:?}");
 }
 
-/// Returns whether `Noted` passes a reader's bytes on unchanged, and records the reader's failure.
+/// Returns whether the wrapper `Noted` returns its reader's results and bytes unchanged, and
+/// records the reader's failure.
 fn reader_failure_is_recorded() -> bool {
     let mut reader = Noted::new(FailingReader {
         bytes: b"ab",
@@ -146,7 +147,8 @@ fn reader_failure_is_recorded() -> bool {
     is_read && reader.read(&mut piece) == Err(DeviceFault) && reader.failed()
 }
 
-/// Returns whether `Noted` passes a writer's bytes on unchanged, and records the writer's failure.
+/// Returns whether the wrapper `Noted` returns its writer's results unchanged, and records the
+/// writer's failure.
 fn writer_failure_is_recorded() -> bool {
     let mut count = WriterCounts::new(1, 1);
     let mut writer = Noted::new(CountingWriter { count: &mut count });

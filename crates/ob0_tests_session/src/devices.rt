@@ -23,8 +23,9 @@ impl<'a> Read for FailingReader<'a> {
     }
 }
 
-/// The counts of a `CountingWriter`: the written bytes, how many of them it has passed on, how many
-/// more bytes it accepts, and how many more flushes succeed.
+/// The counts of a `CountingWriter`: the number of written bytes, and how many of these were
+/// flushed (`passed_on`). The other two numbers say how many more bytes it accepts, and how many
+/// more flushes succeed.
 #[derive(Clone, Copy)]
 pub struct WriterCounts {
     pub written: usize,
@@ -46,7 +47,8 @@ impl WriterCounts {
 }
 
 /// A writer that stores nothing: it only counts the written bytes, in `count`. A write fails if no
-/// more bytes are accepted. Written bytes count as passed on once the writer is flushed.
+/// more bytes are accepted. Once a flush succeeds, all bytes written so far count as flushed
+/// (`passed_on`).
 #[derive(Drop)]
 pub struct CountingWriter<'a> {
     pub count: &'a mut WriterCounts,

@@ -1,5 +1,5 @@
 //! Defines short forms of events and of reports, for the tests' tables. Builds the events from
-//! their short forms, and makes them happen in a world.
+//! their short forms, and performs them in a world.
 //!
 //! If an allocation fails while a story's list of events is built, the list is built a second time.
 //! The second time succeeds, because only one allocation of a test's run fails.
@@ -75,8 +75,9 @@ pub enum StepsResult {
     Unexpected,
 }
 
-/// Returns the common result of several steps, given the result of all steps but the last
-/// (`before`) and the result of the last step (`next`).
+/// Returns the common result of several steps. `before` is the result of all steps except the last,
+/// and `next` is the result of the last step. Each step after a failed allocation must return
+/// `Ended`, and no other step may. Otherwise the common result is `Unexpected`.
 pub fn join_results(before: StepsResult, next: StepsResult) -> StepsResult {
     match (before, next) {
         (StepsResult::AsExpected, StepsResult::Ended) => StepsResult::Unexpected,
@@ -100,7 +101,7 @@ fn list_of_one_change(alloc: Global, range: Range, text: &str) -> Result<Vec<Cha
     Ok(changes)
 }
 
-/// Returns the request for renaming the name with this position to `name`.
+/// Returns the request to rename the name at this position to `name`.
 fn rename_ask(alloc: Global, position: Position, name: &str) -> Result<Ask, AllocError> {
     let name = String::from_str(alloc, name)?;
     Ok(Ask::Rename { position, name })
@@ -204,8 +205,8 @@ fn short_report_of(seen: &Seen) -> ShortReport {
     }
 }
 
-/// Makes an event happen in a world. Returns whether the report is the expected one (`wanted`), or
-/// why the event failed. After more than 1,000,000 steps, no event happens and the result is
+/// Performs an event in a world. Returns whether the report is the expected one (`wanted`), or why
+/// the event failed. After more than 1,000,000 steps, no event is performed and the result is
 /// `Unexpected`.
 pub fn make_event_happen<T: TextStore>(
     world: &mut World<T>,

@@ -49,7 +49,8 @@ const EMOJI_TEXT: &str = "MODULE M;\nVAR (* 😀 *) n: INTEGER;\nBEGIN (* 😀 *
 const EMOJI_TEXT_RENAMED: &str =
     "MODULE M;\nVAR (* 😀 *) k: INTEGER;\nBEGIN (* 😀 *) k := 1 END M.\n";
 
-/// The text `EMOJI_TEXT` with `k` written over the declared name, so that `n` is undeclared.
+/// The text `EMOJI_TEXT` with the declared name replaced by `k`, so that the use of `n` is
+/// undeclared.
 const EMOJI_TEXT_OVERWRITTEN: &str =
     "MODULE M;\nVAR (* 😀 *) k: INTEGER;\nBEGIN (* 😀 *) n := 1 END M.\n";
 

@@ -1,5 +1,5 @@
-//! Tests whole lists of events, both step by step and by `play`, with positions in UTF-16 units and
-//! in bytes, and over both text stores.
+//! Tests whole lists of events, step by step and by `play`. The tests use both text stores, and
+//! positions in UTF-16 units and in bytes.
 
 use crate::short_events::{
     StepsResult, Story, build_events_with_retry, join_results, make_event_happen,
@@ -10,8 +10,8 @@ use ob0_world::{Applied, Event, Made, PlayFault, Played, World, WorldFault};
 use std::alloc::{AllocError, Global};
 use std::process::Abort;
 
-/// The way in which a story's events are made to happen: one by one over a store of lines or of
-/// whole texts, or all by `play`.
+/// The way to perform a story's events: one by one with the text store `Lines` or `Whole`, or all
+/// of them by `play`.
 #[derive(Clone, Copy)]
 enum StoryMode {
     SteppedOverLineStore,
@@ -27,8 +27,8 @@ struct StoryOutcome(StepsResult, u64, usize, usize);
 /// The outcome of a story that doesn't run as expected. Its numbers have no meaning.
 const UNEXPECTED_OUTCOME: StoryOutcome = StoryOutcome(StepsResult::Unexpected, 0, 0, 0);
 
-/// Returns whether the edits in `found` are the first of the expected edits (`wanted`), in the same
-/// order.
+/// Returns whether the list `found` is a prefix of `wanted`, the list of the expected edits. Edits
+/// are compared by their texts before and after the edit.
 fn are_first_edits(found: &[Applied], wanted: &[(&str, &str)]) -> bool {
     if found.len() > wanted.len() {
         return false;
@@ -42,8 +42,7 @@ fn are_first_edits(found: &[Applied], wanted: &[(&str, &str)]) -> bool {
     true
 }
 
-/// Returns whether the publications in `found` are the first of the expected ones (`wanted`), in
-/// the same order.
+/// Returns whether the list `found` is a prefix of `wanted`, the list of the expected publications.
 fn are_first_publications(found: &[Made], wanted: &[(i64, &str, bool)]) -> bool {
     if found.len() > wanted.len() {
         return false;
@@ -60,8 +59,8 @@ fn are_first_publications(found: &[Made], wanted: &[(i64, &str, bool)]) -> bool 
     true
 }
 
-/// Returns the outcome of a story's first events if their edits and publications are the first of
-/// the expected ones. Otherwise returns `UNEXPECTED_OUTCOME`.
+/// Returns the outcome of a story's first events, `steps` in number. If their edits and
+/// publications aren't the first ones that the story expects, returns `UNEXPECTED_OUTCOME`.
 fn outcome_of_first_events(
     story: &Story,
     steps_result: StepsResult,
@@ -83,7 +82,7 @@ fn new_world<T: TextStore>(alloc: Global, unit: Unit) -> Result<World<T>, WorldF
     }
 }
 
-/// Makes the events of a story happen in a world, and returns the common result of all steps
+/// Performs the events of a story in a world, and returns the common result of all steps
 /// (`join_results`).
 fn make_story_events_happen<T: TextStore>(
     world: &mut World<T>,
@@ -100,7 +99,7 @@ fn make_story_events_happen<T: TextStore>(
     result
 }
 
-/// Makes a story's events happen one by one over a store of type `T`, and returns the outcome.
+/// Performs a story's events one by one, with text stores of type `T`, and returns the outcome.
 fn step_through_story<T: TextStore>(
     alloc: Global,
     story: &Story,
@@ -114,7 +113,7 @@ fn step_through_story<T: TextStore>(
     outcome_of_first_events(story, result, steps, &world.into_played())
 }
 
-/// Plays events by `play` over a store of lines, with positions in this unit.
+/// Performs events by `play`, with the text store `Lines` and positions counted in this unit.
 fn play(alloc: Global, unit: Unit, events: &[Event]) -> Result<Played, PlayFault> {
     match unit {
         Unit::Utf16 => World::<Lines>::play(alloc, events),
@@ -122,7 +121,7 @@ fn play(alloc: Global, unit: Unit, events: &[Event]) -> Result<Played, PlayFault
     }
 }
 
-/// Plays a story's events by `play`, and returns the outcome.
+/// Performs a story's events by `play`, and returns the outcome.
 fn play_story(alloc: Global, story: &Story, events: &[Event]) -> StoryOutcome {
     match play(alloc, story.unit, events) {
         Ok(played) => outcome_of_first_events(
@@ -140,8 +139,8 @@ fn play_story(alloc: Global, story: &Story, events: &[Event]) -> StoryOutcome {
     }
 }
 
-/// Runs a story, and returns the outcome up to an event at which an allocation fails, or up to the
-/// story's end.
+/// Runs a story, and returns the outcome. If an allocation fails at an event, the outcome's numbers
+/// count only what happened before that event.
 fn run_story(alloc: Global, story: &Story, manner: StoryMode) -> StoryOutcome {
     match build_events_with_retry(alloc, story) {
         Ok(events) => match manner {
@@ -182,7 +181,8 @@ fn runs_as_expected(alloc: Global, story: &Story, may_fail: bool) -> bool {
         && completes_as_expected(alloc, story, StoryMode::Played)
 }
 
-/// Returns the name of the first story that doesn't run as expected, or the empty string if all do.
+/// Returns the name of the first story that doesn't run as expected, or an empty string if all
+/// stories do.
 fn first_failing_story(alloc: Global, may_fail: bool) -> &'static str {
     for story in all_stories() {
         if !runs_as_expected(alloc, story, may_fail) {

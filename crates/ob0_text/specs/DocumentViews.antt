@@ -1,5 +1,6 @@
--- Defines the values that contracts use for the documents of the code: stored (`StoredDocument`) or
--- borrowed (`Held`).
+-- Converts a stored document (`StoredDocument`) or a borrowed document (`Held`) of the code to the
+-- `Document` that contracts use. Also states that a document's positions are counted in a given
+-- unit.
 -- Rule: none; used in contracts about stored and borrowed documents.
 use Rattle.std.specs.Prelude.{◌≡◌, ℕ, List, map, string_bytes, String, Option, Some, None}
 use Rattle.std.specs.Option.{option_map}
@@ -32,7 +33,7 @@ abbrev pub document_of_held : {T : Type 0} → (T → List ℕ) → Held T → D
 document_of_held content (stored.InStep version text) = InStep version (content text.now)
 document_of_held content stored.OutOfStep = OutOfStep
 
--- States that a stored text has its positions counted in this unit, or that no text is stored
+-- States that the positions in a stored text are counted in this unit, or that no text is stored
 -- (None). `unit_of` returns the unit of a stored text.
 abbrev pub StoredTextUsesUnit : {T : Type 0} → (T → units.Unit) → units.Unit → Option T → Type 0
 StoredTextUsesUnit unit_of unit text = (store : _) → text ≡ Some store → unit_of store ≡ unit
@@ -49,8 +50,9 @@ AllStoredTextsUseUnit unit_of unit m =
     → tree.get_by_text m uri ≡ Some entry
     → StoredTextUsesUnit unit_of unit entry.text
 
--- States that a borrowed document has a text whose positions are counted in this unit, is out of
--- step, or doesn't exist (None). `unit_of` returns the unit of a borrowed text.
+-- States that the positions in a borrowed document's text are counted in this unit. A document that
+-- is out of step or doesn't exist (None) also meets this condition. `unit_of` returns the unit of a
+-- borrowed text.
 abbrev pub HeldTextUsesUnit : {T : Type 0} → (T → units.Unit) → units.Unit → Option (Held T) → Type 0
 HeldTextUsesUnit unit_of unit None = Unit {0}
 HeldTextUsesUnit unit_of unit (Some (stored.InStep version text)) = unit_of text.now ≡ unit

@@ -4,8 +4,8 @@
 --
 -- A change of the text keeps the line starts before it. The code tests the inserted bytes and one
 -- byte on either side, and shifts the starts after the change (`table-mended` in `StartLaws`). A CR
--- and an LF that a change joins or separates need no separate case. This is correct because of four
--- facts, which are lemmas of `StartLaws`:
+-- and an LF that a change joins or separates need no separate case. The resulting line starts are
+-- correct because of four facts, which are lemmas of `StartLaws`:
 -- - The starts of a whole text are `line_starts_after_bytes 0 (LF ∷ bytes) []` (`table`, proved
 --   character by character with `following_ends`).
 -- - If a run of bytes has two parts, the starts in the first part come first, then the starts in
@@ -65,7 +65,8 @@ pub record TextWithUnit : Type 0 where
   pub text : List ℕ
   pub unit : Unit
 
--- The encoding (`Coded`) of a text with its unit, which the model of the store `Lines` requires.
+-- The encoding of a text with its unit as a pair, which can be decoded again (`Coded`). The model
+-- of the store `Lines` requires such an encoding.
 abbrev pub coded_text_with_unit : Coded TextWithUnit
 coded_text_with_unit =
     code_by (List ℕ × Unit) (coded× (coded_list coded_ℕ) coded_position_unit) (λ t. (t.text, t.unit))

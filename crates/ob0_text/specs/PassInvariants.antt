@@ -1,11 +1,11 @@
 -- Defines the invariants of passes over a text. A pass advances through the text to a byte offset
--- or to a position, and keeps track of its place. `PositionsCanBeCountedInRest` says that the position of
--- each later offset can be counted from the place. `OffsetsCanBeFoundInRest` says that the offsets of the
--- sought position and of each later position can be found from the place. For each kind of step a
--- lemma shows that the step preserves the invariant (`PositionSteps`, `PlaceSteps`). So stopping
--- and resuming a pass needs no separate case. A pass towards a position doesn't count the
--- characters of earlier lines, so `OffsetsCanBeFoundInRest` covers only positions at or after the sought
--- one.
+-- or to a position, and keeps track of its place. `PositionsCanBeCountedInRest` says that the
+-- position of each later offset can be counted from the place. `OffsetsCanBeFoundInRest` says that
+-- the offsets of the sought position and of each later position can be found from the place. For
+-- each kind of step a lemma shows that the step preserves the invariant (`PositionSteps`,
+-- `PlaceSteps`). So stopping and resuming a pass needs no separate case. A pass towards a position
+-- doesn't count the characters of earlier lines, so `OffsetsCanBeFoundInRest` covers only positions
+-- at or after the sought one.
 -- Rule: none; used in private contracts about passes over a text.
 use Rattle.std.specs.Prelude.{◌≡◌, ℕ, ◌+◌, ◌-◌, ◌<◌, ◌≤◌, ◌⊎◌, if◌then◌else◌, ◌==◌, List, ◌++◌, length, drop}
 use Rattle.std.specs.Str.{IsUtf8, chars}
@@ -69,8 +69,8 @@ pub record OffsetsCanBeFoundInRest (width : ℕ → ℕ) (text : List ℕ) (soug
       → offset + byte_len (text_before width (chars rest) (relative_position line character p))
       ≡ byte_len (text_before width (chars text) p)
 
--- States that the place `p` is at or before the position `sought`, and that the offsets of `sought`
--- and of each later position can be found from `p`.
+-- States that the place `p` is at or before the position `sought`. The offsets of `sought` and of
+-- each later position can be found from `p`.
 abbrev pub OffsetsCanBeFoundFromPlace : (ℕ → ℕ) → List ℕ → Position → PlaceInText → Type 0
 OffsetsCanBeFoundFromPlace width text sought p =
     OffsetsCanBeFoundInRest width text sought (drop p.offset text) p.offset p.line p.character

@@ -11,8 +11,9 @@ use Rattle.ob0_text.specs.Texts.{LF, CR}
 abbrev pub IsNotLineBreak : ℕ → Type 0
 IsNotLineBreak c = (c == LF || c == CR) ≡ false
 
--- Returns the number of UTF-16 units that are counted at a byte of UTF-8: 2 at the first byte of a
--- character of four bytes, 1 at the first byte of any other character, and 0 at every other byte.
+-- Returns the number of UTF-16 units that one byte of UTF-8 counts for. The first byte of a
+-- four-byte character counts for 2, and the first byte of any other character for 1. Every other
+-- byte counts for 0.
 abbrev pub utf16_units_at_byte : ℕ → ℕ
 utf16_units_at_byte b =
     (if nat_lt b 0x80 || nat_le 0xC0 b then 1 else 0) + (if nat_le 0xF0 b then 1 else 0)

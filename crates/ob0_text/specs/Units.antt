@@ -23,7 +23,7 @@ abbrev pub unit_from_utf8_flag : Bool → unit.Unit
 unit_from_utf8_flag false = Utf16
 unit_from_utf8_flag true = Utf8
 
--- The encoding (`Coded`) of a unit as a boolean. The encodings of texts and documents are made from
--- it.
+-- The encoding of a unit as a boolean, which can be decoded again (`Coded`). The encodings of texts
+-- and documents use it.
 abbrev pub coded_position_unit : Coded unit.Unit
 coded_position_unit = code_by Bool coded_bool is_utf8 unit_from_utf8_flag (elim [ Utf16 ↦ refl | Utf8 ↦ refl ])

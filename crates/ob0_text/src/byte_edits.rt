@@ -106,7 +106,7 @@ fn unsorted_byte_edits<'e, T: TextStore>(
 }
 
 /// Returns the byte offset of each position, in the order of `positions`. Takes `positions` by
-/// value and drops it, so that memory doesn't hold the positions longer than necessary.
+/// value, so that their memory is released as soon as the offsets are known.
 fn offsets_of_positions<T: TextStore>(
     alloc: Global,
     store: &T,

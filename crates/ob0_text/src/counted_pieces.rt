@@ -1,15 +1,15 @@
-//! Keeps the part of a line whose units were counted last. The next position is usually near the
-//! end of this part, so counting continues there.
+//! Keeps the part of a line whose units (`Unit`) were counted last. The next position is usually
+//! near the end of this part, so counting continues there.
 //!
 //! `Lines` keeps the counted part of the line of the last change: from the line's start to a place
 //! shortly before the change. The search for the start of the next change begins at the end of this
 //! part. Short runs of characters (`stretches.rt`) are removed from the end of the part or added to
-//! it (`shorten_piece_to_units`, `extend_piece_within_units`). So if an editor replaces all occurrences of a word
-//! in one long line, forwards or backwards, only the text between two changes is passed over. The
-//! part contains only text before the change (`piece_or_empty_if_beyond`). So it remains a piece of a
-//! line (`IsPieceOfLine`), even if the change adds or removes lines. `place_from_counted_piece`
-//! tests whether a line still starts at the part's start. If changes alternate between two places
-//! of one long line, each change passes over the text between these places.
+//! it (`shorten_piece_to_units`, `extend_piece_within_units`). So if an editor replaces all
+//! occurrences of a word in one long line, forwards or backwards, only the text between two changes
+//! is visited. The part contains only text before the change (`piece_or_empty_if_beyond`). So it
+//! remains a piece of a line (`IsPieceOfLine`), even if the change adds or removes lines.
+//! `place_from_counted_piece` tests whether a line still starts at the part's start. If changes
+//! alternate between two places of one long line, each change visits the text between these places.
 
 ghost use Rattle.std.specs.Prelude.{◌≡◌, ◌+◌, ◌-◌, ◌<◌, ◌≤◌, ◌++◌, ℕ, List, IfSome, length, take};
 ghost use Rattle.ob0_text.specs.Units.{width_of};
@@ -59,8 +59,8 @@ impl CountedPiece {
 
 /// Returns the end and the number of units of a piece of one line. The piece begins at the byte
 /// offset `start` and has at most `units` units. If the rest of the line has at least `units`
-/// units, the piece has nearly `units` units. If the piece `last` also begins at `start`, only the
-/// difference between the two pieces is counted.
+/// units, the piece has more than `units - 64` units. If the piece `last` also begins at `start`,
+/// only the difference between the two pieces is counted.
 pub fn piece_end_within_units(
     text: &str,
     unit: Unit,
@@ -112,8 +112,8 @@ fn shorten_piece_to_units(
     kept
 }
 
-/// Returns `piece`, which begins at the byte offset `start`, without its last characters. At most
-/// 64 bytes are removed. Returns None if nothing would be left.
+/// Removes whole characters, at most 64 bytes in all, from the end of `piece`, and returns the
+/// rest. `piece` begins at the byte offset `start`. Returns None if nothing would be left.
 fn piece_without_last_characters(
     text: &str,
     unit: Unit,

@@ -1,21 +1,20 @@
 //! Looks up offsets and positions with the table of a text's lines.
 //!
-//! `count_starts_before` is a binary search. Its contract says: if the table is split into line
-//! starts below a byte offset and line starts at or above it, the result is the length of the first
+//! `count_starts_before` is a binary search. Its contract splits the table into the line starts
+//! below a byte offset and the line starts at or above it. The result is the length of the first
 //! part. The loop keeps this length between `low` and `high` (the lemmas `in_front` and
-//! `not_in_front` in `Halving`).
-//! The pass that looks up an offset or a position may begin at the start of any line that starts at
-//! or before it (`line_counted`, `line_sought` in `LinePlaces`). The result is the same for each of
-//! these lines. Beginning at the nearest line only saves time.
+//! `not_in_front` in `Halving`). A pass to an offset or a position may begin at any line start that
+//! isn't after it (`line_counted`, `line_sought` in `LinePlaces`). The result is the same for each
+//! of these line starts. Beginning at the nearest one only saves time.
 //!
-//! A list of offsets or positions is looked up in its order. The pass to an offset or position
-//! continues at the place of the previous one if this place is in the same line and not after it.
-//! The pass to an offset also continues there if the offset is less than 32 bytes ahead, even in
-//! another line. Otherwise the pass begins at the start of the line, which the table gives
-//! (`pass_start_for_offset`, `place_from_previous_position`). So ascending offsets or positions in one long
-//! line take a single pass over that line, as in the plain store `Whole`. An offset that isn't near
-//! takes a binary search for its line. If both ends of a changed range are in one line, one pass
-//! finds both ends (`range_offsets`).
+//! A list of offsets or positions is looked up in its order. Each pass continues at the place that
+//! the previous pass reached, if this place is in the same line and not after the offset or
+//! position. A pass to an offset also continues at that place if the offset is less than 32 bytes
+//! ahead, even in another line. Otherwise the pass begins at the start of the line, which the table
+//! gives (`pass_start_for_offset`, `place_from_previous_position`). So ascending offsets or
+//! positions in one long line take a single pass over that line, as in the plain store `Whole`. If
+//! an offset isn't near, its line is found by binary search. If both ends of a changed range are in
+//! one line, one pass finds both ends (`range_offsets`).
 
 ghost use Rattle.std.specs.Prelude.{◌≡◌, ◌+◌, ◌-◌, ◌<◌, ◌≤◌, IfOk, length, map, min, slice_get, slice_index};
 ghost use Rattle.std.specs.Option.{option_map};
@@ -93,9 +92,9 @@ pub fn range_offsets(
     }
 }
 
-/// Returns a counted piece of the position's line, or of the last line if the text has no such
-/// line. The piece ends at or before the position. Counting begins with `last`, the piece that was
-/// counted last.
+/// Returns a counted piece (`CountedPiece`) of the position's line, or of the last line if the text
+/// has no such line. The piece ends at or before the position. Counting begins with `last`, the
+/// piece that was counted last.
 fn counted_piece_before_position(
     text: &str,
     table: &LineTable,

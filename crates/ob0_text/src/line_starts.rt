@@ -17,9 +17,9 @@ pub fn line_starts_of(alloc: Global, text: &str) -> Result<Vec<usize>, AllocErro
 }
 
 /// Returns the line starts that a change adds. The change replaces the bytes `from..to` of `text`
-/// by `new`. The result has the byte offsets in the changed text at which a line starts, from the
-/// start of `new` to its end, both included. These starts also depend on the byte before `from` and
-/// on the unchanged bytes after `to`.
+/// by `new`. The result has the byte offsets at which a line starts in the changed text, from the
+/// start of `new` to the end of `new`, both included. These starts also depend on the byte before
+/// `from` and on the unchanged bytes after `to`.
 pub fn line_starts_added_by_change(
     alloc: Global,
     text: &str,

@@ -25,8 +25,8 @@ use std::alloc::{AllocError, Global};
 use std::marker::Model;
 
 /// A text with the table of its lines. A look-up of one offset or position counts only the
-/// characters of its line. If a change starts in the same line as the previous change, finding its
-/// start usually passes over little more than the text between the two changes.
+/// characters of its line. If a change starts in the line of the previous change, the search for
+/// its start usually visits little more than the text between the two changes.
 #[derive(Drop)]
 pub struct Lines {
     text: String,

@@ -3,8 +3,8 @@
 //! The table has the start of each line. The starts up to the end of the last change are kept as
 //! byte offsets. The starts after that place are kept as distances in bytes from the text's end,
 //! last line first. So a change doesn't alter the stored distances of the lines after it (proved as
-//! `with_the_end` in `LineTables`). A change takes time for the starts that it adds or removes, and
-//! for the starts between its place and the previous change's place. `move_starts_to_back` and
+//! `with_the_end` in `LineTables`). A change visits only the starts that it adds or removes, and
+//! the starts between its place and the previous change's place. `move_starts_to_back` and
 //! `move_starts_to_front` move the starts between these two places from one part to the other.
 //! Their contracts say that the list of all starts is unchanged. If changes alternate between two
 //! distant places, each change moves all starts between these places.
@@ -26,9 +26,8 @@ use std::marker::Model;
 
 /// The byte offsets at which a text's lines start, in text order. `front` has the starts up to the
 /// end of the last change, as byte offsets. `back` has the starts after that place, last line
-/// first, as distances in bytes from the text's end. So a change only moves the starts between its
-/// place and the previous change's place from one list to the other. `len` is the text's length in
-/// bytes.
+/// first, as distances in bytes from the text's end. Each change moves the starts between its place
+/// and the previous change's place from one list to the other. `len` is the text's length in bytes.
 #[derive(Drop)]
 pub struct LineTable {
     front: Vec<usize>,

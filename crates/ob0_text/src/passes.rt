@@ -6,9 +6,9 @@
 //! across lines, because the offset is usually only a few lines ahead. This pass decodes only CR
 //! and characters outside ASCII. The pass to a position decodes each remaining character. If the
 //! pass began in the position's line, fewer than 64 characters remain to be decoded. The pass to an
-//! offset preserves the invariant `PositionsCanBeCountedFromPlace`, and the pass to a position preserves
-//! `OffsetsCanBeFoundFromPlace`. `StretchSteps` proves that a step over a whole stretch preserves both,
-//! because a step over one character does.
+//! offset preserves the invariant `PositionsCanBeCountedFromPlace`. The pass to a position
+//! preserves `OffsetsCanBeFoundFromPlace`. `StretchSteps` proves that a step over a whole stretch
+//! preserves both, because a step over one character does.
 
 ghost use Rattle.std.specs.Prelude.{◌≡◌, ◌↔◌, ◌==◌, ◌||◌, ◌+◌, ◌-◌, ◌<◌, ◌≤◌, IfOk, IfSome, IsTrue, None, map};
 ghost use Rattle.std.specs.Str.{IsCharBoundary, chars};

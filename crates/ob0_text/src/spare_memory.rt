@@ -14,8 +14,8 @@ ghost use Rattle.std.specs.Prelude.{◌≡◌, string_bytes};
 /// text.
 const NEGLIGIBLE_SPARE_CAPACITY: usize = 512;
 
-/// Releases most of a list's memory if little of it is used (`is_mostly_unused`). Room for twice the
-/// list's length is kept.
+/// Shrinks a list's capacity to twice the list's length if little of the capacity is used
+/// (`is_mostly_unused`).
 pub(crate) fn release_spare_list_memory(list: &mut Vec<usize>)
     ensures { list.new.items ≡ list.old.items }
 {
@@ -24,8 +24,8 @@ pub(crate) fn release_spare_list_memory(list: &mut Vec<usize>)
     }
 }
 
-/// Releases most of a text's memory if little of it is used (`is_mostly_unused`). Room for twice the
-/// text's length is kept.
+/// Shrinks a text's capacity to twice the text's length if little of the capacity is used
+/// (`is_mostly_unused`).
 pub(crate) fn release_spare_text_memory(text: &mut String)
     ensures { string_bytes text.new ≡ string_bytes text.old }
 {
@@ -34,8 +34,8 @@ pub(crate) fn release_spare_text_memory(text: &mut String)
     }
 }
 
-/// Returns whether so little of a capacity is used that memory should be released: a quarter of the
-/// capacity is more than the used part and `NEGLIGIBLE_SPARE_CAPACITY` together.
+/// Returns whether so little of a capacity is used that memory should be released. This is the case
+/// if `used` and `NEGLIGIBLE_SPARE_CAPACITY` together are less than a quarter of `capacity`.
 fn is_mostly_unused(capacity: usize, used: usize) -> bool {
     capacity / 4 > used.saturating_add(NEGLIGIBLE_SPARE_CAPACITY)
 }

@@ -1,5 +1,5 @@
-//! Counts the units of stretches: short runs of characters of one line, which are counted without
-//! decoding them.
+//! Counts the units of stretches. A stretch is a short run of characters of one line. Its units are
+//! counted without decoding the characters.
 //!
 //! A stretch has at most 64 bytes of whole characters, and no character in it is LF or CR. One loop
 //! counts the bytes that are LF or CR. If the unit is UTF-16, another loop counts the first byte of
@@ -28,8 +28,9 @@ pub struct Stretch {
 pub(crate) const MAX_STRETCH_BYTES: usize = 64;
 
 /// Returns the stretch that begins at the byte offset `from`: as many whole characters as 64 bytes
-/// can hold. Returns None if fewer than 64 bytes follow `from`, if `room` is less than 64, or if
-/// the stretch would contain LF or CR. So a stretch never has more than `room` bytes.
+/// can hold. `room` is the greatest number of bytes that the stretch may have. Returns None if
+/// fewer than 64 bytes follow `from`, if `room` is less than 64, or if the stretch would contain LF
+/// or CR.
 pub fn next_stretch(text: &str, unit: Unit, from: usize, room: u64) -> Option<Stretch>
     requires { IsCharBoundary text.now from }
     ensures is { IfSome result (λ s. IsStretch (width_of unit) text.now from s) }
@@ -94,8 +95,9 @@ fn utf16_units(bytes: &[u8]) -> u64
     units as u64
 }
 
-/// Returns the number of UTF-16 units that are counted at a byte of UTF-8: 2 at the first byte of a
-/// character of four bytes, 1 at the first byte of any other character, and 0 at every other byte.
+/// Returns the number of UTF-16 units that one byte of UTF-8 counts for. The first byte of a
+/// four-byte character counts for 2, and the first byte of any other character for 1. Every other
+/// byte counts for 0.
 fn utf16_units_at_byte(byte: u8) -> u8
     ensures { result ≡ utf16_units_at_byte byte }
 {

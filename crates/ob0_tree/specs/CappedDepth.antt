@@ -1,5 +1,5 @@
--- Defines the cap at 2^32 - 1 of the nesting depths that the code computes, because the code adds
--- levels in 32 bits with saturation.
+-- Defines how the code caps the nesting depths that it computes. It adds levels in 32 bits with
+-- saturation, so 2^32 - 1 stands for every greater depth.
 -- Rule: none; used in the contracts of the functions that compute nesting depths.
 use Rattle.std.specs.Prelude.{ℕ, min}
 

@@ -1,5 +1,5 @@
--- Defines a parsed module: a text and a syntax tree of the code. Also states when the tree is the
--- right one for the text (`TreeMatchesText`).
+-- Defines a parsed module: a text and a syntax tree, as the code represents them. Also states when
+-- the tree is the right one for the text (`TreeMatchesText`).
 -- Rule: none; used in contracts about parsed modules.
 use Rattle.std.specs.Prelude.{◌≡◌, ℕ, List, [], ◌∷◌, ◌++◌}
 use Rattle.ob0_scan.specs.TextWithTokens.{TextWithTokens}

@@ -39,8 +39,8 @@ pub data GrammarItem : Type 0 where
   procedure : GrammarItem
   body : GrammarItem
 
--- The sort of a tree: one item, a list of items of the same kind, an optional item, or a
--- nonterminal of the grammar, such as an expression or a block.
+-- The sort of a tree. A tree is one item, a list of items of the same kind, an optional item, or a
+-- nonterminal of the grammar. Nonterminals are, for example, expressions and blocks.
 pub data Sort : Type 0 where
   item : GrammarItem → Sort
   items : GrammarItem → Sort

@@ -1,12 +1,12 @@
 //! Visits the identifiers of a module in text order, with any `Visitor`.
 //!
-//! Each `Visitor` defines a ghost function `state_after_one_identifier`, which returns the visitor's state after one
-//! identifier. A walk over a part of the tree leaves the visitor in the state that results from
-//! applying `state_after_one_identifier` to each identifier of that part, in text order. In proofs this function is
-//! called `g.V.Visitor.state_after_one_identifier`: `g` has the generic parameters, and is the first argument of the
-//! invariants of the recursive functions. A visitor that contains a `Vec` needs a model (`Model`).
-//! Without one, an equation between two states of the visitor would also compare the capacities of
-//! their `Vec` values.
+//! Each `Visitor` defines a ghost function `state_after_one_identifier`, which returns the
+//! visitor's state after the visit of one identifier. A walk over a part of the tree applies this
+//! function to each identifier of the part, in text order. In proofs the function has the name
+//! `g.V.Visitor.state_after_one_identifier`. Here `g` holds the generic parameters, and is the
+//! first argument of the invariants of the recursive functions. A visitor that contains a `Vec`
+//! needs a model (`Model`). Without a model, an equation between two states of the visitor would
+//! also compare the capacities of their `Vec` values.
 
 #![tactic(auto, using(std::proofs::lemmas::Grind::common_steps, crate::proofs::Visits::visited_append))]
 
@@ -230,7 +230,7 @@ fn walk_elsifs<V: Visitor>(visitor: &mut V, parts: &Vec<Elsif>) -> Result<(), Al
     Ok(())
 }
 
-/// Visits each name of the list `ns`, in text order, with the role `role`.
+/// Visits each name of the list `ns`, in text order. Each of these names has the role `role`.
 fn walk_names<V: Visitor>(visitor: &mut V, role: Role, ns: &Names) -> Result<(), AllocError>
     ensures { OnOk result (visitor.new ≡ state_after_identifiers V.state_after_one_identifier (identifiers role (names_of ns.now)) visitor.old) }
 {

@@ -18,14 +18,14 @@ identifier_of_name n = record { token = n.token; means = Name n.ordinal }
 abbrev pub identifier_of_field : FieldIdentifier → IdentifierWithMeaning
 identifier_of_field x = record { token = x.token; means = Field x.owner }
 
--- returns the identifier of the name, with its meaning, if a name was found, otherwise the identifier of the field,
--- with its meaning; None if neither was found
+-- Returns the identifier of the name, with its meaning, if a name was found. Otherwise returns the
+-- identifier of the field, with its meaning. The result is None if neither was found.
 abbrev pub meaning_of_name_or_field : Option named.BoundName → Option FieldIdentifier → Option IdentifierWithMeaning
 meaning_of_name_or_field (Some n) f = Some (identifier_of_name n)
 meaning_of_name_or_field None f = option_map identifier_of_field f
 
--- returns the identifier that contains a byte offset or ends there, with its meaning; None if there is no bound name
--- and no field
+-- returns the identifier that contains a byte offset or ends there, with its meaning; None if no
+-- bound name and no field is at this offset
 abbrev pub identifier_meaning_at_offset : Resolution → ℕ → Option IdentifierWithMeaning
 identifier_meaning_at_offset r offset = meaning_of_name_or_field (name_at_offset r.module_read offset) (module_field_at_offset r offset)
 

@@ -25,15 +25,15 @@ body_view b = record { closing = b.closing; statements = body_of b.statements.no
 -- Returns the body that contains a range of tokens, given the index `low` of the range's first token. If the range
 -- isn't in one body, the result may be any body of the module.
 abbrev mutual
-  -- returns the body of a block with the closing name `own`, or of a procedure in that block: the one that contains the
-  -- token `low`, if one does
+  -- Returns the body of a block, or the body of a procedure in this block. If one of these bodies
+  -- contains the token `low`, it is the result. `own` is the block's closing name.
   pub body_with_token_in_block : ℕ → ℕ → Tree ℕ block → OneBody
   body_with_token_in_block low own (forms_block (declares cs ts vs ps) statements) =
       body_with_token_in_procedures low own ps statements
 
-  -- Returns the body of the first procedure whose closing name isn't before `low`, or of a procedure inside it. If
-  -- there is no such procedure, returns the body of the surrounding block: the closing name `own` and the statements
-  -- `statements`.
+  -- Returns the body of the first procedure whose closing name isn't before `low`, or the body of a
+  -- procedure inside this one. If there is no such procedure, returns the body of the surrounding
+  -- block: the closing name `own` and the statements `statements`.
   pub body_with_token_in_procedures : ℕ → ℕ → Tree ℕ (items procedure) → Tree ℕ (maybe body) → OneBody
   body_with_token_in_procedures low own end statements = record { closing = own; statements = statements }
   body_with_token_in_procedures low own (more p ps) statements =
@@ -41,11 +41,13 @@ abbrev mutual
       then body_with_token_in_procedures low own ps statements
       else body_with_token_in_procedure low p
 
-  -- returns the body of the procedure, or of a procedure inside it: the one that contains the token `low`, if one does
+  -- Returns the body of a procedure, or the body of a procedure inside this one. If one of these
+  -- bodies contains the token `low`, it is the result.
   pub body_with_token_in_procedure : ℕ → Tree ℕ (item procedure) → OneBody
   body_with_token_in_procedure low (declares_procedure x fs b closing) = body_with_token_in_block low closing b
 
--- returns the body of the module, or of a procedure inside it: the one that contains the token `low`, if one does
+-- Returns the body of a module, or the body of a procedure in this module. If one of these bodies
+-- contains the token `low`, it is the result.
 abbrev pub body_with_token_in_module : ℕ → Tree ℕ module_text → OneBody
 body_with_token_in_module low (forms_module x b closing) = body_with_token_in_block low closing b
 

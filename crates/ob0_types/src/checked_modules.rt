@@ -172,10 +172,10 @@ pub fn check_result_after_body_change<'t>(
 }
 
 /// Returns the result of checking a module after the statements of one body were replaced, perhaps
-/// by a different number of tokens. `before` is the result before the replacement, and `same` gives
-/// the tokens that are the same before and after it. If the module was valid before, only its
-/// declarations and the new body are checked again. If possible, only the new body is then searched
-/// for fields. Otherwise the whole module is checked again.
+/// by a different number of tokens. `before` is the result before the replacement. `same` says
+/// which tokens at the start and at the end of the text are unchanged. If the module wasn't valid
+/// before, the whole module is checked again. If it was valid, only its declarations and the new
+/// body are checked. Then, if possible, only the new body is searched for fields.
 pub fn check_result_after_body_replacement<'t>(
     alloc: Global,
     resolved: &'t Resolved<'t>,
@@ -364,7 +364,7 @@ fn add_duplicates_and_end_names(
     Ok(())
 }
 
-/// Returns the result of checking, owned or borrowed.
+/// Returns a reference to the result of checking, which `types` either owns or borrows.
 fn borrowed_check_result<'c, 't>(types: &'c Cow<'t, CheckResult>) -> &'c CheckResult
     ensures { result.now ≡ cow_value types.now }
 {

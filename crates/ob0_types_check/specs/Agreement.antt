@@ -1,5 +1,5 @@
--- Defines when the types and the meanings of names that the checker has found agree with the
--- definitions.
+-- Defines when the types and meanings of names that the checker has found are correct. They must
+-- agree with the shapes and objects of the language's definitions.
 -- Rule: none; used in laws about the types and meanings that the checker has found.
 use Rattle.std.specs.Prelude.{◌≡◌, ℕ, Bool, true, false, List, [], ◌∷◌, ◌++◌, Option, Some, None, option_map, option_and_then, is_some, slice_get}
 use Rattle.ob0_language_names.specs.Names.{Name}
@@ -18,8 +18,11 @@ use Rattle.ob0_language_values.specs.Values.{FieldShapes, Shape, Value, array_sh
 use Rattle.ob0_types_check.specs.TypesAndMeanings.{Facts, TypeForm, KnownParameter, Meaning, Types, a_constant, a_procedure, a_record, a_scalar, a_type, a_variable, an_array, unknown_form}
 use Rattle.ob0_types_check.specs.KnownDeclarations.{CompositeType, CompositeParts, KnownField, of_elements, of_fields}
 
--- States that the form of a type has the same parts as a shape. The function `shape` returns the shape of a type, or
--- None if the type is unknown. A scalar's form agrees with every shape. The unknown form agrees with no shape.
+-- States that a type's form agrees with the shape `s`. The function `shape` returns the shape of a
+-- type, or None if the type is unknown. An array's form agrees with an array's shape if its element
+-- type has the shape of the elements. A record's form agrees with a record's shape if both have the
+-- same field names, and the field types have the shapes of these fields. A scalar's form has no
+-- parts, so it agrees with every shape. The unknown form agrees with no shape.
 abbrev pub FormAgreesWithShape : {T : Type 0} → (T → Option Shape) → TypeForm T → Shape → Type 0
 FormAgreesWithShape shape a_scalar s = Unit {0}
 FormAgreesWithShape shape (an_array t) s =
@@ -31,8 +34,9 @@ FormAgreesWithShape shape (a_record fields) s =
     × ((x : Name) → option_map shape (fields x) ≡ option_map Some (named_field_shape fs x))
 FormAgreesWithShape shape unknown_form s = ⊥
 
--- States that types agree with their shapes. Equal types have the same shape, and the form of a type has the parts of
--- the type's shape. The unknown type has no shape.
+-- States that types agree with the shapes that `shape` returns for them. INTEGER and BOOLEAN have
+-- their own shapes, and the unknown type has none. Types that `types` calls the same have the same
+-- shape. The form of a type has the parts of the type's shape.
 pub record TypesAgreeWithShapes {T : Type 0} (types : Types T) (shape : T → Option Shape) : Type 0 where
   pub integer : shape types.integer ≡ Some integer_shape
   pub boolean : shape types.boolean ≡ Some boolean_shape
@@ -94,10 +98,11 @@ abbrev pub IsKnownAndAgreesWithObject : {T : Type 0}
 IsKnownAndAgreesWithObject shape None o = ⊥
 IsKnownAndAgreesWithObject shape (Some m) o = MeaningAgreesWithObject shape m o
 
--- States that the meaning that `facts` has for the identifier at a token agrees with the identifier's label, which
--- `label` returns. The label replaces the identifier in another tree. A looked-up name must have a meaning that agrees
--- with the label's object. A field's label must be spelled like the token. An identifier with any other role always
--- agrees.
+-- States that the identifier at the token `x` agrees with its label, `label x`. A label is the name
+-- that replaces the identifier in another tree of the same text. The requirement depends on the
+-- identifier's role. A looked-up name must have a meaning in `facts` that agrees with the label's
+-- object. A field's label must be spelled like the token. Identifiers with other roles always
+-- agree.
 abbrev pub TokenAgreesWithLabel : {T N : Type 0}
     → Facts T
     → (T → Option Shape)
@@ -126,9 +131,8 @@ TokensAgreeWithLabels facts shape label meaning [] = Unit {0}
 TokensAgreeWithLabels facts shape label meaning (x ∷ xs) =
     TokenAgreesWithLabel facts shape label meaning x.0 x.1 × TokensAgreeWithLabels facts shape label meaning xs
 
--- States that the types in `facts` agree with their shapes. Also states that the meaning that
--- `facts` has for each identifier in the tree `t` agrees with the identifier's label
--- (`TokensAgreeWithLabels`).
+-- States that the types in `facts` agree with their shapes, and that each identifier in the tree
+-- `t` agrees with its label (`TokensAgreeWithLabels`).
 pub record FactsAgreeWithShapesAndLabels
     {T N : Type 0} (facts : Facts T) (shape : T → Option Shape) (label : ℕ → N) (meaning : TypeMeanings N)
     {s : Sort} (t : Tree ℕ s) : Type 0 where
@@ -149,8 +153,10 @@ shape_if_record boolean_shape = None
 shape_if_record (array_shape k n s) = None
 shape_if_record (record_shape k fs) = Some (record_shape k fs)
 
--- Returns the shape of a type. `shapes` has the shapes of the array and record types found so far, in order. Returns
--- None for the unknown type, and if `shapes` has no array or record at the type's index.
+-- Returns the shape of a type. `shapes` has the shapes of the array and record types found so far,
+-- in the order of their indexes. The result is None for the unknown type. It is also None if
+-- `shapes` has no array's shape at an array type's index, or no record's shape at a record type's
+-- index.
 abbrev pub shape_of_type_in : List Shape → TypeId → Option Shape
 shape_of_type_in shapes type.Integer = Some integer_shape
 shape_of_type_in shapes type.Boolean = Some boolean_shape
@@ -158,7 +164,8 @@ shape_of_type_in shapes (type.Array i) = option_and_then shape_if_array (slice_g
 shape_of_type_in shapes (type.Record i) = option_and_then shape_if_record (slice_get shapes i)
 shape_of_type_in shapes type.Unknown = None
 
--- states that the fields in the list have, one by one, the names and shapes of a record's fields
+-- states that the fields in the list have the same names and shapes, in the same order, as the
+-- fields of a record's shape
 abbrev pub FieldsAgreeWithShapes : (TypeId → Option Shape) → List KnownField → FieldShapes → Type 0
 FieldsAgreeWithShapes shape [] no_field_shape = Unit {0}
 FieldsAgreeWithShapes shape [] (next_field_shape x s fs) = ⊥
@@ -179,9 +186,9 @@ pub record CompositeAgreesWithShape (shape : TypeId → Option Shape) (m : Compo
   pub scalars : m.size.scalars ≡ typing.scalars s
   pub depth : m.size.depth ≡ typing.depth s
 
--- States that each array or record type in the second list agrees with the shape at the same index of the third list.
--- The first list (`known`) has the shapes of the types that precede the second list in the table. The parts of a type
--- may only refer to earlier types.
+-- States that each array or record type in the second list agrees with the shape at the same index
+-- of the third list. The first list, `known`, has the shapes of the types that come before these in
+-- the table of types. The parts of a type may refer only to types before it.
 abbrev pub EntriesAgreeWithShapes : List Shape → List CompositeType → List Shape → Type 0
 EntriesAgreeWithShapes known [] [] = Unit {0}
 EntriesAgreeWithShapes known [] (s ∷ ss) = ⊥
@@ -189,6 +196,7 @@ EntriesAgreeWithShapes known (m ∷ ms) [] = ⊥
 EntriesAgreeWithShapes known (m ∷ ms) (s ∷ ss) =
     CompositeAgreesWithShape (shape_of_type_in known) m s × EntriesAgreeWithShapes (known ++ s ∷ []) ms ss
 
--- states that each array or record type in the first list agrees with the shape at the same index of the second list
+-- states that each array or record type in `made` agrees with the shape at the same index of
+-- `shapes`
 abbrev pub TableAgreesWithShapes : List CompositeType → List Shape → Type 0
 TableAgreesWithShapes made shapes = EntriesAgreeWithShapes [] made shapes

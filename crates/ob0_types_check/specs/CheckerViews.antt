@@ -28,14 +28,15 @@ use Rattle.ob0_types_check.specs.DeclarationFaults.{KnownHeading}
 use Rattle.ob0_types_check.specs.KnownDeclarations.{CompositeType, TypeSize, KnownDeclarations, KnownField, of_elements, of_fields, is_same_type}
 use Rattle.ob0_types_check.specs.WrittenTypeFaults.{KnownFields}
 
--- returns the element type of an entry that is an array; the unknown type for any other entry and for None
+-- Returns the element type of an entry in the code's list of array and record types, if the entry
+-- is an array. Otherwise, and for None, returns the unknown type.
 abbrev pub entry_element_type : Option TypeEntry → TypeId
 entry_element_type None = type.Unknown
 entry_element_type (Some (made.Array a)) = a.element
 entry_element_type (Some (made.Record r)) = type.Unknown
 
--- returns the type of the first field with this name in an entry that is a record; None if the record has no such
--- field, for any other entry, and for None
+-- Returns the type of the first field with the name `x` in an entry of the code's list of array and
+-- record types. The result is None if the record has no such field, for an array, and for None.
 abbrev pub entry_field_type : Option TypeEntry → Name → Option TypeId
 entry_field_type None x = None
 entry_field_type (Some (made.Array a)) x = None
@@ -77,8 +78,8 @@ meaning_in_state s token =
     option_and_then (λ k. slice_index_or s.meanings.items k None)
     (ordinal_in s.resolved.now.ordinals token)
 
--- returns the data with which an expression, statement or type name is checked (`Facts`), given the
--- code's state before it; if the Bool is true, names may only refer to constants
+-- Returns the data with which an expression, statement or type name is checked (`Facts`), given the
+-- code's state before it. If `only_constants` is true, names may only refer to constants.
 abbrev pub facts_in : CheckerState → Bool → Facts TypeId
 facts_in s only_constants = record {
   source = s.resolved.now.module_read.source;
@@ -87,7 +88,7 @@ facts_in s only_constants = record {
   only_constants = only_constants;
 }
 
--- converts an operand of the code to an operand of the definitions
+-- converts an operand, the result of checking an expression, from the code to the definitions
 abbrev pub operand_of : operand.Operand → Operand TypeId
 operand_of o =
     record {
@@ -140,8 +141,8 @@ abbrev pub capped_size : TypeSize → TypeSize
 capped_size z = record { scalars = min z.scalars (2 ^ 64 - 1); depth = min z.depth (2 ^ 64 - 1) }
 
 -- States that the fields `now`, which the code has found, are the fields of `g`. Their total size
--- must be the size in `g`, capped at 2^64 - 1. Also states that the declarations known in the code's
--- state `s` are those that `g` has after these fields (`following`).
+-- must be the size in `g`, capped at 2^64 - 1. The declarations known in the code's state `s` must
+-- equal `g.following`, the declarations known after these fields.
 pub record CodeFieldsMatchKnownFields (g : KnownFields) (s : CheckerState) (now : gathering.KnownFields) : Type 0 where
   pub fields : known_fields_of now.fields.items ≡ g.fields
   pub size : size_of now.size ≡ capped_size g.size

@@ -1,7 +1,9 @@
--- The faults of a module's declarations and bodies, in the order in which they are reported: text order. A declaration
--- is known to the text after it. A procedure is known to the text after its heading, which includes its own block. Only
--- the bodies that pass a test are walked. The walk lists the walked bodies in which a fault is reported. If every body
--- passes the test, all faults of the module's declarations and bodies are reported.
+-- The faults of a module's declarations and bodies, in the order in which they are reported: text
+-- order. A declaration is known in the text after it. A procedure is known in its own block and in
+-- the text after that. The statements of a block's body are walked only if the block's closing name
+-- passes a test. The walk lists the closing names of the walked bodies in which a fault is
+-- reported. If every closing name passes the test, all faults of the module's declarations and
+-- bodies are reported.
 -- Rule: docs/LANGUAGE.md, Faults of scopes and types 2 to 11.
 use Rattle.std.specs.Prelude.{ℕ, Bool, true, false, List, [], ◌∷◌, ◌++◌, map}
 use Rattle.std.specs.List.{filter}
@@ -72,8 +74,9 @@ pub record KnownHeading : Type 0 where
   pub formals : List (KnownParameter TypeId)
   pub following : KnownDeclarations
 
--- Returns the heading `h` with one more parameter for each of these name tokens. All have the type `t.of`. If the Bool
--- is true, they are VAR parameters. The parameters are also declared as variables of the procedure.
+-- Returns the heading `h` with one more parameter for each of the name tokens `xs`. All have the
+-- type `t.of`. If `by_place` is true, they are VAR parameters. The parameters are also declared as
+-- variables of the procedure.
 abbrev pub heading_with_parameters : KnownHeading → Bool → List ℕ → TypeWithFollowingDeclarations → KnownHeading
 heading_with_parameters h by_place xs t =
     record {
@@ -81,8 +84,8 @@ heading_with_parameters h by_place xs t =
       following = define_listed_names t.following (a_variable t.of) xs;
     }
 
--- Returns the faults of a section of parameters of one type, and the heading `h` with these parameters added. If the
--- Bool is true, the parameters are VAR parameters.
+-- Returns the faults of a section of parameters of one type, and the heading `h` with these
+-- parameters added. If `by_place` is true, they are VAR parameters.
 unfoldable pub report_on_parameters_of_one_type : KnownHeading
     → Bool
     → Tree ℕ names
@@ -111,8 +114,8 @@ report_on_parameter_sections h (more s rest) = do
   g ← report_on_parameter_section h s
   report_on_parameter_sections g rest
 
--- returns the declarations known after a heading, including the procedure itself, whose name is the
--- token `x`, so that its own block can call it
+-- Returns the declarations known after the heading `h`. They include the procedure itself, whose
+-- name is the token `x`. So the procedure's own block can call it.
 abbrev pub declarations_after_heading : ℕ → KnownHeading → KnownDeclarations
 declarations_after_heading x h = define_name_at_token h.following (a_procedure h.formals) x
 
@@ -121,7 +124,7 @@ pub record WalkProgress : Type 0 where
   pub so_far : KnownDeclarations
   pub bodies_with_faults : List ℕ
 
--- returns the walk with other declarations and the same list of bodies
+-- returns the walk `w` with its declarations replaced by `p`, and with the same list of bodies
 abbrev pub walk_with_declarations : WalkProgress → KnownDeclarations → WalkProgress
 walk_with_declarations w p = record { so_far = p; bodies_with_faults = w.bodies_with_faults }
 
@@ -154,9 +157,10 @@ report_body_if_wanted true own w statements =
 unfoldable mutual
   unfolding report_on_constant_declarations report_on_type_declarations report_on_variable_declarations report_on_parameter_sections body_faults
 
-  -- Returns the state of the walk after a block, and the faults of the block: of its constants, types, variables and
-  -- procedures, and then of its statements. The statements are walked only if the block's closing name `own` passes the
-  -- test `wanted`. The same holds for the blocks of the procedures.
+  -- Returns the state of the walk after a block, and the faults of the block. The faults of its
+  -- constants, types, variables and procedures come first, and then the faults of its statements.
+  -- The statements are walked only if the block's closing name `own` passes the test `wanted`. The
+  -- same holds for the blocks of the procedures.
   pub report_on_block : (ℕ → Bool) → ℕ → WalkProgress → Tree ℕ block → ResultWithFaults WalkProgress
   report_on_block wanted own w (forms_block (declares cs ts vs ps) statements) = do
     with_constants ← report_on_constant_declarations w.so_far (section_constants cs)

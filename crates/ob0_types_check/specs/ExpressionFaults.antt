@@ -1,5 +1,7 @@
--- The faults of an expression, in the order in which they are reported. The faults of its parts come first, from left
--- to right, and then the faults of the operation.
+-- The faults of an expression, in the order in which they are reported. The faults of its parts
+-- come first, from left to right, and then the faults of the operation. Each function also returns
+-- the operand for what it checked (`Operand`): its type, its value if it is constant, and its
+-- tokens.
 -- Rule: docs/LANGUAGE.md, Faults of scopes and types 2, 3, 5, 6.
 use Rattle.std.specs.Prelude.{ℕ}
 use Rattle.ob0_tree.specs.Tree.{Tree, addend, adds, compares, designator, end, expression, factor, field, index, integer, item, items, more, multiplier, multiplies, negation, none, one, parenthesised, product, relates, selector, simple, sum, term}
@@ -7,8 +9,8 @@ use Rattle.ob0_types_check.specs.TypesAndMeanings.{Facts, Operand, ResultWithFau
 use Rattle.ob0_types_check.specs.OperandFaults.{number_operand, add_operands, negated_operand, element_operand, operand_in_parentheses, field_operand, multiply_operands, name_operand, relate_operands, without_fault, signed_operand, ◌>>=◌}
 
 unfoldable mutual
-  -- returns the faults of an expression, and the resulting operand; the faults of both sides come before the fault of
-  -- the relation between them
+  -- Returns the faults of an expression, and its operand (type, value and tokens). The faults of
+  -- both sides come before the fault of the relation between them.
   pub report_on_expression : {T : Type 0} → Facts T → Tree ℕ expression → ResultWithFaults (Operand T)
   report_on_expression facts (compares a none) = report_on_simple_expression facts a
   report_on_expression facts (compares a (one (relates r b))) = do
@@ -16,15 +18,17 @@ unfoldable mutual
     y ← report_on_simple_expression facts b
     relate_operands facts r x y
 
-  -- returns the faults of a simple expression, and the resulting operand; the faults of the first term come before the
-  -- fault of the sign, and then the faults of the other terms follow
+  -- Returns the faults of a simple expression, and its operand (type, value and tokens). The faults
+  -- of the first term come first, then the fault of the sign, and then the faults of the other
+  -- terms.
   pub report_on_simple_expression : {T : Type 0} → Facts T → Tree ℕ simple → ResultWithFaults (Operand T)
   report_on_simple_expression facts (sum s t rest) = do
     x ← report_on_term facts t
     y ← signed_operand facts s x
     report_on_addends facts y rest
 
-  -- returns the faults of terms that are added to the operand `x` from left to right, and the operand for the whole sum
+  -- Returns the faults of terms that are added to the operand `x` from left to right. Also returns
+  -- the operand (type, value and tokens) for the whole sum.
   pub report_on_addends : {T : Type 0}
       → Facts T
       → Operand T
@@ -36,14 +40,15 @@ unfoldable mutual
     z ← add_operands facts o x y
     report_on_addends facts z rest
 
-  -- returns the faults of a term, factor by factor from left to right, and the resulting operand
+  -- returns the faults of a term, factor by factor from left to right, and the term's operand
+  -- (type, value and tokens)
   pub report_on_term : {T : Type 0} → Facts T → Tree ℕ term → ResultWithFaults (Operand T)
   report_on_term facts (product f rest) = do
     x ← report_on_factor facts f
     report_on_multipliers facts x rest
 
-  -- returns the faults of factors that multiply the operand `x` from left to right, and the operand for the whole
-  -- product
+  -- Returns the faults of factors that multiply the operand `x` from left to right. Also returns
+  -- the operand (type, value and tokens) for the whole product.
   pub report_on_multipliers : {T : Type 0}
       → Facts T
       → Operand T
@@ -55,8 +60,8 @@ unfoldable mutual
     z ← multiply_operands facts o x y
     report_on_multipliers facts z rest
 
-  -- returns the faults of a factor, which is a designator, an integer, an expression in parentheses or a negation, and
-  -- the resulting operand
+  -- Returns the faults of a factor, and its operand (type, value and tokens). A factor is a
+  -- designator, an integer, an expression in parentheses or a negation.
   pub report_on_factor : {T : Type 0} → Facts T → Tree ℕ factor → ResultWithFaults (Operand T)
   report_on_factor facts (designator x path) = do
     base ← name_operand facts x
@@ -69,8 +74,9 @@ unfoldable mutual
     x ← report_on_factor facts f
     negated_operand facts x
 
-  -- returns the faults of selectors applied one after another to the operand `x` for a designator, and the operand for
-  -- the designator with these selectors
+  -- Returns the faults of selectors that are applied, one after another, to a designator with the
+  -- operand `x`. Also returns the operand (type, value and tokens) for the designator with these
+  -- selectors.
   pub report_on_selectors : {T : Type 0}
       → Facts T
       → Operand T
@@ -85,8 +91,8 @@ unfoldable mutual
     y ← element_operand facts x i
     report_on_selectors facts y rest
 
--- returns the faults of one selector applied to the operand `x` for a designator, and the operand for the designator
--- with this selector
+-- Returns the faults of one selector that is applied to a designator with the operand `x`. Also
+-- returns the operand (type and tokens) for the designator with this selector.
 unfoldable pub report_on_selector : {T : Type 0}
     → Facts T
     → Operand T

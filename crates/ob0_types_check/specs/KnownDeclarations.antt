@@ -1,5 +1,5 @@
--- The state of the walk that reports a module's faults, at one point of the text: the declarations, and the array and
--- record types, before this point.
+-- The state of the walk that reports a module's faults, at one point of the text. The state has the
+-- declarations, and the array and record types, before this point.
 -- Rule: docs/LANGUAGE.md, Scopes 2, Faults of scopes and types 2.
 use Rattle.std.specs.Prelude.{ℕ, nat_le, Bool, true, false, ◌==◌, ◌&&◌, List, [], ◌∷◌, ◌++◌, length, map, slice_get, slice_index_or, slice_set, if◌then◌else◌, Option, Some, None, option_and_then}
 use Rattle.ob0_scan.specs.declared.fault.FaultCode.TheVariants as code
@@ -29,8 +29,8 @@ pub data CompositeParts : Type 0 where
   of_elements : ℕ → TypeId → CompositeParts
   of_fields : List KnownField → CompositeParts
 
--- An array or record type: its ordinal, its parts and its size. The ordinal is the number of words ARRAY and RECORD in
--- the text before the type's own word.
+-- An array or record type: its ordinal, its parts and its size. Such types are numbered by the
+-- words ARRAY and RECORD: the ordinal is the number of these words before the type's own word.
 pub record CompositeType : Type 0 where
   pub ordinal : ℕ
   pub parts : CompositeParts
@@ -70,14 +70,14 @@ abbrev pub type_of_field_named : List KnownField → Name → Option TypeId
 type_of_field_named [] x = None
 type_of_field_named (f ∷ fields) x = if same_name x f.name then Some f.of else type_of_field_named fields x
 
--- returns the type of the first field with the name `x`, given the parts of a record; None if the record has no such
--- field, and for the parts of an array
+-- Returns the type of the first field with the name `x`, given the parts of a record. The result is
+-- None if the record has no such field, and for the parts of an array.
 abbrev pub field_type_of_parts : CompositeParts → Name → Option TypeId
 field_type_of_parts (of_elements n t) x = None
 field_type_of_parts (of_fields fields) x = type_of_field_named fields x
 
--- returns the type of the first field with this name in a record type; None if the type has no such field, for an
--- array type, and for None
+-- Returns the type of the first field with the name `x` in a record type. The result is None if the
+-- type has no such field, for an array type, and for None.
 abbrev pub field_type_of_composite : Option CompositeType → Name → Option TypeId
 field_type_of_composite None x = None
 field_type_of_composite (Some m) x = field_type_of_parts m.parts x
@@ -106,8 +106,8 @@ abbrev pub meaning_at_token : KnownDeclarations → ℕ → Option (Meaning Type
 meaning_at_token p token =
     option_and_then (λ k. slice_index_or p.declared k None) (ordinal_in p.ordinals token)
 
--- returns the data with which an expression, statement or type name is checked (`Facts`), given the
--- declarations known before it; if the Bool is true, names may only refer to constants
+-- Returns the data with which an expression, statement or type name is checked (`Facts`), given the
+-- declarations known before it. If `only_constants` is true, names may only refer to constants.
 abbrev pub facts_from_declarations : KnownDeclarations → Bool → Facts TypeId
 facts_from_declarations p only_constants =
     record {
@@ -117,8 +117,8 @@ facts_from_declarations p only_constants =
       only_constants = only_constants;
     }
 
--- returns the known declarations `p` with the meaning of the declaration with this ordinal set to `m`; for None,
--- returns `p` unchanged
+-- Returns the known declarations `p` with the meaning of the declaration with this ordinal set to
+-- `m`. For None, returns `p` unchanged.
 abbrev pub declarations_with_meaning : KnownDeclarations → Meaning TypeId → Option ℕ → KnownDeclarations
 declarations_with_meaning p m None = p
 declarations_with_meaning p m (Some k) =
@@ -129,8 +129,8 @@ declarations_with_meaning p m (Some k) =
       made = p.made;
     }
 
--- returns the known declarations `p` with the meaning of the name declared at a token set to `m`; if the token has no
--- ordinal, returns `p` unchanged
+-- Returns the known declarations `p` with the meaning of the name declared at a token set to `m`.
+-- If the token has no ordinal, returns `p` unchanged.
 abbrev pub define_name_at_token : KnownDeclarations → Meaning TypeId → ℕ → KnownDeclarations
 define_name_at_token p m token = declarations_with_meaning p m (ordinal_in p.ordinals token)
 
@@ -164,8 +164,8 @@ size_of_known_type made type.Unknown = zero_size
 abbrev pub is_within_limits : TypeSize → Bool
 is_within_limits z = nat_le z.scalars max_scalars_in_type && nat_le z.depth max_type_depth
 
--- the checker's type for a type that is written in the text (`of`), and the declarations known after the written type
--- (`following`)
+-- the checker's `TypeId` for a type that is written in the text (`of`), and the declarations known
+-- after that type (`following`)
 pub record TypeWithFollowingDeclarations : Type 0 where
   pub of : TypeId
   pub following : KnownDeclarations
@@ -198,8 +198,9 @@ report_on_too_large_type p word =
       faults = fault_at_token code.TypeTooLarge word;
     }
 
--- appends an array or record type and returns its `TypeId`; if its size isn't within the limits, reports `TypeTooLarge`
--- at `word`, its word ARRAY or RECORD, instead
+-- Appends an array or record type to the known types, and returns its `TypeId`. If the size exceeds
+-- the limits, nothing is appended. Then `TypeTooLarge` is reported at `word`, the type's token
+-- ARRAY or RECORD.
 abbrev pub make_composite_type : KnownDeclarations → ℕ → ℕ → CompositeParts → TypeSize → ResultWithFaults TypeWithFollowingDeclarations
 make_composite_type p word ordinal parts size =
     if is_within_limits size then without_fault (append_composite p ordinal parts size) else report_on_too_large_type p word

@@ -1,4 +1,5 @@
--- The faults of operators, names and selectors, each with the operand (`Operand`) for the checked expression.
+-- The faults of operators, names and selectors. Each function also returns the operand for the
+-- checked expression (`Operand`): its type, its value if it is constant, and its tokens.
 -- Rule: docs/LANGUAGE.md, Types 2, 3, Faults of scopes and types 3, 5.
 use Rattle.std.specs.Prelude.{◌≡◌, ℕ, ◌+◌, ◌-◌, nat_lt, Bool, true, false, ◌||◌, List, [], ◌∷◌, ◌++◌, length, if◌then◌else◌, Option, Some, None, option_and_then, pos}
 use Rattle.ob0_scan.specs.declared.fault.FaultCode.{FaultCode}
@@ -29,8 +30,7 @@ abbrev pub without_fault : {A : Type 0} → A → ResultWithFaults A
 without_fault x = record { known = x; faults = [] }
 
 infixl 20 ◌>>=◌
--- Applies `next` to the result of the first step. The faults of the first step come first, then the
--- faults of `next`.
+-- Applies `next` to the result of `t`. The faults of `t` come first, then the faults of `next`.
 abbrev pub ◌>>=◌ : {A B : Type 0} → ResultWithFaults A → (A → ResultWithFaults B) → ResultWithFaults B
 t >>= next = prepend_faults t.faults (next t.known)
 
@@ -44,7 +44,8 @@ pub record ReturnsAndReports
 abbrev pub previous_token_index : ℕ → ℕ
 previous_token_index token = token - 1
 
--- returns the index of the token after this one; the end of the text is returned unchanged
+-- returns the index of the token after this one; an index at the end of the text is returned
+-- unchanged
 abbrev pub next_token_index : TextWithTokens → ℕ → ℕ
 next_token_index source token = if nat_lt token (length source.tokens) then token + 1 else token
 
@@ -60,8 +61,8 @@ fault_at_token c token = fault_at_token_range c token token
 abbrev pub fault_at_operand : {T : Type 0} → FaultCode → Operand T → List FaultAtTokens
 fault_at_operand c o = fault_at_token_range c o.first o.last
 
--- returns whether two types are equal or one of them is unknown; if not, an expression of one type
--- is a mismatch if the other type is required
+-- Returns whether the types `s` and `t` are the same, or at least one of them is unknown. In both
+-- cases an expression of type `s` is accepted if the type `t` is required.
 abbrev pub may_be_same_type : {T : Type 0} → Types T → T → T → Bool
 may_be_same_type types s t = types.same s t || (types.same s types.unknown || types.same t types.unknown)
 
@@ -122,19 +123,20 @@ operand_type_of_relation types relation.GreaterEqual left = types.integer
 abbrev pub comparison_type : {T : Type 0} → Types T → T → T
 comparison_type types t = if types.same t types.unknown then types.unknown else types.boolean
 
--- returns the operand for the expression that joins the operands `a` and `b` by an operator; it has the type `of` and
--- this value
+-- Returns the operand for the expression that joins the operands `a` and `b` by an operator. The
+-- result has the type `of` and the given value.
 abbrev pub operand_of_operation : {T : Type 0} → T → Option Value → Operand T → Operand T → Operand T
 operand_of_operation of value a b =
     record { of = of; value = value; may_be_variable = false; first = a.first; last = b.last }
 
--- returns the operand for a sign or `~` followed by the operand `o`; it has the type `of` and this value
+-- Returns the operand for a sign or `~` followed by the operand `o`. The result has the type `of`
+-- and the given value.
 abbrev pub prefixed_operand : {T : Type 0} → T → Option Value → Operand T → Operand T
 prefixed_operand of value o =
     record { of = of; value = value; may_be_variable = false; first = previous_token_index o.first; last = o.last }
 
--- returns the operand for the whole expression, with a fault if the operands of `+`, `-` or OR
--- don't have the required type
+-- Returns the operand for `a` and `b` joined by `+`, `-` or OR. Reports a fault if one of the two
+-- has a known type other than the required one.
 abbrev pub add_operands : {T : Type 0}
     → Facts T
     → AddOperator
@@ -145,8 +147,8 @@ add_operands facts o a b = do
   t ← require_type_of_both_operands facts (operand_type_of_addition facts.types o) a b
   without_fault (operand_of_operation t (option_and_then (sum_value o b.value) a.value) a b)
 
--- returns the operand for the whole expression, with a fault if the operands of `*`, DIV, MOD or
--- `&` don't have the required type
+-- Returns the operand for `a` and `b` joined by `*`, DIV, MOD or `&`. Reports a fault if one of the
+-- two has a known type other than the required one.
 abbrev pub multiply_operands : {T : Type 0}
     → Facts T
     → MultiplyOperator
@@ -157,8 +159,8 @@ multiply_operands facts o a b = do
   t ← require_type_of_both_operands facts (operand_type_of_multiplication facts.types o) a b
   without_fault (operand_of_operation t (option_and_then (product_value o b.value) a.value) a b)
 
--- returns the operand for the whole comparison, with a fault if the operands of the relation don't
--- have the required type
+-- Returns the operand for the comparison of `a` and `b` by a relation. Reports a fault if one of
+-- the two has a known type other than the required one.
 abbrev pub relate_operands : {T : Type 0}
     → Facts T
     → Relation
@@ -170,8 +172,8 @@ relate_operands facts r a b = do
   without_fault (operand_of_operation (comparison_type facts.types t)
       (apply_to_both_options (λ x y. outcome_value (apply_relation r x y)) a.value b.value) a b)
 
--- returns the operand for an expression that consists of an optional sign and the operand `o`; a
--- sign requires INTEGER, and a mismatch is a fault
+-- Returns the operand for an expression that consists of an optional sign and the operand `o`. If
+-- there is a sign and `o` has a known type other than INTEGER, a fault is reported.
 abbrev pub signed_operand : {T : Type 0} → Facts T → Option Sign → Operand T → ResultWithFaults (Operand T)
 signed_operand facts None o = without_fault o
 signed_operand facts (Some s) o = do
@@ -207,8 +209,8 @@ operand_in_parentheses facts o =
       last = next_token_index facts.source o.last;
     }
 
--- Returns the operand of a name with this type at a token. The name is a variable's or has no known meaning, so
--- `may_be_variable` is true.
+-- Returns the operand for the name at a token, if the name isn't used as a constant. The operand
+-- has the type `of` and no value, and its `may_be_variable` is true.
 abbrev pub typed_name_operand : {T : Type 0} → T → ℕ → Operand T
 typed_name_operand of token = record { of = of; value = None; may_be_variable = true; first = token; last = token }
 
@@ -249,8 +251,8 @@ operand_from_meaning facts token (Some (a_procedure fs)) =
 abbrev pub name_operand : {T : Type 0} → Facts T → ℕ → ResultWithFaults (Operand T)
 name_operand facts token = operand_from_meaning facts token (facts.object_for token)
 
--- Returns the operand of a designator that extends the designator of `o` by a selector. `last` is the last token of
--- that selector. The result has the type `of` and no value.
+-- Returns the operand for the designator of `o` followed by one more selector. `last` is the last
+-- token of that selector. The result has the type `of` and no value.
 abbrev pub operand_with_selector : {T : Type 0} → Operand T → T → ℕ → Operand T
 operand_with_selector o of last =
     record { of = of; value = None; may_be_variable = o.may_be_variable; first = o.first; last = last }

@@ -21,9 +21,10 @@ abbrev pub allowed_meanings : {N : Type 0} → Bool → TypeMeanings N → TypeM
 allowed_meanings true meaning = meanings_in_constant_expressions meaning
 allowed_meanings false meaning = meaning
 
--- States that the operand `o` has the type and the value of the expression `e`. The value is None if the expression
--- isn't constant or its evaluation fails. Otherwise the value is a scalar of the operand's type. If `may_be_variable`
--- is true, the expression is a variable or parameter with its selectors.
+-- States that the operand `o`, the result of checking an expression, has the type and the value of
+-- the expression `e`. The value is None if the expression isn't constant or its evaluation fails.
+-- Otherwise the value is a scalar of the operand's type. If `may_be_variable` is true, the
+-- expression is a variable or parameter with its selectors.
 pub record OperandAgreesWithExpression
     {T N P : Type 0} (shape : T → Option Shape) (meaning : Meanings N Shape P) (o : Operand T)
     (e : Tree N expression) : Type 0 where
@@ -34,8 +35,9 @@ pub record OperandAgreesWithExpression
   pub scalar : (v : Value) → o.value ≡ Some v → value_type v ≡ Some of
   pub placed : o.may_be_variable ≡ true → assignable_type meaning (lone_designator e) ≡ Some of
 
--- States that if no fault is reported for an expression, the operand found agrees with the expression. The types and
--- meanings known for the names in the expression must be correct (`FactsAgreeWithShapesAndLabels`).
+-- States that if no fault is reported for an expression, the operand found for it (type, value and
+-- tokens) agrees with the expression. The types and meanings known for the names in the expression
+-- must be correct (`FactsAgreeWithShapesAndLabels`).
 abbrev pub FaultlessExpressionsHaveCorrectTypesAndValues : Type 0 → Type 0
 FaultlessExpressionsHaveCorrectTypesAndValues N =
     (p : KnownDeclarations) (only_constants : Bool) (shapes : List Shape) (label : ℕ → N) (meaning : TypeMeanings N)

@@ -37,7 +37,8 @@ target_type_from_meaning facts token None = without_fault facts.types.unknown
 abbrev pub target_name_type : {T : Type 0} → Facts T → ℕ → ResultWithFaults T
 target_name_type facts token = target_type_from_meaning facts token (facts.object_for token)
 
--- returns the operand for an assignment's target, and the faults of the target's name and selectors
+-- returns the operand (type and tokens) for an assignment's target, and the faults of the target's
+-- name and selectors
 unfoldable pub report_on_assignment_target : {T : Type 0}
     → Facts T
     → ℕ
@@ -57,8 +58,10 @@ abbrev pub assignment_faults : {T : Type 0}
     → List FaultAtTokens
 assignment_faults facts target e = target.faults ++ faults_of_expression_of_type facts target.known.of e
 
--- Requires that an argument has the type of its parameter. An argument for a VAR parameter must also be a variable with
--- its selectors. If it isn't, only `NotVariable` is reported, and the result is the unknown type.
+-- Returns the parameter's type if the argument `o` has this type, otherwise the unknown type. A
+-- mismatch of known types is reported. An argument for a VAR parameter must also be a variable,
+-- with or without selectors. If it isn't, only `NotVariable` is reported, and the result is the
+-- unknown type.
 abbrev pub require_type_of_argument : {T : Type 0} → Facts T → KnownParameter T → Operand T → ResultWithFaults T
 require_type_of_argument facts f o =
     if f.by_place && not o.may_be_variable
@@ -91,9 +94,10 @@ abbrev pub untyped_argument_faults : {T : Type 0} → Facts T → List (Tree ℕ
 untyped_argument_faults facts [] = []
 untyped_argument_faults facts (e ∷ es) = (report_on_expression facts e).faults ++ untyped_argument_faults facts es
 
--- Returns the faults of a call of the name at token `p`, given the name's meaning. A procedure needs as many arguments
--- as it has parameters. If their numbers differ, only `ArgumentCount` is reported. A name that isn't a procedure's is
--- reported as `WrongKind`. An undeclared name is reported elsewhere. In these two cases the arguments may have any
+-- Returns the faults of a call of the name at token `p`, given the name's meaning. A procedure
+-- needs as many arguments as it has parameters. If their numbers differ, only `ArgumentCount` is
+-- reported. A name that isn't a procedure's is reported as `WrongKind`. An undeclared name is
+-- reported elsewhere. If the name is undeclared or isn't a procedure's, the arguments may have any
 -- type.
 abbrev pub call_faults_from_meaning : {T : Type 0}
     → Facts T

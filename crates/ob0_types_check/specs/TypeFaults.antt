@@ -1,4 +1,5 @@
--- The faults and values of constants and array lengths, and the faults and types of type names.
+-- The faults and values of constants and array lengths, and the faults and types of type names. An
+-- operand (`Operand`) is the result of checking an expression: its type, value and tokens.
 -- Rule: docs/LANGUAGE.md, Faults of scopes and types 4, 6, `ConstFault`, `ArrayLength`.
 use Rattle.std.specs.Prelude.{ℕ, Option, Some, None, if◌then◌else◌}
 use Rattle.ob0_scan.specs.declared.fault.FaultCode.TheVariants as code
@@ -25,13 +26,15 @@ type_from_meaning facts token None = without_fault facts.types.unknown
 abbrev pub type_named_by_token : {T : Type 0} → Facts T → ℕ → ResultWithFaults T
 type_named_by_token facts token = type_from_meaning facts token (facts.object_for token)
 
--- returns this value of a constant expression unchanged; for None, reports `ConstFault` at the expression's operand `o`
+-- returns the given value of a constant expression unchanged; for None, reports `ConstFault` at the
+-- tokens of the expression's operand `o`
 abbrev pub value_or_fault : {T : Type 0} → Operand T → Option Value → ResultWithFaults (Option Value)
 value_or_fault o None = record { known = None; faults = fault_at_operand code.ConstFault o }
 value_or_fault o (Some v) = without_fault (Some v)
 
--- Returns the value of a constant expression, given its operand. Reports `ConstFault` if the operand has no value. If
--- the operand's type is unknown, nothing is reported. The result is None in both cases.
+-- Returns the value of a constant expression, given its operand `o`. If the type of `o` is unknown,
+-- the result is None, and nothing is reported. If the type is known and there is no value, the
+-- result is None, and `ConstFault` is reported.
 abbrev pub operand_value : {T : Type 0} → Facts T → Operand T → ResultWithFaults (Option Value)
 operand_value facts o =
     if facts.types.same o.of facts.types.unknown then without_fault None else value_or_fault o o.value
@@ -44,8 +47,8 @@ unfoldable pub report_on_constant_expression : {T : Type 0}
 unfolding report_on_expression
 report_on_constant_expression facts e = report_on_expression facts e >>= operand_value facts
 
--- returns this length of an array unchanged; for None, reports `ArrayLength` at the operand `o` of the length's
--- expression
+-- returns the given length of an array unchanged; for None, reports `ArrayLength` at the tokens of
+-- `o`, the operand for the length's expression
 abbrev pub length_or_fault : {T : Type 0} → Operand T → Option ℕ → ResultWithFaults (Option ℕ)
 length_or_fault o None = record { known = None; faults = fault_at_operand code.ArrayLength o }
 length_or_fault o (Some n) = without_fault (Some n)

@@ -37,9 +37,9 @@ pub data Meaning (T : Type 0) : Type 0 where
   a_variable : T → Meaning T
   a_procedure : List (KnownParameter T) → Meaning T
 
--- The data with which expressions, statements and type names are checked: the text with its tokens,
--- the types, and the meaning of the name at each token (`object_for`). The meaning is None if it
--- isn't known. If `only_constants` is true, names may only refer to constants.
+-- The data with which expressions, statements and type names are checked. It has the text with its
+-- tokens, the types, and the meaning of the name at each token (`object_for`). The meaning is None
+-- if it isn't known. If `only_constants` is true, names may only refer to constants.
 pub record Facts (T : Type 0) : Type 0 where
   pub source : TextWithTokens
   pub types : Types T

@@ -1,5 +1,5 @@
--- The bodies of a module in which a fault is reported. The report of a module from a walk over only
--- its declarations and some of its bodies.
+-- Defines the bodies of a module in which a fault is reported. Also defines when a walk over the
+-- declarations and only some of the bodies gives the report of the whole module.
 -- Rule: docs/LANGUAGE.md, Faults of scopes and types 2 to 11.
 use Rattle.std.specs.Prelude.{◌≡◌, ℕ, Bool, true, ◌||◌, List, [], ◌∷◌, MatchOption, nat_eq}
 use Rattle.std.specs.List.{list_any}

@@ -61,7 +61,8 @@ TypedTargetsHaveNoFault N =
     → is_some (assignable_type meaning (Some (label x, mapped_tree label (token_value_at p.source) path))) ≡ true
     → (report_on_assignment_target (facts_from_declarations p false) x path).faults ≡ []
 
--- returns the ordinal of the word ARRAY or RECORD that makes a type; None for INTEGER and BOOLEAN
+-- Returns the ordinal of the word ARRAY or RECORD that makes a type: the number of such words
+-- before it in the text. The result is None for INTEGER and BOOLEAN.
 abbrev pub ordinal_of_shape : Shape → Option ℕ
 ordinal_of_shape integer_shape = None
 ordinal_of_shape boolean_shape = None

@@ -77,22 +77,24 @@ record_size z = record { scalars = max z.scalars 1; depth = z.depth + 1 }
 abbrev pub token_of_first_name : Tree ℕ names → ℕ
 token_of_first_name (listed x rest) = x
 
--- Returns the token before a group of fields: RECORD or a semicolon. An empty group has no token, so
--- its place is before `following`, the semicolon after it. If no later group has a field, `following` is 0.
+-- Returns the token before a group of fields: RECORD or a semicolon. For an empty group, this is
+-- the token before `following`, which is the semicolon after the group. If neither this group nor a
+-- later one has a field, `following` and the result are 0.
 abbrev pub token_before_group : Tree ℕ fields → ℕ → ℕ
 token_before_group (some_fields ns t) following = previous_token_index (token_of_first_name ns)
 token_before_group no_fields following = previous_token_index following
 
--- Returns the token before these groups of fields. If these are all the groups of a record, it is
--- the word RECORD. Between this token and the first field's name there are only semicolons, one for
--- each empty group before the name. If there are no fields, the result is 0. A record without
--- fields is never too large, so nothing is reported at that token.
+-- Returns the token before these groups of fields. If these are all the groups of a record, that
+-- token is the word RECORD. Between it and the first field's name there are only semicolons, one
+-- for each empty group before the name. If there are no fields, the result is 0. A record without
+-- fields is never too large, so nothing is reported at token 0.
 abbrev pub record_keyword_token : Tree ℕ (items fields_after_semicolon) → ℕ
 record_keyword_token end = 0
 record_keyword_token (more (semicolon_then_fields g) rest) = token_before_group g (record_keyword_token rest)
 
--- Makes a record type of the gathered fields `g`, or reports `TypeTooLarge` at its token RECORD (`word`). `ordinal` is
--- the number of words ARRAY and RECORD before this token in the text.
+-- Makes a record type of the gathered fields `g`, or reports `TypeTooLarge` at `word`, the type's
+-- token RECORD. `ordinal` is the type's number: how many words ARRAY and RECORD come before this
+-- token in the text.
 abbrev pub made_record_type : ℕ → ℕ → KnownFields → ResultWithFaults TypeWithFollowingDeclarations
 made_record_type word ordinal g = make_composite_type g.following word ordinal (of_fields g.fields) (record_size g.size)
 
@@ -100,8 +102,8 @@ made_record_type word ordinal g = make_composite_type g.following word ordinal (
 unfoldable mutual
   unfolding report_on_expression
 
-  -- returns the faults of a type, and the type with the declarations known after it; the faults of the parts of an
-  -- array or record come first
+  -- Returns the faults of a type, and the type with the declarations known after it. The faults of
+  -- the parts of an array or record come first.
   pub report_on_written_type : ℕ → KnownDeclarations → Tree ℕ written_type → ResultWithFaults TypeWithFollowingDeclarations
   report_on_written_type around p (named_type x) = do
     t ← type_named_by_token (facts_from_declarations p false) x

@@ -24,13 +24,13 @@ use Rattle.ob0_language_fields.specs.SingleFieldRenaming.{module_with_renamed_fi
 abbrev pub field_identifiers : Resolution → List FieldIdentifier
 field_identifiers r = fields_with_owners (identifier_owners_in_resolution r)
 
--- returns whether the identifier `found` belongs to the field `x` of the record with ordinal `k`; a record's ordinal is
--- the number of words ARRAY and RECORD before the record
+-- Returns whether the identifier `found` belongs to the field `x` of the record with ordinal `k`. A
+-- record's ordinal is the number of words ARRAY and RECORD before the record.
 abbrev pub belongs_to_field : TextWithTokens → ℕ → Name → FieldIdentifier → Bool
 belongs_to_field source k x found = (found.owner == k) && same_name (token_text_at source found.token) x
 
--- returns the token indexes of the identifiers in a list that belong to the field `x` of the record with ordinal `k`; a
--- record's ordinal is the number of words ARRAY and RECORD before the record
+-- Returns the token indexes of the identifiers in a list that belong to the field `x` of the record
+-- with ordinal `k`. A record's ordinal is the number of words ARRAY and RECORD before the record.
 abbrev pub tokens_of_field : TextWithTokens → ℕ → Name → List FieldIdentifier → List ℕ
 tokens_of_field source k x [] = []
 tokens_of_field source k x (found ∷ rest) =
@@ -38,13 +38,14 @@ tokens_of_field source k x (found ∷ rest) =
     then found.token ∷ tokens_of_field source k x rest
     else tokens_of_field source k x rest
 
--- returns the token indexes of all identifiers in a module that belong to the field `x` of the record with ordinal `k`;
--- a record's ordinal is the number of words ARRAY and RECORD before the record
+-- Returns the token indexes of all identifiers in a module that belong to the field `x` of the
+-- record with ordinal `k`. A record's ordinal is the number of words ARRAY and RECORD before the
+-- record.
 abbrev pub field_tokens_in_module : Resolution → ℕ → Name → List ℕ
 field_tokens_in_module r k x = tokens_of_field r.module_read.source k x (field_identifiers r)
 
--- returns the first identifier in a list of field identifiers that contains the byte offset `offset` or ends there;
--- None if there is none
+-- Returns the first identifier in a list of field identifiers that contains the byte offset
+-- `offset` or ends there. The result is None if no identifier does.
 abbrev pub field_at_offset : TextWithTokens → ℕ → List FieldIdentifier → Option FieldIdentifier
 field_at_offset source offset [] = None
 field_at_offset source offset (x ∷ xs) =
@@ -59,16 +60,16 @@ token_indexes xs = map (λ x. x.token) xs
 abbrev pub AreInTextOrder : TextWithTokens → List FieldIdentifier → Type 0
 AreInTextOrder source xs = AreAscendingWithin 0 (token_indexes xs) (length source.tokens)
 
--- returns the first field identifier of a module that contains the byte offset `offset` or ends there; None if there is
--- none
+-- returns the first field identifier of a module that contains the byte offset `offset` or ends
+-- there; None if no field identifier does
 abbrev pub module_field_at_offset : Resolution → ℕ → Option FieldIdentifier
 module_field_at_offset r offset = field_at_offset r.module_read.source offset (field_identifiers r)
 
 -- ---- the identifiers that declare fields; `k` is the number of words ARRAY and RECORD before the visited part
 
 abbrev mutual
-  -- returns the fields that the declarations of a block declare, in text order; `k` is the number of words ARRAY and
-  -- RECORD before the block
+  -- Returns the fields that the declarations of a block declare, in text order. `k` is the ordinal
+  -- of the next word ARRAY or RECORD: the number of such words before the block.
   pub fields_declared_in_block : ℕ → Tree ℕ block → List FieldIdentifier
   fields_declared_in_block k (forms_block (declares cs ts vs ps) statements) =
       fields_in_types k (section_types ts)
@@ -76,15 +77,16 @@ abbrev mutual
       (section_variables vs)
       ++ fields_declared_in_procedures (constructor_count_before_procedures k (forms_block (declares cs ts vs ps) statements)) ps)
 
-  -- returns the fields that procedures declare, in text order; `k` is the number of words ARRAY and RECORD before the
-  -- procedures
+  -- Returns the fields that procedures declare, in text order. `k` is the ordinal of the next word
+  -- ARRAY or RECORD: the number of such words before the procedures.
   pub fields_declared_in_procedures : ℕ → Tree ℕ (items procedure) → List FieldIdentifier
   fields_declared_in_procedures k end = []
   fields_declared_in_procedures k (more p rest) =
       fields_declared_in_procedure k p ++ fields_declared_in_procedures (k + procedure_constructor_count p) rest
 
-  -- returns the fields that a procedure declares: its parameters' fields, then its block's fields; `k` is the number of
-  -- words ARRAY and RECORD before the procedure
+  -- Returns the fields that a procedure declares: its parameters' fields, then its block's fields.
+  -- `k` is the ordinal of the next word ARRAY or RECORD: the number of such words before the
+  -- procedure.
   pub fields_declared_in_procedure : ℕ → Tree ℕ (item procedure) → List FieldIdentifier
   fields_declared_in_procedure k (declares_procedure x fs b closing) =
       fields_in_parameter_sections k (formal_parameter_sections fs)
@@ -110,8 +112,8 @@ field_tokens_of_record k [] = []
 field_tokens_of_record k (found ∷ rest) =
     if found.owner == k then found.token ∷ field_tokens_of_record k rest else field_tokens_of_record k rest
 
--- returns the position of the field `x` among the fields that the record with ordinal `k` declares,
--- counted from 0; None if the record has no such field
+-- Returns the position of the field `x` among the fields that the record with ordinal `k` declares,
+-- counted from 0. The result is None if the record has no such field.
 abbrev pub field_index_in_record : ParsedModule → ℕ → Name → Option ℕ
 field_index_in_record m k x =
     position_from (λ token. same_name (token_text_at m.source token) x) 0
@@ -131,8 +133,8 @@ RenamingChangesFieldTokens =
     then new
     else token_text_at r.module_read.source i) (token_value_at r.module_read.source) (tree_of r.module_read)
 
--- States that the new name `new` for the field `f` of a record is a duplicate exactly if two conditions hold: `new`
--- differs from `f`, and a token declares a field `new` of the same record.
+-- States that the new name `new` for the field `f` of a record is a duplicate exactly if two
+-- conditions hold. `new` differs from `f`, and a token declares a field `new` of the same record.
 abbrev pub DuplicateFieldNameHasDeclaringToken : Type 0
 DuplicateFieldNameHasDeclaringToken =
     (m : ParsedModule) (k : ℕ) (f new : Name)
@@ -148,8 +150,8 @@ FieldsAreDeclared =
     (λ x. is_some (field_declaring_token r.module_read x.owner (token_text_at r.module_read.source x.token))
     ≡ true) (field_identifiers r)
 
--- returns the token indexes of the listed identifiers that are field names according to the grammar: they declare a
--- field in a record, or they select a field
+-- Returns the token indexes of the listed identifiers that are field names according to the
+-- grammar. These identifiers declare a field in a record, or select a field.
 abbrev pub field_role_tokens : List (Role × ℕ) → List ℕ
 field_role_tokens [] = []
 field_role_tokens ((role.FieldName, token) ∷ rest) = token ∷ field_role_tokens rest

@@ -18,8 +18,8 @@ pub record FieldLists : Type 0 where
   pub declared : List FieldIdentifier
   pub all : List FieldIdentifier
 
--- returns the list `all` of a module's field identifiers; returns an empty list if the list
--- `declared` is empty, because a module that declares no field can't select one
+-- Returns the list `all` of a module's field identifiers, or an empty list if the list `declared`
+-- is empty. A module that declares no field can't select one.
 abbrev pub all_fields_if_any_declared : List FieldIdentifier → List FieldIdentifier → List FieldIdentifier
 all_fields_if_any_declared declared all = if length declared == 0 then [] else all
 
@@ -38,8 +38,8 @@ field_lists_of t r = record {
 abbrev pub AreFieldListsOfModule : Resolution → FieldLists → Type 0
 AreFieldListsOfModule r f = (f.declared ≡ declared_fields r.module_read) × (f.all ≡ field_identifiers r)
 
--- returns the list `xs` in which the items from index `k` on are replaced one by one by the items of
--- the second list; items that would lie after the end of `xs` are ignored
+-- Returns the list `xs` with its items overwritten by the items of the second list, one by one,
+-- beginning at index `k`. Items that would lie after the end of `xs` are ignored.
 abbrev pub overwritten_fields : List FieldIdentifier → ℕ → List FieldIdentifier → List FieldIdentifier
 overwritten_fields xs k [] = xs
 overwritten_fields xs k (y ∷ ys) = overwritten_fields (set xs k y) (k + 1) ys
@@ -63,17 +63,18 @@ abbrev pub fields_at_or_after_token : ℕ → List FieldIdentifier → List Fiel
 fields_at_or_after_token token xs = filter (λ x. nat_le token x.token) xs
 
 -- Returns the index of an unchanged token in the new text, given its index `i` in the old text. `s`
--- specifies the unchanged tokens. Returns 2^64 - 1 if the index would be greater.
+-- says which tokens at the start and at the end of the text are unchanged. The result is 2^64 - 1
+-- if the index would be greater.
 abbrev pub new_token_index : CommonPrefixAndSuffix → ℕ → ℕ
 new_token_index s i = min (shifted_token_index s i) (2 ^ 64 - 1)
 
--- returns the field identifier `x` of the old text with the index that its token has in the new
--- text; `s` specifies the unchanged tokens
+-- Returns the field identifier `x` of the old text with the index that its token has in the new
+-- text. `s` says which tokens at the start and at the end of the text are unchanged.
 abbrev pub field_with_shifted_token : CommonPrefixAndSuffix → FieldIdentifier → FieldIdentifier
 field_with_shifted_token s x = record { token = new_token_index s x.token; owner = x.owner }
 
--- returns the index in the old text of a token that lies after the changed tokens, given its index
--- `i` in the new text; `s` specifies the unchanged tokens; returns 2^64 - 1 if the index would be
--- greater
+-- Returns the index in the old text of a token after the changed tokens, given its index `i` in the
+-- new text. `s` says which tokens at the start and at the end of the text are unchanged. The result
+-- is 2^64 - 1 if the index would be greater.
 abbrev pub old_token_index : CommonPrefixAndSuffix → ℕ → ℕ
 old_token_index s i = min (i - s.new_suffix + s.old_suffix) (2 ^ 64 - 1)

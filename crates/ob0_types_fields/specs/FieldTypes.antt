@@ -79,8 +79,8 @@ pub record TypedField : Type 0 where
   pub field : FieldId
   pub shape : Shape
 
--- returns the field with the name `x` in the record type `s`, with the field's type; None if `s`
--- isn't a record type or has no such field
+-- Returns the field with the name `x` in the record type `s`, with the field's type. The result is
+-- None if `s` isn't a record type or has no such field.
 abbrev pub typed_field_with_name : Shape → Name → Option TypedField
 typed_field_with_name s x =
     option_and_then (λ f. option_map (λ t. record { field = f; shape = t }) (field_type s x))

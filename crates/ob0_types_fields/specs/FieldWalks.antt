@@ -18,13 +18,13 @@ use Rattle.ob0_types_fields.specs.IdentifierOwners.{field_if_owned, fields_in_tr
 abbrev pub field_walk_meanings : FieldWalk → Meanings ℕ Shape Signature
 field_walk_meanings w = meanings_by_token (declared_object_in w.table.now) w.resolved.now
 
--- converts the record type `r` of the code to a type of the definitions (`Shape`); the walk's table
--- of declarations has the types of its fields
+-- Converts the record type `r` of the code to a type of the definitions (`Shape`). The walk's table
+-- of declarations has the types of its fields.
 abbrev pub record_shape_in_walk : FieldWalk → RecordShape → Shape
 record_shape_in_walk w r = entry_shape (shapes_of w.table.now) (made.Record r)
 
--- returns the field identifiers in one selector: the selected field, or the fields in an index's
--- expression; `s` is the type of the designator before the selector
+-- Returns the field identifiers in one selector: the selected field, or the fields in an index's
+-- expression. `s` is the type of the designator before the selector.
 abbrev pub fields_in_selector : {P : Type 0}
     → Meanings ℕ Shape P
     → Option Shape

@@ -21,18 +21,19 @@ use Rattle.ob0_language_values.specs.Values.{Shape, integer_shape}
 use Rattle.ob0_types_fields.specs.declared.field_identifier.FieldIdentifier.{FieldIdentifier}
 use Rattle.ob0_types_fields.specs.OwnerTables.{IsOwnerTable}
 
--- returns the identifiers of a list without their roles: each is a pair of the identifier's token index and None,
--- because it has no owner
+-- returns the token index of each identifier in a list, paired with None, because these identifiers
+-- have no owner
 abbrev pub replace_roles_by_no_owner : List (Role × ℕ) → List (ℕ × Option ℕ)
 replace_roles_by_no_owner xs = map (λ x. (x.1, None)) xs
 
--- returns the identifiers of a tree that has no field identifiers, in text order; each is a pair of the identifier's
--- token index and None, because it has no owner
+-- Returns the token index of each identifier in a tree without field identifiers, in text order.
+-- Each index is paired with None, because these identifiers have no owner.
 abbrev pub identifiers_without_owners : {s : Sort} → Tree ℕ s → List (ℕ × Option ℕ)
 identifiers_without_owners t = replace_roles_by_no_owner (identifiers role.DeclaringName t)
 
--- returns the type of a designator including one more selector, given the type `s` before this selector; returns None
--- if `s` is unknown (None) or has no such field or element; for a tree that isn't a selector, returns `s`
+-- Returns the type of a designator with one more selector, given the type `s` before this selector.
+-- The result is None if `s` is unknown (None) or has no such field or element. For a tree that
+-- isn't a selector, the result is `s`.
 abbrev pub type_after_selector : {P : Type 0} {i : GrammarItem}
     → Meanings ℕ Shape P
     → Option Shape
@@ -42,8 +43,9 @@ type_after_selector m s (field x) = option_and_then (λ t. field_type t (m.writt
 type_after_selector m s (index e) = option_and_then (λ t. element_type t integer_shape) s
 type_after_selector m s _ = s
 
--- returns the ordinal of the record in which the name `x` selects a field; the first argument is the type before the
--- selector; returns None if that type is unknown or has no field `x`
+-- Returns the ordinal of the record in which the name `x` selects a field. The first argument is
+-- the type before the selector. The result is None if that type is unknown (None) or has no field
+-- `x`.
 abbrev pub owner : Option Shape → Name → Option ℕ
 owner None x = None
 owner (Some s) x = option_map (λ f. f.ordinal) (selected_field s x)
@@ -89,83 +91,89 @@ identifier_owners_in_tree m s (else_branch a) = identifier_owners_in_tree m None
 identifier_owners_in_tree m s (begins a) = identifier_owners_in_tree m None a
 identifier_owners_in_tree m s t = identifiers_without_owners t
 
--- Returns the identifiers of a type or of a part of a type, with their owners. `k` is the number of words ARRAY and
--- RECORD before this part. `r` is the ordinal of the record that a group of fields belongs to.
+-- Returns the identifiers of a type or of a part of a type, with their owners. `k` is the ordinal
+-- of the next word ARRAY or RECORD: the number of such words before this part. `r` is the ordinal
+-- of the record that a group of fields belongs to.
 abbrev mutual
-  -- returns the identifiers of a written type with their owners: its name, the identifiers in an array's length and
-  -- element type, or the identifiers in a record's groups of fields; `k` is the number of words ARRAY and RECORD before
-  -- the type
+  -- Returns the identifiers of a written type with their owners. A named type has its name, an
+  -- array the identifiers of its length and element type, a record the identifiers of its groups of
+  -- fields. `k` is the ordinal of the next word ARRAY or RECORD: the number of such words before
+  -- the type.
   pub identifier_owners_in_type : ℕ → Tree ℕ written_type → List (ℕ × Option ℕ)
   identifier_owners_in_type k (named_type x) = (x, None) ∷ []
   identifier_owners_in_type k (array_type e t) = identifiers_without_owners e ++ identifier_owners_in_type (suc k) t
   identifier_owners_in_type k (record_type g rest) =
       identifier_owners_in_group k (suc k) g ++ identifier_owners_in_groups k (suc k + group_constructor_count g) rest
 
-  -- returns the identifiers of a group of fields with their owners: the names of the fields, whose owner is the record
-  -- with ordinal `r`, and the identifiers of their type; `k` is the number of words ARRAY and RECORD before this type
+  -- Returns the identifiers of a group of fields with their owners. These are the names of the
+  -- fields, whose owner is the record with ordinal `r`, and the identifiers of their type. `k` is
+  -- the ordinal of the next word ARRAY or RECORD: the number of such words before this type.
   pub identifier_owners_in_group : ℕ → ℕ → Tree ℕ fields → List (ℕ × Option ℕ)
   identifier_owners_in_group r k no_fields = []
   identifier_owners_in_group r k (some_fields ns t) = map (λ x. (x, Some r)) (names_in_list ns) ++ identifier_owners_in_type k t
 
-  -- returns the identifiers in a record's groups of fields after the first group, with their owners; the record has
-  -- ordinal `r`, and `k` is the number of words ARRAY and RECORD before these groups
+  -- Returns the identifiers in a record's groups of fields after the first group, with their
+  -- owners. The record has ordinal `r`. `k` is the ordinal of the next word ARRAY or RECORD: the
+  -- number of such words before these groups.
   pub identifier_owners_in_groups : ℕ → ℕ → Tree ℕ (items fields_after_semicolon) → List (ℕ × Option ℕ)
   identifier_owners_in_groups r k end = []
   identifier_owners_in_groups r k (more (semicolon_then_fields g) rest) =
       identifier_owners_in_group r k g ++ identifier_owners_in_groups r (k + group_constructor_count g) rest
 
--- returns the identifiers of type declarations with their owners; `k` is the number of words ARRAY and RECORD before
--- the declarations
+-- Returns the identifiers of type declarations with their owners. `k` is the ordinal of the next
+-- word ARRAY or RECORD: the number of such words before the declarations.
 abbrev pub identifier_owners_in_types : ℕ → Tree ℕ (items type_definition) → List (ℕ × Option ℕ)
 identifier_owners_in_types k end = []
 identifier_owners_in_types k (more (declares_type x u) ds) =
     (x, None) ∷ (identifier_owners_in_type k u ++ identifier_owners_in_types (k + constructor_count u) ds)
 
--- returns the identifiers of a TYPE section with their owners; `k` is the number of words ARRAY and RECORD before the
--- section
+-- Returns the identifiers of a TYPE section with their owners. `k` is the ordinal of the next word
+-- ARRAY or RECORD: the number of such words before the section.
 abbrev pub identifier_owners_in_type_section : ℕ → Tree ℕ (maybe type_definitions) → List (ℕ × Option ℕ)
 identifier_owners_in_type_section k none = []
 identifier_owners_in_type_section k (one (declares_type_section ts)) = identifier_owners_in_types k ts
 
--- returns the identifiers of variable declarations with their owners; `k` is the number of words ARRAY and RECORD
--- before the declarations
+-- Returns the identifiers of variable declarations with their owners. `k` is the ordinal of the
+-- next word ARRAY or RECORD: the number of such words before the declarations.
 abbrev pub identifier_owners_in_variables : ℕ → Tree ℕ (items variable) → List (ℕ × Option ℕ)
 identifier_owners_in_variables k end = []
 identifier_owners_in_variables k (more (declares_variable ns u) gs) =
     (identifiers_without_owners ns ++ identifier_owners_in_type k u) ++ identifier_owners_in_variables (k + constructor_count u) gs
 
--- returns the identifiers of a VAR section with their owners; `k` is the number of words ARRAY and RECORD before the
--- section
+-- Returns the identifiers of a VAR section with their owners. `k` is the ordinal of the next word
+-- ARRAY or RECORD: the number of such words before the section.
 abbrev pub identifier_owners_in_variable_section : ℕ → Tree ℕ (maybe variables) → List (ℕ × Option ℕ)
 identifier_owners_in_variable_section k none = []
 identifier_owners_in_variable_section k (one (declares_var_section vs)) = identifier_owners_in_variables k vs
 
--- returns the identifiers of a section of parameters with their owners; `k` is the number of words ARRAY and RECORD
--- before the section
+-- Returns the identifiers of a section of parameters with their owners. `k` is the ordinal of the
+-- next word ARRAY or RECORD: the number of such words before the section.
 abbrev pub identifier_owners_in_parameter_section : ℕ → Tree ℕ section → List (ℕ × Option ℕ)
 identifier_owners_in_parameter_section k (value_section ns u) = identifiers_without_owners ns ++ identifier_owners_in_type k u
 identifier_owners_in_parameter_section k (variable_section ns u) = identifiers_without_owners ns ++ identifier_owners_in_type k u
 
--- returns the identifiers of the sections of parameters after the first section, with their owners; `k` is the number
--- of words ARRAY and RECORD before these sections
+-- Returns the identifiers of the sections of parameters after the first section, with their owners.
+-- `k` is the ordinal of the next word ARRAY or RECORD: the number of such words before these
+-- sections.
 abbrev pub identifier_owners_in_parameter_sections : ℕ → Tree ℕ (items section_after_semicolon) → List (ℕ × Option ℕ)
 identifier_owners_in_parameter_sections k end = []
 identifier_owners_in_parameter_sections k (more (semicolon_then_section f) fs) =
     identifier_owners_in_parameter_section k f ++ identifier_owners_in_parameter_sections (k + constructor_count (parameter_section_type f)) fs
 
--- returns the identifiers of formal parameters with their owners; `k` is the number of words ARRAY and RECORD before
--- the parameters
+-- Returns the identifiers of formal parameters with their owners. `k` is the ordinal of the next
+-- word ARRAY or RECORD: the number of such words before the parameters.
 abbrev pub identifier_owners_in_formals : ℕ → Tree ℕ (maybe formals) → List (ℕ × Option ℕ)
 identifier_owners_in_formals k none = []
 identifier_owners_in_formals k (one no_formals) = []
 identifier_owners_in_formals k (one (some_formals f fs)) =
     identifier_owners_in_parameter_section k f ++ identifier_owners_in_parameter_sections (k + constructor_count (parameter_section_type f)) fs
 
--- Returns the identifiers of a block or of procedures, with their owners. `k` is the number of words ARRAY and RECORD
--- before the block or the procedures.
+-- Returns the identifiers of a block or of procedures, with their owners. `k` is the ordinal of the
+-- next word ARRAY or RECORD: the number of such words before the block or the procedures.
 abbrev mutual
-  -- returns the identifiers of a block with their owners: first the identifiers in its declarations, then the
-  -- identifiers in its statements; `k` is the number of words ARRAY and RECORD before the block
+  -- Returns the identifiers of a block with their owners: first the identifiers in its
+  -- declarations, then the identifiers in its statements. `k` is the ordinal of the next word ARRAY
+  -- or RECORD: the number of such words before the block.
   pub identifier_owners_in_block : {P : Type 0} → Meanings ℕ Shape P → ℕ → Tree ℕ block → List (ℕ × Option ℕ)
   identifier_owners_in_block m k (forms_block (declares cs ts vs ps) statements) =
       (identifiers_without_owners cs ++ (identifier_owners_in_type_section k ts
@@ -173,8 +181,8 @@ abbrev mutual
       ++ identifier_owners_in_procedures m (constructor_count_before_procedures k (forms_block (declares cs ts vs ps) statements)) ps)))
       ++ identifier_owners_in_tree m None statements
 
-  -- returns the identifiers of the procedures of a block with their owners, in text order; `k` is the number of words
-  -- ARRAY and RECORD before the procedures
+  -- Returns the identifiers of the procedures of a block with their owners, in text order. `k` is
+  -- the ordinal of the next word ARRAY or RECORD: the number of such words before the procedures.
   pub identifier_owners_in_procedures : {P : Type 0}
       → Meanings ℕ Shape P
       → ℕ
@@ -184,8 +192,9 @@ abbrev mutual
   identifier_owners_in_procedures m k (more p rest) =
       identifier_owners_in_procedure m k p ++ identifier_owners_in_procedures m (k + procedure_constructor_count p) rest
 
-  -- returns the identifiers of a procedure with their owners: its name, then the identifiers in its parameters and its
-  -- block, then its closing name; `k` is the number of words ARRAY and RECORD before the procedure
+  -- Returns the identifiers of a procedure with their owners: its name, then the identifiers in its
+  -- parameters and its block, then its closing name. `k` is the ordinal of the next word ARRAY or
+  -- RECORD: the number of such words before the procedure.
   pub identifier_owners_in_procedure : {P : Type 0}
       → Meanings ℕ Shape P
       → ℕ
@@ -222,15 +231,15 @@ identifier_owners_in_resolution r =
     identifier_owners_in_module (meanings_by_token (declared_object (named_tree_of r.module_read)) r)
     (tree_of r.module_read)
 
--- states that, for each token in the list, the table gives the same owner as the list; an owner is the ordinal of a
--- record, or None
+-- States that, for each token in the list, the table gives the same owner as the list. An owner is
+-- the ordinal of a record, or None.
 abbrev pub AgreesWithOwnerList : (ℕ → Option ℕ) → List (ℕ × Option ℕ) → Type 0
 AgreesWithOwnerList table [] = Unit {0}
 AgreesWithOwnerList table (x ∷ xs) = (table x.0 ≡ x.1) × AgreesWithOwnerList table xs
 
--- States that a table has the owners of all field identifiers of a well-typed module (`IsOwnerTable`) if it agrees with
--- the list `identifier_owners_in_resolution`. The table agrees with this list if it has the owner that the list gives
--- for each identifier, at the identifier's token.
+-- States that a table has the owners of all field identifiers of a well-typed module
+-- (`IsOwnerTable`) if it agrees with the list `identifier_owners_in_resolution`. The table agrees
+-- if it has, at each identifier's token, the owner that the list gives for this identifier.
 abbrev pub AgreeingTableIsOwnerTable : Type 0
 AgreeingTableIsOwnerTable =
     (r : Resolution) (owners : List (Option ℕ))
@@ -271,8 +280,9 @@ field_if_owned x (Some k) = record { token = x; owner = k } ∷ []
 
 -- Returns the field identifiers in a statement, in a part of a statement or in a list of selectors.
 abbrev mutual
-  -- returns the field identifiers in a statement or a part of a statement, in text order; an empty list if there are
-  -- none; the fields of selectors are found with their designator, by `fields_in_path`
+  -- Returns the field identifiers in a statement or a part of a statement, in text order. For a
+  -- selector `.x` the list is empty, because `fields_in_path` finds its field together with the
+  -- designator.
   pub fields_in_tree : {P : Type 0} {s : Sort} → Meanings ℕ Shape P → Tree ℕ s → List FieldIdentifier
   fields_in_tree m none = []
   fields_in_tree m (one a) = fields_in_tree m a
@@ -324,53 +334,58 @@ abbrev mutual
 abbrev pub fields_at_tokens : ℕ → List ℕ → List FieldIdentifier
 fields_at_tokens r xs = map (λ x. record { token = x; owner = r }) xs
 
--- Returns the fields that a written type or a part of it declares. `k` is the number of words ARRAY and RECORD before
--- this part. `r` is the ordinal of the record that a group of fields belongs to.
+-- Returns the fields that a written type or a part of it declares. `k` is the ordinal of the next
+-- word ARRAY or RECORD: the number of such words before this part. `r` is the ordinal of the record
+-- that a group of fields belongs to.
 abbrev mutual
-  -- returns the fields that a written type declares, in text order; `k` is the number of words ARRAY and RECORD before
-  -- the type; an array's length declares no fields
+  -- Returns the fields that a written type declares, in text order. `k` is the ordinal of the next
+  -- word ARRAY or RECORD: the number of such words before the type. An array's length declares no
+  -- fields.
   pub fields_in_type : ℕ → Tree ℕ written_type → List FieldIdentifier
   fields_in_type k (named_type x) = []
   fields_in_type k (array_type e t) = fields_in_type (suc k) t
   fields_in_type k (record_type g rest) =
       fields_in_group k (suc k) g ++ fields_in_groups k (suc k + group_constructor_count g) rest
 
-  -- returns the fields of a group, which belong to the record with ordinal `r`, then the fields that the group's type
-  -- declares; `k` is the number of words ARRAY and RECORD before that type
+  -- Returns the fields of a group, which belong to the record with ordinal `r`, then the fields
+  -- that the group's type declares. `k` is the ordinal of the next word ARRAY or RECORD: the number
+  -- of such words before that type.
   pub fields_in_group : ℕ → ℕ → Tree ℕ fields → List FieldIdentifier
   fields_in_group r k no_fields = []
   fields_in_group r k (some_fields ns t) = fields_at_tokens r (names_in_list ns) ++ fields_in_type k t
 
-  -- returns the fields that a record's groups of fields after the first group declare, in text order; the record has
-  -- ordinal `r`, and `k` is the number of words ARRAY and RECORD before these groups
+  -- Returns the fields that a record's groups of fields after the first group declare, in text
+  -- order. The record has ordinal `r`. `k` is the ordinal of the next word ARRAY or RECORD: the
+  -- number of such words before these groups.
   pub fields_in_groups : ℕ → ℕ → Tree ℕ (items fields_after_semicolon) → List FieldIdentifier
   fields_in_groups r k end = []
   fields_in_groups r k (more (semicolon_then_fields g) rest) =
       fields_in_group r k g ++ fields_in_groups r (k + group_constructor_count g) rest
 
--- returns the fields that type declarations declare; `k` is the number of words ARRAY and RECORD before the
--- declarations
+-- Returns the fields that type declarations declare. `k` is the ordinal of the next word ARRAY or
+-- RECORD: the number of such words before the declarations.
 abbrev pub fields_in_types : ℕ → Tree ℕ (items type_definition) → List FieldIdentifier
 fields_in_types k end = []
 fields_in_types k (more (declares_type x u) ds) =
     fields_in_type k u ++ fields_in_types (k + constructor_count u) ds
 
--- returns the fields that variable declarations declare; `k` is the number of words ARRAY and RECORD before the
--- declarations
+-- Returns the fields that variable declarations declare. `k` is the ordinal of the next word ARRAY
+-- or RECORD: the number of such words before the declarations.
 abbrev pub fields_in_variables : ℕ → Tree ℕ (items variable) → List FieldIdentifier
 fields_in_variables k end = []
 fields_in_variables k (more (declares_variable ns u) gs) =
     fields_in_type k u ++ fields_in_variables (k + constructor_count u) gs
 
--- returns the fields that sections of parameters declare; `k` is the number of words ARRAY and RECORD before the
--- sections
+-- Returns the fields that sections of parameters declare. `k` is the ordinal of the next word ARRAY
+-- or RECORD: the number of such words before the sections.
 abbrev pub fields_in_parameter_sections : ℕ → Tree ℕ (items section_after_semicolon) → List FieldIdentifier
 fields_in_parameter_sections k end = []
 fields_in_parameter_sections k (more (semicolon_then_section f) fs) =
     fields_in_type k (parameter_section_type f) ++ fields_in_parameter_sections (k + constructor_count (parameter_section_type f)) fs
 
 abbrev mutual
-  -- returns the fields that a block declares and selects; `k` is the number of words ARRAY and RECORD before the block
+  -- Returns the fields that a block declares and selects. `k` is the ordinal of the next word ARRAY
+  -- or RECORD: the number of such words before the block.
   pub fields_in_block : {P : Type 0} → Meanings ℕ Shape P → ℕ → Tree ℕ block → List FieldIdentifier
   fields_in_block m k (forms_block (declares cs ts vs ps) statements) =
       (fields_in_types k (section_types ts)
@@ -379,8 +394,8 @@ abbrev mutual
       ++ fields_in_procedures m (constructor_count_before_procedures k (forms_block (declares cs ts vs ps) statements)) ps))
       ++ fields_in_tree m statements
 
-  -- returns the fields that procedures declare and select, in text order; `k` is the number of words ARRAY and RECORD
-  -- before the procedures
+  -- Returns the fields that procedures declare and select, in text order. `k` is the ordinal of the
+  -- next word ARRAY or RECORD: the number of such words before the procedures.
   pub fields_in_procedures : {P : Type 0}
       → Meanings ℕ Shape P
       → ℕ
@@ -390,8 +405,8 @@ abbrev mutual
   fields_in_procedures m k (more p rest) =
       fields_in_procedure m k p ++ fields_in_procedures m (k + procedure_constructor_count p) rest
 
-  -- returns the fields of a procedure: its parameters' fields, then its block's fields; `k` is the number of words
-  -- ARRAY and RECORD before the procedure
+  -- Returns the fields of a procedure: its parameters' fields, then its block's fields. `k` is the
+  -- ordinal of the next word ARRAY or RECORD: the number of such words before the procedure.
   pub fields_in_procedure : {P : Type 0}
       → Meanings ℕ Shape P
       → ℕ

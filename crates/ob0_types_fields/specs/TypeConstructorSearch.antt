@@ -15,20 +15,20 @@ use Rattle.ob0_types_fields.specs.declared.field_types.TypedField as code
 use Rattle.ob0_types_fields.specs.FieldTypes.{TypedField}
 use Rattle.ob0_types_fields.specs.IdentifierOwners.{meanings_by_token}
 
--- the state of a search: the type that was found (None if it is unknown), or the number of words ARRAY and RECORD still
--- to skip
+-- The state of a search for a word ARRAY or RECORD. It is the type that was found (None if it is
+-- unknown), or the number of such words still to skip.
 pub data TypeConstructorSearchState : Type 0 where
   is_found : Option Shape → TypeConstructorSearchState
   is_skipping : ℕ → TypeConstructorSearchState
 
--- returns the state of the search after one more ARRAY or RECORD; this word constructs the type `t`, or an unknown type
--- if `t` is None
+-- Returns the state of the search after one more ARRAY or RECORD. This word constructs the type
+-- `t`, or an unknown type if `t` is None.
 abbrev pub state_after_constructor : TypeConstructorSearchState → Option Shape → TypeConstructorSearchState
 state_after_constructor (is_found found) t = is_found found
 state_after_constructor (is_skipping n) t = if n == 0 then is_found t else is_skipping (n - 1)
 
--- returns the state of the search after several words ARRAY and RECORD; the list has the types that these words
--- construct, with None for an unknown type
+-- Returns the state of the search after several words ARRAY and RECORD. The list has the types that
+-- these words construct, with None for an unknown type.
 abbrev pub state_after_constructors : TypeConstructorSearchState → List (Option Shape) → TypeConstructorSearchState
 state_after_constructors s [] = s
 state_after_constructors s (t ∷ ts) = state_after_constructors (state_after_constructor s t) ts

@@ -13,8 +13,8 @@ use ob0_tree::{Block, Procedure};
 use std::alloc::AllocError;
 
 /// Appends the fields that a block and its procedures declare. `word_count` counts the words ARRAY
-/// and RECORD that precede the block in the module. On return, `word_count` also counts the words
-/// in the block.
+/// and RECORD that precede the block in the module. This count gives records their ordinals. On
+/// return, `word_count` also counts the words in the block.
 #[cycle(blocks)]
 pub(crate) fn add_fields_declared_in_block(
     found: &mut FieldIdentifierList,
@@ -35,8 +35,8 @@ pub(crate) fn add_fields_declared_in_block(
 }
 
 /// Appends the fields that a procedure declares in its parameters and its block. `word_count`
-/// counts the words ARRAY and RECORD that precede the procedure in the module. On return,
-/// `word_count` also counts the words in the procedure.
+/// counts the words ARRAY and RECORD that precede the procedure in the module. This count gives
+/// records their ordinals. On return, `word_count` also counts the words in the procedure.
 #[cycle(blocks)]
 fn add_fields_declared_in_procedure(
     found: &mut FieldIdentifierList,

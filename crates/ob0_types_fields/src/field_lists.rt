@@ -118,10 +118,11 @@ impl ModuleFields {
 
     /// Returns the lists for a changed text in which the statements of one body were replaced,
     /// given the lists for the old text (`self`). `place` has the token indexes, in the changed
-    /// text, of the body's first identifier and of the block's closing name. `same` specifies the
-    /// unchanged tokens. Fields before the body's first identifier are unchanged. A walk finds the
-    /// fields in the new statements. Fields after the body get the indexes that their tokens have
-    /// in the changed text, or 2^64 - 1 if an index would be greater.
+    /// text, of the body's first identifier and of the block's closing name. `same` says which
+    /// tokens at the start and at the end of the text are unchanged. Fields before the body's first
+    /// identifier are unchanged. A walk finds the fields in the new statements. Fields after the
+    /// body get the indexes that their tokens have in the changed text, or 2^64 - 1 if an index
+    /// would be greater.
     pub fn with_replaced_body<'a, 't>(
         self,
         alloc: Global,
@@ -251,7 +252,8 @@ fn overwrite_fields_from_index(
 }
 
 /// Returns the index of an unchanged token in the new text, given its index `token` in the old
-/// text. `same` specifies the unchanged tokens. Returns 2^64 - 1 if the index would be greater.
+/// text. `same` says which tokens at the start and at the end of the text are unchanged. Returns
+/// 2^64 - 1 if the index would be greater.
 fn new_token_index(token: usize, same: CommonPrefixAndSuffix) -> usize
     ensures { result ≡ new_token_index same token }
 {
@@ -264,9 +266,9 @@ fn new_token_index(token: usize, same: CommonPrefixAndSuffix) -> usize
     }
 }
 
-/// Returns the index in the old text of a token that lies after the changed tokens, given its index
-/// `token` in the new text. `same` specifies the unchanged tokens. Returns 2^64 - 1 if the index
-/// would be greater.
+/// Returns the index in the old text of a token after the changed tokens, given its index `token`
+/// in the new text. `same` says which tokens at the start and at the end of the text are unchanged.
+/// Returns 2^64 - 1 if the index would be greater.
 fn old_token_index(token: usize, same: CommonPrefixAndSuffix) -> usize
     ensures { result ≡ old_token_index same token }
 {
@@ -292,8 +294,8 @@ fn add_fields_before_token(
 }
 
 /// Appends to `found` the items of the list `fields` whose token indexes in the old text are
-/// `token` or more. Each appended item gets its token's index in the new text. `same` specifies the
-/// unchanged tokens.
+/// `token` or more. Each appended item gets its token's index in the new text. `same` says which
+/// tokens at the start and at the end of the text are unchanged.
 fn add_fields_with_shifted_tokens(
     found: &mut FieldIdentifierList,
     fields: &[FieldIdentifier],

@@ -80,7 +80,8 @@ fn constructed_type<'a, 't>(
 /// The state of a search for the word ARRAY or RECORD with a given ordinal.
 #[derive(Clone, Copy)]
 enum TypeConstructorSearch {
-    /// The word isn't found yet. The number is how many more words ARRAY and RECORD come before it.
+    /// The word isn't found yet. The number says how many other words ARRAY and RECORD still come
+    /// before it.
     Skipping(usize),
     /// The word is found: the type that it constructs, or None if this type is unknown.
     Found(Option<TypeId>),

@@ -383,8 +383,8 @@ impl<'a, 't> FieldWalk<'a, 't> {
 
     /// Appends the field identifiers in a block: first the identifiers in its declarations and
     /// procedures, then the identifiers in its statements. `word_count` counts the words ARRAY and
-    /// RECORD that precede the block in the module. On return, `word_count` also counts the words
-    /// in the block.
+    /// RECORD that precede the block in the module. This count gives records their ordinals. On
+    /// return, `word_count` also counts the words in the block.
     #[cycle(blocks)]
     pub(crate) fn add_block_fields(
         &self,
@@ -407,8 +407,8 @@ impl<'a, 't> FieldWalk<'a, 't> {
     }
 
     /// Appends the fields that a procedure declares and selects. `word_count` counts the words
-    /// ARRAY and RECORD that precede the procedure in the module. On return, `word_count` also
-    /// counts the words in the procedure.
+    /// ARRAY and RECORD that precede the procedure in the module. This count gives records their
+    /// ordinals. On return, `word_count` also counts the words in the procedure.
     #[cycle(blocks)]
     fn add_procedure_fields(
         &self,

@@ -11,7 +11,7 @@ ghost use Rattle.ob0_types_fields.specs.OwnerTables.{RenamingFollowsOwners};
 /// Proves that a table is an owner table (`IsOwnerTable`) of a well-typed module if it agrees with
 /// the list `identifier_owners_in_resolution`. For each identifier of the module, this list gives
 /// the ordinal of the field's record, or None if the identifier isn't a field identifier. The table
-/// must have the same at the identifier's token.
+/// must have the same entry at the identifier's token.
 pub fn agreeing_table_is_owner_table()
     ensures { AgreeingTableIsOwnerTable }
 {}
@@ -42,8 +42,8 @@ pub fn duplicate_field_name_has_declaring_token()
     ensures { DuplicateFieldNameHasDeclaringToken }
 {}
 
-/// Proves that each field identifier of a well-typed module has a declaration: there is a token
-/// that declares a field with the same name in the same record.
+/// Proves that each field identifier of a well-typed module has a declaration: a token declares a
+/// field with the same name in the same record.
 pub fn fields_are_declared()
     ensures { FieldsAreDeclared }
 {}

@@ -52,8 +52,8 @@ fn take_next_ordinal(word_count: &mut usize) -> Result<usize, AllocError>
 }
 
 /// Appends to `found` the fields that the written type `t` declares. `word_count` counts the words
-/// ARRAY and RECORD that precede `t` in the module. On return, `word_count` also counts the words
-/// in `t`.
+/// ARRAY and RECORD that precede `t` in the module. This count gives records their ordinals. On
+/// return, `word_count` also counts the words in `t`.
 #[cycle(types)]
 pub(crate) fn add_type_fields(
     found: &mut FieldIdentifierList,
@@ -77,7 +77,8 @@ pub(crate) fn add_type_fields(
 
 /// Appends to `found` the fields that a record type declares, including the fields of records
 /// inside this type. `word_count` counts the words ARRAY and RECORD that precede the type in the
-/// module. On return, `word_count` also counts the words in the type.
+/// module. This count gives records their ordinals. On return, `word_count` also counts the words
+/// in the type.
 #[cycle(types)]
 fn add_record_fields(
     found: &mut FieldIdentifierList,
@@ -99,7 +100,8 @@ fn add_record_fields(
 /// Appends to `found` the fields of one group (`x, y: T`), then the fields that the group's type
 /// declares. `owner` is the ordinal of the record that contains the group: the number of words
 /// ARRAY and RECORD before this record. `word_count` counts the words ARRAY and RECORD that precede
-/// the group in the module. On return, `word_count` also counts the words in the group.
+/// the group in the module. This count gives records their ordinals. On return, `word_count` also
+/// counts the words in the group.
 #[cycle(types)]
 fn add_group_fields(
     found: &mut FieldIdentifierList,
@@ -124,7 +126,8 @@ fn add_group_fields(
 
 /// Appends the fields that the TYPE section of a block declares. Appends nothing if the block has
 /// no such section. `word_count` counts the words ARRAY and RECORD that precede the section in the
-/// module. On return, `word_count` also counts the words in the section.
+/// module. This count gives records their ordinals. On return, `word_count` also counts the words
+/// in the section.
 pub(crate) fn add_type_section_fields(
     found: &mut FieldIdentifierList,
     word_count: &mut usize,
@@ -147,7 +150,8 @@ pub(crate) fn add_type_section_fields(
 
 /// Appends the fields that the VAR section of a block declares. Appends nothing if the block has no
 /// such section. `word_count` counts the words ARRAY and RECORD that precede the section in the
-/// module. On return, `word_count` also counts the words in the section.
+/// module. This count gives records their ordinals. On return, `word_count` also counts the words
+/// in the section.
 pub(crate) fn add_variable_section_fields(
     found: &mut FieldIdentifierList,
     word_count: &mut usize,
@@ -171,7 +175,8 @@ pub(crate) fn add_variable_section_fields(
 
 /// Appends the fields that the types of formal parameters declare. Appends nothing if there is no
 /// parameter list. `word_count` counts the words ARRAY and RECORD that precede the parameters in
-/// the module. On return, `word_count` also counts the words in the parameters.
+/// the module. This count gives records their ordinals. On return, `word_count` also counts the
+/// words in the parameters.
 pub(crate) fn add_parameter_type_fields(
     found: &mut FieldIdentifierList,
     word_count: &mut usize,

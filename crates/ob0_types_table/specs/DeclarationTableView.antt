@@ -24,12 +24,12 @@ use Rattle.ob0_language_types.specs.WellTyped.{FormalParameter, ParameterMode, S
 abbrev pub faulty_shape : Shape
 faulty_shape = record_shape max_text_length no_field_shape
 
--- returns a shape if it is an array's, otherwise the shape of a faulty type
+-- returns the given shape if it is an array's, otherwise the shape of a faulty type
 abbrev pub array_shape_or_faulty : Shape → Shape
 array_shape_or_faulty (array_shape k n s) = array_shape k n s
 array_shape_or_faulty _ = faulty_shape
 
--- returns a shape if it is a record's, otherwise the shape of a faulty type
+-- returns the given shape if it is a record's, otherwise the shape of a faulty type
 abbrev pub record_shape_or_faulty : Shape → Shape
 record_shape_or_faulty (record_shape k fs) = record_shape k fs
 record_shape_or_faulty _ = faulty_shape
@@ -88,8 +88,9 @@ pub record IsValidEntry (shapes : List Shape) (m : code.TypeEntry) : Type 0 wher
   pub parts : PartsReferOnlyToFirstEntries (length shapes) m
   pub counted : HasSizeOfShape m (entry_shape shapes m)
 
--- States that each entry of the list refers only to earlier entries and has the size of its shape. `known` has the
--- shapes of the entries that precede the list in the table.
+-- States that each entry of the list refers only to earlier entries, and has the number of scalars
+-- and the depth of its shape. `known` has the shapes of the entries that precede the list in the
+-- table.
 abbrev pub AreValidEntries : List Shape → List code.TypeEntry → Type 0
 AreValidEntries known [] = Unit {0}
 AreValidEntries known (m ∷ ms) =

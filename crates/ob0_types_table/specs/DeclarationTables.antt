@@ -8,8 +8,9 @@ use Rattle.ob0_language_types.specs.Expressions.{Object}
 use Rattle.ob0_types_table.specs.DeclarationTableView.{object_view, append_shapes_of_entries}
 use Rattle.ob0_language_types.specs.WellTyped.{Signature}
 
--- a table: the entries of the array and record types, and the object of each declaration, by ordinal, or None if the
--- declaration has no object
+-- The table of a module's declarations. `shapes` has the entries of the array and record types.
+-- `objects` has the object of each declaration, by ordinal, or None if the declaration has no
+-- object.
 pub record DeclarationTableView : Type 0 where
   pub shapes : List code.TypeEntry
   pub objects : List (Option declaration.Object)
@@ -18,6 +19,7 @@ pub record DeclarationTableView : Type 0 where
 abbrev pub shapes_of : DeclarationTableView → List Shape
 shapes_of t = append_shapes_of_entries [] t.shapes
 
--- returns the object of the declaration with this ordinal, as an object of the definitions; None if there is none
+-- returns the object of the declaration with this ordinal, as an object of the definitions; None if
+-- the declaration has no object
 abbrev pub declared_object_in : DeclarationTableView → ℕ → Option (Object Shape Signature)
 declared_object_in t k = option_and_then (object_view (shapes_of t)) (slice_index_or t.objects k None)

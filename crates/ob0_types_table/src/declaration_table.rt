@@ -1,11 +1,10 @@
 //! Defines the table of a module's declarations (`DeclarationTable`): the module's array and record
 //! types, and the object of each declaration.
 //!
-//! A `TypeId` refers to the entry of an array or record type by the entry's index. An entry refers
-//! only to earlier entries (`AreValidEntries`), so `shapes_of` can compute the shapes of the
-//! entries from first to last. In contracts, the value of a `DeclarationTable` is its two lists.
-//! The shapes aren't part of this value, because the definitions' `Shape` isn't a type of the code.
-//! They are computed from this value.
+//! A `TypeId` refers to the entry of an array or record type by the entry's index. In contracts,
+//! the value of a `DeclarationTable` is its two lists, of entries and of objects. A `Shape`, which
+//! is a type with its parts, exists only in the definitions. `shapes_of` computes the shapes of the
+//! entries from first to last, because an entry refers only to earlier entries (`AreValidEntries`).
 
 ghost use Rattle.std.specs.Prelude.{◌≡◌, List, option_map};
 ghost use Rattle.ob0_language_values.specs.Values as shape;
@@ -31,18 +30,18 @@ pub struct Field {
     pub of: TypeId,
 }
 
-/// Identifies a field. `ordinal` is the number of words ARRAY and RECORD in the text before the
-/// word RECORD of the field's record. `index` is the field's position among the record's fields,
-/// counted from 0.
+/// Identifies a field. Array and record types are numbered in text order: `ordinal` counts the
+/// words ARRAY and RECORD before the word RECORD of the field's record. `index` is the field's
+/// position among the record's fields, counted from 0.
 #[derive(Clone, Copy, PartialEq, Eq)]
 pub struct FieldId {
     pub ordinal: usize,
     pub index: usize,
 }
 
-/// The type `ARRAY length OF element`. `ordinal` is the number of words ARRAY and RECORD in the
-/// text before this word ARRAY. `scalars` is the number of scalars in the whole type, and `depth`
-/// is the depth to which its arrays and records are nested.
+/// The type `ARRAY length OF element`. Array and record types are numbered in text order: `ordinal`
+/// counts the words ARRAY and RECORD before this word ARRAY. `scalars` is the number of scalars in
+/// the whole type, and `depth` is the depth to which its arrays and records are nested.
 #[derive(Clone, Copy)]
 pub struct ArrayShape {
     pub ordinal: usize,
@@ -52,9 +51,9 @@ pub struct ArrayShape {
     pub depth: usize,
 }
 
-/// The type `RECORD fields END`. `ordinal` is the number of words ARRAY and RECORD in the text
-/// before this word RECORD. `scalars` is the number of scalars in the whole type, and `depth` is
-/// the depth to which its arrays and records are nested.
+/// The type `RECORD fields END`. Array and record types are numbered in text order: `ordinal`
+/// counts the words ARRAY and RECORD before this word RECORD. `scalars` is the number of scalars in
+/// the whole type, and `depth` is the depth to which its arrays and records are nested.
 #[derive(Drop)]
 pub struct RecordShape {
     pub ordinal: usize,
@@ -63,8 +62,8 @@ pub struct RecordShape {
     pub depth: usize,
 }
 
-/// An entry of the table: an array or record type. It is made by one occurrence of the word ARRAY
-/// or RECORD in the text.
+/// An entry of the table: an array or record type, which one word ARRAY or RECORD of the text
+/// constructs.
 #[derive(Drop)]
 pub enum TypeEntry {
     Array(ArrayShape),
@@ -218,7 +217,7 @@ impl DeclarationTable {
     }
 
     /// Returns the entry of the array or record type with the index `place` in the table. Returns
-    /// None if there is no such index.
+    /// None if there is no such entry.
     pub(crate) fn entry(&self, place: usize) -> Option<&TypeEntry>
         ensures found { option_map (λ m. m.now) result ≡ slice_get self.now.shapes place }
         ensures shape { MatchOption result

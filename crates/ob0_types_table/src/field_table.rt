@@ -1,8 +1,8 @@
 //! The fields of a record, found by name in logarithmic time.
 //!
 //! In contracts, the value of a table is only the list of its fields. The map isn't part of this
-//! value, because the table's invariant determines the map: it has, for each name, the first field
-//! with this name in the list (`IsFirstFieldMap`).
+//! value, because the table's invariant (`IsFirstFieldMap`) determines the map. The map has, for
+//! each name, the first field with this name in the list.
 
 ghost use Rattle.std.specs.Prelude.{◌≡◌, List, IfOk, option_map};
 ghost use Rattle.ob0_language_values.specs.Values as shape;

@@ -3,8 +3,9 @@
 //! The parts of an array or record include its number of scalars and the depth to which it is
 //! nested (`PartsHaveSizesOfShape`). The parts of a `TypeId` are `Faulty` exactly if the `TypeId`
 //! isn't one of the module's types (`is_known_type`). A faulty type also has a shape
-//! (`faulty_shape`), but with an ordinal that no ARRAY or RECORD of a text has. So a function whose
-//! contract states the shape of its result can't return `Unknown` for a type of a module.
+//! (`faulty_shape`), but with an ordinal that no ARRAY or RECORD of a text has. So if a contract
+//! says that a function's result has the shape of a module's type, the result isn't
+//! `TypeId::Unknown`.
 
 ghost use Rattle.std.specs.Prelude.{◌≡◌};
 ghost use Rattle.ob0_types_table.specs.TypeWithParts.{PartsHaveSizesOfShape, is_not_faulty, is_known_type, shape_of_type_with_parts};

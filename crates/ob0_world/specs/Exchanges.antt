@@ -44,8 +44,8 @@ pub data RequestId : Type 0 where
   number_id : ℕ → RequestId
   text_id : List ℕ → RequestId
 
--- Converts a JSON value to a request's id. Returns None if the value is neither a text nor a whole
--- number of at least 0.
+-- Converts a JSON value to a request's id. Returns None if the value is neither a string nor a
+-- whole number of at least 0.
 abbrev pub id_of_value : Data → Option RequestId
 id_of_value (number (unsigned n)) = Some (number_id n)
 id_of_value (number (negative z)) = None
@@ -81,9 +81,9 @@ ask_number_of_request_id (s ∷ sent) id = if is_same_id s.id id then Some s.ask
 abbrev pub ask_number_of_json_id : List SentRequestId → Data → Option ℕ
 ask_number_of_json_id sent id = option_and_then (λ ask. ask) (option_and_then (ask_number_of_request_id sent) (id_of_value id))
 
--- States that each ask (request for edits) among the messages `sent` gets an id that no request in
--- `ids` and no earlier ask in `sent` has. The list `new` is `ids` with the ids of these asks
--- appended, in order.
+-- States that each ask (request for edits) among the messages `sent` gets a new id. No request in
+-- `ids` and no earlier ask in `sent` has this id. The list `new` is `ids` with the ids of these
+-- asks appended, in order.
 abbrev pub AssignsAskIds : List SentRequestId → List MessageToServer → List SentRequestId → Type 0
 AssignsAskIds ids [] new = new ≡ ids
 AssignsAskIds ids (notifies note ∷ sent) new = AssignsAskIds ids sent new
@@ -106,9 +106,9 @@ IsNonAskId ids (Some id) = ask_number_of_request_id ids id ≡ Some None
 
 -- ---- an editor and a session
 
--- An editor and a session with the contents of the messages between them. The other fields are the
--- ids of the requests that the editor sent, the documents that it announced to the session, and the
--- edits that it applied.
+-- An editor and a session with the contents of the messages between them. `ids` are the ids of the
+-- requests that the editor sent. `announced` are the documents that it announced to the session.
+-- `applied` are the edits that it applied.
 pub record Exchange : Type 0 where
   pub editor : Editor
   pub ids : List SentRequestId
@@ -158,9 +158,9 @@ IsReadOnlyRequest (Ok (asked.formatting uri indent)) = ⊤
 IsReadOnlyRequest (Err fault) = ⊤
 
 -- States that the message is outside the model. It opens, changes and closes no document, and
--- requests no edits that the editor applies. It is a response, JSON that isn't a message, a
--- notification that the server ignores, or a request that changes nothing in the session and
--- doesn't have the id of a request for edits.
+-- requests no edits that the editor applies. It may be a response, JSON that isn't a message, or a
+-- notification that the server ignores. It may also be a request that changes nothing in the
+-- session, unless it has the id of a request for edits.
 abbrev pub IsUnmodeledMessage : List SentRequestId → MessageMeaning → Type 0
 IsUnmodeledMessage ids not_json = ⊥
 IsUnmodeledMessage ids not_a_message = ⊤
@@ -286,7 +286,8 @@ EditorReadsFirstContent (content ∷ rest) old new =
       wire = record old.wire { got = old.wire.got ++ content ∷ []; to_editor = rest };
     }
 
--- returns the wire with these contents appended to the queue to the session
+-- returns the wire with these contents appended to `to_server`, the queue of contents for the
+-- session
 abbrev pub wire_with_queued_contents : Wire → List (List ℕ) → Wire
 wire_with_queued_contents wire contents = record wire { to_server = wire.to_server ++ contents }
 
@@ -339,7 +340,8 @@ NeverMeansMessageToEditor ids content =
     → message_to_editor_by_request_ids (ids ++ later) requested content ≡ None
 
 -- States that there are as many contents as messages, and that the editor reads the n-th message in
--- the n-th content. If the n-th message is None, the editor never reads a message there.
+-- the n-th content. If the n-th message is None, the editor never reads a message in the n-th
+-- content.
 abbrev pub AreMessagesToEditor : List SentRequestId
     → List SentAsk
     → List (Option MessageToEditor)
@@ -356,8 +358,8 @@ AreMessagesToEditor ids requested (None ∷ messages) [] = ⊥
 
 -- States that these turns may lead the model (`EditorAndServer`) to a state that matches the
 -- exchange `x`. Both have the same editor, and the session has the documents of the model's server.
--- The waiting contents are the model's waiting messages. So the model's guarantees hold for the
--- exchange (`GuaranteesHoldForEditorAndServer`).
+-- The waiting contents are the messages that wait in the model. So the model's guarantees hold for
+-- the exchange (`GuaranteesHoldForEditorAndServer`).
 pub record FollowsModel (unit : Unit) (turns : List ExchangeTurn) (x : Exchange) : Type 0 where
   pub model : EditorAndServer
   pub leads : IsCourseOfTurns (initial_editor_and_server unit) turns model
@@ -441,14 +443,15 @@ AreCorrectForDocuments (p ∷ published) (t ∷ announced) =
 AreCorrectForDocuments [] (t ∷ announced) = ⊥
 AreCorrectForDocuments (p ∷ published) [] = ⊥
 
--- Returns the last list of diagnostics for the document with this uri, or None if there is none.
+-- returns the last list of diagnostics for the document with this uri, or None if there is no such
+-- list
 abbrev pub last_versioned_publication : List ℕ → List VersionedPublication → Option VersionedPublication
 last_versioned_publication uri published =
     fold (λ last p. if bytes_eq p.uri uri then Some p else last) None published
 
--- Returns the notifications about documents in these contents, in order. Each one opens, changes or
--- closes a document. A notification that can't be read, but has a uri, puts that document out of
--- step.
+-- Returns the notifications about documents in these contents, in order. A notification opens,
+-- changes or closes a document. A notification that can't be read, but has a uri, puts the document
+-- with that uri out of step.
 abbrev pub notifications_in_contents : List (List ℕ) → List MessageToServer
 notifications_in_contents contents = filter_map (message_to_server_in_content []) contents
 
@@ -457,20 +460,20 @@ notifications_in_contents contents = filter_map (message_to_server_in_content []
 pub record GuaranteesHoldForExchange (begin now : Exchange) : Type 0 where
   -- each edit that the editor applied keeps the module's run
   pub applied : All PreservesRun now.applied
-  -- `since` are the contents that the session has sent after `begin`. The lists of diagnostics with
-  -- a version in these contents are correct for the first documents that the editor announced, in
-  -- order.
+  -- `since` are the contents that the session has sent after `begin`. The n-th list of diagnostics
+  -- with a version in `since` is correct for the n-th document in `published_documents`. The
+  -- announced documents begin with this list.
   pub since : List (List ℕ)
   pub sent : now.wire.got ++ now.wire.to_editor ≡ begin.wire.got ++ since
   pub published_documents : List AnnouncedDocument
   pub unpublished_documents : List AnnouncedDocument
   pub announced : now.announced ≡ published_documents ++ unpublished_documents
   pub right : AreCorrectForDocuments (versioned_publications_in_contents since) published_documents
-  -- the contents that still wait for the session announce the other documents,
-  -- `unpublished_documents`
+  -- the documents in `unpublished_documents` are announced by contents that still wait for the
+  -- session
   pub unpublished_are_queued : map uri_and_version_of unpublished_documents ≡ uris_and_versions_announced_in_queue (notifications_in_contents now.wire.to_server)
-  -- If no notification about a document waits for the session, the latest list of diagnostics of
-  -- each open document is for the document's present version and text.
+  -- if no notification about a document waits for the session, the latest diagnostics of each open
+  -- document are for its present version and text
   pub latest : notifications_in_contents now.wire.to_server ≡ [] → (uri : List ℕ) (d : OpenDocument)
       → editor_document_with_uri now.editor uri ≡ Some d
       → MatchOption (last_versioned_publication uri (versioned_publications_in_contents since)) ⊥
@@ -501,7 +504,7 @@ GuaranteesHoldForEveryExchange =
 
 -- States that each list of events of the model's editor and a session (`IsConnectionCourse`) is
 -- also an exchange of an editor that keeps ob0's rules. So each guarantee for exchanges also holds
--- for every list of events that `play` plays.
+-- for every list of events that `play` performs.
 abbrev pub EveryConnectionCourseIsExchange : Type 0
 EveryConnectionCourseIsExchange =
     (unit : Unit) (begin end : Connection) (events : List Event)

@@ -13,7 +13,7 @@ use Rattle.ob0_world_rules.specs.ClientAndServer.{Applied, PublicationWithText}
 use Rattle.ob0_world_rules.specs.EditorActs.{open_document, change_document, close_document, request_edits, apply, discard}
 use Rattle.ob0_world_rules.specs.Events.{Event, editor_acts, serve, take_message}
 
--- converts an event of the code's type `Event` to the model's
+-- converts an event from the code's type `Event` to the model's type `Event`
 abbrev pub model_event_of : event.Event → Event
 model_event_of (event.TheVariants.OpenDoc uri text) =
     editor_acts (open_document (string_bytes uri) (chars (string_bytes text)))
@@ -26,7 +26,7 @@ model_event_of event.TheVariants.Take = take_message
 model_event_of (event.TheVariants.Apply k) = editor_acts (apply k)
 model_event_of (event.TheVariants.Discard k) = editor_acts (discard k)
 
--- converts a publication of the code's type `Made` to the model's
+-- converts a publication from the code's type `Made` to the model's type `PublicationWithText`
 abbrev pub model_publication_of : made.Made → PublicationWithText
 model_publication_of m =
     record {
@@ -40,11 +40,11 @@ model_publication_of m =
 abbrev pub bytes_of_contents : List (Vec ℕ Global) → List (List ℕ)
 bytes_of_contents contents = map (λ v. v.items) contents
 
--- returns the applied edits in `p`, which `play` returns, as values of the model's type `Applied`
+-- returns the applied edits in `p`, the result of `play`, as values of the model's type `Applied`
 abbrev pub played_edits : played.Played → List Applied
 played_edits p = map model_applied_edit_of p.applied.items
 
--- returns the publications in `p`, which `play` returns, as values of the model's type
+-- returns the publications in `p`, the result of `play`, as values of the model's type
 -- `PublicationWithText`
 abbrev pub played_publications : played.Played → List PublicationWithText
 played_publications p = map model_publication_of p.made.items

@@ -1,12 +1,12 @@
 -- Defines how the fields of the code's `Connection` become a state of the model
--- (`ClientAndServer`), the connection's invariant, and the clauses of its private functions'
--- contracts. No contract of a public function mentions these definitions. A connection stores each
--- queue as a list of contents. A content is the bytes of one message. The messages of the model are
--- read from these contents (`messages_to_server_in_contents`, `messages_to_editor_in_contents`).
--- By the invariant, each queued content is a message of the model. It is still the same message
--- after the editor has sent more requests (`proofs/Waiting`). `RunsWithModelEditor` states that the
--- session's client has two features of the model's editor. So the session writes each WorkspaceEdit
--- with the member `documentChanges`.
+-- (`ClientAndServer`). Also defines the connection's invariant, and the clauses of its private
+-- functions' contracts. No contract of a public function mentions these definitions. A connection
+-- stores each queue as a list of contents. A content is the bytes of one message. The messages of
+-- the model are read from these contents (`messages_to_server_in_contents`,
+-- `messages_to_editor_in_contents`). By the invariant, each queued content is a message of the
+-- model. It is still the same message after the editor has sent more requests (`proofs/Waiting`).
+-- `RunsWithModelEditor` states that the session's client has two features of the model's editor. So
+-- the session writes each WorkspaceEdit with the member `documentChanges`.
 use Rattle.std.specs.Prelude.{◌≡◌, ◌≤◌, ◌⊎◌, ℕ, ℤ, List, [], ◌∷◌, ◌++◌, map, length, All, Bool, true, Option, Some, None, Vec, option_and_then, filter_map}
 use Rattle.std.specs.declared.alloc.Global.{Global}
 use Rattle.ob0_text.specs.OpenDocuments.{OpenDocuments, Document, InStep, OutOfStep, document_at}
@@ -41,13 +41,13 @@ messages_to_server_in_contents requested contents = filter_map (message_to_serve
 abbrev pub messages_to_editor_in_contents : List SentAsk → Contents → List MessageToEditor
 messages_to_editor_in_contents requested contents = filter_map (message_to_editor_in_content requested) (bytes_of_contents contents)
 
--- states that the content is a message to an editor's server; `requested` lists the requests for
--- edits that the editor has sent
+-- states that the content is a message of the model to the server; `requested` lists the requests
+-- for edits that the editor has sent
 abbrev pub MeansMessageToServer : List SentAsk → Vec ℕ Global → Type 0
 MeansMessageToServer requested content = (m : MessageToServer) × IsMessageToServer requested m content.items
 
--- states that the content is a message to an editor; `requested` lists the requests for edits that
--- the editor has sent
+-- states that the content is a message of the model to the editor; `requested` lists the requests
+-- for edits that the editor has sent
 abbrev pub MeansMessageToEditor : List SentAsk → Vec ℕ Global → Type 0
 MeansMessageToEditor requested content = (m : MessageToEditor) × (message_to_editor_in_content requested content.items ≡ Some m)
 
@@ -69,17 +69,17 @@ RunsWithModelEditorOrFailed s = RunsWithModelEditor s ⊎ (s.phase ≡ Failed)
 
 -- ---- publications
 
--- Returns the publication with this uri and version, and with this document's text, for which the
--- diagnostics were made. `empty` says whether there are no diagnostics. Returns None if the
+-- Returns the publication with this uri and version, and with the text of this document, for which
+-- the diagnostics were made. `empty` says whether there are no diagnostics. Returns None if the
 -- document is out of step: its text isn't known.
 abbrev pub publication_with_text : List ℕ → ℤ → Bool → Document → Option PublicationWithText
 publication_with_text uri version empty (InStep held text) =
     Some (record { uri = uri; version = version; text = text; no_diagnostics = empty })
 publication_with_text uri version empty OutOfStep = None
 
--- Returns the publication in a message, with its document's text in the server's documents `held`.
--- Returns None if the message isn't a publication with a version, or if the document isn't open or
--- is out of step.
+-- Returns the publication in a message, with the text that its document has in `held`, the server's
+-- documents. Returns None if the message isn't a publication with a version, or if the document
+-- isn't open or is out of step.
 abbrev pub publication_in_message : OpenDocuments → MessageToEditor → Option PublicationWithText
 publication_in_message held (publishes uri (Some version) empty) =
     option_and_then (publication_with_text uri version empty) (document_at held uri)
@@ -94,8 +94,8 @@ publication_in_first_message held (m ∷ ms) = publication_in_message held m
 
 -- ---- the model's state for the parts that the code stores
 
--- states that each waiting content is a message to its receiver, and that the session has failed or
--- runs with a client like the model's editor (`RunsWithModelEditor`)
+-- States that each waiting content is a message to its receiver. The session has failed, or it runs
+-- with a client like the model's editor (`RunsWithModelEditor`).
 pub record ConnectionInvariant (requested : List SentAsk) (to_server to_editor : Contents)
     (session : ServerState) : Type 0 where
   pub to_server_are_messages : All (MeansMessageToServer requested) to_server
@@ -151,8 +151,8 @@ connection_from_fields e to_server session to_editor applied made taken got =
 
 -- ---- the invariant of a world: bounds on the editor's counters, and a reachable state
 
--- states that the editor has opened documents at most `n` times and sent at most `n` requests for
--- edits, and that the version of each open document is at most `n`
+-- States that three numbers are at most `n`. They are the number of the editor's openings of
+-- documents, the number of its sent requests for edits, and each open document's version.
 pub record CountsAreAtMost (n : ℕ) (e : Editor) : Type 0 where
   pub openings : e.openings ≤ n
   pub asks : length e.requested ≤ n
@@ -164,8 +164,8 @@ IsReachable w = (unit : Unit) × (events : List Event) × IsCourse (start unit) 
 
 -- ---- clauses of the functions that serve, send and take a content
 
--- Returns the publication in the first content (`publication_in_message`). Returns None if there is
--- no content, or no such publication in the first content.
+-- Returns the publication that `publication_in_message` finds in the first content. Returns None if
+-- there is no content, or no such publication in the first content.
 abbrev pub publication_in_first_content : OpenDocuments → List SentAsk → Contents → Option PublicationWithText
 publication_in_first_content held requested [] = None
 publication_in_first_content held requested (content ∷ contents) =
@@ -178,9 +178,9 @@ abbrev pub QueuesContent : Contents → Option (Vec ℕ Global) → seen.Seen �
 QueuesContent old None seen new = (model_report_of seen ≡ nothing) × (new ≡ old)
 QueuesContent old (Some content) seen new = (model_report_of seen ≡ sent) × (new ≡ old ++ content ∷ [])
 
--- States that the first waiting content was moved to the end of the contents that the editor has
--- taken (`got`). If no content waits, nothing has changed. The last two arguments are the waiting
--- and the taken contents after the move.
+-- States that the first waiting content was moved to the end of `got`, the contents that the editor
+-- has taken. If no content waits, nothing has changed. `waiting'` and `got'` are the waiting and
+-- the taken contents after the move.
 abbrev pub MovesFirstContent : Contents → Contents → Contents → Contents → Type 0
 MovesFirstContent [] got waiting' got' = (waiting' ≡ []) × (got' ≡ got)
 MovesFirstContent (content ∷ rest) got waiting' got' =

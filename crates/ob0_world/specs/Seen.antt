@@ -46,7 +46,8 @@ report_on_act e (discard k) = if is_some (edits_of_answer_to_request k e.answers
 
 -- Returns the report on the event `serve`: the number of messages that the server sent, or
 -- `nothing` if no message waited for the server. The first argument is the queue to the server
--- before the event. The others are the queue to the editor before the event and after it.
+-- before the event. `queue_before` and `queue_after` are the queue to the editor before and after
+-- the event.
 abbrev pub report_on_serve : List MessageToServer → List MessageToEditor → List MessageToEditor → Seen
 report_on_serve [] queue_before queue_after = nothing
 report_on_serve (message ∷ rest) queue_before queue_after = served (length queue_after - length queue_before)
@@ -64,11 +65,12 @@ report_on_event old (editor_acts act) new = report_on_act old.editor act
 report_on_event old serve new = report_on_serve old.to_server old.to_editor new.to_editor
 report_on_event old take_message new = report_on_take old.to_editor
 
--- states that the event leads from `old` to `new`, and that `seen` is the report on it
+-- states that the event leads from the state `old` to the state `new`, and that `seen` is the
+-- report on it
 abbrev pub EventLeadsToWithReport : ClientAndServer → Event → Seen → ClientAndServer → Type 0
 EventLeadsToWithReport old event seen new = EventLeadsTo old event new × (seen ≡ report_on_event old event new)
 
--- converts a report of the code's type `Seen` to the model's
+-- converts a report from the code's type `Seen` to the model's type `Seen`
 abbrev pub model_report_of : seen.Seen → Seen
 model_report_of seen.TheVariants.Nothing = nothing
 model_report_of seen.TheVariants.Sent = sent

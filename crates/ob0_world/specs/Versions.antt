@@ -1,7 +1,7 @@
 -- Defines the versions that answers mention, and a client that compares versions. The model's
 -- editor numbers each opening of a document, but LSP has no such number. Versions are enough for a
--- real client, because an answer mentions the document that was asked about, with its version at
--- the time of the request.
+-- real client. The reason is that an answer mentions the document that was asked about, with its
+-- version at the time of the request.
 use Rattle.std.specs.Prelude.{◌≡◌, ◌⊎◌, ⊤, ℕ, ℤ, List, [], ◌∷◌, All, Bool, Option, Some, None, option_and_then, option_map, if◌then◌else◌, codes}
 use Rattle.serde_json.specs.Data.{Data}
 use Rattle.serde_json.specs.Find.{get, at, as_array, as_number, as_integer}
@@ -41,9 +41,10 @@ abbrev pub edit_of_action_with_title : List ℕ → Data → Option Data
 edit_of_action_with_title title value =
     option_and_then (get (codes "edit")) (option_and_then (first_action_with_title title) (as_array value))
 
--- Returns the WorkspaceEdit in the result of a request for edits, or None if there is none. The
--- result of a rename is a WorkspaceEdit. The result of an inlining is a list of actions, each with
--- a WorkspaceEdit. The result of a formatting is a list of edits, without a WorkspaceEdit.
+-- Returns the WorkspaceEdit in the result of a request for edits, or None if the result has no
+-- WorkspaceEdit. The result of a rename is a WorkspaceEdit. The result of an inlining is a list of
+-- actions, each with a WorkspaceEdit. The result of a formatting is a list of edits, without a
+-- WorkspaceEdit.
 abbrev pub workspace_edit_in_result : Ask → Data → Option Data
 workspace_edit_in_result (rename position name) value = Some value
 workspace_edit_in_result (inline_here position) value = edit_of_action_with_title (codes "Inline here") value
@@ -57,7 +58,7 @@ uri_and_version_in_answer ask answer =
     option_and_then uri_and_version_in_edit
     (option_and_then (workspace_edit_in_result ask) (get (codes "result") answer))
 
--- states that this request for edits is for a formatting
+-- states that this request for edits is a formatting request
 abbrev pub IsFormatting : Ask → Type 0
 IsFormatting (rename position name) = ⊥
 IsFormatting (inline_here position) = ⊥
@@ -109,14 +110,14 @@ result_of_applying_by_version e uri version edits =
     (if has_version version d then text_after_edits e.unit d.text edits else None))
     (editor_document_with_uri e uri)
 
--- States that the request's document hasn't been opened again since the request: it is closed, or
--- has the opening number that is stored with the request.
+-- States that the request's document hasn't been opened again since the request. Either it is
+-- closed, or it has the opening number that is stored with the request.
 abbrev pub IsNotReopened : Editor → SentAsk → Type 0
 IsNotReopened e a = (d : OpenDocument) → editor_document_with_uri e a.uri ≡ Some d → d.opening ≡ a.opening
 
--- States that a client that relies on the version in an answer gets the same result as the model's
--- editor when it applies the answer's edits. The condition is that the document hasn't been opened
--- again since the request.
+-- States that versions are enough to apply an answer's edits. A client that relies on the version
+-- in the answer gets the same result as the model's editor. The condition is that the document
+-- hasn't been opened again since the request.
 abbrev pub VersionsSufficeToApplyAnswers : Type 0
 VersionsSufficeToApplyAnswers =
     (e : Editor) (k : ℕ) (a : SentAsk) (edits : List Replacement)

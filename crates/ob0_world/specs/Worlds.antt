@@ -35,13 +35,14 @@ pub record Wire : Type 0 where
   pub got : List (List ℕ)
   pub to_editor : List (List ℕ)
 
--- a client and a server of the model, with the session and the contents between them
+-- a connection: the client and server of the model, and the session with the exchanged contents
+-- (`Wire`)
 pub record Connection : Type 0 where
   pub model : ClientAndServer
   pub wire : Wire
 
--- States that the editor has initialized a new session and taken its answer, and that nothing else
--- has happened.
+-- States that the editor has initialized a new session and has taken the session's answer. Nothing
+-- else has happened.
 pub record IsInitialConnection (unit : Unit) (w : Connection) : Type 0 where
   pub content : List ℕ
   pub replies : List (List ℕ)
@@ -102,22 +103,23 @@ AreMessagesToServer requested [] (content ∷ contents) = ⊥
 AreMessagesToServer requested (m ∷ messages) [] = ⊥
 
 -- States that the waiting contents are the messages that wait in the model, in both directions. The
--- documents of the model's server are the session's.
+-- documents of the model's server are the session's documents.
 pub record QueuesMatch (w : Connection) : Type 0 where
   pub says : AreMessagesToServer w.model.editor.requested w.model.to_server w.wire.to_server
   pub means : map (message_to_editor_in_content w.model.editor.requested) w.wire.to_editor
       ≡ map Some w.model.to_editor
   pub documents : w.model.held ≡ w.wire.session.held
 
--- States that this event leads from `old` to `new`, both in the model (`EventLeadsTo`) and for the
--- session and the contents (`ChangesWire`). After the event, the waiting contents are the messages
--- that wait in the model (`QueuesMatch`).
+-- States that this event leads from the connection `old` to `new`, both in the model
+-- (`EventLeadsTo`) and for the session and the contents (`ChangesWire`). After the event, the
+-- waiting contents are the messages that wait in the model (`QueuesMatch`).
 pub record ConnectionSteps (old : Connection) (event : Event) (new : Connection) : Type 0 where
   pub happens : EventLeadsTo old.model event new.model
   pub moves : ChangesWire event old.wire new.wire
   pub tied : QueuesMatch new
 
--- states that these events, one after another, lead from `old` to `new`
+-- states that these events, one after another, lead from the connection `old` to the connection
+-- `new`
 abbrev pub IsConnectionCourse : Connection → List Event → Connection → Type 0
 IsConnectionCourse old [] new = new ≡ old
 IsConnectionCourse old (event ∷ events) new =
@@ -125,13 +127,13 @@ IsConnectionCourse old (event ∷ events) new =
 
 -- ---- the results that `play` returns for a list of events
 
--- states that `p`, which `play` returns, has the applied edits and the publications of the model's
+-- states that `p`, the result of `play`, has the applied edits and the publications of the model's
 -- state `w`, in order
 abbrev pub ResultsMatchModel : ClientAndServer → played.Played → Type 0
 ResultsMatchModel w p = (played_edits p ≡ w.applied) × (played_publications p ≡ w.made)
 
--- states that `p`, which `play` returns, has the contents that each side has taken according to
--- `w`, and the contents that wait for the editor
+-- States that `p`, the result of `play`, has the contents that each side has taken according to the
+-- wire `w`. It also has the contents that wait for the editor.
 abbrev pub ContentsMatchWire : Wire → played.Played → Type 0
 ContentsMatchWire w p =
     (bytes_of_contents p.taken.items ≡ w.taken)
@@ -139,9 +141,9 @@ ContentsMatchWire w p =
     × (bytes_of_contents p.unread.items ≡ w.to_editor)
 
 -- States that `p` has the results of these events. The guarantees (`GuaranteesHoldForEvents`) hold
--- for its edits and publications. The events lead from an initialized connection to one that has
--- these results and contents. The contents in `p` are a session's conversation, from the session's
--- start.
+-- for the edits and publications in `p`. The events lead from an initialized connection to one that
+-- has these results and contents. The contents in `p` are a session's conversation, from the
+-- session's start.
 pub record IsResultOfPlaying (unit : Unit) (events : List event.Event) (p : played.Played) : Type 0 where
   pub headline : GuaranteesHoldForEvents unit (map model_event_of events) (played_edits p) (played_publications p)
   pub begin : Connection
@@ -163,9 +165,9 @@ pub record IsFaultBeforeFirstEvent (unit : Unit) (fault : PlayFault) : Type 0 wh
   pub got : fault.played.got.items ≡ []
   pub unread : fault.played.unread.items ≡ []
 
--- States with which results `play` may return this fault. Either only the first `fault.steps`
--- events happened, fewer than all, and the fault has their results (`IsResultOfPlaying`). Or no
--- event happened, and there are no results (`IsFaultBeforeFirstEvent`).
+-- States what holds if `play` returns this fault. Either the first `fault.steps` events happened,
+-- which are fewer than all, and the fault has their results (`IsResultOfPlaying`). Or no event
+-- happened, and the fault has no results (`IsFaultBeforeFirstEvent`).
 abbrev pub IsFaultOfPlaying : Unit → List event.Event → PlayFault → Type 0
 IsFaultOfPlaying unit events fault =
     ((fault.steps < length events) × IsResultOfPlaying unit (take fault.steps events) fault.played)
@@ -201,7 +203,8 @@ abbrev pub StepsUnlessEnded : Bool → World → Event → Seen → World → Ty
 StepsUnlessEnded false old event seen new = IsReportedAndCountedStep old event seen new
 StepsUnlessEnded true old event seen new = ⊥
 
--- states that the event happens in the world with this report, as one step
+-- states that a step of the world `old` performs this event, returns this report and leads to the
+-- world `new`
 abbrev pub WorldSteps : World → Event → Seen → World → Type 0
 WorldSteps old event seen new = StepsUnlessEnded old.ended old event seen new
 

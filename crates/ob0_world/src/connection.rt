@@ -1,4 +1,4 @@
-//! Connects an editor and a session by two queues of messages, and makes their events happen.
+//! Connects an editor and a session by two queues of messages, and performs their events.
 //!
 //! A content is the bytes of one message: its JSON text, without the head that gives the length.
 ghost use Rattle.std.specs.Prelude.{◌≡◌, ◌<◌, IfOk, OnErr, OnOk, map, option_map, option_and_then, string_bytes};
@@ -28,8 +28,9 @@ use std::alloc::{AllocError, Global};
 use std::collections::VecDeque;
 use std::marker::Model;
 
-/// An editor and a session, with the contents of the messages that wait for each side, the contents
-/// that each side has taken, and the results so far: the applied edits and the publications.
+/// An editor and a session with the contents that they exchange. `to_server` and `to_editor` have
+/// the contents that wait for the session and for the editor. `applied` and `made` are the results
+/// so far: the applied edits and the publications.
 #[derive(Drop)]
 pub struct Connection<T: TextStore> {
     alloc: Global,
@@ -87,9 +88,9 @@ impl<T: TextStore> Connection<T> {
         })
     }
 
-    /// Changes nothing, and is called only for its contract. By this contract, the queued contents
-    /// are the messages that wait in the model (`ClientAndServer`), and the session has the
-    /// documents of the model's server.
+    /// Does nothing, and is called only for its contract. The contract states that the queued
+    /// contents are the messages that wait in the model (`ClientAndServer`). It also states that
+    /// the session has the documents of the model's server.
     pub(crate) fn prove_queues_match(&self)
         ensures { QueuesMatch self.now }
     {
@@ -112,8 +113,8 @@ impl<T: TextStore> Connection<T> {
         }
     }
 
-    /// Makes an event happen and returns the report on it. If an allocation fails, the results and
-    /// the exchanged contents are unchanged (`HaveSameHistory`).
+    /// Performs an event and returns the report on it. If an allocation fails, the results and the
+    /// exchanged contents are unchanged (`HaveSameHistory`).
     pub fn perform_event(&mut self, event: &Event) -> Result<Seen, AllocError>
         requires { CountsCanGrow self.old.model.editor }
         ensures ok { IfOk result
@@ -315,8 +316,8 @@ fn serve_content<T: TextStore>(
 }
 
 /// Returns the publication in the first content of `sent`, with the text that the publication's
-/// document has in `documents`. Returns None if there is no content, if the first content isn't a
-/// publication with a version, or if the document isn't open or is out of step.
+/// document has in `documents`. Returns None if there is no content, or if the first content isn't
+/// a publication with a version. Also returns None if the document isn't open or is out of step.
 fn first_publication<T: TextStore>(
     alloc: Global,
     editor: &Editor,

@@ -27,14 +27,14 @@ pub fn every_exchange_follows_model()
 /// Proves the guarantees for a session and an editor that keeps ob0's rules, whatever they have
 /// exchanged. Each edit that the editor applied keeps the module's run: the same output and the
 /// same end. The n-th list of diagnostics with a version is correct for the n-th document that the
-/// editor announced by opening or changing it. Once the session has taken the waiting contents, it
-/// will have the editor's documents.
+/// editor announced by opening or changing it. Once the session has taken the waiting contents, its
+/// documents will be the editor's.
 pub fn guarantees_hold_for_every_exchange()
     ensures { GuaranteesHoldForEveryExchange }
 {}
 
-/// Proves that each list of events, as `play` plays it with the model's editor and a session, is an
-/// exchange of an editor that keeps ob0's rules.
+/// Proves that each list of events that `play` performs is also an exchange of an editor that keeps
+/// ob0's rules. `play` uses the model's editor and a session.
 pub fn every_connection_course_is_exchange()
     ensures { EveryConnectionCourseIsExchange }
 {}

@@ -1,4 +1,4 @@
-//! Plays lists of events of an editor and a session, with a queue of messages in each direction.
+//! Performs lists of events of an editor and a session, with a queue of messages in each direction.
 //! Whatever the order of the events, each edit that the editor applies leaves a well-typed module
 //! with the same output and the same end.
 #![tactic(auto)]

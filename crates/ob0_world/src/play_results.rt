@@ -1,4 +1,4 @@
-//! Defines the results of playing a list of events.
+//! Defines the results of performing a list of events.
 
 use ob0_world_editor::Applied;
 use std::collections::VecDeque;

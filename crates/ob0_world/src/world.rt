@@ -1,13 +1,13 @@
-//! Makes lists of events happen, with an editor and a session.
+//! Performs lists of events with an editor and a session.
 //!
 //! A `Connection` consists of a model and a `Wire`. The model is a client and a server
 //! (`ClientAndServer`), with their documents and messages. The `Wire` is the session, with the
 //! contents of all messages in each direction, taken or still waiting.
 //!
 //! `ChangesWire` states how each event changes the session and the contents, and `QueuesMatch`
-//! states that the model and the `Wire` agree. (`Connection::prove_queues_match` is called
-//! only for its contract.) The contract of `step` has two cases: the step makes its event happen
-//! (`WorldSteps`), or it fails (`WorldFails`).
+//! states that the model and the `Wire` agree. (`Connection::prove_queues_match` is called only for
+//! its contract.) The contract of `step` has two cases: the step performs its event (`WorldSteps`),
+//! or it fails (`WorldFails`).
 //!
 //! The contract of `play` (`IsResultOfPlaying`) states the guarantees (`GuaranteesHoldForEvents`).
 //! It also states that the events are a course of the connection (`IsConnectionCourse`) that begins
@@ -32,9 +32,8 @@ use std::alloc::{AllocError, Global};
 use std::collections::VecDeque;
 use std::marker::Model;
 
-/// An editor and a session with a queue of messages in each direction. A step makes one event
-/// happen. `steps` is the number of steps that returned Ok, and `has_ended` is true if a step has
-/// failed.
+/// An editor and a session with a queue of messages in each direction. A step performs one event.
+/// `steps` is the number of steps that returned Ok, and `has_ended` is true if a step has failed.
 #[derive(Drop)]
 pub struct World<T: TextStore> {
     connection: Connection<T>,
@@ -63,8 +62,9 @@ impl<T: TextStore> Model for World<T> {
 
 impl<T: TextStore> World<T> {
     /// Returns a world in which no document is open and no message waits. The editor has
-    /// initialized the session. It has declared that it accepts literal code actions, and accepts
-    /// edits that mention their documents' versions. Both sides count positions in UTF-16 units.
+    /// initialized the session. It has declared that it accepts literal code actions, which contain
+    /// their edits, and edits that mention their documents' versions. Both sides count positions in
+    /// UTF-16 units.
     pub fn new(alloc: Global) -> Result<World<T>, WorldFault>
         ensures start { IfOk result (IsNewWorld Utf16) }
         ensures err { IfErr result (λ fault. fault ≡ Memory) }
@@ -95,9 +95,9 @@ impl<T: TextStore> World<T> {
         self.steps
     }
 
-    /// Makes one event happen and returns the report on it. For `Serve`, the session takes the
-    /// first content that waits, in one call of `Session::step`. If an allocation fails, the world
-    /// ends: each later step returns `Ended`.
+    /// Performs one event and returns the report on it. For `Serve`, the session takes the first
+    /// content that waits, in one call of `Session::step`. If an allocation fails, the world ends:
+    /// each later step returns `Ended`.
     pub fn step(&mut self, event: &Event) -> Result<Seen, WorldFault>
         requires few { self.old.steps < 2 ^ 63 - 1 }
         ensures ok { IfOk result
@@ -131,7 +131,7 @@ impl<T: TextStore> World<T> {
         self.connection.into_played()
     }
 
-    /// Makes a list of events happen in a new world, and returns the results. Both sides count
+    /// Performs a list of events in a new world, and returns the results. Both sides count
     /// positions in UTF-16 units.
     pub fn play(alloc: Global, events: &[Event]) -> Result<Played, PlayFault>
         requires few { length events.now < 2 ^ 63 - 1 }
@@ -141,15 +141,15 @@ impl<T: TextStore> World<T> {
         World::<T>::play_in(alloc, Unit::Utf16, events)
     }
 
-    /// Makes a list of events happen in a new world, with positions in this unit.
+    /// Performs a list of events in a new world, with positions counted in this unit.
     ///
     /// In every interleaving of an editor and the server, each edit that the editor applies to a
     /// well-typed document leaves a well-typed module with the same run: the same output and end
     /// for every input and every bound on calls and loop turns; and an open document's latest
     /// diagnostics are empty exactly when the text they were made for is a well-typed module.
     ///
-    /// The editor is the model's. The law `guarantees_hold_for_every_exchange` states the same for every
-    /// editor that keeps ob0's rules.
+    /// The editor is the model's editor. The law `guarantees_hold_for_every_exchange` states the
+    /// same for every editor that keeps ob0's rules.
     pub fn play_in(alloc: Global, unit: Unit, events: &[Event]) -> Result<Played, PlayFault>
         requires few { length events.now < 2 ^ 63 - 1 }
         ensures ok { IfOk result (λ played. IsResultOfPlaying unit events.now played) }

@@ -1,5 +1,5 @@
 -- States that each request for edits has an answer, and that each list of events leads to some
--- state.
+-- state. The events and states belong to the model of client and server.
 -- Rule: docs/PROTOCOL.md, Requests on documents 6 to 10.
 use Rattle.std.specs.Prelude.{List}
 use Rattle.ob0_text.specs.declared.position_types.Unit.{Unit}
@@ -13,9 +13,9 @@ use Rattle.ob0_world_rules.specs.Laws.{AlwaysHasAnswer}
 abbrev pub EachAskHasAnswers : Type 0
 EachAskHasAnswers = (ask : Ask) → AlwaysHasAnswer ask
 
--- States that each list of events leads from the start to some state. So the laws about all courses
--- of events aren't vacuous. The formula is a double negation: it is impossible that the events lead
--- to no state.
+-- States that each list of events leads from the initial state (`start`) to some state. So the laws
+-- about all courses of events aren't vacuous. The formula is a double negation: it is impossible
+-- that the events lead to no state.
 abbrev pub EachEventListHasACourse : Type 0
 EachEventListHasACourse =
     (unit : Unit) (events : List Event)

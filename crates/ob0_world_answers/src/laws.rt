@@ -1,5 +1,6 @@
 //! Proves that each request for edits has an answer, and that each list of events leads to some
-//! state. So a law about every list of events isn't vacuous.
+//! state. The events and states belong to the model of client and server. So a law about every list
+//! of events isn't vacuous.
 ghost use Rattle.ob0_world_answers.specs.AnswersExist.{EachAskHasAnswers, EachEventListHasACourse};
 
 use ob0_inline_answers::laws::{
@@ -21,7 +22,8 @@ pub fn each_ask_has_answers()
     inlining_everywhere_always_has_answer();
 }
 
-/// Proves that each list of events has a course: the events lead from the start to some state.
+/// Proves that each list of events has a course: the events lead from the initial state to some
+/// state.
 pub fn each_event_list_has_a_course()
     ensures { EachEventListHasACourse }
 {

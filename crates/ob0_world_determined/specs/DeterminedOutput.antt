@@ -116,8 +116,8 @@ ResultIsDetermined =
     → IsFinalResult result taken put ⊎ (more ≡ []) → result ≡ end
 
 -- States that each list of bytes can be split into complete messages with some contents, and a rest
--- that doesn't begin with a complete message (`Frames`). The formula is a double negation: it is
--- impossible that there is no such split.
+-- (`Frames`). The rest doesn't begin with a complete message. The formula is a double negation: it
+-- is impossible that there is no such split.
 abbrev pub FramingExists : Type 0
 FramingExists =
     (bytes : List ℕ)
@@ -125,10 +125,10 @@ FramingExists =
 
 -- ---- a conversation, as bytes
 
--- States that `serve` answers as the session does. If the input of `serve` is the frames of the
--- contents that a session took, the output is the frames of the contents that the session sent.
--- The law excludes calls that return `Memory` or `Write`, and contents of more than
--- `max_content_length` bytes.
+-- States that `serve` answers as the session does. Suppose that the input of `serve` consists of
+-- the frames of the contents that a session took. Then the output consists of the frames of the
+-- contents that the session sent. The law excludes calls that return `Memory` or `Write`, and
+-- contents of more than `max_content_length` bytes.
 abbrev pub ServeAnswersLikeSession : Type 0
 ServeAnswersLikeSession =
     (taken sent : List (List ℕ)) (after : ServerState)
@@ -138,10 +138,10 @@ ServeAnswersLikeSession =
     → ServeMayReturn result (flat_map frame taken) put
     → put ≡ flat_map frame sent
 
--- States that `serve` answers as the session does, even if the input continues. If the input of
--- `serve` begins with the frames of the contents that a session took, the output begins with the
--- frames of the contents that the session sent. The law excludes calls that return `Memory` or
--- `Write`, and contents of more than `max_content_length` bytes.
+-- States that `serve` answers as the session does, even if the input continues. Suppose that the
+-- input of `serve` begins with the frames of the contents that a session took. Then the output
+-- begins with the frames of the contents that the session sent. The law excludes calls that return
+-- `Memory` or `Write`, and contents of more than `max_content_length` bytes.
 abbrev pub ServeAnswersPrefixLikeSession : Type 0
 ServeAnswersPrefixLikeSession =
     (taken sent : List (List ℕ)) (after : ServerState)
@@ -151,11 +151,11 @@ ServeAnswersPrefixLikeSession =
     → ServeMayReturn result (flat_map frame taken ++ more) put
     → (later : List ℕ) × (put ≡ flat_map frame sent ++ later)
 
--- States that `serve` ends as the session does. Suppose that the input of `serve` is the frames of
--- the contents of a conversation that ended, followed by any bytes. Then `serve` writes the frames
--- of the contents that the session sent, and no more, and returns the conversation's status. The
--- law excludes calls that return `Memory` or `Write`, and contents of more than
--- `max_content_length` bytes.
+-- States that `serve` ends as the session does. Suppose that a session ended after it took some
+-- contents. Suppose also that the input of `serve` consists of the frames of these contents,
+-- followed by any bytes. Then `serve` writes the frames of the contents that the session sent, and
+-- no more, and returns the session's status. The law excludes calls that return `Memory` or
+-- `Write`, and contents of more than `max_content_length` bytes.
 abbrev pub ServeEndsLikeSession : Type 0
 ServeEndsLikeSession =
     (taken sent : List (List ℕ)) (after : ServerState) (status : ℕ)

@@ -14,13 +14,13 @@ use Rattle.ob0_session_server.specs.Answers.{ServerState, IsConversation}
 use Rattle.ob0_world.specs.Exchanges.{Exchange, IsInitialExchange, IsExchangeCourse, IsShutdownRequest, IsExitNotification, GuaranteesHoldForExchange}
 use Rattle.ob0_world_determined.specs.DeterminedOutput.{ServeMayReturn, AllOutputIsWritten}
 
--- States the guarantees for an exchange of a session and an editor that keeps ob0's rules, and for
--- the bytes that `serve` writes in this exchange.
+-- States the guarantees for an exchange of a session and an editor that keeps ob0's rules. Also
+-- states which bytes `serve` writes for this exchange.
 pub record ServeGuaranteesHoldForExchange (begin now : Exchange) : Type 0 where
   pub holds : GuaranteesHoldForExchange begin now
-  -- If the input of `serve` is the frames of the contents that the session took, `serve` writes the
-  -- frames of the contents that the session sent. This holds unless `serve` returns `Memory` or
-  -- `Write`, or a content is longer than `max_content_length`.
+  -- Suppose that the input of `serve` consists of the frames of the contents that the session took.
+  -- Then `serve` writes the frames of the contents that the session sent. This holds unless `serve`
+  -- returns `Memory` or `Write`, or a content is longer than `max_content_length`.
   pub written : All (λ content. length content ≤ max_content_length) now.wire.taken
       → (put : List ℕ) (result : Result ℕ ServeFault) → AllOutputIsWritten result
       → ServeMayReturn result (flat_map frame now.wire.taken) put
@@ -31,7 +31,7 @@ pub record ServeGuaranteesHoldForExchange (begin now : Exchange) : Type 0 where
       → ServeMayReturn result (flat_map frame now.wire.taken ++ more) put
       → (later : List ℕ) × (put ≡ flat_map frame (now.wire.got ++ now.wire.to_editor) ++ later)
   -- If the session next takes `shutdown` and `exit`, `serve` also writes the frame of the answer to
-  -- `shutdown`, and returns 0. Any bytes may follow these frames in the input.
+  -- `shutdown`, and returns 0. Any bytes may follow the frames of these two messages in the input.
   pub ended : (id : Data) (shutdown exit : List ℕ) → IsShutdownRequest id shutdown → IsExitNotification exit
       → (sent : List (List ℕ)) (end : ServerState)
       → IsConversation now.wire.session (shutdown ∷ exit ∷ []) sent end
@@ -39,9 +39,9 @@ pub record ServeGuaranteesHoldForExchange (begin now : Exchange) : Type 0 where
       → (more put : List ℕ) (result : Result ℕ ServeFault) → AllOutputIsWritten result
       → ServeMayReturn result (flat_map frame (now.wire.taken ++ shutdown ∷ exit ∷ []) ++ more) put
       → (put ≡ flat_map frame ((now.wire.got ++ now.wire.to_editor) ++ sent)) × (result ≡ Ok 0)
-  -- If `serve` returns `Memory`, it has answered a prefix of the contents (`AnswersPrefixOfContents`). If
-  -- this prefix is exactly the contents that the session took, `serve` has written the frames of
-  -- the sent contents.
+  -- If `serve` returns `Memory`, it has answered the first contents of its input
+  -- (`AnswersPrefixOfContents`). If these are exactly the contents that the session took, `serve`
+  -- has written the frames of the contents that the session sent.
   pub written_after_memory_fault : (taken put : List ℕ) (part : AnswersPrefixOfContents taken put)
       → part.answered ≡ now.wire.taken
       → put ≡ flat_map frame (now.wire.got ++ now.wire.to_editor)

@@ -79,10 +79,10 @@ pub fn framing_exists()
     ensures { FramingExists }
 {}
 
-/// Proves that `serve` answers as the session does. If the input of `serve` is the frames of the
-/// contents that a session took, the output is the frames of the contents that the session sent.
-/// The law excludes calls that return `Memory` or `Write`, and contents of more than
-/// `max_content_length` bytes.
+/// Proves that `serve` answers as the session does. Suppose that the input of `serve` consists of
+/// the frames of the contents that a session took. Then the output consists of the frames of the
+/// contents that the session sent. The law excludes calls that return `Memory` or `Write`, and
+/// contents of more than `max_content_length` bytes.
 pub fn serve_answers_like_session()
     ensures { ServeAnswersLikeSession }
 {
@@ -92,10 +92,10 @@ pub fn serve_answers_like_session()
     written_frames_are_read();
 }
 
-/// Proves that `serve` answers as the session does, even if the input continues. If the input of
-/// `serve` begins with the frames of the contents that a session took, the output begins with the
-/// frames of the contents that the session sent. The law excludes calls that return `Memory` or
-/// `Write`, and contents of more than `max_content_length` bytes.
+/// Proves that `serve` answers as the session does, even if the input continues. Suppose that the
+/// input of `serve` begins with the frames of the contents that a session took. Then the output
+/// begins with the frames of the contents that the session sent. The law excludes calls that return
+/// `Memory` or `Write`, and contents of more than `max_content_length` bytes.
 pub fn serve_answers_prefix_like_session()
     ensures { ServeAnswersPrefixLikeSession }
 {
@@ -105,11 +105,11 @@ pub fn serve_answers_prefix_like_session()
     written_frames_are_read();
 }
 
-/// Proves that `serve` ends as the session does. Suppose that the input of `serve` is the frames of
-/// the contents of a conversation that ended, followed by any bytes. Then `serve` writes the frames
-/// of the contents that the session sent, and no more, and returns the conversation's status. The
-/// law excludes calls that return `Memory` or `Write`, and contents of more than
-/// `max_content_length` bytes.
+/// Proves that `serve` ends as the session does. Suppose that a session ended after it took some
+/// contents. Suppose also that the input of `serve` consists of the frames of these contents,
+/// followed by any bytes. Then `serve` writes the frames of the contents that the session sent, and
+/// no more, and returns the session's status. The law excludes calls that return `Memory` or
+/// `Write`, and contents of more than `max_content_length` bytes.
 pub fn serve_ends_like_session()
     ensures { ServeEndsLikeSession }
 {
@@ -121,7 +121,7 @@ pub fn serve_ends_like_session()
 
 /// Proves the guarantees of `serve` for every editor that keeps ob0's rules. Each exchange of the
 /// editor with a session has the guarantees of `GuaranteesHoldForExchange`. Suppose that the input
-/// of `serve` is the frames of the contents that the session took, each of at most
+/// of `serve` consists of the frames of the contents that the session took, each of at most
 /// `max_content_length` bytes. Then `serve` writes the frames of the contents that the session
 /// sent, unless `serve` returns `Memory` or `Write`. If `serve` returns `Memory` after it has
 /// answered exactly these contents, it has written the same frames.

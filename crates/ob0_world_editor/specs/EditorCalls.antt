@@ -15,14 +15,14 @@ use Rattle.ob0_world_editor.specs.declared.applied_edits.ApplyOutcome as applyin
 use Rattle.ob0_world_editor.specs.declared.editor.ReceivedAnswer as answer
 use Rattle.ob0_world_editor.specs.declared.editor.RewrittenDocument as rewritten
 
--- states that the number of openings, the number of sent requests and each document's version are
--- less than 2^63 - 1, so that each can still grow by one
+-- States that three numbers are less than 2^63 - 1, so that each can still grow by one. They are
+-- the number of openings, the number of sent requests, and each open document's version.
 pub record CountsCanGrow (e : Editor) : Type 0 where
   pub openings : e.openings < 2 ^ 63 - 1
   pub asks : length e.requested < 2 ^ 63 - 1
   pub versions : (uri : List ℕ) (d : OpenDocument) → editor_document_with_uri e uri ≡ Some d → version_as_natural d.version < 2 ^ 63 - 1
 
--- returns whether there is an edit
+-- returns whether the list has an edit
 abbrev pub has_edits : List Replacement → Bool
 has_edits [] = false
 has_edits (e ∷ es) = true
@@ -46,8 +46,8 @@ PerformsAct done content new = (new ≡ done.editor) × IsSentContent new.reques
 abbrev pub SendsAndAppliesNothing : ActResult → Editor → Type 0
 SendsAndAppliesNothing done new = (new ≡ done.editor) × (done.sent ≡ []) × (done.applied ≡ [])
 
--- States that applying an answer, an act with the result `done`, has this outcome in the code.
--- `held` says whether the editor had the answer, and `new` is the editor after the act.
+-- States that the code reports this outcome of an act that applies an answer and has the result
+-- `done`. `held` says whether the editor had the answer, and `new` is the editor after the act.
 abbrev pub IsApplyOutcome : ActResult → Bool → applying.ApplyOutcome → Editor → Type 0
 IsApplyOutcome done held applying.TheVariants.NoSuchAnswer new = SendsAndAppliesNothing done new × (held ≡ false)
 IsApplyOutcome done held applying.TheVariants.Dropped new = SendsAndAppliesNothing done new × (held ≡ true)
@@ -67,8 +67,8 @@ IsIndexOfAnswer answers k (Some i) =
     × (remove_answer_to_request k (map model_answer_of answers) ≡ map model_answer_of (remove answers i))
 IsIndexOfAnswer answers k None = edits_of_answer_to_request k (map model_answer_of answers) ≡ None
 
--- returns the editor with the document of `r` open, with its new text, its version and its opening
--- number
+-- returns the editor `e` with the document of `r` open: with the new text, the version and the
+-- opening number in `r`
 abbrev pub editor_with_new_text : Editor → rewritten.RewrittenDocument → Editor
 editor_with_new_text e r =
     let a : Applied = model_applied_edit_of r.applied in
@@ -78,14 +78,14 @@ editor_with_new_text e r =
           (record { version = pos r.version; text = a.after; opening = r.opening });
     }
 
--- returns the notification that gives the server the document's whole new text
+-- returns the notification that gives the server the whole new text of the document of `r`
 abbrev pub new_text_notification : rewritten.RewrittenDocument → MessageToServer
 new_text_notification r =
     let a : Applied
     = model_applied_edit_of r.applied in notifies (Changed a.uri (pos r.version) (whole_text_change a.after ∷ []))
 
--- states that the act with the result `done` gives the document the new text in `r`, applies the
--- edit in `r`, and sends the notification of the new text
+-- States what the act with the result `done` does. It gives the document the new text in `r`,
+-- applies the edit in `r`, and sends the notification of the new text.
 pub record RewritesDocument (old : Editor) (done : ActResult) (r : rewritten.RewrittenDocument) : Type 0 where
   pub text : done.editor ≡ editor_with_new_text old r
   pub applied : done.applied ≡ model_applied_edit_of r.applied ∷ []
@@ -114,8 +114,8 @@ abbrev pub StoresNewText : Editor → rewritten.RewrittenDocument → Vec ℕ Gl
 StoresNewText old r content new =
     (new ≡ editor_with_new_text old r) × IsMessageToServer new.requested (new_text_notification r) content.items
 
--- states that the outcome is the applied edit in `r` with the notification of the new text, and
--- that `new` is the editor with that text
+-- States that the outcome has the applied edit in `r` and the content of the notification of the
+-- new text. `new` is the editor with that text.
 abbrev pub IsRewriteOutcome : Editor → rewritten.RewrittenDocument → applying.ApplyOutcome → Editor → Type 0
 IsRewriteOutcome old r applying.TheVariants.NoSuchAnswer new = ⊥
 IsRewriteOutcome old r applying.TheVariants.Dropped new = ⊥

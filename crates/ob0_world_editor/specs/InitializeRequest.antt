@@ -53,8 +53,8 @@ initialize_message unit =
     (object (member (codes "capabilities") (object (client_capability_members unit)) no_members))
     no_members))))
 
--- returns the features of a client that counts positions in this unit, as the server reads them in
--- its request `initialize`
+-- returns the features that the server reads in the request `initialize` of a client that counts
+-- positions in this unit
 abbrev pub client_features_for_unit : Unit → ClientFeatures
 client_features_for_unit unit =
     record {

@@ -60,7 +60,7 @@ edits_of_items no_items = Some []
 edits_of_items (item d ds) = option_and_then (λ e. option_map (λ es. e ∷ es) (edits_of_items ds)) (edit_of_value d)
 
 -- Returns the list of edits in a WorkspaceEdit. The third argument is the value of the member
--- `documentChanges`, or None if there is no such member. If it isn't None, the list is in its first
+-- `documentChanges`, or None if there is no such member. If there is one, the list is in its first
 -- element, whose uri is ignored. Otherwise the list is in the member `changes`, under this uri.
 -- Returns None if there is no such list.
 abbrev pub edit_items_given_document_changes : List ℕ → Data → Option Data → Option Items
@@ -81,8 +81,9 @@ first_action_with_title title no_items = None
 first_action_with_title title (item d ds) =
     if equals_optional_text title (text_member (codes "title") d) then Some d else first_action_with_title title ds
 
--- Returns the list of edits (`workspace_edit_items`) in the first code action with this title.
--- `value` is the JSON list of actions. Returns None if there is no such list.
+-- Returns the list of edits in the first code action with this title. `workspace_edit_items` reads
+-- the list from the action's WorkspaceEdit. `value` is the JSON list of actions. Returns None if
+-- there is no such list of edits.
 abbrev pub action_edit_items : List ℕ → List ℕ → Data → Option Items
 action_edit_items title uri value =
     option_and_then (workspace_edit_items uri)
@@ -99,15 +100,15 @@ edit_items_in_result uri (inline_all position) value = action_edit_items (codes 
 edit_items_in_result uri (format indent) value = as_array value
 
 -- Returns the edits in the answer to an ask (request for edits) about the document with this uri.
--- There are none if the answer has no list of edits, for example if it is a refusal or has the
--- result null. There are also none if one of the edits can't be read.
+-- The list is empty if the answer has no list of edits, for example if it is a refusal or has the
+-- result null. The list is also empty if one of the edits can't be read.
 abbrev pub edits_in_answer : List ℕ → Ask → Data → List Replacement
 edits_in_answer uri ask answer =
     unwrap_or
     (option_and_then edits_of_items (option_and_then (edit_items_in_result uri ask) (get (codes "result") answer))) []
 
--- Returns the answer to the request with this number, with its edits. Returns None if there is no
--- such request.
+-- Returns the answer to request `k`, with the edits that are read from the JSON value `answer`.
+-- Returns None if the editor has sent no request with this number.
 abbrev pub answer_to_ask : List SentAsk → Data → ℕ → Option MessageToEditor
 answer_to_ask requested answer k =
     option_map (λ a. answers k (edits_in_answer a.uri a.ask answer)) (sent_ask_with_number requested k)
@@ -137,15 +138,15 @@ message_to_editor_of_value number_of requested d =
     if is_some (get (codes "method") d)
     then publication_of_notification d else answer_of_response number_of requested d
 
--- Returns the message to the editor in a content, or None if there is none. `requested` lists the
--- requests for edits that the editor has sent. `number_of` converts an answer's id to the number of
--- the answered request.
+-- Returns the message to the editor in a content, or None if the content has no such message.
+-- `requested` lists the requests for edits that the editor has sent. `number_of` converts an
+-- answer's id to the number of the answered request.
 unfoldable pub message_to_editor_by_id_conversion : (Data → Option ℕ) → List SentAsk → List ℕ → Option MessageToEditor
 message_to_editor_by_id_conversion number_of requested content =
     if is_utf8 content
     then option_and_then (message_to_editor_of_value number_of requested) (read content) else None
 
--- Returns the message to the editor in a content, or None if there is none. The id of each of the
--- editor's requests for edits is the request's number.
+-- Returns the message to the editor in a content, or None if the content has no such message. The
+-- id of each of the editor's requests for edits is the request's number.
 abbrev pub message_to_editor_in_content : List SentAsk → List ℕ → Option MessageToEditor
 message_to_editor_in_content requested content = message_to_editor_by_id_conversion request_number_from_id requested content

@@ -1,6 +1,6 @@
 -- Defines which message of the model a content to the server means. A notification is read by the
--- definitions with which the server reads it. A request is identified by its id, which is the
--- number of a sent request for edits.
+-- same definitions that the server uses. A request is identified by its id, which is the number of
+-- a sent request for edits.
 use Rattle.std.specs.Prelude.{◌≡◌, ⊤, ℕ, List, Option, Some, None, Ok, option_and_then, option_map, if◌then◌else◌}
 use Rattle.std.specs.Str.{is_utf8}
 use Rattle.serde_json.specs.Data.{Data, null, boolean, number, string, array, object, unsigned, negative, float}
@@ -65,7 +65,7 @@ message_to_server_in_content requested content =
 
 -- ---- messages as the server reads them, and the contents that hold them
 
--- returns the notification of this event of a document, in the form in which the server reads it
+-- returns the notification about this event of a document, in the form in which the server reads it
 abbrev pub notification_for_event : DocumentEvent → NotificationMeaning
 notification_for_event (Opened uri version text) = opens uri version text
 notification_for_event (Changed uri version all) = changes uri version all

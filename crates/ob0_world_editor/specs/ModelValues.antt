@@ -12,14 +12,14 @@ use Rattle.ob0_world_rules.specs.TextEdits.{replacements_of_edits}
 use Rattle.ob0_world_rules.specs.Asks.{Ask, rename, inline_here, inline_all, format}
 use Rattle.ob0_world_rules.specs.ClientAndServer.{SentAsk, ReceivedAnswer, Applied, MessageToEditor, publishes, answers}
 
--- converts a request for edits of the code's type `Ask` to the model's
+-- converts a request for edits from the code's type `Ask` to the model's type `Ask`
 abbrev pub model_ask_of : ask.Ask → Ask
 model_ask_of (ask.TheVariants.Rename position name) = rename position (string_bytes name)
 model_ask_of (ask.TheVariants.InlineHere position) = inline_here position
 model_ask_of (ask.TheVariants.InlineAll position) = inline_all position
 model_ask_of (ask.TheVariants.Format indent) = format indent
 
--- converts a sent request of the code's type `SentAsk` to the model's
+-- converts a sent request from the code's type `SentAsk` to the model's type `SentAsk`
 abbrev pub model_sent_ask_of : requested.SentAsk → SentAsk
 model_sent_ask_of a =
     record {
@@ -30,17 +30,17 @@ model_sent_ask_of a =
       version = pos a.version;
     }
 
--- converts an answer of the code's type `ReceivedAnswer` to the model's
+-- converts an answer from the code's type `ReceivedAnswer` to the model's type `ReceivedAnswer`
 abbrev pub model_answer_of : answer.ReceivedAnswer → ReceivedAnswer
 model_answer_of a = record { number = a.number; edits = replacements_of_edits a.edits.items }
 
--- converts a message of the code's type `ServerMessage` to the model's message to the editor
+-- converts a message from the code's type `ServerMessage` to the model's type `MessageToEditor`
 abbrev pub model_message_of : message.ServerMessage → MessageToEditor
 model_message_of (message.TheVariants.Published uri version empty) =
     publishes (string_bytes uri) version empty
 model_message_of (message.TheVariants.Answered number edits) = answers number (replacements_of_edits edits.items)
 
--- converts an applied edit of the code's type `Applied` to the model's
+-- converts an applied edit from the code's type `Applied` to the model's type `Applied`
 abbrev pub model_applied_edit_of : applied.Applied → Applied
 model_applied_edit_of a =
     record {

@@ -8,13 +8,13 @@ use Rattle.std.specs.Coded.{Coded, code_by, coded×, coded_ℕ, coded_ℤ, coded
 use Rattle.ob0_world_editor.specs.declared.documents.OpenDocument as stored
 use Rattle.ob0_world_rules.specs.ClientAndServer.{OpenDocument, EditorDocuments}
 
--- converts an open document of the code's type `OpenDocument` to the model's
+-- converts an open document from the code's type `OpenDocument` to the model's type `OpenDocument`
 abbrev pub model_document_of : stored.OpenDocument → OpenDocument
 model_document_of d =
     record { version = pos d.version; text = chars (string_bytes d.text); opening = d.opening }
 
--- converts the entries of the code's map of open documents, each a uri and a document, to the
--- model's map; the model's keys are the bytes of the uris
+-- Converts the entries of the code's map of open documents to the model's map. Each entry is a uri
+-- and a document. The keys of the model's map are the bytes of the uris.
 abbrev pub model_documents_of : {A : Type 0} → List (String A × stored.OpenDocument) → EditorDocuments
 model_documents_of entries =
     map_of.from_entries (map (λ e. (string_bytes e.0, model_document_of e.1)) entries)

@@ -26,7 +26,8 @@ pub enum ApplyOutcome {
     Made { applied: Applied, content: Vec<u8> },
 }
 
-/// Returns an applied edit, with copies of the uri and of the text before the edit.
+/// Returns a record of an applied edit: copies of the uri and of `before`, the text before the
+/// edit, and the text `after`.
 pub fn applied_edit(
     alloc: Global,
     uri: &str,

@@ -5,7 +5,7 @@ ghost use Rattle.ob0_world_editor.specs.ModelValues.{model_ask_of};
 use ob0_text::{Indent, Position};
 use std::alloc::{AllocError, Global};
 
-/// A request about a document, whose answer the editor may apply.
+/// A request for edits of a document. The editor may apply the edits in the answer.
 #[derive(Debug, Drop)]
 pub enum Ask {
     Rename { position: Position, name: String },

@@ -34,8 +34,8 @@ use ob0_text::{Change, Edit, Unit, Whole};
 use std::alloc::{AllocError, Global};
 use std::marker::Model;
 
-/// A request for edits that was sent, with the document's uri, and with the document's text,
-/// opening number (`OpenDocument.opening`) and version at the time of sending.
+/// A request for edits that was sent, with its document's uri. The text, the opening number
+/// (`OpenDocument.opening`) and the version are the document's at the time of sending.
 #[derive(Drop)]
 pub struct SentAsk {
     pub ask: Ask,
@@ -52,8 +52,8 @@ pub struct ReceivedAnswer {
     pub edits: Vec<Edit>,
 }
 
-/// The result of making an answer's edits in a document: the applied edit (`applied.after` is the
-/// new text), the document's next version, and its opening number.
+/// The result of making an answer's edits in a document. It has the applied edit (`applied.after`
+/// is the new text), the document's next version, and its opening number.
 #[derive(Drop)]
 struct RewrittenDocument {
     applied: Applied,
@@ -211,9 +211,9 @@ impl Editor {
     }
 
     /// Makes the edits of the answer to request `k`, and returns the applied edit with the content
-    /// of the notification. No edit is made in three cases: the editor has no such answer, the
-    /// document has been changed, closed or reopened since the request, or two edits share a
-    /// character. The answer is always removed, even if an allocation fails.
+    /// of the notification. No edit is made if the editor has no such answer, or if two edits share
+    /// a character. The same holds if the document has been changed, closed or reopened since the
+    /// request. The answer is always removed, even if an allocation fails.
     pub fn apply_answer(&mut self, k: u64) -> Result<ApplyOutcome, AllocError>
         requires { CountsCanGrow self.old }
         ensures ok { IfOk result (λ applying. IsApplyOutcome (act_result self.old (apply k))
@@ -249,9 +249,9 @@ impl Editor {
         Some(answer.edits)
     }
 
-    /// Returns the document of request `k` with these edits made. Returns None in four cases: there
-    /// is no such request, its document isn't open, the document's opening number or version has
-    /// changed since the request, or two edits share a character.
+    /// Returns the document of request `k` with these edits made. Returns None if there is no such
+    /// request, or if its document isn't open. Also returns None if the document's opening number
+    /// or version has changed since the request, or if two edits share a character.
     fn asked_document_with_edits(
         &self,
         k: u64,
@@ -299,8 +299,9 @@ impl Editor {
         }))
     }
 
-    /// Stores a document's new text, and returns the applied edit with the content of the
-    /// notification. If an allocation fails, the editor is unchanged.
+    /// Stores the new text in `rewritten` as its document's text. Returns the applied edit, and the
+    /// content of the notification that tells the server this text. If an allocation fails, the
+    /// editor is unchanged.
     fn store_rewritten_document(
         &mut self,
         rewritten: RewrittenDocument,
@@ -316,8 +317,9 @@ impl Editor {
         })
     }
 
-    /// Stores a copy of a document's new text, and returns the content of the notification for the
-    /// server. If an allocation fails, the editor is unchanged.
+    /// Stores a copy of the new text in `rewritten` as its document's text. Returns the content of
+    /// the notification that tells the server this text. If an allocation fails, the editor is
+    /// unchanged.
     fn store_new_text(&mut self, rewritten: &RewrittenDocument) -> Result<Vec<u8>, AllocError>
         requires { rewritten.now.version < 2 ^ 63 }
         ensures ok { IfOk result
@@ -334,8 +336,8 @@ impl Editor {
     }
 }
 
-/// Returns a sent request for edits, with copies of the request and the uri, and with the
-/// document's present text, opening number and version.
+/// Returns a record of the request for edits `ask`, with copies of the request and of the uri. The
+/// text, the opening number and the version are the present ones of `document`.
 fn sent_ask_for_document(
     alloc: Global,
     ask: &Ask,

@@ -217,8 +217,8 @@ fn workspace_edit_values<'v>(edit: &'v Value, uri: &str) -> Option<&'v Vec<Value
     }
 }
 
-/// Returns the list of edits in the first code action with this title (`workspace_edit_values`).
-/// Returns None if there is no such list.
+/// Returns the list of edits in the first code action with this title. `workspace_edit_values`
+/// reads the list from the action's WorkspaceEdit. Returns None if there is no such list.
 fn action_edit_values<'v>(actions: &'v Value, title: &str, uri: &str) -> Option<&'v Vec<Value>>
     ensures { option_map (λ v. items_view v.now.items) result
         ≡ action_edit_items title.now uri.now (view actions.now) }

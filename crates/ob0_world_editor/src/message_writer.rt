@@ -94,8 +94,8 @@ pub fn did_close_notification(alloc: Global, uri: &str) -> Result<Vec<u8>, Alloc
     )
 }
 
-/// Returns the content of the request for these edits of a document, with this number as its id.
-/// Both kinds of inlining request the code actions at the position in `ask`.
+/// Returns the content of the request for the edits `ask` of a document. The request has this
+/// number as its id. Both kinds of inlining request the code actions at the position in `ask`.
 pub fn request_for_edits(
     alloc: Global,
     number: u64,

@@ -64,6 +64,7 @@ IsAnswerForDocument unit (Some (InStep version text)) ask given = IsAnswerForTex
 IsAnswerForDocument unit (Some OutOfStep) ask given = given ≡ []
 IsAnswerForDocument unit None ask given = given ≡ []
 
--- States that a list of diagnostics is empty (`empty`) exactly if the text is a well-typed module.
+-- States that a list of diagnostics is empty exactly if the text is a well-typed module. The flag
+-- `empty` says whether the list is empty.
 abbrev pub NoDiagnosticsExactlyIfWellTyped : List ℕ → Bool → Type 0
 NoDiagnosticsExactlyIfWellTyped text empty = IsTrue empty ↔ WellTypedText text

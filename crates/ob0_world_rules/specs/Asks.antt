@@ -6,7 +6,7 @@ use Rattle.ob0_text.specs.declared.edits.Indent.{Indent}
 use Rattle.ob0_text.specs.declared.edits.Indent.TheVariants.{Tab, Spaces}
 use Rattle.ob0_text.specs.Indents.{indent_spaces_for_tab_size}
 
--- a request about a document, whose answer the editor may apply
+-- a request for edits of a document; the editor may apply the edits in the answer
 pub data Ask : Type 0 where
   -- renames the declaration or field whose name is at this position; the list has the bytes of the
   -- new name
@@ -17,8 +17,9 @@ pub data Ask : Type 0 where
   inline_all : Position → Ask
   format : Indent → Ask
 
--- Returns the indent that the server uses. If the number of spaces is outside the allowed range,
--- the nearest allowed number is used (`indent_spaces_for_tab_size`).
+-- Returns the indent that the server uses if an editor requests this indent. A number of spaces
+-- outside the allowed range is replaced by the nearest allowed number
+-- (`indent_spaces_for_tab_size`).
 abbrev pub clamped_indent : Indent → Indent
 clamped_indent Tab = Tab
 clamped_indent (Spaces n) = Spaces (indent_spaces_for_tab_size n)

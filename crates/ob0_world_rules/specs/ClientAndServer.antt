@@ -18,12 +18,12 @@ pub record OpenDocument : Type 0 where
   pub text : List ℕ
   pub opening : ℕ
 
--- the open documents of an editor, as a map from the bytes of their uris
+-- the open documents of an editor: a map from each document's uri, as bytes, to the document
 abbrev pub EditorDocuments : Type 0
 EditorDocuments = map_of.FinMap (slice_cmp nat_cmp) OpenDocument
 
--- an ask (a request for edits) that the editor has sent, with the uri of its document, and with the
--- document's text, opening number and version at the time of sending
+-- An ask (a request for edits) that the editor has sent, with its document's uri. The text, the
+-- opening number and the version are the document's at the time of sending.
 pub record SentAsk : Type 0 where
   pub ask : Ask
   pub uri : List ℕ
@@ -43,13 +43,13 @@ pub record Editor : Type 0 where
   -- the unit in which positions are counted
   pub unit : Unit
   pub documents : EditorDocuments
-  -- the number of openings so far, including the openings of documents that are closed again
+  -- the number of openings so far, including the openings of documents that have been closed since
   pub openings : ℕ
   -- the requests for edits that were sent, in order; the first has number 1
   pub requested : List SentAsk
   pub answers : List ReceivedAnswer
 
--- returns an editor without open documents
+-- returns a new editor that counts positions in this unit and has no open documents
 abbrev pub new_editor : Unit → Editor
 new_editor unit =
     record { unit = unit; documents = map_of.empty; openings = 0; requested = []; answers = [] }
@@ -89,8 +89,8 @@ pub record Applied : Type 0 where
   pub before : List ℕ
   pub after : List ℕ
 
--- a publication of diagnostics, with the document's uri and version, the text for which the
--- diagnostics were made, and whether the list of diagnostics is empty (`no_diagnostics`)
+-- A publication of diagnostics, with the document's uri and version. `text` is the text for which
+-- the diagnostics were made. `no_diagnostics` says whether the list of diagnostics is empty.
 pub record PublicationWithText : Type 0 where
   pub uri : List ℕ
   pub version : ℤ

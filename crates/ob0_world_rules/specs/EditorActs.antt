@@ -8,7 +8,7 @@ use Rattle.ob0_world_rules.specs.TextEdits.{Replacement, text_after_edits, whole
 use Rattle.ob0_world_rules.specs.Asks.{Ask}
 use Rattle.ob0_world_rules.specs.ClientAndServer.{OpenDocument, SentAsk, ReceivedAnswer, Editor, sent_ask_with_number, editor_document_with_uri, MessageToServer, notifies, requests, MessageToEditor, publishes, answers, Applied}
 
--- an act of the editor: about a document, or about an answer that the editor has
+-- an act of the editor, which concerns a document or an answer that the editor has received
 pub data EditorAct : Type 0 where
   -- the uri and the text of the document
   open_document : List ℕ → List ℕ → EditorAct
@@ -59,20 +59,20 @@ result_of_opening_document e uri text =
     (notifies (Opened uri (pos 1) text)) []
 
 -- Returns the result of an act that gives the open document `d` this text and the next version. The
--- act notifies the server of the changes `how`, and applies these edits.
+-- act notifies the server of the changes `how`. `applied` lists the edits that it applies.
 abbrev pub result_of_changing_text : Editor → List ℕ → OpenDocument → List ℕ → List TextChange → List Applied → ActResult
 result_of_changing_text e uri d text how applied =
     let new : OpenDocument = record d { version = next_version d.version; text = text } in
     result_with_message (record e { documents = map_of.insert e.documents uri new })
     (notifies (Changed uri new.version how)) applied
 
--- returns the result of closing an open document
+-- returns the result of closing the open document with this uri
 abbrev pub result_of_closing_document : Editor → List ℕ → ActResult
 result_of_closing_document e uri =
     result_with_message (record e { documents = map_of.remove e.documents uri }) (notifies (Closed uri)) []
 
--- returns the result of sending a request for edits of the open document `d`: it is sent with the
--- next number, and is appended to `requested`
+-- Returns the result of sending the request for edits `ask` about the open document `d`. The
+-- request gets the next number, and is appended to the editor's list `requested`.
 abbrev pub result_of_sending_ask : Editor → List ℕ → Ask → OpenDocument → ActResult
 result_of_sending_ask e uri ask d =
     let a : SentAsk = record {
@@ -99,14 +99,15 @@ remove_answer_to_request k (a ∷ rest) = if a.number == k then rest else a ∷ 
 abbrev pub editor_without_answer : Editor → ℕ → Editor
 editor_without_answer e k = record e { answers = remove_answer_to_request k e.answers }
 
--- returns the document if its opening number and its version are those that are stored with the
+-- returns the document if it still has the opening number and the version that are stored with the
 -- request, otherwise None
 abbrev pub document_if_unchanged_since_ask : SentAsk → OpenDocument → Option OpenDocument
 document_if_unchanged_since_ask a d = if d.opening == a.opening && is_same_version d.version a.version then Some d else None
 
 -- Returns the result of making the edits of an answer to request `k` in the request's document.
--- Returns None in four cases: there is no such request, its document isn't open, the document's
--- opening number or version has changed since the request, or two edits share a character.
+-- Returns None if there is no such request, or if its document isn't open. Also returns None if the
+-- document's opening number or version has changed since the request, or if two edits share a
+-- character.
 abbrev pub result_of_applying_answer : Editor → ℕ → List Replacement → Option ActResult
 result_of_applying_answer e k edits = do
   a ← sent_ask_with_number e.requested k

@@ -15,7 +15,7 @@ pub record Revision : Type 0 where
   pub text : List ℕ
   pub sent_changes : List TextChange
 
--- A move of an editor. It differs from an act of the model's editor (`EditorAct`) in two ways: a
+-- A move of an editor. It differs from an act of the model's editor (`EditorAct`) in two ways. A
 -- document may get any version, and changes are given as a list of revisions.
 pub data EditorMove : Type 0 where
   -- the uri, the version and the text
@@ -66,7 +66,7 @@ changes_of_revisions (r ∷ more) = r.sent_changes ++ changes_of_revisions more
 -- ---- answers
 
 -- States that all edits of the answer to request `k` are made in the document that was asked about.
--- The document still has its text from when the request was sent. The revisions begin with the
+-- The document's text is the same as when the request was sent. The revisions begin with the
 -- changes `first`, which make the edited text. Later changes by the user (`next`) may follow.
 pub record AppliesAnswer (e : Editor) (k : ℕ) (revisions : List Revision) (done : ActResult)
     (announced : List AnnouncedDocument) : Type 0 where
@@ -94,8 +94,8 @@ pub record AppliesAnswer (e : Editor) (k : ℕ) (revisions : List Revision) (don
 
 -- ---- the allowed moves and their results
 
--- returns the result of opening the document `d`, with its version, text and opening number, under
--- this uri; a document that is already open may be opened again
+-- Returns the result of opening the document `d` under this uri. `d` already has its version, text
+-- and opening number. A document that is already open may be opened again.
 abbrev pub result_of_opening_given_document : OpenDocument → Editor → List ℕ → ActResult
 result_of_opening_given_document d e uri =
     result_with_message (record (editor_with_document e uri d) { openings = d.opening })

@@ -46,13 +46,13 @@ state_after_editor_takes_message w [] = w
 state_after_editor_takes_message w (message ∷ rest) =
     record w { editor = editor_after_message w.editor message; to_editor = rest }
 
--- states that this event leads from `w` to `new`
+-- states that this event leads from the state `w` to the state `new`
 abbrev pub EventLeadsTo : ClientAndServer → Event → ClientAndServer → Type 0
 EventLeadsTo w (editor_acts act) new = new ≡ state_after_act w (act_result w.editor act)
 EventLeadsTo w serve new = ServerTakesFirstMessage w w.to_server new
 EventLeadsTo w take_message new = new ≡ state_after_editor_takes_message w w.to_editor
 
--- states that these events, one after another, lead from `w` to `new`
+-- states that these events, one after another, lead from the state `w` to the state `new`
 abbrev pub IsCourse : ClientAndServer → List Event → ClientAndServer → Type 0
 IsCourse w [] new = new ≡ w
 IsCourse w (event ∷ events) new =

@@ -1,5 +1,5 @@
 -- States the guarantees for every editor that keeps ob0's rules, in every interleaving of the
--- editor's and the server's turns.
+-- editor's and the server's turns. A turn is one step of the editor or of the server.
 -- Rule: docs/PROMISES.md, Client and server.
 use Rattle.std.specs.Prelude.{◌≡◌, List, [], ◌∷◌, ◌++◌, map, Option, Some, None}
 use Rattle.ob0_text.specs.declared.position_types.Unit.{Unit}
@@ -120,7 +120,7 @@ state_after_editor_takes_next_message w (None ∷ rest) = record w { to_editor =
 state_after_editor_takes_next_message w (Some message ∷ rest) =
     record w { editor = editor_after_message w.editor message; to_editor = rest }
 
--- states that this turn can lead from `w` to `new`
+-- states that this turn can lead from the state `w` to the state `new`
 abbrev pub TurnMayLeadTo : EditorAndServer → ExchangeTurn → EditorAndServer → Type 0
 TurnMayLeadTo w (editor_moves move) new =
     (done : ActResult)
@@ -131,7 +131,7 @@ TurnMayLeadTo w editor_sends_unmodeled_message new = new ≡ record w { to_serve
 TurnMayLeadTo w server_takes_message new = ServerTakesNextMessage w w.to_server new
 TurnMayLeadTo w editor_takes_message new = new ≡ state_after_editor_takes_next_message w w.to_editor
 
--- states that these turns, one after another, can lead from `w` to `new`
+-- states that these turns, one after another, can lead from the state `w` to the state `new`
 abbrev pub IsCourseOfTurns : EditorAndServer → List ExchangeTurn → EditorAndServer → Type 0
 IsCourseOfTurns w [] new = new ≡ w
 IsCourseOfTurns w (turn ∷ turns) new =
@@ -140,20 +140,20 @@ IsCourseOfTurns w (turn ∷ turns) new =
 -- ---- the laws
 
 -- states the guarantees for the state `w`; according to the law `GuaranteesHoldForEveryEditor`,
--- they hold for each state to which turns lead
+-- they hold for each state to which turns lead from the initial state
 pub record GuaranteesHoldForEditorAndServer (w : EditorAndServer) : Type 0 where
   -- Each applied edit keeps the module's run. Each list of diagnostics is empty exactly if its text
   -- is a well-typed module. If no message of the model waits for the server, the latest diagnostics
-  -- are for the present text.
+  -- of each open document are for its present text.
   pub holds : GuaranteesHold (model_state_of w)
-  -- if no notification waits for the server, the latest diagnostics are for the present text, even
-  -- if asks and messages outside the model still wait
+  -- If no notification waits for the server, the latest diagnostics of each open document are for
+  -- its present text. This holds even if asks and messages outside the model still wait.
   pub latest : notifications_in_queue (modeled_messages w.to_server) ≡ [] → PublicationsAreUpToDate w.editor w.made
-  -- once the server has taken the waiting messages, it has the editor's documents
+  -- once the server has taken the waiting messages, its documents are the editor's
   pub mirrors : ServerWillMirrorEditor (model_state_of w)
-  -- The publications are for the first documents that the editor announced (`published`), one for
-  -- each, in order. The messages that still wait for the server announce the other documents
-  -- (`waiting`).
+  -- The list of announced documents is cut in two. The n-th publication is for the n-th document of
+  -- the first part, `published`. The documents of the second part, `waiting`, are announced by
+  -- messages that still wait for the server.
   pub published : List AnnouncedDocument
   pub waiting : List AnnouncedDocument
   pub all : w.announced ≡ published ++ waiting
@@ -168,8 +168,8 @@ GuaranteesHoldForEveryEditor =
     → IsCourseOfTurns (initial_editor_and_server unit) turns w
     → GuaranteesHoldForEditorAndServer w
 
--- States that the model's editor keeps ob0's rules: for each state to which a list of its events
--- leads, some turns lead to the same state.
+-- States that the model's editor keeps ob0's rules. Each state to which its events lead can also be
+-- reached by turns of an editor that keeps the rules.
 abbrev pub ModelEditorKeepsRules : Type 0
 ModelEditorKeepsRules =
     (unit : Unit) (events : List Event) (end : ClientAndServer)

@@ -26,7 +26,7 @@ abbrev pub IsCorrectPublication : PublicationWithText → Type 0
 IsCorrectPublication m = NoDiagnosticsExactlyIfWellTyped m.text m.no_diagnostics
 
 -- returns the last publication with a version for the document with this uri, or None if there is
--- none
+-- no such publication
 abbrev pub last_publication : List ℕ → List PublicationWithText → Option PublicationWithText
 last_publication uri made =
     fold (λ last m. if bytes_eq m.uri uri then Some m else last) None made
@@ -59,7 +59,7 @@ pub record GuaranteesHold (w : ClientAndServer) : Type 0 where
 pub record GuaranteesHoldForEvents (unit : Unit) (events : List Event) (applied : List Applied)
     (made : List PublicationWithText) : Type 0 where
   pub end : ClientAndServer
-  -- the events lead to this end, and to no other
+  -- the events lead to the state `end`, and to no other state
   pub course : IsCourse (start unit) events end
   pub only : (other : ClientAndServer) → IsCourse (start unit) events other → other ≡ end
   pub applied_at_end : applied ≡ end.applied

@@ -18,8 +18,8 @@ use Rattle.ob0_world_rules.specs.MirroredDocuments.{ServerWillMirrorEditor}
 
 -- ---- texts
 
--- States that two definitions of the text of a module with this tree agree. One uses the text's
--- lexemes (`IsModuleText`), the other uses the parser's tokens (`IsTextOfTree`).
+-- States that two definitions of the text of a module with a given tree agree. `IsModuleText` uses
+-- the text's lexemes, and `IsTextOfTree` uses the parser's tokens.
 abbrev pub ModuleTextDefinitionsAgree : Type 0
 ModuleTextDefinitionsAgree =
     (tree : Tree Name module_text) (bytes : List ℕ)
@@ -36,8 +36,8 @@ pub record EditsPreserveRun (unit : Unit) (text : List ℕ) (edits : List Replac
   pub after_is_well_typed : WellTypedText after
   pub same : SameRun text after
 
--- states that the edits that answer a request for edits turn a well-typed module into a well-typed
--- module with the same run (`EditsPreserveRun`)
+-- States that the edits with which the server answers a request keep the module's run. They turn a
+-- well-typed module into a well-typed module with the same run (`EditsPreserveRun`).
 abbrev pub AnswerEditsPreserveRun : Type 0
 AnswerEditsPreserveRun =
     (unit : Unit) (text : List ℕ) (ask : Ask) (edits : List Edit)
@@ -71,15 +71,15 @@ CourseIsDetermined =
     → IsCourse w events other
     → end ≡ other
 
--- States that this request for edits (`Ask`) has an answer for each text and each unit in which
--- positions are counted. The formula is a double negation: it is impossible that no list of edits
--- is an answer.
+-- States that the request for edits `ask` has an answer for each text and each unit of positions.
+-- The formula is a double negation: it is impossible that no list of edits is an answer.
 abbrev pub AlwaysHasAnswer : Ask → Type 0
 AlwaysHasAnswer ask =
     (unit : Unit) (text : List ℕ)
     → ¬ ((given : List Replacement) → ¬ IsAnswerForText unit text ask given)
 
--- states that the event isn't a request for edits, or is one that has answers (`AlwaysHasAnswer`)
+-- states that the event isn't a request for edits, or is a request that always has an answer
+-- (`AlwaysHasAnswer`)
 abbrev pub HasAnswerIfAsk : Event → Type 0
 HasAnswerIfAsk (editor_acts (open_document uri text)) = ⊤
 HasAnswerIfAsk (editor_acts (change_document uri how)) = ⊤
@@ -90,9 +90,9 @@ HasAnswerIfAsk (editor_acts (discard k)) = ⊤
 HasAnswerIfAsk serve = ⊤
 HasAnswerIfAsk take_message = ⊤
 
--- States that each list of events leads from the start to some state, provided that its requests
--- for edits have answers. So the laws about all courses of events aren't vacuous. The formula is a
--- double negation: it is impossible that the events lead to no state.
+-- States that each list of events leads from the initial state to some state. The condition is that
+-- each request for edits in the list has an answer. So the laws about all courses of events aren't
+-- vacuous. The formula is a double negation: it is impossible that the events lead to no state.
 abbrev pub CourseExistsIfAsksHaveAnswers : Type 0
 CourseExistsIfAsksHaveAnswers =
     (unit : Unit) (events : List Event)
@@ -100,13 +100,13 @@ CourseExistsIfAsksHaveAnswers =
     → ¬ ((end : ClientAndServer) → ¬ IsCourse (start unit) events end)
 
 -- states that the guarantees (`GuaranteesHold`) hold in each state to which events lead from the
--- start
+-- initial state
 abbrev pub GuaranteesHoldInEveryInterleaving : Type 0
 GuaranteesHoldInEveryInterleaving =
     (u : Unit) (events : List Event) (w : ClientAndServer) → IsCourse (start u) events w → GuaranteesHold w
 
--- States that once the server has taken all waiting messages, it has the editor's documents. This
--- holds in each state to which a list of events leads from the start.
+-- States that the server's documents are the editor's once the server has taken all waiting
+-- messages. This holds in each state to which a list of events leads from the initial state.
 abbrev pub ServerMirrorsEditor : Type 0
 ServerMirrorsEditor =
     (u : Unit) (events : List Event) (w : ClientAndServer) → IsCourse (start u) events w → ServerWillMirrorEditor w

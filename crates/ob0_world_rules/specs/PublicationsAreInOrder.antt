@@ -1,5 +1,6 @@
--- Defines the order of publications: the n-th publication with a version is made for the n-th
--- document that the editor announced to the server by opening or changing it.
+-- Defines the order of publications. The n-th publication with a version is made for the n-th
+-- document that the editor announced. The editor announces a document to the server by opening or
+-- changing it.
 -- Rule: docs/PROTOCOL.md, Publishing 1.
 use Rattle.std.specs.Prelude.{◌≡◌, ⊤, ℕ, ℤ, List, [], ◌∷◌, ◌++◌, map, Option, Some, None}
 use Rattle.std.specs.List.{flat_map}
@@ -11,7 +12,8 @@ use Rattle.ob0_world_rules.specs.Events.{Event, editor_acts, serve, take_message
 
 -- ---- the documents that the editor announced
 
--- a document with the version and text that the editor announced to the server
+-- a document that the editor announced to the server: its uri, and the document with the announced
+-- version and text
 pub record AnnouncedDocument : Type 0 where
   pub uri : List ℕ
   pub document : OpenDocument
@@ -22,7 +24,7 @@ announced_document_if_open uri (Some d) = record { uri = uri; document = d } ∷
 announced_document_if_open uri None = []
 
 -- returns a list with the editor's document that the message opens or changes, or an empty list if
--- there is none
+-- there is no such document
 abbrev pub documents_announced_by_message : Editor → MessageToServer → List AnnouncedDocument
 documents_announced_by_message e (notifies (Opened uri version text)) = announced_document_if_open uri (editor_document_with_uri e uri)
 documents_announced_by_message e (notifies (Changed uri version how)) = announced_document_if_open uri (editor_document_with_uri e uri)
@@ -34,8 +36,8 @@ documents_announced_by_message e (requests number uri ask) = []
 abbrev pub documents_announced_by_sent_messages : Editor → List MessageToServer → List AnnouncedDocument
 documents_announced_by_sent_messages e messages = flat_map (documents_announced_by_message e) messages
 
--- returns the documents that the editor announces by this event, which are none unless the event is
--- an act
+-- Returns the documents that the editor announces by this event. The list is empty unless the event
+-- is an act of the editor.
 abbrev pub documents_announced_by_event : ClientAndServer → Event → List AnnouncedDocument
 documents_announced_by_event w (editor_acts act) =
     let done : ActResult = act_result w.editor act in documents_announced_by_sent_messages done.editor done.sent
@@ -68,7 +70,7 @@ AreMadeForDocumentsInOrder [] (t ∷ announced) = ⊥
 AreMadeForDocumentsInOrder (m ∷ made) [] = ⊥
 
 -- returns a list with the uri and version of the document that the message opens or changes, or an
--- empty list if there is none
+-- empty list for any other message
 abbrev pub uri_and_version_announced_by_message : MessageToServer → List (List ℕ × ℤ)
 uri_and_version_announced_by_message (notifies (Opened uri version text)) = (uri, version) ∷ []
 uri_and_version_announced_by_message (notifies (Changed uri version how)) = (uri, version) ∷ []
@@ -85,9 +87,10 @@ uris_and_versions_announced_in_queue (message ∷ queue) = uri_and_version_annou
 abbrev pub uri_and_version_of : AnnouncedDocument → List ℕ × ℤ
 uri_and_version_of t = (t.uri, t.document.version)
 
--- States that the publications `made` were made for the first documents that the editor announced
--- (`announced`), one for each, in order. The messages that still wait for the server announce the
--- other documents (`waiting`).
+-- States which documents the publications `made` are for. The editor's announced documents are the
+-- lists `announced` and `waiting`, in this order. The n-th publication was made for the n-th
+-- document in `announced`. Messages that still wait for the server announce the documents in
+-- `waiting`.
 pub record PublicationsFollowAnnouncements (unit : Unit) (events : List Event) (made : List PublicationWithText) : Type 0 where
   pub announced : List AnnouncedDocument
   pub waiting : List AnnouncedDocument

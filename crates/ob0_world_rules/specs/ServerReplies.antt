@@ -16,8 +16,8 @@ SendsDiagnostics uri (Some (InStep version text)) sent made =
 SendsDiagnostics uri (Some OutOfStep) sent made = (sent ≡ []) × (made ≡ [])
 SendsDiagnostics uri None sent made = (sent ≡ []) × (made ≡ [])
 
--- States that the server replies to a notification with these messages, and that `made` are the
--- publications with a version among them. `held` are the server's documents before the
+-- States that the server replies to this notification with the messages `sent`. The list `made` has
+-- the publications with a version among them. `held` are the server's documents before the
 -- notification. If an open document is closed, its diagnostics are cleared.
 abbrev pub RepliesToNotification : OpenDocuments
     → DocumentEvent
@@ -33,8 +33,8 @@ RepliesToNotification held (Closed uri) sent made =
     (sent ≡ (if is_some (document_at held uri) then publishes uri None true ∷ [] else []))
     × (made ≡ [])
 
--- states that the server replies to a message with these messages, and that `made` are the
--- publications with a version among them; `held` are the server's documents before the message
+-- States that the server replies to this message with the messages `sent`. The list `made` has the
+-- publications with a version among them. `held` are the server's documents before the message.
 abbrev pub RepliesToMessage : OpenDocuments → MessageToServer → List MessageToEditor → List PublicationWithText → Type 0
 RepliesToMessage held (notifies note) sent made = RepliesToNotification held note sent made
 RepliesToMessage held (requests number uri ask) sent made =

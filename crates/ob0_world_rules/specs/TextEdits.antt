@@ -39,8 +39,8 @@ text_after_changes unit text changes = fold (changed_text unit) text changes
 
 -- ---- the law
 
--- states that two definitions of an edited text agree: `text_after_edits` for edits of the model's
--- type `Replacement`, and `patched_text` for edits of the code's type `Edit`
+-- States that two definitions of the text after edits agree. `text_after_edits` takes edits of the
+-- model's type `Replacement`, and `patched_text` takes edits of the code's type `Edit`.
 abbrev pub EditedTextDefinitionsAgree : Type 0
 EditedTextDefinitionsAgree =
     (unit : Unit) (text : List ℕ) (edits : List Edit)

@@ -3,20 +3,20 @@ ghost use Rattle.ob0_world_rules.specs.Laws.{CourseExistsIfAsksHaveAnswers, Answ
 ghost use Rattle.ob0_world_rules.specs.PublicationsAreInOrder.{PublicationsAreInOrder};
 ghost use Rattle.ob0_world_rules.specs.EveryEditor.{ModelEditorKeepsRules, GuaranteesHoldForEveryEditor};
 
-/// Proves that every applied edit keeps the module's run and that all diagnostics are correct
-/// (`GuaranteesHold`), in whatever order the events happen.
+/// Proves the guarantees (`GuaranteesHold`) for every order of events. Every applied edit keeps the
+/// module's run, and all diagnostics are correct.
 pub fn guarantees_hold_in_every_interleaving()
     ensures { GuaranteesHoldInEveryInterleaving }
 {}
 
-/// Proves that the edits that answer a request for edits turn a well-typed module into a well-typed
-/// module with the same run: the same output and the same end.
+/// Proves that the edits with which the server answers a request keep the module's run. They turn a
+/// well-typed module into a well-typed module with the same output and the same end.
 pub fn answer_edits_preserve_run()
     ensures { AnswerEditsPreserveRun }
 {}
 
-/// Proves that two definitions of the text of a module with this tree agree. One uses the text's
-/// lexemes (`IsModuleText`), the other uses the parser's tokens (`IsTextOfTree`).
+/// Proves that two definitions of the text of a module with a given tree agree. `IsModuleText` uses
+/// the text's lexemes, and `IsTextOfTree` uses the parser's tokens.
 pub fn module_text_definitions_agree()
     ensures { ModuleTextDefinitionsAgree }
 {}
@@ -36,13 +36,15 @@ pub fn course_is_determined()
     ensures { CourseIsDetermined }
 {}
 
-/// Proves that each list of events leads from the start to some state, provided that its requests
-/// for edits have answers. So the laws about all courses of events aren't vacuous.
+/// Proves that each list of events leads from the initial state to some state. The condition is
+/// that each request for edits in the list has an answer. So the laws about all courses of events
+/// aren't vacuous.
 pub fn course_exists_if_asks_have_answers()
     ensures { CourseExistsIfAsksHaveAnswers }
 {}
 
-/// Proves that once the server has taken all waiting messages, it has the editor's documents.
+/// Proves that the server's documents are the editor's once the server has taken all waiting
+/// messages: they have the same uris, versions and texts.
 pub fn server_mirrors_editor()
     ensures { ServerMirrorsEditor }
 {}
@@ -54,16 +56,17 @@ pub fn publications_are_in_order()
     ensures { PublicationsAreInOrder }
 {}
 
-/// Proves the guarantees for every editor that keeps ob0's rules, in whatever order the turns
-/// happen. Every applied edit keeps the module's run. All diagnostics are correct, and are made for
-/// the announced documents in order. Once the server has taken all notifications, the latest
-/// diagnostics are for the present text.
+/// Proves the guarantees for every editor that keeps ob0's rules, in every order of the editor's
+/// and the server's turns. Every applied edit keeps the module's run. All diagnostics are correct,
+/// and are made for the announced documents in order. Once the server has taken all notifications,
+/// the latest diagnostics of each open document are for its present text.
 pub fn guarantees_hold_for_every_editor()
     ensures { GuaranteesHoldForEveryEditor }
 {}
 
-/// Proves that the model's editor keeps ob0's rules: its events are turns of such an editor. So the
-/// guarantees for every editor also hold for the model's editor.
+/// Proves that the model's editor keeps ob0's rules. Each state to which its events lead can also
+/// be reached by turns of an editor that keeps the rules. So the guarantees for every editor also
+/// hold for the model's editor.
 pub fn model_editor_keeps_rules()
     ensures { ModelEditorKeepsRules }
 {}

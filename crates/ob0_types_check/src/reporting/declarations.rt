@@ -1,5 +1,5 @@
 //! Walks the declarations in text order and reports their faults. Records the meaning of each
-//! declaration, which the text after the declaration uses.
+//! declaration, because it is needed to check the text after the declaration.
 
 ghost use Rattle.std.specs.Prelude.{◌≡◌, ◌∷◌, ◌++◌, [], map, IfOk, OnOk};
 ghost use Rattle.ob0_language_names.specs.BlockParts.{formal_parameter_sections, section_constants, section_types, section_variables};

@@ -136,8 +136,8 @@ fn required_type_or_unknown(of: TypeId, wanted: TypeId) -> TypeId
 }
 
 impl Operand {
-    /// Returns the operand for the expression that consists of a sign or `~` and this operand. It
-    /// has the type `of` and this value.
+    /// Returns the operand for the expression that consists of a sign or `~` and this operand. The
+    /// result has the type `of` and the value `value`.
     fn prefixed_operand(self, of: TypeId, value: Option<Scalar>) -> Operand
         ensures { operand_of result
             ≡ prefixed_operand of (option_map scalar_value value) (operand_of self) }
@@ -152,7 +152,7 @@ impl Operand {
     }
 
     /// Returns the operand for the expression that joins this operand and the operand `right` by an
-    /// operator. It has the type `of` and this value.
+    /// operator. The result has the type `of` and the value `value`.
     fn joined_operand(self, right: Operand, of: TypeId, value: Option<Scalar>) -> Operand
         ensures { operand_of result
             ≡ operand_of_operation of (option_map scalar_value value) (operand_of self)
@@ -167,8 +167,8 @@ impl Operand {
         }
     }
 
-    /// Returns the operand for a designator that extends this operand's designator by a selector.
-    /// `last` is the last token of that selector. The result has the type `of` and no value.
+    /// Returns the operand for this operand's designator followed by one more selector. `last` is
+    /// the last token of that selector. The result has the type `of` and no value.
     fn operand_with_selector(self, of: TypeId, last: usize) -> Operand
         ensures { operand_of result ≡ operand_with_selector (operand_of self) of last }
     {
@@ -691,9 +691,9 @@ impl<'t> CheckerState<'t> {
         self.operand_value(faults, constant_operand)
     }
 
-    /// Returns the value of a constant expression, given its operand. Reports `ConstFault` if the
-    /// operand has no value because the evaluation failed. If the operand's type is unknown,
-    /// nothing is reported. The result is None in both cases.
+    /// Returns the value of a constant expression, given its operand. If the operand's type is
+    /// unknown, the result is None, and nothing is reported. If the type is known and there is no
+    /// value, the evaluation failed. Then the result is None, and `ConstFault` is reported.
     fn operand_value(
         &self,
         faults: &mut Vec<FaultAtTokens>,

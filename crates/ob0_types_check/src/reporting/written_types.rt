@@ -286,8 +286,8 @@ impl<'t> ReportingWalk<'t> {
     }
 
     /// Makes a record type of the gathered fields and returns it. `word` is the token of its word
-    /// RECORD, and `ordinal` is the number of words ARRAY and RECORD before this token in the text.
-    /// A record type that is too large is reported at `word`.
+    /// RECORD. `ordinal` is the type's number: how many words ARRAY and RECORD come before this
+    /// token in the text. A record type that is too large is reported at `word`.
     fn make_record_type(
         &mut self,
         word: usize,
