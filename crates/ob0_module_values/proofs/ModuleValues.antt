@@ -74,7 +74,7 @@ pub resolution_of : (m : ParsedModule) → TreeMatchesText m → (r : Resolution
 resolution_of m parsed =
     let visit = visit_module (tree_of m) (initial_walk_state (original_spellings m.source)) in
     let ordinals = table_with_marks (replicate (length m.source.tokens) None) visit.marks in
-    let faults = declaration_faults m ++ undeclared_faults_from_table m.source ordinals visit.uses in (
+    let faults = declaration_faults m ++ undeclared_faults_from_table ordinals visit.uses in (
       record { module_read = m; ordinals = ordinals; declaration_tokens = visit.declaration_tokens; uses = visit.uses; faults = faults },
       resolution_made m visit ordinals visit.declaration_tokens visit.uses (declaration_faults m) faults parsed refl refl refl refl refl refl,
       refl,

@@ -384,7 +384,7 @@ impl<'t> Checked<'t> {
         types: Cow<'t, CheckResult>,
     ) -> Result<Checked<'t>, AllocError>
         requires { IsCheckResultOfModule resolved.now (cow_value types) }
-        ensures joined { IfOk result (λ c. c ≡ checked_module resolved.now (cow_value types)) }
+        ensures joined { IfOk result (λ c. c ≡ checked_module resolved.now (cow_value types.entry)) }
         ensures checked { IfOk result IsCorrectlyChecked }
     {
         let tokens = resolved.tokens();

@@ -24,7 +24,7 @@ pub is_something : (xs : List FaultAtTokens) (n : ℕ) (b : Bool) → n ≡ leng
 is_something xs n b long e h none = true≢false (sym (eq-eqb n 0 (long ∙ ap length none)) ∙ (sym e ∙ h))
 
 -- A walk over some bodies ends with the faults of the module if it reports the same as the walk over all bodies.
-pub walked : (r : Resolution) (before after : List FaultAtTokens) (s : CheckerState) (bodies_with_faults : List ℕ) (t : ResultWithFaults WalkProgress) → before ≡ filter is_undeclared_fault r.faults → reported_module includes_every_body r ≡ t → ReturnsAndReports before after (walk_progress_of s bodies_with_faults) t → IsFinishedWalk r after s bodies_with_faults
+pub walked : (r : Resolution) (before after : List FaultAtTokens) (s : CheckerState) (bodies_with_faults : List ℕ) (t : ResultWithFaults WalkProgress) → before ≡ filter is_undeclared_fault r.faults → report_on_module includes_every_body r ≡ t → ReturnsAndReports before after (walk_progress_of s bodies_with_faults) t → IsFinishedWalk r after s bodies_with_faults
 walked r before after s bodies_with_faults t first is reported =
     record {
       faults = reported.reported ∙ ((λ i. first i ++ (sym is i).faults) ∙ sym (module_reported r));

@@ -1,5 +1,5 @@
 use Rattle.std.proofs.Common.{rules, refl, ◌≡◌, ◌↔◌, ◌++◌, [], length, min, arith, subst, ap, ◌∙◌, ◌+◌, ◌-◌}
-use Rattle.std.proofs.lemmas.List.Sorted.{answers_always}
+use Rattle.std.proofs.lemmas.Fn.{always_returns_same}
 use Rattle.std.specs.List.{filter}
 use Rattle.std.specs.List.Sorted.{IsPermutation, IsSortedByKey}
 use Rattle.ob0_scan.specs.TextWithTokens.{TextWithTokens}
@@ -32,13 +32,13 @@ returns-clause-first c =
     let count = length c.args.resolved.now.module_read.source.tokens in
     let all = c.in_ok-add_duplicates_and_end_names.ensures ∙ ap (λ fs. first ++ filter is_duplicate_or_end_name_fault fs) c.faults.ensures in
     let end = c.saturating_sub-end.result in
-    let last : end ≡ count - 1 = c.saturating_sub-end.ensures ∙ ap (λ (s : TextWithTokens). length s.tokens - 1) c.tokens.ensures in
+    let last : end ≡ count - 1 = c.saturating_sub-end.ensures ∙ (ap (λ ts. length ts - 1) c.tokens-2.ensures ∙ ap (λ (s : TextWithTokens). length s.tokens - 1) c.tokens.ensures) in
     let sorted = c.sort_by_key.new.self.items in
-    let cmp = (tie.ghosts-5-0-1-2 c.sort_by_key.lifetimes).cmp in
+    let cmp = (tie.ghosts-8-0-1-2 c.sort_by_key.lifetimes).cmp in
     record {
       all = sorted;
       joined = subst (λ fs. IsPermutation fs sorted) all c.in_ok-sort_by_key.ensures.permutation;
       in_order = sorted_by_key cmp count sorted (λ f l x f₂ l₂ y. refl) (subst (λ n. IsSortedByKey (λ (x : FaultAtTokens). (min x.first n, min x.last n, x.code)) cmp sorted) last
-          (c.in_ok-sort_by_key.ensures.sorted (λ x. (min x.first end, min x.last end, x.code)) (answers_always _ _ _ (λ f a r f2 q. search rules))));
+          (c.in_ok-sort_by_key.ensures.sorted (λ x. (min x.first end, min x.last end, x.code)) (always_returns_same _ _ _ (λ a r f q. (search rules, search rules)))));
       first = c.truncate.ensures.items;
     }

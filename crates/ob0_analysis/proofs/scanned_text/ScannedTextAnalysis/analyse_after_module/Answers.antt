@@ -13,7 +13,7 @@ reanalyse_module-requires c = record {
     same = c.in-Ok.ensures.same;
     written = c.in-Ok.ensures.written;
   };
-  same_kinds = c.in-Ok.ensures.same_kinds;
+  same_kinds = c.in-Ok.ensures.alike;
   same_names = c.in-Ok.ensures.same_names;
   same_words = c.in-Ok.ensures.same_words;
 }
