@@ -248,7 +248,8 @@ impl Analysis {
     ///   refusal, at the token where parsing stops.
     /// - If the text has a tree, the errors are the first hundred faults of names and types.
     pub fn diagnoses(&self, alloc: Global) -> Result<Vec<Diagnosis>, AllocError>
-        ensures reported { IfOk result (λ list. ReportsErrorsOf self.now (map reported_diagnosis_of list.items)) }
+        ensures reported { IfOk result (λ list. ReportsErrorsOf self.now
+            (map reported_diagnosis_of list.items)) }
         ensures utf8 { IsUtf8 self.now }
     {
         // The proof needs the invariant of the analysis, which this call's contract states.

@@ -47,7 +47,8 @@ pub(crate) fn rebind_names(
     requires parsed { TreeMatchesText (parsed_module tokens.now tree.now) }
     requires before { in_body ≡ true
         → AreBindingsBeforeBodyChange (parsed_module tokens.now tree.now) bindings same.prefix same.old_suffix }
-    ensures { IfOk result (λ b. IsResolution (resolution_with_bindings (parsed_module tokens.now tree.now) b)) }
+    ensures { IfOk result (λ b. IsResolution (resolution_with_bindings
+        (parsed_module tokens.now tree.now) b)) }
 {
     let read = Module::from_parts(tokens, tree);
     if in_body {
@@ -71,7 +72,8 @@ pub(crate) fn recheck_types(
     in_body: bool,
 ) -> Result<CheckResult, AllocError>
     requires parsed { TreeMatchesText (parsed_module tokens.now tree.now) }
-    requires resolved { IsResolution (resolution_with_bindings (parsed_module tokens.now tree.now) bindings.now) }
+    requires resolved { IsResolution (resolution_with_bindings (parsed_module tokens.now tree.now)
+        bindings.now) }
     requires before { in_body ≡ true → IsCheckResultBeforeBodyChange
         (resolution_with_bindings (parsed_module tokens.now tree.now) bindings.now) types same.prefix }
     ensures { IfOk result

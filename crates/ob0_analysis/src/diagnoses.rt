@@ -21,7 +21,8 @@ pub struct Diagnosis {
 /// Returns a diagnosis for each of `faults` (faults of lexemes, or of names and types), in the same
 /// order.
 pub fn diagnoses_of_faults(alloc: Global, faults: &[Fault]) -> Result<Vec<Diagnosis>, AllocError>
-    ensures { IfOk result (λ list. map reported_diagnosis_of list.items ≡ map reported_diagnosis_of_fault faults.now) }
+    ensures { IfOk result (λ list. map reported_diagnosis_of list.items
+        ≡ map reported_diagnosis_of_fault faults.now) }
 {
     let mut list = Vec::new(alloc);
     for fault in faults {
@@ -48,7 +49,8 @@ pub fn diagnosis_of_refusal(
     tokens: &Tokens,
     refusal: &ParseRefusal,
 ) -> Result<Diagnosis, AllocError>
-    ensures { IfOk result (λ d. IsDiagnosisOfRefusal tokens.now refusal.now (reported_diagnosis_of d)) }
+    ensures { IfOk result (λ d. IsDiagnosisOfRefusal tokens.now refusal.now
+        (reported_diagnosis_of d)) }
 {
     match refusal {
         ParseRefusal::Syntax { token, expected } => syntax_error_diagnosis(

@@ -78,8 +78,10 @@ impl ModuleParts {
         types: CheckResult,
     ) -> ModuleParts
         requires parsed { TreeMatchesText (parsed_module tokens tree) }
-        requires resolved { IsResolution (resolution_with_bindings (parsed_module tokens tree) bindings) }
-        requires types { IsCheckResultOfModule (resolution_with_bindings (parsed_module tokens tree) bindings) types }
+        requires resolved { IsResolution (resolution_with_bindings (parsed_module tokens tree)
+            bindings) }
+        requires types { IsCheckResultOfModule (resolution_with_bindings (parsed_module tokens tree)
+            bindings) types }
         ensures { result ≡ resolution_with_bindings (parsed_module tokens tree) bindings }
     {
         ModuleParts {
@@ -130,8 +132,10 @@ impl ModuleParts {
     /// Takes the module apart and returns its parts, so that each part can be reused separately.
     pub(crate) fn into_parts(self) -> (Tokens, ModuleTree, Bindings, CheckResult)
         ensures parsed { TreeMatchesText (parsed_module result.0 result.1) }
-        ensures resolved { IsResolution (resolution_with_bindings (parsed_module result.0 result.1) result.2) }
-        ensures types { IsCheckResultOfModule (resolution_with_bindings (parsed_module result.0 result.1) result.2) result.3 }
+        ensures resolved { IsResolution (resolution_with_bindings (parsed_module result.0 result.1)
+            result.2) }
+        ensures types { IsCheckResultOfModule (resolution_with_bindings
+            (parsed_module result.0 result.1) result.2) result.3 }
     {
         let ModuleParts {
             tokens,
@@ -151,7 +155,8 @@ pub(crate) fn check_types(
     bindings: &Bindings,
 ) -> Result<CheckResult, AllocError>
     requires parsed { TreeMatchesText (parsed_module tokens.now tree.now) }
-    requires resolved { IsResolution (resolution_with_bindings (parsed_module tokens.now tree.now) bindings.now) }
+    requires resolved { IsResolution (resolution_with_bindings (parsed_module tokens.now tree.now)
+        bindings.now) }
     ensures { IfOk result
         (IsCheckResultOfModule (resolution_with_bindings (parsed_module tokens.now tree.now) bindings.now)) }
 {

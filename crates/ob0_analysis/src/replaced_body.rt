@@ -85,8 +85,10 @@ fn bind_new_body(
     same: CommonPrefixAndSuffix,
 ) -> Result<Bindings, AllocError>
     requires parsed { TreeMatchesText (parsed_module tokens.now tree.now) }
-    requires before { AreBindingsBeforeBodyReplacement (parsed_module tokens.now tree.now) bindings same }
-    ensures { IfOk result (λ b. IsResolution (resolution_with_bindings (parsed_module tokens.now tree.now) b)) }
+    requires before { AreBindingsBeforeBodyReplacement (parsed_module tokens.now tree.now) bindings
+        same }
+    ensures { IfOk result (λ b. IsResolution (resolution_with_bindings
+        (parsed_module tokens.now tree.now) b)) }
 {
     let read = Module::from_parts(tokens, tree);
     rebind_replaced_body(alloc, &read, bindings, same)
@@ -104,7 +106,8 @@ fn check_new_body(
     same: CommonPrefixAndSuffix,
 ) -> Result<CheckResult, AllocError>
     requires parsed { TreeMatchesText (parsed_module tokens.now tree.now) }
-    requires resolved { IsResolution (resolution_with_bindings (parsed_module tokens.now tree.now) bindings.now) }
+    requires resolved { IsResolution (resolution_with_bindings (parsed_module tokens.now tree.now)
+        bindings.now) }
     requires before { IsCheckResultBeforeBodyReplacement
         (resolution_with_bindings (parsed_module tokens.now tree.now) bindings.now) types same }
     ensures { IfOk result

@@ -246,7 +246,8 @@ impl ScannedTextAnalysis {
         kept: KeptTrees,
         last: Option<LastModule>,
     ) -> Result<ScannedTextAnalysis, AllocError>
-        requires same_kinds { changed.same_kinds ≡ true → IsRefusedByParser changed.rescan.tokens refusal }
+        requires same_kinds { changed.same_kinds ≡ true → IsRefusedByParser changed.rescan.tokens
+            refusal }
         requires before { KeptResultsMatchPreviousText changed kept last }
         ensures { IfOk result (λ r. r ≡ changed.rescan.tokens.text) }
     {
@@ -427,7 +428,8 @@ impl ScannedTextAnalysis {
         in_body: bool,
     ) -> Result<ScannedTextAnalysis, AllocError>
         requires parsed { TreeMatchesText (parsed_module tokens tree) }
-        requires resolved { IsResolution (resolution_with_bindings (parsed_module tokens tree) bindings) }
+        requires resolved { IsResolution (resolution_with_bindings (parsed_module tokens tree)
+            bindings) }
         requires before { in_body ≡ true
             → IsCheckResultBeforeBodyChange (resolution_with_bindings (parsed_module tokens tree) bindings) types same.prefix }
         ensures { IfOk result (λ r. r ≡ tokens.text) }
@@ -470,7 +472,8 @@ impl ScannedTextAnalysis {
 
     /// Returns the errors of the text: the parser's refusal, or the faults of names and types.
     pub(crate) fn diagnoses(&self, alloc: Global) -> Result<Vec<Diagnosis>, AllocError>
-        ensures { IfOk result (λ list. ReportsErrorsOf self.now (map reported_diagnosis_of list.items)) }
+        ensures { IfOk result (λ list. ReportsErrorsOf self.now
+            (map reported_diagnosis_of list.items)) }
     {
         match &self.parse_outcome {
             ParseOutcome::NoTree(ill) => diagnose_refusal(alloc, &ill.tokens, &ill.refusal),

@@ -20,7 +20,8 @@ pub(crate) fn diagnose_refusal(
     refusal: &ParseRefusal,
 ) -> Result<Vec<Diagnosis>, AllocError>
     requires { IsRightParseRefusal tokens.now refusal.now }
-    ensures { IfOk result (λ list. ReportsErrorsOf tokens.now.text (map reported_diagnosis_of list.items)) }
+    ensures { IfOk result (λ list. ReportsErrorsOf tokens.now.text
+        (map reported_diagnosis_of list.items)) }
 {
     scan_is_unique();
     // The proof needs the invariant of the tokens, which this call's contract states.

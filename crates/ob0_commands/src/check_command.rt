@@ -78,7 +78,8 @@ pub fn validate_or_print_diagnoses<'f, O: TrackedOutput>(
 
 /// Analyses a text and returns its diagnostics.
 fn diagnose(alloc: Global, text: &str) -> Result<Vec<Diagnosis>, AllocError>
-    ensures { IfOk result (λ list. ReportsErrorsOf text.now (map reported_diagnosis_of list.items)) }
+    ensures { IfOk result (λ list. ReportsErrorsOf text.now
+        (map reported_diagnosis_of list.items)) }
 {
     let analysis = analyse_without_drop(alloc, text)?;
     analysis.diagnoses(alloc)
@@ -109,7 +110,8 @@ pub fn decode_or_print_too_long_line<'f, O: TrackedOutput>(
     ensures fault { IfErr result (FaultMayStopCommandOnFile file.entry.now) }
     ensures failed { IfErr result
         (OutputFailureMatchesFault (O.has_failed out.old) (O.has_failed out.new)) }
-    ensures short { IfOk result (λ found. IfSome found (λ _. length file.entry.now ≤ max_text_length)) }
+    ensures short { IfOk result (λ found. IfSome found
+        (λ _. length file.entry.now ≤ max_text_length)) }
     ensures memory { IfErr result (λ fault. fault ≢ faults.Memory) }
     ensures kept { IfErr result (PrintsNothingUnlessWriteFault out.old out.new) }
 {

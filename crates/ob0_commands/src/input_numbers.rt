@@ -31,7 +31,8 @@ pub fn read_numbers<R: TrackedInput>(
 ) -> Result<Vec<i32>, FileCommandFault>
     ensures numbers { IfOk result
         (λ numbers. IfSome (R.remaining input.old) (IsValidInputTextOfNumbers numbers.items)) }
-    ensures limit { ConsumesAtMost (suc max_input_length) (R.remaining input.old) (R.remaining input.new) }
+    ensures limit { ConsumesAtMost (suc max_input_length) (R.remaining input.old)
+        (R.remaining input.new) }
     ensures unfailed { OnOk result (R.has_failed input.new ≡ R.has_failed input.old) }
     ensures fault { IfErr result
         (IsFaultForReasonOrMemory faults.Input (IsUnusableInput (R.remaining input.old) (R.has_failed input.new))

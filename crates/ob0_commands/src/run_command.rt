@@ -74,7 +74,8 @@ pub fn run_text<R: TrackedInput, O: TrackedOutput, E: TrackedOutput>(
     ensures ends { RunsFile O.contents O.is_flushed O.has_failed out.old out.new
         (PrintsOptionalLine E.contents E.is_flushed E.has_failed err.old err.new) file.now
         R.remaining R.has_failed input.old input.new calls turns result }
-    ensures limit { ConsumesAtMost (suc max_input_length) (R.remaining input.old) (R.remaining input.new) }
+    ensures limit { ConsumesAtMost (suc max_input_length) (R.remaining input.old)
+        (R.remaining input.new) }
     ensures unread { ¬ IsWellTypedModule file.now → input.new ≡ input.old }
 {
     match try_run_text(alloc, file, input, calls, turns, out, err) {
@@ -99,8 +100,10 @@ fn try_run_text<R: TrackedInput, O: TrackedOutput, E: TrackedOutput>(
         (R.remaining input.old) calls turns
         (¬ IsShortNonUtf8File file.now × (O.has_failed out.new ≡ O.has_failed out.old)
         × (R.has_failed input.new ≡ R.has_failed input.old))) }
-    ensures limit { ConsumesAtMost (suc max_input_length) (R.remaining input.old) (R.remaining input.new) }
-    ensures read { IfErr result (KeepsInputFailureUnlessInputFault (R.has_failed input.old) (R.has_failed input.new)) }
+    ensures limit { ConsumesAtMost (suc max_input_length) (R.remaining input.old)
+        (R.remaining input.new) }
+    ensures read { IfErr result (KeepsInputFailureUnlessInputFault (R.has_failed input.old)
+        (R.has_failed input.new)) }
     ensures fault { IfErr result
         (FaultMayStopRun file.now (R.remaining input.old) (R.has_failed input.new)) }
     ensures failed { IfErr result

@@ -97,7 +97,8 @@ pub fn read_file<R: TrackedInput>(alloc: Global, file: &mut R) -> Result<Vec<u8>
         (λ bytes. Consumes (R.remaining file.old) (R.remaining file.new) bytes.items) }
     ensures end { IfOk result
         (λ bytes. length bytes.items ≤ max_text_length → IsAtEnd (R.remaining file.new)) }
-    ensures limit { ConsumesAtMost (suc max_text_length) (R.remaining file.old) (R.remaining file.new) }
+    ensures limit { ConsumesAtMost (suc max_text_length) (R.remaining file.old)
+        (R.remaining file.new) }
     ensures unfailed { OnOk result (R.has_failed file.new ≡ R.has_failed file.old) }
     ensures fault { IfErr result (IsFaultForReasonOrMemory faults.File (R.has_failed file.new ≡ true)
         (R.has_failed file.new ≡ R.has_failed file.old)) }
@@ -115,7 +116,8 @@ pub fn read_input<R: TrackedInput>(
     ensures taken { IfOk result
         (λ bytes. Consumes (R.remaining input.old) (R.remaining input.new) bytes.items) }
     ensures end { IfOk result (λ bytes. IsAtEnd (R.remaining input.new)) }
-    ensures limit { ConsumesAtMost (suc max_input_length) (R.remaining input.old) (R.remaining input.new) }
+    ensures limit { ConsumesAtMost (suc max_input_length) (R.remaining input.old)
+        (R.remaining input.new) }
     ensures unfailed { OnOk result (R.has_failed input.new ≡ R.has_failed input.old) }
     ensures fault { IfErr result (IsFaultForReasonOrMemory faults.Input ((R.has_failed input.new ≡ true)
         ⊎ IfSome (R.remaining input.old) (λ text. max_input_length < length text))

@@ -155,7 +155,8 @@ pub fn print<W: TrackedOutput>(out: &mut W, text: &str) -> Result<(), FileComman
     ensures unfailed { OnOk result (W.has_failed out.new ≡ W.has_failed out.old) }
     ensures fault { IfErr result (λ fault. fault ≡ faults.Write) }
     ensures failed { OnErr result (W.has_failed out.new ≡ true) }
-    ensures said { PrintsOptionalLine W.contents W.is_flushed W.has_failed out.old out.new (Some text.now) }
+    ensures said { PrintsOptionalLine W.contents W.is_flushed W.has_failed out.old out.new
+        (Some text.now) }
 {
     write_without_flush(out, text)?;
     match out.flush_noting_result() {

@@ -72,7 +72,8 @@ pub(crate) fn token_spans(
     tokens: &[Token],
     token_indexes: &[usize],
 ) -> Result<Vec<Span>, AllocError>
-    ensures { IfOk result (λ spans. spans.items ≡ map (token_span_or_empty tokens.now) token_indexes.now) }
+    ensures { IfOk result (λ spans. spans.items ≡ map (token_span_or_empty tokens.now)
+        token_indexes.now) }
 {
     token_indexes
         .iter()

@@ -26,7 +26,8 @@ pub struct ConstantUse {
 pub(crate) fn constant_use_at(module: &WellTyped, offset: usize) -> Option<ConstantUse>
     ensures at { MatchOption result ((u : ConstantUse) → IsConstantUseAtOffset «module».now.module_read offset u → ⊥)
         (λ u. IsConstantUseAtOffset «module».now.module_read offset u) }
-    ensures is_use { (u : ConstantUse) → result ≡ Some u → IsConstantUse «module».now.module_read u }
+    ensures is_use { (u : ConstantUse) → result ≡ Some u
+        → IsConstantUse «module».now.module_read u }
 {
     let names = module.resolved();
     match name_at_offset(names, offset) {

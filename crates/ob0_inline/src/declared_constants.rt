@@ -48,7 +48,8 @@ pub(crate) fn constant_at(module: &WellTyped, offset: usize) -> Option<DeclaredC
 fn constant_with_tokens(names: &Resolved, ordinal: usize, value: Scalar) -> Option<DeclaredConstant>
     requires has_value { constant_value_in_module (named_tree_of names.now.module_read) ordinal
         ≡ Some (scalar_value value) }
-    ensures { IsSomeAnd result (λ c. (c.ordinal ≡ ordinal) × IsDeclaredConstant names.now.module_read c) }
+    ensures { IsSomeAnd result (λ c. (c.ordinal ≡ ordinal)
+        × IsDeclaredConstant names.now.module_read c) }
 {
     // The proof needs the contract of this call.
     let _module = names.module();

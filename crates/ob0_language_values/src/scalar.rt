@@ -218,7 +218,8 @@ pub fn apply_relation(
     left: Scalar,
     right: Scalar,
 ) -> Result<Scalar, OperatorFault>
-    ensures { scalar_outcome result ≡ apply_relation relation (scalar_value left) (scalar_value right) }
+    ensures { scalar_outcome result ≡ apply_relation relation (scalar_value left)
+        (scalar_value right) }
 {
     match left {
         Scalar::Number(a) => match right {

@@ -68,7 +68,8 @@ fn add_compound_expression_roles(
     out: &mut Vec<LineRole>,
     c: &CompoundExpression,
 ) -> Result<(), AllocError>
-    ensures { IfOk result (λ _. out.new.items ≡ out.old.items ++ line_roles 0 (compound_expression_of c.now)) }
+    ensures { IfOk result (λ _. out.new.items ≡ out.old.items
+        ++ line_roles 0 (compound_expression_of c.now)) }
 {
     add_simple_expression_roles(out, &c.left)?;
     if let Some(compared) = &c.compared {
@@ -95,7 +96,8 @@ fn add_simple_expression_roles(
     out: &mut Vec<LineRole>,
     s: &SimpleExpression,
 ) -> Result<(), AllocError>
-    ensures { IfOk result (λ _. out.new.items ≡ out.old.items ++ line_roles 0 (simple_expression_of s.now)) }
+    ensures { IfOk result (λ _. out.new.items ≡ out.old.items
+        ++ line_roles 0 (simple_expression_of s.now)) }
 {
     add_optional_sign_role(out, s.sign)?;
     add_term_roles(out, &s.first)?;
@@ -173,7 +175,8 @@ fn add_selector_roles(out: &mut Vec<LineRole>, s: &Selector) -> Result<(), Alloc
 /// Appends the role of the separator before an item of a list. If `first` is true, the item is the
 /// first one of its list, and nothing is appended.
 fn add_separator_role_unless_first(out: &mut Vec<LineRole>, first: bool) -> Result<(), AllocError>
-    ensures { IfOk result (λ _. out.new.items ≡ out.old.items ++ separator_role_unless_first first) }
+    ensures { IfOk result (λ _. out.new.items ≡ out.old.items
+        ++ separator_role_unless_first first) }
 {
     if !first {
         add_plain_role(out)?;
@@ -360,7 +363,8 @@ fn add_written_type_roles(out: &mut Vec<LineRole>, t: &WrittenType) -> Result<()
 /// Appends the roles of a record type's tokens.
 #[cycle(types)]
 fn add_record_type_roles(out: &mut Vec<LineRole>, r: &RecordType) -> Result<(), AllocError>
-    ensures { IfOk result (λ _. out.new.items ≡ out.old.items ++ line_roles 0 (record_type_of r.now)) }
+    ensures { IfOk result (λ _. out.new.items ≡ out.old.items
+        ++ line_roles 0 (record_type_of r.now)) }
 {
     add_plain_role(out)?;
     let mut first = true;
@@ -378,7 +382,8 @@ fn add_optional_field_group_roles(
     out: &mut Vec<LineRole>,
     f: &OptionalFieldGroup,
 ) -> Result<(), AllocError>
-    ensures { IfOk result (λ _. out.new.items ≡ out.old.items ++ line_roles 0 (optional_field_group_of f.now)) }
+    ensures { IfOk result (λ _. out.new.items ≡ out.old.items
+        ++ line_roles 0 (optional_field_group_of f.now)) }
 {
     match f {
         OptionalFieldGroup::Empty => Ok(()),
@@ -417,7 +422,8 @@ fn add_parameter_section_roles(
     out: &mut Vec<LineRole>,
     s: &ParameterSection,
 ) -> Result<(), AllocError>
-    ensures { IfOk result (λ _. out.new.items ≡ out.old.items ++ line_roles 0 (parameter_section_of s.now)) }
+    ensures { IfOk result (λ _. out.new.items ≡ out.old.items
+        ++ line_roles 0 (parameter_section_of s.now)) }
 {
     if s.by_reference {
         add_plain_role(out)?;

@@ -221,7 +221,8 @@ impl KeptTree {
     fn is_reusable_at(&self, parser: &Parser<'_>, at: usize) -> bool
         requires { self.now.next ≤ length parser.now.tokens.now }
         ensures at { result ≡ true → self.now.at ≡ at }
-        ensures ends { result ≡ true → TokenEndsTree parser.now.tokens.now self.now.construct self.now.next }
+        ensures ends { result ≡ true → TokenEndsTree parser.now.tokens.now self.now.construct
+            self.now.next }
     {
         if self.at != at {
             return false;

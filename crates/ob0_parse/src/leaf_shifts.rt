@@ -47,7 +47,8 @@ fn shift_indexes_in_expression(e: &mut Expression, by: TokenIndexShift)
 /// Applies the shift `by` to each token index in an expression that isn't a single factor.
 #[cycle(expressions)]
 fn shift_indexes_in_compound_expression(c: &mut CompoundExpression, by: TokenIndexShift)
-    ensures { compound_expression_of c.new ≡ tree_with_shifted_leaves by (compound_expression_of c.old) }
+    ensures { compound_expression_of c.new ≡ tree_with_shifted_leaves by
+        (compound_expression_of c.old) }
 {
     shift_indexes_in_simple_expression(&mut c.left, by);
     shift_indexes_in_comparison_if_any(&mut c.compared, by);
@@ -75,7 +76,8 @@ fn shift_indexes_in_comparison(c: &mut Comparison, by: TokenIndexShift)
 /// Applies the shift `by` to each token index in a simple expression.
 #[cycle(expressions)]
 fn shift_indexes_in_simple_expression(s: &mut SimpleExpression, by: TokenIndexShift)
-    ensures { simple_expression_of s.new ≡ tree_with_shifted_leaves by (simple_expression_of s.old) }
+    ensures { simple_expression_of s.new ≡ tree_with_shifted_leaves by
+        (simple_expression_of s.old) }
 {
     shift_indexes_in_term(&mut s.first, by);
     shift_indexes_in_addends(&mut s.more, by);
@@ -192,7 +194,8 @@ fn shift_indexes_in_call(c: &mut Call, by: TokenIndexShift)
 
 /// Applies the shift `by` to each token index in the arguments of a call.
 fn shift_indexes_in_arguments(given: &mut Vec<Expression>, by: TokenIndexShift)
-    ensures { arguments_of_vec given.new ≡ tree_with_shifted_leaves by (arguments_of_vec given.old) }
+    ensures { arguments_of_vec given.new ≡ tree_with_shifted_leaves by
+        (arguments_of_vec given.old) }
 {
     for i in 0..given.len() {
         shift_indexes_in_expression(&mut given[i], by);
@@ -202,7 +205,8 @@ fn shift_indexes_in_arguments(given: &mut Vec<Expression>, by: TokenIndexShift)
 /// Applies the shift `by` to each token index in a list of statements.
 #[cycle(statements)]
 pub(crate) fn shift_indexes_in_sequence(statements: &mut Vec<Statement>, by: TokenIndexShift)
-    ensures { sequence_of_vec statements.new ≡ tree_with_shifted_leaves by (sequence_of_vec statements.old) }
+    ensures { sequence_of_vec statements.new ≡ tree_with_shifted_leaves by
+        (sequence_of_vec statements.old) }
 {
     for i in 0..statements.len() {
         shift_indexes_in_statement(&mut statements[i], by);
@@ -227,8 +231,10 @@ fn shift_indexes_in_statement(s: &mut Statement, by: TokenIndexShift)
 /// Applies the shift `by` to each token index in a WHILE statement.
 #[cycle(statements)]
 fn shift_indexes_in_while(w: &mut While, by: TokenIndexShift)
-    ensures condition { expression_of w.new.condition ≡ tree_with_shifted_leaves by (expression_of w.old.condition) }
-    ensures body { sequence_of_vec w.new.body ≡ tree_with_shifted_leaves by (sequence_of_vec w.old.body) }
+    ensures condition { expression_of w.new.condition ≡ tree_with_shifted_leaves by
+        (expression_of w.old.condition) }
+    ensures body { sequence_of_vec w.new.body ≡ tree_with_shifted_leaves by
+        (sequence_of_vec w.old.body) }
 {
     shift_indexes_in_expression(&mut w.condition, by);
     shift_indexes_in_sequence(&mut w.body, by);
@@ -237,8 +243,10 @@ fn shift_indexes_in_while(w: &mut While, by: TokenIndexShift)
 /// Applies the shift `by` to each token index in a REPEAT statement.
 #[cycle(statements)]
 fn shift_indexes_in_repeat(r: &mut Repeat, by: TokenIndexShift)
-    ensures body { sequence_of_vec r.new.body ≡ tree_with_shifted_leaves by (sequence_of_vec r.old.body) }
-    ensures condition { expression_of r.new.condition ≡ tree_with_shifted_leaves by (expression_of r.old.condition) }
+    ensures body { sequence_of_vec r.new.body ≡ tree_with_shifted_leaves by
+        (sequence_of_vec r.old.body) }
+    ensures condition { expression_of r.new.condition ≡ tree_with_shifted_leaves by
+        (expression_of r.old.condition) }
 {
     shift_indexes_in_sequence(&mut r.body, by);
     shift_indexes_in_expression(&mut r.condition, by);
@@ -287,7 +295,8 @@ fn shift_indexes_in_names(ns: &mut Names, by: TokenIndexShift)
 
 /// Applies the shift `by` to the token index of each name after the first in a list of names.
 fn shift_indexes_in_names_after_first(leaves: &mut Vec<usize>, by: TokenIndexShift)
-    ensures { items_of comma_then_name leaves.new.items ≡ tree_with_shifted_leaves by (items_of comma_then_name leaves.old.items) }
+    ensures { items_of comma_then_name leaves.new.items
+        ≡ tree_with_shifted_leaves by (items_of comma_then_name leaves.old.items) }
 {
     for i in 0..leaves.len() {
         let leaf = &mut leaves[i];
@@ -313,7 +322,8 @@ fn shift_indexes_in_type(t: &mut WrittenType, by: TokenIndexShift)
 /// Applies the shift `by` to each token index in the groups of fields of a record.
 #[cycle(types)]
 fn shift_indexes_in_field_groups(parts: &mut Vec<OptionalFieldGroup>, by: TokenIndexShift)
-    ensures { record_type_of_list parts.new.items ≡ tree_with_shifted_leaves by (record_type_of_list parts.old.items) }
+    ensures { record_type_of_list parts.new.items ≡ tree_with_shifted_leaves by
+        (record_type_of_list parts.old.items) }
 {
     for i in 0..parts.len() {
         shift_indexes_in_optional_field_group(&mut parts[i], by);
@@ -323,7 +333,8 @@ fn shift_indexes_in_field_groups(parts: &mut Vec<OptionalFieldGroup>, by: TokenI
 /// Applies the shift `by` to each token index in an optional group of fields.
 #[cycle(types)]
 fn shift_indexes_in_optional_field_group(f: &mut OptionalFieldGroup, by: TokenIndexShift)
-    ensures { optional_field_group_of f.new ≡ tree_with_shifted_leaves by (optional_field_group_of f.old) }
+    ensures { optional_field_group_of f.new ≡ tree_with_shifted_leaves by
+        (optional_field_group_of f.old) }
 {
     match f {
         OptionalFieldGroup::Empty => {}
@@ -343,7 +354,8 @@ fn shift_indexes_in_field_group(g: &mut FieldGroup, by: TokenIndexShift)
 
 /// Applies the shift `by` to each token index in a section of parameters.
 fn shift_indexes_in_parameter_section(s: &mut ParameterSection, by: TokenIndexShift)
-    ensures { parameter_section_of s.new ≡ tree_with_shifted_leaves by (parameter_section_of s.old) }
+    ensures { parameter_section_of s.new ≡ tree_with_shifted_leaves by
+        (parameter_section_of s.old) }
 {
     shift_indexes_in_names(&mut s.names, by);
     shift_indexes_in_type(&mut s.written, by);
@@ -360,7 +372,8 @@ fn shift_indexes_in_formals(sections: &mut Option<Vec<ParameterSection>>, by: To
 
 /// Applies the shift `by` to each token index in a list of parameter sections.
 fn shift_indexes_in_parameter_sections(listed: &mut Vec<ParameterSection>, by: TokenIndexShift)
-    ensures { formals_of_list listed.new.items ≡ tree_with_shifted_leaves by (formals_of_list listed.old.items) }
+    ensures { formals_of_list listed.new.items ≡ tree_with_shifted_leaves by
+        (formals_of_list listed.old.items) }
 {
     for i in 0..listed.len() {
         shift_indexes_in_parameter_section(&mut listed[i], by);
@@ -372,7 +385,8 @@ fn shift_indexes_in_constant_section(
     declared: &mut Option<Vec<ConstantDeclaration>>,
     by: TokenIndexShift,
 )
-    ensures { constant_section_of declared.new ≡ tree_with_shifted_leaves by (constant_section_of declared.old) }
+    ensures { constant_section_of declared.new ≡ tree_with_shifted_leaves by
+        (constant_section_of declared.old) }
 {
     if let Some(listed) = declared {
         shift_indexes_in_constant_declarations(listed, by);
@@ -384,7 +398,8 @@ fn shift_indexes_in_constant_declarations(
     listed: &mut Vec<ConstantDeclaration>,
     by: TokenIndexShift,
 )
-    ensures { constant_declarations_of_vec listed.new ≡ tree_with_shifted_leaves by (constant_declarations_of_vec listed.old) }
+    ensures { constant_declarations_of_vec listed.new
+        ≡ tree_with_shifted_leaves by (constant_declarations_of_vec listed.old) }
 {
     for i in 0..listed.len() {
         shift_indexes_in_constant_declaration(&mut listed[i], by);
@@ -401,7 +416,8 @@ fn shift_indexes_in_constant_declaration(c: &mut ConstantDeclaration, by: TokenI
 
 /// Applies the shift `by` to each token index in a TYPE section, if there is one.
 fn shift_indexes_in_type_section(declared: &mut Option<Vec<TypeDeclaration>>, by: TokenIndexShift)
-    ensures { type_section_of declared.new ≡ tree_with_shifted_leaves by (type_section_of declared.old) }
+    ensures { type_section_of declared.new ≡ tree_with_shifted_leaves by
+        (type_section_of declared.old) }
 {
     if let Some(listed) = declared {
         shift_indexes_in_type_declarations(listed, by);
@@ -410,7 +426,8 @@ fn shift_indexes_in_type_section(declared: &mut Option<Vec<TypeDeclaration>>, by
 
 /// Applies the shift `by` to each token index in a list of type declarations.
 fn shift_indexes_in_type_declarations(listed: &mut Vec<TypeDeclaration>, by: TokenIndexShift)
-    ensures { type_declarations_of_vec listed.new ≡ tree_with_shifted_leaves by (type_declarations_of_vec listed.old) }
+    ensures { type_declarations_of_vec listed.new ≡ tree_with_shifted_leaves by
+        (type_declarations_of_vec listed.old) }
 {
     for i in 0..listed.len() {
         shift_indexes_in_type_declaration(&mut listed[i], by);
@@ -430,7 +447,8 @@ fn shift_indexes_in_variable_section(
     declared: &mut Option<Vec<VariableDeclaration>>,
     by: TokenIndexShift,
 )
-    ensures { variable_section_of declared.new ≡ tree_with_shifted_leaves by (variable_section_of declared.old) }
+    ensures { variable_section_of declared.new ≡ tree_with_shifted_leaves by
+        (variable_section_of declared.old) }
 {
     if let Some(listed) = declared {
         shift_indexes_in_variable_declarations(listed, by);
@@ -442,7 +460,8 @@ fn shift_indexes_in_variable_declarations(
     listed: &mut Vec<VariableDeclaration>,
     by: TokenIndexShift,
 )
-    ensures { variable_declarations_of_vec listed.new ≡ tree_with_shifted_leaves by (variable_declarations_of_vec listed.old) }
+    ensures { variable_declarations_of_vec listed.new
+        ≡ tree_with_shifted_leaves by (variable_declarations_of_vec listed.old) }
 {
     for i in 0..listed.len() {
         shift_indexes_in_variable_declaration(&mut listed[i], by);

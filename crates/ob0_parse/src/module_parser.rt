@@ -19,7 +19,8 @@ use std::alloc::Global;
 /// allocation fails.
 pub fn parse<'t>(alloc: Global, tokens: &'t Tokens) -> Result<Module<'t>, ParseRefusal>
     ensures found { IfOk result (λ m. (m.source ≡ tokens.now) × TreeMatchesText m) }
-    ensures read { IfOk result (λ _. TextDescentEndsWith (indexed_terminals tokens.now.tokens) Done) }
+    ensures read { IfOk result (λ _. TextDescentEndsWith (indexed_terminals tokens.now.tokens)
+        Done) }
     ensures refused { IfErr result (IsRightParseRefusal tokens.now) }
 {
     let tree = parse_tree(alloc, tokens)?;
@@ -30,7 +31,8 @@ pub fn parse<'t>(alloc: Global, tokens: &'t Tokens) -> Result<Module<'t>, ParseR
 /// module or an allocation fails. The tree borrows nothing, so it can be kept next to the tokens.
 pub fn parse_tree(alloc: Global, tokens: &Tokens) -> Result<ModuleTree, ParseRefusal>
     ensures found { IfOk result (λ tree. TreeMatchesText (parsed_module tokens.now tree)) }
-    ensures read { IfOk result (λ _. TextDescentEndsWith (indexed_terminals tokens.now.tokens) Done) }
+    ensures read { IfOk result (λ _. TextDescentEndsWith (indexed_terminals tokens.now.tokens)
+        Done) }
     ensures refused { IfErr result (IsRightParseRefusal tokens.now) }
 {
     let mut none = KeptTrees::empty(alloc);
@@ -49,7 +51,8 @@ pub fn reparse_tree(
 ) -> Result<ModuleTree, ParseRefusal>
     requires { KeptTreesMatchTokens tokens.now.tokens kept.old }
     ensures found { IfOk result (λ tree. TreeMatchesText (parsed_module tokens.now tree)) }
-    ensures read { IfOk result (λ _. TextDescentEndsWith (indexed_terminals tokens.now.tokens) Done) }
+    ensures read { IfOk result (λ _. TextDescentEndsWith (indexed_terminals tokens.now.tokens)
+        Done) }
     ensures refused { IfErr result (IsRightParseRefusal tokens.now) }
     ensures stay { KeptTreesMatchTokens tokens.now.tokens kept.new }
 {

@@ -72,7 +72,8 @@ impl<'t> Parser<'t> {
         room: u32,
     ) -> ItemResult<ParameterSection>
         requires { at ≤ length self.now.tokens.now }
-        ensures { ReadsItem parameter_section_after_semicolon_of room self.now.tokens.now at result }
+        ensures { ReadsItem parameter_section_after_semicolon_of room self.now.tokens.now at
+            result }
     {
         if !self.has_symbol_at(at, Symbol::Semicolon) {
             return Ok(None);
@@ -88,7 +89,8 @@ impl<'t> Parser<'t> {
         room: u32,
     ) -> ConstructResult<Vec<ParameterSection>>
         requires { at ≤ length self.now.tokens.now }
-        ensures { ReadsList parameter_section_of parameter_section_after_semicolon_of room self.now.tokens.now at result }
+        ensures { ReadsList parameter_section_of parameter_section_after_semicolon_of room
+            self.now.tokens.now at result }
     {
         let mut sections = Vec::new(self.alloc);
         let (first, mut next) = self.parse_parameter_section(at, room)?;

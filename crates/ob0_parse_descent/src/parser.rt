@@ -244,7 +244,8 @@ impl<'t> Parser<'t> {
         requires within { at ≤ length self.now.tokens.now }
         requires level { SELECTOR_RANK ≤ level }
         ensures within { IfSome result (λ _. at < length self.now.tokens.now) }
-        ensures alone { IfSome result (λ f. IsSingleTokenFactor level (factor_of f) self.now.tokens.now at) }
+        ensures alone { IfSome result (λ f. IsSingleTokenFactor level (factor_of f)
+            self.now.tokens.now at) }
     {
         let Some(kind) = self.kind(at) else {
             return None;

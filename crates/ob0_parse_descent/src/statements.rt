@@ -94,7 +94,8 @@ impl<'t> Parser<'t> {
     /// Parses a list of one or more arguments, `expression {"," expression}`.
     fn parse_argument_list(&self, at: usize, room: u32) -> ConstructResult<Vec<Expression>>
         requires { at ≤ length self.now.tokens.now }
-        ensures { ReadsList expression_of argument_after_comma_of room self.now.tokens.now at result }
+        ensures { ReadsList expression_of argument_after_comma_of room self.now.tokens.now at
+            result }
     {
         let mut arguments = Vec::new(self.alloc);
         let (first, mut next) = self.parse_expression(at, room)?;

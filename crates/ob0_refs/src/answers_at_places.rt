@@ -102,7 +102,8 @@ fn renamable_span_of_identifier(
     well_typed: &WellTyped<'_>,
     found: IdentifierWithMeaning,
 ) -> Option<Span>
-    ensures { result ≡ renamable_span_of_identifier well_typed.now.module_read found.token found.means }
+    ensures { result ≡ renamable_span_of_identifier well_typed.now.module_read found.token
+        found.means }
 {
     let span = token_span(well_typed.resolved().tokens(), found.token);
     match found.means {
@@ -171,7 +172,8 @@ pub fn references(
     offset: usize,
     include: bool,
 ) -> Result<Vec<Span>, AllocError>
-    ensures { IfOk result (λ spans. AreReferencesAtOffset well_typed.now offset include spans.items) }
+    ensures { IfOk result (λ spans. AreReferencesAtOffset well_typed.now offset include
+        spans.items) }
 {
     match identifier_meaning_at_offset(well_typed, offset) {
         None => Ok(Vec::new(alloc)),
@@ -231,7 +233,8 @@ fn field_reference_tokens(
     field: FieldIdentifier,
     include: bool,
 ) -> Result<Vec<usize>, AllocError>
-    ensures { IfOk result (λ tokens. tokens.items ≡ field_reference_tokens well_typed.now field include) }
+    ensures { IfOk result (λ tokens. tokens.items ≡ field_reference_tokens well_typed.now field
+        include) }
 {
     let names = well_typed.resolved();
     let name = token_text_at(names.tokens(), field.token);
@@ -250,7 +253,8 @@ fn list_without_optional_token(
     token: Option<usize>,
     tokens: Vec<usize>,
 ) -> Result<Vec<usize>, AllocError>
-    ensures { IfOk result (λ others. others.items ≡ list_without_optional_token token tokens.items) }
+    ensures { IfOk result (λ others. others.items ≡ list_without_optional_token token
+        tokens.items) }
 {
     match token {
         None => Ok(tokens),
@@ -267,7 +271,8 @@ fn list_without_token(
     token: usize,
     tokens: &[usize],
 ) -> Result<Vec<usize>, AllocError>
-    ensures { IfOk result (λ others. others.items ≡ list_without_optional_token (Some token) tokens.now) }
+    ensures { IfOk result (λ others. others.items ≡ list_without_optional_token (Some token)
+        tokens.now) }
 {
     let mut others = Vec::new(alloc);
     for other in tokens {

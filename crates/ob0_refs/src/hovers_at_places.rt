@@ -69,7 +69,8 @@ fn hover_of_name(
     well_typed: &WellTyped<'_>,
     name: BoundName,
 ) -> Result<Option<Hover>, AllocError>
-    ensures { IfOk result (λ h. option_map hover_view h ≡ hover_of_name well_typed.now.module_read name) }
+    ensures { IfOk result (λ h. option_map hover_view h
+        ≡ hover_of_name well_typed.now.module_read name) }
 {
     let names = well_typed.resolved();
     let span = token_span(names.tokens(), name.token);

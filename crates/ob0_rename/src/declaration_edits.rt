@@ -52,10 +52,12 @@ pub fn rename<T: TextStore>(
     new: &str,
 ) -> Result<Vec<Edit>, EditRefusal>
     requires { T.content store.now ≡ chars well_typed.now.module_read.source.text }
-    ensures answers { RenameAnswers (renaming_at_place (T.unit_of store.now) (T.content store.now) well_typed.now place new.now) result }
+    ensures answers { RenameAnswers (renaming_at_place (T.unit_of store.now) (T.content store.now)
+        well_typed.now place new.now) result }
     ensures memory { result ≡ Err refused.Memory
         → RenamingCanFailForMemory (renaming_at_place (T.unit_of store.now) (T.content store.now) well_typed.now place new.now) }
-    ensures own_name { AcceptsPresentName (renaming_at_place (T.unit_of store.now) (T.content store.now) well_typed.now place new.now) result }
+    ensures own_name { AcceptsPresentName (renaming_at_place (T.unit_of store.now)
+        (T.content store.now) well_typed.now place new.now) result }
 {
     let offset = store.offset(place);
     match resolved_identifier_at(well_typed, offset) {

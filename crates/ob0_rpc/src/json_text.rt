@@ -124,7 +124,8 @@ fn write_list_item_and_reserve<W: WriteJson>(
     needs_comma: bool,
     value: &W,
 ) -> Result<(), AllocError>
-    ensures { OnOk result (AppendsListItem needs_comma (W.value value.now) out.old.items out.new.items) }
+    ensures { OnOk result (AppendsListItem needs_comma (W.value value.now) out.old.items
+        out.new.items) }
 {
     let before = out.len();
     write_list_item(out, needs_comma, value)?;
@@ -161,7 +162,8 @@ pub fn write_list_item<W: WriteJson>(
     needs_comma: bool,
     value: &W,
 ) -> Result<(), AllocError>
-    ensures { OnOk result (AppendsListItem needs_comma (W.value value.now) out.old.items out.new.items) }
+    ensures { OnOk result (AppendsListItem needs_comma (W.value value.now) out.old.items
+        out.new.items) }
 {
     if needs_comma {
         write_verbatim(out, b",")?;

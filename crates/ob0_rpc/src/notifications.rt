@@ -100,7 +100,8 @@ fn read_did_change(alloc: Global, params: Value) -> Result<ClientNotification, A
 
 /// Reads the params of `textDocument/didClose`. If they can't be read, returns `Unreadable`.
 fn read_did_close(alloc: Global, params: &Value) -> Result<ClientNotification, AllocError>
-    ensures { IfOk result (λ note. notification_view note ≡ close_or_unreadable (document_uri (view params.now))) }
+    ensures { IfOk result (λ note. notification_view note
+        ≡ close_or_unreadable (document_uri (view params.now))) }
 {
     match document_uri_in_params(params) {
         Some(uri) => Ok(ClientNotification::Close {

@@ -98,7 +98,8 @@ fn read_document_request(
 
 /// Reads the params of `initialize`. If they aren't an object, the fault is `BadParams`.
 fn read_initialize(params: &Value) -> Result<ClientRequest, RpcFault>
-    ensures { ReadsClientRequest (request_or_bad_params (initialize_request_of (view params.now))) result }
+    ensures { ReadsClientRequest (request_or_bad_params (initialize_request_of (view params.now)))
+        result }
 {
     if params.is_object() {
         Ok(ClientRequest::Initialize(client_features(params)))
@@ -109,7 +110,8 @@ fn read_initialize(params: &Value) -> Result<ClientRequest, RpcFault>
 
 /// Reads the params of `textDocument/hover`. If they can't be read, the fault is `BadParams`.
 fn read_hover(alloc: Global, params: &Value) -> Result<ClientRequest, RpcFault>
-    ensures { ReadsClientRequest (request_or_bad_params (option_map asks.hover (document_place_of (view params.now)))) result }
+    ensures { ReadsClientRequest (request_or_bad_params
+        (option_map asks.hover (document_place_of (view params.now)))) result }
 {
     let Some(place) = read_document_position(alloc, params)? else {
         return Err(RpcFault::BadParams);
@@ -119,7 +121,8 @@ fn read_hover(alloc: Global, params: &Value) -> Result<ClientRequest, RpcFault>
 
 /// Reads the params of `textDocument/definition`. If they can't be read, the fault is `BadParams`.
 fn read_definition(alloc: Global, params: &Value) -> Result<ClientRequest, RpcFault>
-    ensures { ReadsClientRequest (request_or_bad_params (option_map asks.definition (document_place_of (view params.now)))) result }
+    ensures { ReadsClientRequest (request_or_bad_params
+        (option_map asks.definition (document_place_of (view params.now)))) result }
 {
     let Some(place) = read_document_position(alloc, params)? else {
         return Err(RpcFault::BadParams);
@@ -130,7 +133,8 @@ fn read_definition(alloc: Global, params: &Value) -> Result<ClientRequest, RpcFa
 /// Reads the params of `textDocument/prepareRename`. If they can't be read, the fault is
 /// `BadParams`.
 fn read_prepare_rename(alloc: Global, params: &Value) -> Result<ClientRequest, RpcFault>
-    ensures { ReadsClientRequest (request_or_bad_params (option_map asks.prepare_rename (document_place_of (view params.now)))) result }
+    ensures { ReadsClientRequest (request_or_bad_params
+        (option_map asks.prepare_rename (document_place_of (view params.now)))) result }
 {
     let Some(place) = read_document_position(alloc, params)? else {
         return Err(RpcFault::BadParams);
@@ -140,7 +144,8 @@ fn read_prepare_rename(alloc: Global, params: &Value) -> Result<ClientRequest, R
 
 /// Reads the params of `textDocument/references`. If they can't be read, the fault is `BadParams`.
 fn read_references(alloc: Global, params: &Value) -> Result<ClientRequest, RpcFault>
-    ensures { ReadsClientRequest (request_or_bad_params (references_request_of (view params.now))) result }
+    ensures { ReadsClientRequest (request_or_bad_params (references_request_of (view params.now)))
+        result }
 {
     let Some(place) = read_document_position(alloc, params)? else {
         return Err(RpcFault::BadParams);
@@ -156,7 +161,8 @@ fn read_references(alloc: Global, params: &Value) -> Result<ClientRequest, RpcFa
 
 /// Reads the params of `textDocument/rename`. If they can't be read, the fault is `BadParams`.
 fn read_rename(alloc: Global, params: &Value) -> Result<ClientRequest, RpcFault>
-    ensures { ReadsClientRequest (request_or_bad_params (rename_request_of (view params.now))) result }
+    ensures { ReadsClientRequest (request_or_bad_params (rename_request_of (view params.now)))
+        result }
 {
     let Some(place) = read_document_position(alloc, params)? else {
         return Err(RpcFault::BadParams);
@@ -170,7 +176,8 @@ fn read_rename(alloc: Global, params: &Value) -> Result<ClientRequest, RpcFault>
 
 /// Reads the params of `textDocument/codeAction`. If they can't be read, the fault is `BadParams`.
 fn read_code_action(alloc: Global, params: &Value) -> Result<ClientRequest, RpcFault>
-    ensures { ReadsClientRequest (request_or_bad_params (code_action_request_of (view params.now))) result }
+    ensures { ReadsClientRequest (request_or_bad_params (code_action_request_of (view params.now)))
+        result }
 {
     let Some(uri) = document_uri_in_params(params) else {
         return Err(RpcFault::BadParams);
@@ -187,7 +194,8 @@ fn read_code_action(alloc: Global, params: &Value) -> Result<ClientRequest, RpcF
 
 /// Reads the params of `textDocument/formatting`. If they can't be read, the fault is `BadParams`.
 fn read_formatting(alloc: Global, params: &Value) -> Result<ClientRequest, RpcFault>
-    ensures { ReadsClientRequest (request_or_bad_params (formatting_request_of (view params.now))) result }
+    ensures { ReadsClientRequest (request_or_bad_params (formatting_request_of (view params.now)))
+        result }
 {
     let Some(uri) = document_uri_in_params(params) else {
         return Err(RpcFault::BadParams);
@@ -205,7 +213,8 @@ fn read_document_position(
     alloc: Global,
     params: &Value,
 ) -> Result<Option<DocumentPosition>, AllocError>
-    ensures { IfOk result (λ found. option_map document_place_view found ≡ document_place_of (view params.now)) }
+    ensures { IfOk result (λ found. option_map document_place_view found
+        ≡ document_place_of (view params.now)) }
 {
     let Some(uri) = document_uri_in_params(params) else {
         return Ok(None);

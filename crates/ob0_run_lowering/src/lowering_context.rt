@@ -39,7 +39,8 @@ impl<'g, 'k, 't> LoweringContext<'g, 'k, 't> {
     /// Returns the number of cells of the variable that the name at a token declares, or 0 if the
     /// name has no type.
     pub(crate) fn declared_size_at_token(&self, name: usize) -> usize
-        ensures { result ≡ declared_size self.now.types.now (label_at_token self.now.resolved.now name) }
+        ensures { result ≡ declared_size self.now.types.now
+            (label_at_token self.now.resolved.now name) }
     {
         match self.declared_type_at_token(name) {
             None => 0,

@@ -209,7 +209,8 @@ fn extended_conjunction(
 ) -> Result<Truth, AllocError>
     ensures meaning { IfOk result
         (λ t. truth_of t ≡ machine.both (conjunction_of several) (truth_of right)) }
-    ensures depth { IfOk result (λ t. conjunction_depth t ≡ suc (conjunction_depth (out-TruthList several).first)) }
+    ensures depth { IfOk result (λ t. conjunction_depth t
+        ≡ suc (conjunction_depth (out-TruthList several).first)) }
     ensures other { IfOk result (λ t. disjunction_depth t ≡ 0) }
 {
     let TruthList { first, mut rest } = several;
@@ -226,7 +227,8 @@ fn extended_disjunction(
 ) -> Result<Truth, AllocError>
     ensures meaning { IfOk result
         (λ t. truth_of t ≡ machine.either (disjunction_of several) (truth_of right)) }
-    ensures depth { IfOk result (λ t. disjunction_depth t ≡ suc (disjunction_depth (out-TruthList several).first)) }
+    ensures depth { IfOk result (λ t. disjunction_depth t
+        ≡ suc (disjunction_depth (out-TruthList several).first)) }
     ensures other { IfOk result (λ t. conjunction_depth t ≡ 0) }
 {
     let TruthList { first, mut rest } = several;

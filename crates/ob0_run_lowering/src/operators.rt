@@ -182,7 +182,8 @@ pub(crate) fn lower_signed_term(
     sign: Option<Sign>,
     operand: LoweredExpression,
 ) -> Result<LoweredExpression, AllocError>
-    ensures code { IfOk result (λ l. expression_code_of l ≡ codes.signed_term_code sign (expression_code_of operand)) }
+    ensures code { IfOk result (λ l. expression_code_of l
+        ≡ codes.signed_term_code sign (expression_code_of operand)) }
     ensures flat { IfOk result (WholeIsNoDeeperThanLeft operand) }
 {
     match sign {
@@ -198,7 +199,8 @@ pub(crate) fn lower_negation(
     alloc: Global,
     operand: LoweredExpression,
 ) -> Result<LoweredExpression, AllocError>
-    ensures code { IfOk result (λ l. expression_code_of l ≡ codes.negation_code (expression_code_of operand)) }
+    ensures code { IfOk result (λ l. expression_code_of l
+        ≡ codes.negation_code (expression_code_of operand)) }
     ensures flat { IfOk result IsNotNestedOnLeft }
 {
     match operand {
@@ -224,7 +226,8 @@ fn comparator_of(relation: Relation) -> code::Comparator
 
 /// Returns the code of a comparison of a variable with a literal.
 fn lower_literal_comparison(relation: code::Comparator, variable: Variable, n: i32) -> Truth
-    ensures code { truth_of result ≡ view.variable_comparison relation variable (machine.literal n) }
+    ensures code { truth_of result ≡ view.variable_comparison relation variable
+        (machine.literal n) }
     ensures flat { (conjunction_depth result ≡ 0) × (disjunction_depth result ≡ 0) }
 {
     match relation {

@@ -113,7 +113,8 @@ impl<'s, 'k, 't> Scene<'s, 'k, 't> {
     /// Returns the place of a designator, and the type of the value there. If the designator has no
     /// place, returns the module's first cell, with an unknown type.
     pub fn lower_to_place(&self, alloc: Global, d: &Designator) -> Result<TypedPlace, AllocError>
-        ensures { IfOk result (LocatesDesignator self.now (out-Designator d.now).name (selectors_of_designator d.now)) }
+        ensures { IfOk result (LocatesDesignator self.now (out-Designator d.now).name
+            (selectors_of_designator d.now)) }
     {
         let found = self.locate_designator(alloc, d)?;
         Ok(found_or_fallback_place(found))

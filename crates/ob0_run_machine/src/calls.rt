@@ -74,7 +74,8 @@ pub(crate) fn call(
     procedure: usize,
     level: &Level<'_>,
 ) -> Result<(), StopReason>
-    ensures { IsProgressAfterCall result machine.old machine.new program.now calls turns procedure level.now }
+    ensures { IsProgressAfterCall result machine.old machine.new program.now calls turns procedure
+        level.now }
 {
     if calls == 0 {
         return Err(StopReason::CallBound);

@@ -70,7 +70,8 @@ pub(crate) fn variable_element_address(
     level: &Level<'_>,
     cells: &[i32],
 ) -> Result<usize, EvaluationFault>
-    ensures { outcome_of_result result ≡ place_address (levels_of level.now) cells.now (variable_element_of row.now) }
+    ensures { outcome_of_result result ≡ place_address (levels_of level.now) cells.now
+        (variable_element_of row.now) }
 {
     let index = variable_value(row.index, level, cells);
     let array = add_offset(variable_address(row.array, level), row.offset);
@@ -136,7 +137,8 @@ pub(crate) fn evaluate_number(
     level: &Level<'_>,
     cells: &[i32],
 ) -> Result<i32, EvaluationFault>
-    ensures { outcome_of_result result ≡ number_value (levels_of level.now) cells.now (number_of n.now) }
+    ensures { outcome_of_result result ≡ number_value (levels_of level.now) cells.now
+        (number_of n.now) }
 {
     match n {
         Number::Literal(n) => Ok(*n),
@@ -160,7 +162,8 @@ fn evaluate_first_operand(
     level: &Level<'_>,
     cells: &[i32],
 ) -> Result<i32, EvaluationFault>
-    ensures { outcome_of_result result ≡ number_value (levels_of level.now) cells.now (first_operand_of n.now) }
+    ensures { outcome_of_result result ≡ number_value (levels_of level.now) cells.now
+        (first_operand_of n.now) }
 {
     match n {
         FirstOperand::Literal(n) => Ok(*n),
@@ -191,7 +194,8 @@ fn evaluate_unary_minus(operand: &Number, level: &Level<'_>, cells: &[i32]) -> F
 #[inline(never)]
 #[cycle(evaluation)]
 fn evaluate_operation(o: &Operation, level: &Level<'_>, cells: &[i32]) -> FlatOutcome<i32>
-    ensures { outcome_of result ≡ number_value (levels_of level.now) cells.now (operation_of o.now) }
+    ensures { outcome_of result ≡ number_value (levels_of level.now) cells.now
+        (operation_of o.now) }
 {
     match &o.first {
         FirstOperand::Variable(v) => into_flat_outcome(apply_link(
@@ -207,7 +211,8 @@ fn evaluate_operation(o: &Operation, level: &Level<'_>, cells: &[i32]) -> FlatOu
 #[inline(never)]
 #[cycle(evaluation)]
 fn evaluate_general_operation(o: &Operation, level: &Level<'_>, cells: &[i32]) -> FlatOutcome<i32>
-    ensures { outcome_of result ≡ number_value (levels_of level.now) cells.now (operation_of o.now) }
+    ensures { outcome_of result ≡ number_value (levels_of level.now) cells.now
+        (operation_of o.now) }
 {
     match evaluate_first_operand(&o.first, level, cells) {
         Ok(left) => into_flat_outcome(apply_link(&o.link, left, level, cells)),
@@ -232,7 +237,8 @@ pub(crate) fn evaluate_chain(
     level: &Level<'_>,
     cells: &[i32],
 ) -> Result<i32, EvaluationFault>
-    ensures { outcome_of_result result ≡ number_value (levels_of level.now) cells.now (chain_of c.now) }
+    ensures { outcome_of_result result ≡ number_value (levels_of level.now) cells.now
+        (chain_of c.now) }
 {
     let mut left = evaluate_first_operand(&c.first, level, cells)?;
     for link in &c.rest {
@@ -252,7 +258,8 @@ fn apply_link(
     level: &Level<'_>,
     cells: &[i32],
 ) -> Result<i32, EvaluationFault>
-    ensures { outcome_of_result result ≡ outcome_of_applied_link (levels_of level.now) cells.now link.now left }
+    ensures { outcome_of_result result ≡ outcome_of_applied_link (levels_of level.now) cells.now
+        link.now left }
 {
     match link {
         ChainLink::SumWithLiteral(n) => add(left, *n),
@@ -352,7 +359,8 @@ pub(crate) fn evaluate_truth(
     level: &Level<'_>,
     cells: &[i32],
 ) -> Result<bool, EvaluationFault>
-    ensures { outcome_of_result result ≡ truth_value (levels_of level.now) cells.now (truth_of t.now) }
+    ensures { outcome_of_result result ≡ truth_value (levels_of level.now) cells.now
+        (truth_of t.now) }
 {
     match t {
         Truth::Constant(b) => Ok(*b),
@@ -380,7 +388,8 @@ fn evaluate_truth_out_of_line(
     level: &Level<'_>,
     cells: &[i32],
 ) -> Result<bool, EvaluationFault>
-    ensures { outcome_of_result result ≡ truth_value (levels_of level.now) cells.now (truth_of t.now) }
+    ensures { outcome_of_result result ≡ truth_value (levels_of level.now) cells.now
+        (truth_of t.now) }
 {
     into_result(evaluate_truth_as_flat_outcome(t, level, cells))
 }
@@ -400,7 +409,8 @@ fn evaluate_general_truth(
     level: &Level<'_>,
     cells: &[i32],
 ) -> Result<bool, EvaluationFault>
-    ensures { outcome_of_result result ≡ truth_value (levels_of level.now) cells.now (truth_of t.now) }
+    ensures { outcome_of_result result ≡ truth_value (levels_of level.now) cells.now
+        (truth_of t.now) }
 {
     match t {
         Truth::Constant(b) => Ok(*b),

@@ -145,7 +145,8 @@ impl RescannedMiddle {
 /// Returns whether two lists of tokens of two texts are equally long and have the same kinds and
 /// spellings at the same indexes.
 fn have_same_words(new_text: &[u8], new: &[Token], old_text: &[u8], old: &[Token]) -> bool
-    ensures { result ≡ true → words_of_tokens new_text.now new.now ≡ words_of_tokens old_text.now old.now }
+    ensures { result ≡ true → words_of_tokens new_text.now new.now
+        ≡ words_of_tokens old_text.now old.now }
 {
     if new.len() != old.len() {
         return false;
@@ -169,7 +170,8 @@ fn is_same_word(new_text: &[u8], new: Token, old_text: &[u8], old: Token) -> boo
 /// Returns whether two lists of tokens of two texts are equally long and have identifiers with the
 /// same spellings at the same indexes.
 fn have_same_names(new_text: &[u8], new: &[Token], old_text: &[u8], old: &[Token]) -> bool
-    ensures { result ≡ true → spellings_of_identifiers_in new_text.now new.now ≡ spellings_of_identifiers_in old_text.now old.now }
+    ensures { result ≡ true → spellings_of_identifiers_in new_text.now new.now
+        ≡ spellings_of_identifiers_in old_text.now old.now }
 {
     if new.len() != old.len() {
         return false;
@@ -223,7 +225,8 @@ fn is_same_spelling(a: &[u8], in_a: Span, b: &[u8], in_b: Span) -> bool
 /// Returns whether two lists of tokens are equally long and have the same kinds at the same
 /// indexes. The values of integers may differ.
 fn have_same_kinds(new: &[Token], old: &[Token]) -> bool
-    ensures { result ≡ true → token_kinds_without_values new.now ≡ token_kinds_without_values old.now }
+    ensures { result ≡ true → token_kinds_without_values new.now
+        ≡ token_kinds_without_values old.now }
 {
     if new.len() != old.len() {
         return false;
@@ -297,7 +300,8 @@ pub fn rescan(
     requires { ReplacesRange old.now.text new_text.now from removed added }
     ensures ok { IfOk result (λ r. IsScanOf new_text.now r.tokens) }
     ensures err { IfErr result (IsRightScanRefusal new_text.now) }
-    ensures reused { IfOk result (λ r. ReusesOldLexemes old.now r.tokens from removed added r.read) }
+    ensures reused { IfOk result (λ r. ReusesOldLexemes old.now r.tokens from removed added
+        r.read) }
 {
     match rescan_in_place(alloc, old.copy(alloc)?, new_text, from, removed, added) {
         Ok(found) => Ok(found.rescan),

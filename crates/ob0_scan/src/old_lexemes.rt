@@ -101,8 +101,10 @@ impl<'t> LexemeSlices<'t> {
     /// `offset`. Finds them by binary search.
     pub(crate) fn lexemes_beginning_at_or_after(self, offset: usize) -> LexemeSlices<'t>
         requires { SpansAreInOrder self.tokens.now self.comments.now }
-        ensures tokens { result.tokens.now ≡ tokens_beginning_at_or_after offset self.entry.tokens.now }
-        ensures comments { result.comments.now ≡ comments_beginning_at_or_after offset self.entry.comments.now }
+        ensures tokens { result.tokens.now ≡ tokens_beginning_at_or_after offset
+            self.entry.tokens.now }
+        ensures comments { result.comments.now ≡ comments_beginning_at_or_after offset
+            self.entry.comments.now }
     {
         let tokens = count_tokens_beginning_before(self.tokens, offset);
         let comments = count_comments_beginning_before(self.comments, offset);
@@ -115,8 +117,10 @@ impl<'t> LexemeSlices<'t> {
     /// Returns the tokens and comments without the leading ones that begin before the byte offset
     /// `offset`. Visits the skipped ones one by one, so this is fast only if they are few.
     pub(crate) fn skip_lexemes_before(self, offset: usize) -> LexemeSlices<'t>
-        ensures tokens { result.tokens.now ≡ tokens_beginning_at_or_after offset self.entry.tokens.now }
-        ensures comments { result.comments.now ≡ comments_beginning_at_or_after offset self.entry.comments.now }
+        ensures tokens { result.tokens.now ≡ tokens_beginning_at_or_after offset
+            self.entry.tokens.now }
+        ensures comments { result.comments.now ≡ comments_beginning_at_or_after offset
+            self.entry.comments.now }
     {
         let tokens = count_tokens_beginning_before_linearly(self.tokens, offset);
         let comments = count_comments_beginning_before_linearly(self.comments, offset);

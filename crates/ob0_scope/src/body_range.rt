@@ -142,7 +142,8 @@ impl BodyRange {
         out: &mut Vec<usize>,
         tokens: &[usize],
     ) -> Result<(), AllocError>
-        ensures { OnOk result (out.new.items ≡ out.old.items ++ tokens_before_body self tokens.now) }
+        ensures { OnOk result (out.new.items ≡ out.old.items
+            ++ tokens_before_body self tokens.now) }
     {
         for token in tokens {
             if *token < self.first {
@@ -159,7 +160,8 @@ impl BodyRange {
         out: &mut Vec<usize>,
         tokens: &[usize],
     ) -> Result<(), AllocError>
-        ensures { OnOk result (out.new.items ≡ out.old.items ++ shifted_tokens_after_body self tokens.now) }
+        ensures { OnOk result (out.new.items ≡ out.old.items
+            ++ shifted_tokens_after_body self tokens.now) }
     {
         for token in tokens {
             if *token >= self.old_closing {

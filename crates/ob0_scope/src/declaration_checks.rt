@@ -126,7 +126,8 @@ fn append_names(out: &mut Vec<usize>, ns: &Names) -> Result<(), AllocError>
 
 /// Appends to `out` the tokens of the names in a group of fields.
 fn append_field_names(out: &mut Vec<usize>, group: &OptionalFieldGroup) -> Result<(), AllocError>
-    ensures { OnOk result (out.new.items ≡ out.old.items ++ group_field_names (optional_field_group_of group.now)) }
+    ensures { OnOk result (out.new.items ≡ out.old.items
+        ++ group_field_names (optional_field_group_of group.now)) }
 {
     match group {
         OptionalFieldGroup::Empty => Ok(()),
@@ -213,7 +214,8 @@ fn append_procedure_names(out: &mut Vec<usize>, procedures: &[Procedure]) -> Res
 /// Appends to `out` the tokens of the names that a block declares: constants, types, variables and
 /// procedures. The parameters of the block's procedure aren't included.
 pub(crate) fn append_block_names(out: &mut Vec<usize>, b: &Block) -> Result<(), AllocError>
-    ensures { OnOk result (out.new.items ≡ out.old.items ++ names_declared_in_block (block_of b.now)) }
+    ensures { OnOk result (out.new.items ≡ out.old.items
+        ++ names_declared_in_block (block_of b.now)) }
 {
     append_constant_names(out, &b.constants)?;
     append_type_names(out, &b.types)?;

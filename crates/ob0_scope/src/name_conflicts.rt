@@ -238,7 +238,8 @@ impl<'t> NamesakeSearch<'t> {
         alloc: Global,
         p: &Procedure,
     ) -> Result<Option<usize>, AllocError>
-        ensures { IfOk result (λ other. other ≡ namesake_in_procedure self.now (procedure_of p.now)) }
+        ensures { IfOk result (λ other. other ≡ namesake_in_procedure self.now
+            (procedure_of p.now)) }
     {
         let mut own = Vec::new(alloc);
         append_formal_parameter_names(&mut own, &p.formals)?;

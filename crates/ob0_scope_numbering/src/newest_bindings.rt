@@ -155,7 +155,8 @@ impl<'t> NewestBindings<'t> {
     /// Returns the index of the newest binding of the name at position 0. Returns None if that name
     /// has no binding, or if the list is empty.
     pub(crate) fn newest_binding_of_first_name(&self) -> Option<usize>
-        ensures { (x : Name) → position_of_name self.now x ≡ Some 0 → result ≡ newest_binding_in self.now x }
+        ensures { (x : Name) → position_of_name self.now x ≡ Some 0
+            → result ≡ newest_binding_in self.now x }
     {
         if self.entries.is_empty() {
             return None;
@@ -167,7 +168,8 @@ impl<'t> NewestBindings<'t> {
     /// this position of the list. Otherwise returns None.
     #[inline(always)]
     fn find_position_in_recent_names(&self, slot: usize, name: &'t str) -> Option<usize>
-        ensures { IfSome result (λ name_position. position_of_name self.now name.now ≡ Some name_position) }
+        ensures { IfSome result (λ name_position. position_of_name self.now name.now
+            ≡ Some name_position) }
     {
         let name_position = match self.recent_positions.get(slot) {
             None => return None,
@@ -236,7 +238,8 @@ impl<'t> NewestBindings<'t> {
     /// Returns the position of a name. If the name isn't in the list, it is added first. If an
     /// allocation fails, the list is unchanged.
     pub(crate) fn find_or_add_name(&mut self, name: &'t str) -> Result<usize, AllocError>
-        ensures placed { IfOk result (λ name_position. position_of_name self.new name.now ≡ Some name_position) }
+        ensures placed { IfOk result (λ name_position. position_of_name self.new name.now
+            ≡ Some name_position) }
         ensures name_positions { OnOk result (KeepsNamePositions self.old self.new) }
         ensures newest { OnOk result (KeepsNewestBindings self.old self.new) }
         ensures same { OnErr result (self.new ≡ self.old) }

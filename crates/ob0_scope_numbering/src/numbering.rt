@@ -152,7 +152,8 @@ fn visit_module<'t>(
     read: &'t Module<'t>,
     spellings: Spellings<'t>,
 ) -> Result<NumberingWalk<'t>, AllocError>
-    ensures { IfOk result (λ n. n ≡ visit_module (tree_of read.now) (initial_walk_state spellings.entry)) }
+    ensures { IfOk result (λ n. n ≡ visit_module (tree_of read.now)
+        (initial_walk_state spellings.entry)) }
 {
     let table = vec![in alloc; OrdinalEntry::new(None); spellings.tokens.tokens().len()]?;
     let mut numbering = NumberingWalk {
@@ -259,7 +260,8 @@ impl<'t> NumberingWalk<'t> {
     /// Assigns the next ordinal to the declaring name at a token, and returns this ordinal. Does
     /// not make the name visible.
     fn number_declaration(&mut self, token: usize) -> Result<usize, AllocError>
-        ensures next { IfOk result (λ ordinal. ordinal ≡ predeclared_count + length self.old.declaration_tokens) }
+        ensures next { IfOk result (λ ordinal. ordinal ≡ predeclared_count + length
+            self.old.declaration_tokens) }
         ensures numbered { OnOk result (self.new ≡ number_declaration token self.old) }
     {
         let ordinal = ordinal_at_index(self.declaration_tokens.len());
@@ -346,7 +348,8 @@ impl<'t> NumberingWalk<'t> {
     /// Assigns the next ordinals to the names in a declaration's name list, in order. Does not make
     /// the names visible.
     fn number_declarations(&mut self, ns: &Names) -> Result<(), AllocError>
-        ensures { OnOk result (self.new ≡ number_declarations (names_in_list (names_of ns.now)) self.old) }
+        ensures { OnOk result (self.new ≡ number_declarations (names_in_list (names_of ns.now))
+            self.old) }
     {
         self.number_declaration(ns.first)?;
         for name in &ns.more {
@@ -383,7 +386,8 @@ impl<'t> NumberingWalk<'t> {
     }
 
     fn walk_parameter_section(&mut self, s: &ParameterSection) -> Result<(), AllocError>
-        ensures { OnOk result (self.new ≡ visit_parameter_section (parameter_section_of s.now) self.old) }
+        ensures { OnOk result (self.new ≡ visit_parameter_section (parameter_section_of s.now)
+            self.old) }
     {
         let first = self.declaration_count();
         self.number_declarations(&s.names)?;
@@ -410,7 +414,8 @@ impl<'t> NumberingWalk<'t> {
         &mut self,
         section: &Option<Vec<TypeDeclaration>>,
     ) -> Result<(), AllocError>
-        ensures { OnOk result (self.new ≡ visit_type_section (type_section_of section.now) self.old) }
+        ensures { OnOk result (self.new ≡ visit_type_section (type_section_of section.now)
+            self.old) }
     {
         if let Some(types) = section {
             for t in types {

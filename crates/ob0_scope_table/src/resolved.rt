@@ -111,7 +111,8 @@ impl<'t> Resolved<'t> {
     /// `occurrence` is bound. Looked-up names are numbered from 0 in text order. Returns None if
     /// the name is unbound or there is no such name.
     pub fn declaration_of(&self, occurrence: usize) -> Option<usize>
-        ensures { result ≡ ordinal_bound_at_occurrence (named_tree_of self.now.module_read) occurrence }
+        ensures { result ≡ ordinal_bound_at_occurrence (named_tree_of self.now.module_read)
+            occurrence }
     {
         // The proof needs the invariant of this value.
         let _ = &self.bindings;

@@ -136,7 +136,8 @@ fn flush_after_fault<W: OutputDevice>(fault: ServeFault, writer: &mut W) -> Serv
 // returns `Memory`.
 fn feed_piece(framer: &mut Framer, piece: &[u8]) -> Result<bool, ServeFault>
     ensures taken { OnOk result (FeedsFramer framer.old piece.now framer.new) }
-    ensures can_continue { IfOk result (λ can_continue. can_continue ≡ true → framer.new.rest ≢ Broken) }
+    ensures can_continue { IfOk result (λ can_continue. can_continue ≡ true
+        → framer.new.rest ≢ Broken) }
     ensures broken { IfOk result (λ can_continue. can_continue ≡ false → framer.new.rest ≡ Broken) }
 {
     match framer.feed(piece) {

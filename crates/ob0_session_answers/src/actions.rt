@@ -142,7 +142,8 @@ impl<'a> ActionsRequest<'a> {
         how: InliningKind,
         edits: &'b [Edit],
     ) -> CodeAction<'b>
-        ensures { code_action_view result ≡ inlining_action_value (actions_request_view self.now version) how edits.now }
+        ensures { code_action_view result ≡ inlining_action_value
+            (actions_request_view self.now version) how edits.now }
     {
         let edit = WorkspaceEdit {
             client: self.client,

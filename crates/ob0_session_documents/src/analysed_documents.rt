@@ -124,7 +124,8 @@ impl<T: TextStore> AnalysedDocuments<T> {
         request: &Q,
     ) -> Result<RequestOutcome, AllocError>
         ensures same { self.new ≡ self.old }
-        ensures outcome { IfOk result (IsOutcomeOfRequest (Q.answers request.now) self.old uri.now) }
+        ensures outcome { IfOk result (IsOutcomeOfRequest (Q.answers request.now) self.old
+            uri.now) }
     {
         match self.documents.get(uri) {
             Some(Held::InStep { version, text }) => {

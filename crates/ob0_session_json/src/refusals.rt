@@ -11,7 +11,8 @@ use std::alloc::{AllocError, Global};
 
 /// Returns the error response that refuses a request for edits. `said` is the text of the error.
 pub fn refusal_message(alloc: Global, id: &Id, said: &str) -> Result<Vec<u8>, AllocError>
-    ensures { IfOk result (λ bytes. Writes (edit_refusal_message (json_of_id id.now) said.now) bytes.items) }
+    ensures { IfOk result (λ bytes. Writes (edit_refusal_message (json_of_id id.now) said.now)
+        bytes.items) }
 {
     error(alloc, Some(id), -32803, said)
 }

@@ -50,7 +50,8 @@ pub fn next_stretch(text: &str, unit: Unit, from: usize, room: u64) -> Option<St
 /// Returns the number of units of the characters in `piece`, or None if one of them is LF or CR.
 pub(crate) fn units_if_in_one_line(piece: &str, unit: Unit) -> Option<u64>
     requires { length piece.now ≤ 64 }
-    ensures { IfSome result (λ units. AreInOneLineWithUnits (width_of unit) (chars piece.now) units) }
+    ensures { IfSome result (λ units. AreInOneLineWithUnits (width_of unit) (chars piece.now)
+        units) }
 {
     if has_line_break(piece.as_bytes()) {
         return None;

@@ -43,7 +43,8 @@ impl<'t> Module<'t> {
     /// Visits every identifier of the module, in text order. If a visit fails, stops and returns
     /// its error.
     pub fn visit_identifiers<V: Visitor>(&self, visitor: &mut V) -> Result<(), AllocError>
-        ensures { OnOk result (visitor.new ≡ state_after_visit V.state_after_one_identifier (tree_of self.now) visitor.old) }
+        ensures { OnOk result (visitor.new ≡ state_after_visit V.state_after_one_identifier
+            (tree_of self.now) visitor.old) }
     {
         visitor.visit_one_identifier(Role::ModuleName, self.name())?;
         walk_block(visitor, self.block())?;
@@ -54,7 +55,8 @@ impl<'t> Module<'t> {
 /// Visits the identifiers of an expression.
 #[cycle(expressions)]
 pub fn walk_expression<V: Visitor>(visitor: &mut V, e: &Expression) -> Result<(), AllocError>
-    ensures { OnOk result (visitor.new ≡ state_after_visit V.state_after_one_identifier (expression_of e.now) visitor.old) }
+    ensures { OnOk result (visitor.new ≡ state_after_visit V.state_after_one_identifier
+        (expression_of e.now) visitor.old) }
 {
     match e {
         Expression::Factor(f) => walk_factor(visitor, f),
@@ -68,7 +70,8 @@ fn walk_compound_expression<V: Visitor>(
     visitor: &mut V,
     c: &CompoundExpression,
 ) -> Result<(), AllocError>
-    ensures { OnOk result (visitor.new ≡ state_after_visit V.state_after_one_identifier (compound_expression_of c.now) visitor.old) }
+    ensures { OnOk result (visitor.new ≡ state_after_visit V.state_after_one_identifier
+        (compound_expression_of c.now) visitor.old) }
 {
     walk_simple_expression(visitor, &c.left)?;
     if let Some(compared) = &c.compared {
@@ -83,7 +86,8 @@ fn walk_simple_expression<V: Visitor>(
     visitor: &mut V,
     s: &SimpleExpression,
 ) -> Result<(), AllocError>
-    ensures { OnOk result (visitor.new ≡ state_after_visit V.state_after_one_identifier (simple_expression_of s.now) visitor.old) }
+    ensures { OnOk result (visitor.new ≡ state_after_visit V.state_after_one_identifier
+        (simple_expression_of s.now) visitor.old) }
 {
     walk_term(visitor, &s.first)?;
     for addend in &s.more {
@@ -95,7 +99,8 @@ fn walk_simple_expression<V: Visitor>(
 /// Visits the identifiers of a term.
 #[cycle(expressions)]
 fn walk_term<V: Visitor>(visitor: &mut V, t: &Term) -> Result<(), AllocError>
-    ensures { OnOk result (visitor.new ≡ state_after_visit V.state_after_one_identifier (term_of t.now) visitor.old) }
+    ensures { OnOk result (visitor.new ≡ state_after_visit V.state_after_one_identifier
+        (term_of t.now) visitor.old) }
 {
     walk_factor(visitor, &t.first)?;
     for multiplier in &t.more {
@@ -107,7 +112,8 @@ fn walk_term<V: Visitor>(visitor: &mut V, t: &Term) -> Result<(), AllocError>
 /// Visits the identifiers of a factor.
 #[cycle(expressions)]
 fn walk_factor<V: Visitor>(visitor: &mut V, f: &Factor) -> Result<(), AllocError>
-    ensures { OnOk result (visitor.new ≡ state_after_visit V.state_after_one_identifier (factor_of f.now) visitor.old) }
+    ensures { OnOk result (visitor.new ≡ state_after_visit V.state_after_one_identifier
+        (factor_of f.now) visitor.old) }
 {
     match f {
         Factor::Designator(d) => walk_designator(visitor, d),
@@ -120,7 +126,8 @@ fn walk_factor<V: Visitor>(visitor: &mut V, f: &Factor) -> Result<(), AllocError
 /// Visits the identifiers of a designator: its name and the identifiers of its selectors.
 #[cycle(expressions)]
 fn walk_designator<V: Visitor>(visitor: &mut V, d: &Designator) -> Result<(), AllocError>
-    ensures { OnOk result (visitor.new ≡ state_after_visit V.state_after_one_identifier (designator_of d.now) visitor.old) }
+    ensures { OnOk result (visitor.new ≡ state_after_visit V.state_after_one_identifier
+        (designator_of d.now) visitor.old) }
 {
     visitor.visit_one_identifier(Role::LookedUpName, d.name)?;
     for s in &d.selectors {
@@ -132,7 +139,8 @@ fn walk_designator<V: Visitor>(visitor: &mut V, d: &Designator) -> Result<(), Al
 /// Visits the identifiers of a selector.
 #[cycle(expressions)]
 fn walk_selector<V: Visitor>(visitor: &mut V, s: &Selector) -> Result<(), AllocError>
-    ensures { OnOk result (visitor.new ≡ state_after_visit V.state_after_one_identifier (selector_of s.now) visitor.old) }
+    ensures { OnOk result (visitor.new ≡ state_after_visit V.state_after_one_identifier
+        (selector_of s.now) visitor.old) }
 {
     match s {
         Selector::Field(name) => {
@@ -145,7 +153,8 @@ fn walk_selector<V: Visitor>(visitor: &mut V, s: &Selector) -> Result<(), AllocE
 
 /// Visits the identifiers of an assignment.
 fn walk_assignment<V: Visitor>(visitor: &mut V, a: &Assignment) -> Result<(), AllocError>
-    ensures { OnOk result (visitor.new ≡ state_after_visit V.state_after_one_identifier (assignment_of a.now) visitor.old) }
+    ensures { OnOk result (visitor.new ≡ state_after_visit V.state_after_one_identifier
+        (assignment_of a.now) visitor.old) }
 {
     walk_designator(visitor, &a.target)?;
     walk_expression(visitor, &a.value)
@@ -153,7 +162,8 @@ fn walk_assignment<V: Visitor>(visitor: &mut V, a: &Assignment) -> Result<(), Al
 
 /// Visits the identifiers of a call.
 fn walk_call<V: Visitor>(visitor: &mut V, c: &Call) -> Result<(), AllocError>
-    ensures { OnOk result (visitor.new ≡ state_after_visit V.state_after_one_identifier (call_of c.now) visitor.old) }
+    ensures { OnOk result (visitor.new ≡ state_after_visit V.state_after_one_identifier
+        (call_of c.now) visitor.old) }
 {
     visitor.visit_one_identifier(Role::LookedUpName, c.procedure)?;
     if let Some(given) = &c.arguments {
@@ -164,7 +174,8 @@ fn walk_call<V: Visitor>(visitor: &mut V, c: &Call) -> Result<(), AllocError>
 
 /// Visits the identifiers of the arguments of a call.
 fn walk_arguments<V: Visitor>(visitor: &mut V, given: &Vec<Expression>) -> Result<(), AllocError>
-    ensures { OnOk result (visitor.new ≡ state_after_visit V.state_after_one_identifier (arguments_of_vec given.now) visitor.old) }
+    ensures { OnOk result (visitor.new ≡ state_after_visit V.state_after_one_identifier
+        (arguments_of_vec given.now) visitor.old) }
 {
     for e in given {
         walk_expression(visitor, e)?;
@@ -175,7 +186,8 @@ fn walk_arguments<V: Visitor>(visitor: &mut V, given: &Vec<Expression>) -> Resul
 /// Visits the identifiers of a sequence of statements.
 #[cycle(statements)]
 fn walk_sequence<V: Visitor>(visitor: &mut V, statements: &Vec<Statement>) -> Result<(), AllocError>
-    ensures { OnOk result (visitor.new ≡ state_after_visit V.state_after_one_identifier (sequence_of_vec statements.now) visitor.old) }
+    ensures { OnOk result (visitor.new ≡ state_after_visit V.state_after_one_identifier
+        (sequence_of_vec statements.now) visitor.old) }
 {
     for s in statements {
         walk_statement(visitor, s)?;
@@ -186,7 +198,8 @@ fn walk_sequence<V: Visitor>(visitor: &mut V, statements: &Vec<Statement>) -> Re
 /// Visits the identifiers of a statement.
 #[cycle(statements)]
 fn walk_statement<V: Visitor>(visitor: &mut V, s: &Statement) -> Result<(), AllocError>
-    ensures { OnOk result (visitor.new ≡ state_after_visit V.state_after_one_identifier (statement_of s.now) visitor.old) }
+    ensures { OnOk result (visitor.new ≡ state_after_visit V.state_after_one_identifier
+        (statement_of s.now) visitor.old) }
 {
     match s {
         Statement::Empty => Ok(()),
@@ -207,7 +220,8 @@ fn walk_statement<V: Visitor>(visitor: &mut V, s: &Statement) -> Result<(), Allo
 /// Visits the identifiers of an IF statement.
 #[cycle(statements)]
 fn walk_if<V: Visitor>(visitor: &mut V, i: &If) -> Result<(), AllocError>
-    ensures { OnOk result (visitor.new ≡ state_after_visit V.state_after_one_identifier (if_of i.now) visitor.old) }
+    ensures { OnOk result (visitor.new ≡ state_after_visit V.state_after_one_identifier
+        (if_of i.now) visitor.old) }
 {
     walk_expression(visitor, &i.condition)?;
     walk_sequence(visitor, &i.then)?;
@@ -221,7 +235,8 @@ fn walk_if<V: Visitor>(visitor: &mut V, i: &If) -> Result<(), AllocError>
 /// Visits the identifiers of the ELSIF parts of an IF statement.
 #[cycle(statements)]
 fn walk_elsifs<V: Visitor>(visitor: &mut V, parts: &Vec<Elsif>) -> Result<(), AllocError>
-    ensures { OnOk result (visitor.new ≡ state_after_visit V.state_after_one_identifier (elsifs_of_vec parts.now) visitor.old) }
+    ensures { OnOk result (visitor.new ≡ state_after_visit V.state_after_one_identifier
+        (elsifs_of_vec parts.now) visitor.old) }
 {
     for e in parts {
         walk_expression(visitor, &e.condition)?;
@@ -232,7 +247,8 @@ fn walk_elsifs<V: Visitor>(visitor: &mut V, parts: &Vec<Elsif>) -> Result<(), Al
 
 /// Visits each name of the list `ns`, in text order. Each of these names has the role `role`.
 fn walk_names<V: Visitor>(visitor: &mut V, role: Role, ns: &Names) -> Result<(), AllocError>
-    ensures { OnOk result (visitor.new ≡ state_after_identifiers V.state_after_one_identifier (identifiers role (names_of ns.now)) visitor.old) }
+    ensures { OnOk result (visitor.new ≡ state_after_identifiers V.state_after_one_identifier
+        (identifiers role (names_of ns.now)) visitor.old) }
 {
     visitor.visit_one_identifier(role, ns.first)?;
     for name in &ns.more {
@@ -244,7 +260,8 @@ fn walk_names<V: Visitor>(visitor: &mut V, role: Role, ns: &Names) -> Result<(),
 /// Visits the identifiers of a written type.
 #[cycle(types)]
 pub fn walk_type<V: Visitor>(visitor: &mut V, t: &WrittenType) -> Result<(), AllocError>
-    ensures { OnOk result (visitor.new ≡ state_after_visit V.state_after_one_identifier (type_of t.now) visitor.old) }
+    ensures { OnOk result (visitor.new ≡ state_after_visit V.state_after_one_identifier
+        (type_of t.now) visitor.old) }
 {
     match t {
         WrittenType::Named(name) => {
@@ -262,7 +279,8 @@ pub fn walk_type<V: Visitor>(visitor: &mut V, t: &WrittenType) -> Result<(), All
 /// Visits the identifiers of a record type.
 #[cycle(types)]
 fn walk_record_type<V: Visitor>(visitor: &mut V, r: &RecordType) -> Result<(), AllocError>
-    ensures { OnOk result (visitor.new ≡ state_after_visit V.state_after_one_identifier (record_type_of r.now) visitor.old) }
+    ensures { OnOk result (visitor.new ≡ state_after_visit V.state_after_one_identifier
+        (record_type_of r.now) visitor.old) }
 {
     for group in &r.groups {
         walk_optional_field_group(visitor, group)?;
@@ -276,7 +294,8 @@ fn walk_optional_field_group<V: Visitor>(
     visitor: &mut V,
     f: &OptionalFieldGroup,
 ) -> Result<(), AllocError>
-    ensures { OnOk result (visitor.new ≡ state_after_visit V.state_after_one_identifier (optional_field_group_of f.now) visitor.old) }
+    ensures { OnOk result (visitor.new ≡ state_after_visit V.state_after_one_identifier
+        (optional_field_group_of f.now) visitor.old) }
 {
     match f {
         OptionalFieldGroup::Empty => Ok(()),
@@ -292,7 +311,8 @@ fn walk_parameter_section<V: Visitor>(
     visitor: &mut V,
     s: &ParameterSection,
 ) -> Result<(), AllocError>
-    ensures { OnOk result (visitor.new ≡ state_after_visit V.state_after_one_identifier (parameter_section_of s.now) visitor.old) }
+    ensures { OnOk result (visitor.new ≡ state_after_visit V.state_after_one_identifier
+        (parameter_section_of s.now) visitor.old) }
 {
     walk_names(visitor, Role::DeclaringName, &s.names)?;
     walk_type(visitor, &s.written)
@@ -303,7 +323,8 @@ fn walk_formals<V: Visitor>(
     visitor: &mut V,
     sections: &Option<Vec<ParameterSection>>,
 ) -> Result<(), AllocError>
-    ensures { OnOk result (visitor.new ≡ state_after_visit V.state_after_one_identifier (formals_of sections.now) visitor.old) }
+    ensures { OnOk result (visitor.new ≡ state_after_visit V.state_after_one_identifier
+        (formals_of sections.now) visitor.old) }
 {
     let Some(sections) = sections else {
         return Ok(());
@@ -319,7 +340,8 @@ fn walk_constant_declarations<V: Visitor>(
     visitor: &mut V,
     declared: &Option<Vec<ConstantDeclaration>>,
 ) -> Result<(), AllocError>
-    ensures { OnOk result (visitor.new ≡ state_after_visit V.state_after_one_identifier (constant_section_of declared.now) visitor.old) }
+    ensures { OnOk result (visitor.new ≡ state_after_visit V.state_after_one_identifier
+        (constant_section_of declared.now) visitor.old) }
 {
     let Some(declared) = declared else {
         return Ok(());
@@ -336,7 +358,8 @@ fn walk_type_declarations<V: Visitor>(
     visitor: &mut V,
     declared: &Option<Vec<TypeDeclaration>>,
 ) -> Result<(), AllocError>
-    ensures { OnOk result (visitor.new ≡ state_after_visit V.state_after_one_identifier (type_section_of declared.now) visitor.old) }
+    ensures { OnOk result (visitor.new ≡ state_after_visit V.state_after_one_identifier
+        (type_section_of declared.now) visitor.old) }
 {
     let Some(declared) = declared else {
         return Ok(());
@@ -353,7 +376,8 @@ fn walk_variable_declarations<V: Visitor>(
     visitor: &mut V,
     declared: &Option<Vec<VariableDeclaration>>,
 ) -> Result<(), AllocError>
-    ensures { OnOk result (visitor.new ≡ state_after_visit V.state_after_one_identifier (variable_section_of declared.now) visitor.old) }
+    ensures { OnOk result (visitor.new ≡ state_after_visit V.state_after_one_identifier
+        (variable_section_of declared.now) visitor.old) }
 {
     let Some(declared) = declared else {
         return Ok(());
@@ -370,7 +394,8 @@ pub fn walk_body<V: Visitor>(
     visitor: &mut V,
     statements: &Option<Vec<Statement>>,
 ) -> Result<(), AllocError>
-    ensures { OnOk result (visitor.new ≡ state_after_visit V.state_after_one_identifier (body_of statements.now) visitor.old) }
+    ensures { OnOk result (visitor.new ≡ state_after_visit V.state_after_one_identifier
+        (body_of statements.now) visitor.old) }
 {
     match statements {
         Some(statements) => walk_sequence(visitor, statements),
@@ -381,7 +406,8 @@ pub fn walk_body<V: Visitor>(
 /// Visits the identifiers of a block and its procedures.
 #[cycle(blocks)]
 fn walk_block<V: Visitor>(visitor: &mut V, b: &Block) -> Result<(), AllocError>
-    ensures { OnOk result (visitor.new ≡ state_after_visit V.state_after_one_identifier (block_of b.now) visitor.old) }
+    ensures { OnOk result (visitor.new ≡ state_after_visit V.state_after_one_identifier
+        (block_of b.now) visitor.old) }
 {
     walk_constant_declarations(visitor, &b.constants)?;
     walk_type_declarations(visitor, &b.types)?;
@@ -395,7 +421,8 @@ fn walk_block<V: Visitor>(visitor: &mut V, b: &Block) -> Result<(), AllocError>
 /// Visits the identifiers of a procedure.
 #[cycle(blocks)]
 fn walk_procedure<V: Visitor>(visitor: &mut V, p: &Procedure) -> Result<(), AllocError>
-    ensures { OnOk result (visitor.new ≡ state_after_visit V.state_after_one_identifier (procedure_of p.now) visitor.old) }
+    ensures { OnOk result (visitor.new ≡ state_after_visit V.state_after_one_identifier
+        (procedure_of p.now) visitor.old) }
 {
     visitor.visit_one_identifier(Role::DeclaringName, p.name)?;
     walk_formals(visitor, &p.formals)?;

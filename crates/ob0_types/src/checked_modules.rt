@@ -384,7 +384,8 @@ impl<'t> Checked<'t> {
         types: Cow<'t, CheckResult>,
     ) -> Result<Checked<'t>, AllocError>
         requires { IsCheckResultOfModule resolved.now (cow_value types) }
-        ensures joined { IfOk result (λ c. c ≡ checked_module resolved.now (cow_value types.entry)) }
+        ensures joined { IfOk result (λ c. c ≡ checked_module resolved.now
+            (cow_value types.entry)) }
         ensures checked { IfOk result IsCorrectlyChecked }
     {
         let tokens = resolved.tokens();
@@ -541,7 +542,8 @@ impl<'t> Shape<'t> {
     /// Returns the parts of the type. The types of these parts are in the same table as the type.
     /// The result is `Faulty` exactly if the type isn't one of the module's types.
     pub fn parts(&self) -> TypeWithParts<'t>
-        ensures shape { shape_of_type_with_parts (shapes_of self.now.known.now) result ≡ shape_of self.now }
+        ensures shape { shape_of_type_with_parts (shapes_of self.now.known.now) result
+            ≡ shape_of self.now }
         ensures counted { PartsHaveSizesOfShape (shapes_of self.now.known.now) result }
         ensures known { is_not_faulty result ≡ is_known_type self.now.known.now self.now.of }
     {

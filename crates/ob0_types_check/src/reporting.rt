@@ -185,7 +185,8 @@ fn module_report_walking_wanted_bodies<'t>(
     resolved: &'t Resolved<'t>,
     wanted: &BodiesToWalk<'_>,
 ) -> Result<ModuleReport, AllocError>
-    requires { report_on_module (includes_body wanted.now) resolved.now ≡ report_on_module includes_every_body resolved.now }
+    requires { report_on_module (includes_body wanted.now) resolved.now
+        ≡ report_on_module includes_every_body resolved.now }
     ensures { IfOk result (IsReportOfModule resolved.now) }
 {
     let read = resolved.module();
@@ -231,7 +232,8 @@ impl<'t> ReportingWalk<'t> {
     /// Returns the state of the walk at the start of a module. Only the predeclared names have a
     /// meaning, and the only faults are the undeclared names.
     fn new(alloc: Global, resolved: &'t Resolved<'t>) -> Result<ReportingWalk<'t>, AllocError>
-        ensures checker_state { IfOk result (λ t. declarations_in_state t.checker_state ≡ known_declarations_at_module_start resolved.now) }
+        ensures checker_state { IfOk result (λ t. declarations_in_state t.checker_state
+            ≡ known_declarations_at_module_start resolved.now) }
         ensures faults { IfOk result
             (λ t. t.faults.items ≡ filter is_undeclared_fault resolved.now.faults) }
     {
@@ -256,7 +258,8 @@ impl<'t> ReportingWalk<'t> {
         resolved: &'t Resolved<'t>,
         bodies_with_faults: Vec<usize>,
     ) -> Result<ModuleReport, AllocError>
-        requires { IsFinishedWalk resolved.now self.faults.items self.checker_state bodies_with_faults.items }
+        requires { IsFinishedWalk resolved.now self.faults.items self.checker_state
+            bodies_with_faults.items }
         ensures { IfOk result (IsReportOfModule resolved.now) }
     {
         walk_without_fault_finds_correct_meanings();
@@ -290,7 +293,8 @@ fn undeclared_name_faults(
     alloc: Global,
     resolved: &Resolved,
 ) -> Result<Vec<FaultAtTokens>, AllocError>
-    ensures { IfOk result (λ faults. faults.items ≡ filter is_undeclared_fault resolved.now.faults) }
+    ensures { IfOk result (λ faults. faults.items ≡ filter is_undeclared_fault
+        resolved.now.faults) }
 {
     let mut faults = Vec::new(alloc);
     for fault in resolved.faults() {

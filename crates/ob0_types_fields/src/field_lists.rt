@@ -132,7 +132,8 @@ impl ModuleFields {
         place: BodyBounds,
         same: CommonPrefixAndSuffix,
     ) -> Result<ModuleFields, AllocError>
-        ensures declared { IfOk result (λ f. f.declared ≡ map (field_with_shifted_token same) self.declared) }
+        ensures declared { IfOk result (λ f. f.declared ≡ map (field_with_shifted_token same)
+            self.declared) }
         ensures all { IfOk result (λ f. f.all
             ≡ fields_before_token place.first self.all
             ++ (fields_in_tree (meanings_by_token (declared_object_in table.now) resolved.now)
@@ -189,7 +190,8 @@ impl ModuleFields {
     /// `owner`. A record's ordinal is the number of words ARRAY and RECORD before the record in the
     /// text. Returns None if the record has no such field.
     pub fn field_declaring_token(&self, tokens: &Tokens, owner: usize, name: &str) -> Option<usize>
-        ensures { result ≡ first_token (tokens_of_field tokens.now owner name.now self.now.declared) }
+        ensures { result ≡ first_token (tokens_of_field tokens.now owner name.now
+            self.now.declared) }
     {
         first_token_of_field(tokens, &self.declared, owner, name)
     }
@@ -283,7 +285,8 @@ fn add_fields_before_token(
     fields: &[FieldIdentifier],
     token: usize,
 ) -> Result<(), AllocError>
-    ensures { OnOk result (found.new.items ≡ found.old.items ++ fields_before_token token fields.now) }
+    ensures { OnOk result (found.new.items ≡ found.old.items
+        ++ fields_before_token token fields.now) }
 {
     for field in fields {
         if field.token < token {

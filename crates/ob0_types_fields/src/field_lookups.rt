@@ -23,7 +23,8 @@ pub(crate) fn field_at_offset(
     offset: usize,
     found: &[FieldIdentifier],
 ) -> Option<FieldIdentifier>
-    ensures { AreInTextOrder tokens.now found.now → result ≡ field_at_offset tokens.now offset found.now }
+    ensures { AreInTextOrder tokens.now found.now → result
+        ≡ field_at_offset tokens.now offset found.now }
 {
     // The proof uses the invariant of the tokens, which this call's contract states.
     let _scanned = tokens.text();
@@ -55,7 +56,8 @@ fn field_if_at_offset(
     offset: usize,
     field: FieldIdentifier,
 ) -> Option<FieldIdentifier>
-    ensures { result ≡ (if is_in_span_or_at_end offset (token_span tokens.now field.token) then Some field else None) }
+    ensures { result ≡ (if is_in_span_or_at_end offset (token_span tokens.now field.token) then Some
+        field else None) }
 {
     if is_in_span_or_at_end(offset, token_span(tokens, field.token)) {
         Some(field)

@@ -188,7 +188,8 @@ impl DeclarationTable {
     /// Returns the value of the constant with this ordinal. Returns None if the declaration isn't a
     /// constant with a value.
     pub fn constant(&self, ordinal: usize) -> Option<Scalar>
-        ensures { option_map scalar_value result ≡ value_of_constant_object (declared_object_in self.now ordinal) }
+        ensures { option_map scalar_value result ≡ value_of_constant_object
+            (declared_object_in self.now ordinal) }
     {
         match self.object(ordinal)? {
             Object::Constant(value) => Some(*value),

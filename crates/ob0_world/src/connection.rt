@@ -119,7 +119,8 @@ impl<T: TextStore> Connection<T> {
         requires { CountsCanGrow self.old.model.editor }
         ensures ok { IfOk result
             (λ seen. EventLeadsToWithReport self.old.model (model_event_of event.now) (model_report_of seen) self.new.model) }
-        ensures wire { OnOk result (ChangesWire (model_event_of event.now) self.old.wire self.new.wire) }
+        ensures wire { OnOk result (ChangesWire (model_event_of event.now) self.old.wire
+            self.new.wire) }
         ensures err { OnErr result (HaveSameHistory self.old self.new) }
     {
         match event {
@@ -259,7 +260,8 @@ impl<T: TextStore> Connection<T> {
     }
 
     fn discard_answer(&mut self, k: u64) -> Seen
-        ensures ok { EventLeadsToWithReport self.old.model (editor_acts (acts.discard k)) (model_report_of result) self.new.model }
+        ensures ok { EventLeadsToWithReport self.old.model (editor_acts (acts.discard k))
+            (model_report_of result) self.new.model }
         ensures wire { QueuesAtMostOneContent self.old.wire self.new.wire }
     {
         if self.editor.discard_answer(k) {

@@ -307,7 +307,8 @@ impl Editor {
         rewritten: RewrittenDocument,
     ) -> Result<ApplyOutcome, AllocError>
         requires { rewritten.version < 2 ^ 63 }
-        ensures ok { IfOk result (λ applying. IsRewriteOutcome self.old rewritten applying self.new) }
+        ensures ok { IfOk result (λ applying. IsRewriteOutcome self.old rewritten applying
+            self.new) }
         ensures err { OnErr result (self.new ≡ self.old) }
     {
         let content = self.store_new_text(&rewritten)?;

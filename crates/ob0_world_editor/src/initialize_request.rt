@@ -15,7 +15,8 @@ use std::alloc::{AllocError, Global};
 /// accepts edits that mention their documents' versions. If the unit is UTF-8, the client also
 /// offers to count positions in UTF-8.
 pub fn initialize(alloc: Global, unit: Unit) -> Result<Vec<u8>, AllocError>
-    ensures { IfOk result (λ content. IsJsonOfContent content.items (Some (initialize_message unit))) }
+    ensures { IfOk result (λ content. IsJsonOfContent content.items
+        (Some (initialize_message unit))) }
 {
     let capabilities = ClientCapabilities { unit };
     let params = &OneMemberObject {

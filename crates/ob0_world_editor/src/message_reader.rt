@@ -268,7 +268,8 @@ fn read_edit_list(alloc: Global, values: &[Value]) -> Result<Option<Vec<Edit>>, 
 }
 
 fn read_edit(alloc: Global, value: &Value) -> Result<Option<Edit>, AllocError>
-    ensures { IfOk result (λ found. option_map replacement_of_edit found ≡ edit_of_value (view value.now)) }
+    ensures { IfOk result (λ found. option_map replacement_of_edit found
+        ≡ edit_of_value (view value.now)) }
 {
     let Some(range) = range_of_member(value, "range") else {
         return Ok(None);

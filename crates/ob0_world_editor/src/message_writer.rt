@@ -102,7 +102,8 @@ pub fn request_for_edits(
     uri: &str,
     ask: &Ask,
 ) -> Result<Vec<u8>, AllocError>
-    ensures { IfOk result (λ content. IsRequestWithNumber number uri.now (model_ask_of ask.now) content.items) }
+    ensures { IfOk result (λ content. IsRequestWithNumber number uri.now (model_ask_of ask.now)
+        content.items) }
 {
     let document = DocumentId { uri };
     match ask {

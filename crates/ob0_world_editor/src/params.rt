@@ -244,7 +244,8 @@ impl WriteJson for FormattingOptions {
 impl FormattingOptions {
     /// Returns the formatting options for an indent.
     pub fn for_indent(indent: Indent) -> FormattingOptions
-        ensures { formatting_options_value result.insert_spaces result.tab_size ≡ formatting_options_value_for_indent indent }
+        ensures { formatting_options_value result.insert_spaces result.tab_size
+            ≡ formatting_options_value_for_indent indent }
     {
         match indent {
             Indent::Tab => FormattingOptions {

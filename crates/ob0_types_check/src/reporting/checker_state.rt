@@ -221,7 +221,8 @@ impl<'t> CheckerState<'t> {
     /// Records the meaning of the name that is declared at a token. If the token has no ordinal,
     /// nothing changes.
     pub(crate) fn define_name_at_token(&mut self, token: usize, meaning: Meaning)
-        ensures { declarations_in_state self.new ≡ define_name_at_token (declarations_in_state self.old) (meaning_view meaning) token }
+        ensures { declarations_in_state self.new ≡ define_name_at_token
+            (declarations_in_state self.old) (meaning_view meaning) token }
     {
         match self.resolved.ordinal_at(token) {
             None => {}
@@ -256,7 +257,8 @@ impl<'t> CheckerState<'t> {
     /// Returns the size of the array or record type at the index `place` of `composites`. If there
     /// is no type at this index, returns the size of a scalar.
     fn composite_size(&self, place: usize) -> TypeSize
-        ensures { size_of result ≡ size_of_known_type (declarations_in_state self.now).made (type.Array place) }
+        ensures { size_of result ≡ size_of_known_type (declarations_in_state self.now).made
+            (type.Array place) }
     {
         match self.composites.get(place) {
             None => SCALAR_SIZE,

@@ -451,7 +451,8 @@ impl<'t> CheckerState<'t> {
     /// Returns the operand for an expression in parentheses. `inside` is the operand for the
     /// expression between the parentheses.
     fn parenthesised_operand(&self, inside: Operand) -> Operand
-        ensures { operand_of result ≡ operand_in_parentheses (facts_in self.now false) (operand_of inside) }
+        ensures { operand_of result ≡ operand_in_parentheses (facts_in self.now false)
+            (operand_of inside) }
     {
         Operand {
             of: inside.of,
