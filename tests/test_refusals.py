@@ -52,7 +52,7 @@ def goal_at(name: str) -> str:
 @test("refusals: an edit is refused by a goal, or by an answer to a goal, of the clause that its first line names")
 def by_its_clause() -> None:
     same(why(FRAME, BY_ANSWER), None, "an answer")
-    same(why(TEXT, goal_at("width")), None, "a goal")
+    same(why(TEXT, goal_at("character_width")), None, "a goal")
 
 
 @test("refusals: another clause, another function, a goal that was cut off, and names that are gone don't count")
@@ -66,7 +66,7 @@ def by_something_else() -> None:
     ):
         holds(why(FRAME, said), said)
     holds(why(TEXT, goal_at("another function")), "a goal of another function")
-    holds(why(TEXT, goal_at("width").replace("returns-in-Utf16", "count-requires-few")), "what a callee requires")
+    holds(why(TEXT, goal_at("character_width").replace("returns-in-Utf16", "count-requires-few")), "what a callee requires")
 
 
 @test("refusals: an edit that is proved, or that the kit can't try, doesn't count; one of which no line came fails")
