@@ -26,10 +26,10 @@ from harness import TOP, Failed, holds, same, test, want
 MUTANT = "units_are_characters"
 GOAL = "note: src/passes.rt:120:1: it is not proved that what the function ensures holds when it returns (`returns-in-Utf16`)\n"
 REFUSED = GOAL + (
-    "fn ob0_text::passes::width: no proof: expected answers in ./proofs/passes/width/Answers.antt; `search` did not prove `returns-in-Utf16`\n"
+    "fn ob0_text::passes::character_width: no proof: expected answers in ./proofs/passes/character_width/Answers.antt; `search` did not prove `returns-in-Utf16`\n"
     "only=1 proved=0\n"
 )
-CLAIM = "# Offsets count characters: refused by the clause of `width`, the units of a character.\n"
+CLAIM = "# Offsets count characters: refused by the clause of `character_width`, the units of a character.\n"
 
 
 def edit_of(crate: str, word: str, source: reading.Source) -> edits.Edit:
@@ -49,17 +49,17 @@ def judged(said: str, status: int = 1, first_line: str = CLAIM, alone: bool = Tr
 @test("mutants: one counts as refused by a goal of the clause of the function that its first line names")
 def refused() -> None:
     same(judged(REFUSED), mutants.REFUSED, "a goal of the clause")
-    named = "# Wrong: refused by `ok` and `reused` of `width`, since.\n"
+    named = "# Wrong: refused by `ok` and `reused` of `character_width`, since.\n"
     same(judged(REFUSED.replace("returns-in-Utf16", "returns-clause-reused"), first_line=named), mutants.REFUSED, "a goal of a named clause")
-    loop = "# Wrong: refused by the loop of `width`.\n"
+    loop = "# Wrong: refused by the loop of `character_width`.\n"
     same(judged(REFUSED.replace("returns-in-Utf16", "loop-c-preserved"), first_line=loop), mutants.REFUSED, "a goal of a loop")
-    same(judged(REFUSED, first_line="# Wrong: refused by the one goal of `width`.\n"), mutants.REFUSED, "the one goal of several clauses")
+    same(judged(REFUSED, first_line="# Wrong: refused by the one goal of `character_width`.\n"), mutants.REFUSED, "the one goal of several clauses")
 
 
 @test("mutants: one counts as refused by an answer that doesn't prove a goal of the clause, unless the answer names what is gone")
 def refused_by_answer() -> None:
-    error = "./proofs/passes/width/Answers.antt:9:3: error: `returns-in-Utf16`: "
-    end = "fn ob0_text::passes::width: not proved\nonly=1 proved=0\n"
+    error = "./proofs/passes/character_width/Answers.antt:9:3: error: `returns-in-Utf16`: "
+    end = "fn ob0_text::passes::character_width: not proved\nonly=1 proved=0\n"
     differ = "as printed, the two types differ only where one has `c.end` (expected)\n"
     same(judged(error + differ + end), mutants.REFUSED, "types that differ")
     same(judged(error.replace("returns-in-Utf16", "loop-c-preserved") + differ + end), mutants.ELSEWHERE, "another goal's answer")
@@ -79,7 +79,7 @@ def proof_of_cycle() -> None:
 
 @test("mutants: one that is made right again, doesn't compile, can't be read or isn't judged is not refused")
 def not_refused() -> None:
-    proved = "fn ob0_text::passes::width: proved\nonly=1 proved=1\n"
+    proved = "fn ob0_text::passes::character_width: proved\nonly=1 proved=1\n"
     same((judged(proved, 0), judged(proved, 0, alone=False)), (mutants.PROVED, None), "a function that is proved, alone and among others")
     line = edit_of("ob0_text", MUTANT, reading.Source("ob0_text")).lines.popitem()[0][1]
     said = f"src/passes.rt:{line}:9: error[unresolved-name]: cannot find `units` in this scope\n"
@@ -89,10 +89,10 @@ def not_refused() -> None:
     same(judged("", -9), mutants.NOT_JUDGED, "a check that was killed")
     same(judged(GOAL, -9), mutants.NOT_JUDGED, "a check that was killed on the way")
     same(judged("rattle: an unknown flag\n", 2), mutants.NOT_JUDGED, "a check that didn't begin")
-    said = "fn ob0_text::passes::width: could not tell\nrattle: no verdict: antt ran out of the steps that the check of one declaration may take\n"
+    said = "fn ob0_text::passes::character_width: could not tell\nrattle: no verdict: antt ran out of the steps that the check of one declaration may take\n"
     same(judged(said, 3), mutants.NOT_JUDGED, "a limit of the prover")
-    same(judged("fn ob0_text::passes::width: no proof: it calls other, which is not proved\nonly=1 proved=0\n"), mutants.NOT_JUDGED, "a consequence")
-    uncovered = "fn ob0_text::passes::width: no proof: the checker does not cover such a body\nonly=1 proved=0\n"
+    same(judged("fn ob0_text::passes::character_width: no proof: it calls other, which is not proved\nonly=1 proved=0\n"), mutants.NOT_JUDGED, "a consequence")
+    uncovered = "fn ob0_text::passes::character_width: no proof: the checker does not cover such a body\nonly=1 proved=0\n"
     same(judged(uncovered), mutants.NOT_JUDGED, "a body that the checker doesn't cover")
 
 
@@ -100,19 +100,19 @@ def not_refused() -> None:
 def elsewhere() -> None:
     for goal in ("returns-clause-ok", "loop-c-preserved", "count-requires-clause-few", "count-requires-returns"):
         same(judged(REFUSED.replace("returns-in-Utf16", goal)), mutants.ELSEWHERE, goal)
-    lost = "proofs/passes/width/Answers.antt:9:3: error: `returns-in-Utf16`: `len_utf16` has no field\n"
-    same(judged(lost + "fn ob0_text::passes::width: not proved\nonly=1 proved=0\n"), mutants.ELSEWHERE, "names that were lost")
-    same(judged(REFUSED.replace("passes::width", "passes::other")), mutants.ELSEWHERE, "another function")
+    lost = "proofs/passes/character_width/Answers.antt:9:3: error: `returns-in-Utf16`: `len_utf16` has no field\n"
+    same(judged(lost + "fn ob0_text::passes::character_width: not proved\nonly=1 proved=0\n"), mutants.ELSEWHERE, "names that were lost")
+    same(judged(REFUSED.replace("passes::character_width", "passes::other")), mutants.ELSEWHERE, "another function")
 
 
 @test("mutants: a first line that names no clause, and one that names a function that isn't changed, are no claims")
 def claims() -> None:
-    width = next(it for it in reading.Source("ob0_text").functions if it.path == "passes::width")
+    width = next(it for it in reading.Source("ob0_text").functions if it.path == "passes::character_width")
     same(edits.claim_of("# Wrong: refused.\n"), None, "no clause")
     same(edits.claim_of("# Refused by the clause `ok` of `f`.\n"), edits.Claim("f", ("ok",)), "a clause after its word, and no other words")
     same(edits.claim_of("file: src/lib.rt\n"), None, "no first line")
     claim = edits.claim_of(CLAIM)
-    same(claim, edits.Claim("width", ("the clause",)), "a clause without a name")
+    same(claim, edits.Claim("character_width", ("the clause",)), "a clause without a name")
     holds(claim and claim.is_of(width) and not edits.Claim("idth", ()).is_of(width), "a function by the end of its path")
     words = {"returns-in-Some": "the clause", "returns-then-x-clause-ok": "`ok`", "loop-c-preserved": "the loop", "count-requires-returns": ""}
     same({it: edits.clause_of(it) for it in words}, words, "the words for goals")
@@ -140,7 +140,7 @@ def asked_of_trait() -> None:
 def asked_of_type() -> None:
     found = [it for it in reading.Source("ob0_run_lowering").functions if it.name in ("locate_var_argument", "number_or_zero")]
     same([it.file for it in found], ["src/statement_operands.rt"] * 2, "where they are")
-    same(sorted(it.checked_as for it in found), ["expressions::number_or_zero", "scene::Scene::locate_var_argument"], "their names")
+    same(sorted(it.checked_as for it in found), ["scene::Scene::locate_var_argument", "statement_operands::number_or_zero"], "their names")
     named = {it.name: it.is_named("ob0_run_lowering::scene::Scene::locate_var_argument") for it in found}
     same(named, {"locate_var_argument": True, "number_or_zero": False}, "which of them is meant")
 
