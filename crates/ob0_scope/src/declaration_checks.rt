@@ -136,7 +136,7 @@ fn append_field_names(out: &mut Vec<usize>, group: &OptionalFieldGroup) -> Resul
 }
 
 /// Appends to `out` the tokens of the names that a CONST section declares.
-fn append_constant_names(
+pub(crate) fn append_constant_names(
     out: &mut Vec<usize>,
     section: &Option<Vec<ConstantDeclaration>>,
 ) -> Result<(), AllocError>
@@ -152,7 +152,7 @@ fn append_constant_names(
 }
 
 /// Appends to `out` the tokens of the names that a TYPE section declares.
-fn append_type_names(
+pub(crate) fn append_type_names(
     out: &mut Vec<usize>,
     section: &Option<Vec<TypeDeclaration>>,
 ) -> Result<(), AllocError>
@@ -168,7 +168,7 @@ fn append_type_names(
 }
 
 /// Appends to `out` the tokens of the names that a VAR section declares.
-fn append_variable_names(
+pub(crate) fn append_variable_names(
     out: &mut Vec<usize>,
     section: &Option<Vec<VariableDeclaration>>,
 ) -> Result<(), AllocError>
