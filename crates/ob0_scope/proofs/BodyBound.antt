@@ -2,9 +2,9 @@
 -- are looked up again, in the scope made from this table. A table that is right at a module has the
 -- marks of each body. So at the body's identifiers the new table has the same ordinals as a right
 -- one, and at all others the same as before.
-use Rattle.std.proofs.Common.{◌≡◌, ◌==◌, ◌||◌, ◌≤◌, ℕ, ◌+◌, Bool, true, false, Option, None, List, [], ◌∷◌, ◌++◌, map, length, drop, replicate, get_or, refl, sym, ap, ◌∙◌, subst, arith, append_assoc, eqb-true, le_refl}
+use Rattle.std.proofs.Common.{◌≡◌, ◌==◌, ◌||◌, ◌≤◌, ℕ, Bool, true, false, Option, None, List, [], ◌∷◌, ◌++◌, map, length, drop, replicate, get_or, refl, sym, ap, ◌∙◌, subst, eq-eqb, eqb-true, le_refl}
 use Rattle.std.proofs.lemmas.Bool.{or_parts}
-use Rattle.std.proofs.lemmas.List.{length-replicate, map-append}
+use Rattle.std.proofs.lemmas.List.{length-replicate}
 use Rattle.std.proofs.lemmas.List.Folds.{list_any-append}
 use Rattle.std.specs.List.{list_any}
 use Rattle.ob0_scan.specs.TextWithTokens.{IsScan, TextWithTokens}
@@ -14,7 +14,7 @@ use Rattle.ob0_tree.specs.IdentifierIndexes.{AreAscendingWithin, identifier_name
 use Rattle.ob0_tree.specs.ParsedModule.{ParsedModule, TreeMatchesText, named_tree_of, tree_of}
 use Rattle.ob0_tree.specs.TokenIndexLeaves.{token_text_at, token_value_at, tree_with_names}
 use Rattle.ob0_tree.specs.Tree.{Sort, Tree, body, identifiers, mapped_tree, maybe, module_text, occurrences}
-use Rattle.ob0_tree.proofs.AscendingNumbers.{AllFrom, ascend_first, ascend_second, ascending_from, from_second, leaves_append}
+use Rattle.ob0_tree.proofs.AscendingNumbers.{ascend_first, ascend_second, leaves_append}
 use Rattle.ob0_tree.proofs.Leaves.{leaves_ascend}
 use Rattle.ob0_tree.proofs.MappedIdentifiers.{leaves_mapped}
 use Rattle.ob0_tree.proofs.Occurring.{looked_up-occurrences}
@@ -103,52 +103,25 @@ marked_alike : (f g : ℕ → Option ℕ) (ms : List OrdinalMark) → HasMarks f
 marked_alike f g [] h k = refl
 marked_alike f g (m ∷ ms) h k = λ i. (h.0 ∙ sym k.0) i ∷ marked_alike f g ms h.1 k.1 i
 
--- If two functions agree on two lists, they agree on the first one put into the second.
-spliced : (f g : ℕ → Option ℕ) (xs own ys : List ℕ) → map f (xs ++ ys) ≡ map g (xs ++ ys) → map f own ≡ map g own → map f (xs ++ (own ++ ys)) ≡ map g (xs ++ (own ++ ys))
-spliced f g [] own ys e h = map-append f own ys ∙ ((λ i. h i ++ e i) ∙ sym (map-append g own ys))
-spliced f g (x ∷ xs) own ys e h = λ i. ap (λ l. get_or l 0 None) e i ∷ spliced f g xs own ys (ap (drop 1) e) h i
-
--- holds if none of the second numbers is among the first ones
-abbrev AllAbsent : List ℕ → List ℕ → Type 0
-AllAbsent own [] = Unit {0}
-AllAbsent own (x ∷ xs) = (list_any (λ j. j == x) own ≡ false) × AllAbsent own xs
-
-absent_both : (own xs ys : List ℕ) → AllAbsent own xs → AllAbsent own ys → AllAbsent own (xs ++ ys)
-absent_both own [] ys h k = k
-absent_both own (x ∷ xs) ys h k = (h.0, absent_both own xs ys h.1 k)
-
--- Entering marks doesn't change the entries at tokens that no mark has.
-kept_at : (own : List OrdinalMark) (table : List (Option ℕ)) (xs : List ℕ) → AllAbsent (tokens_of own) xs → map (ordinal_in (table_with_marks table own)) xs ≡ map (ordinal_in table) xs
-kept_at own table [] h = refl
-kept_at own table (x ∷ xs) h = λ i. kept_elsewhere own table x h.0 i ∷ kept_at own table xs h.1 i
-
-no_larger : (x : ℕ) (xs : List ℕ) → AllFrom (x + 1) xs → list_any (λ j. j == x) xs ≡ false
-no_larger x [] h = refl
-no_larger x (y ∷ ys) h = one (y == x) refl ∙ no_larger x ys h.1
+-- Two functions that agree on a list agree at each of its numbers.
+pub same_at : (f g : ℕ → Option ℕ) (xs : List ℕ) (i : ℕ) → map f xs ≡ map g xs → list_any (λ j. j == i) xs ≡ true → f i ≡ g i
+same_at f g [] i e there = absurd (cc)
+same_at f g (x ∷ xs) i e there = one (same_at f g xs i (ap (drop 1) e)) (x == i) refl there
   where
-    one : (b : Bool) → (y == x) ≡ b → (b || list_any (λ j. j == x) ys) ≡ list_any (λ j. j == x) ys
-    one true e = absurd (omega (arith, h.0, eqb-true y x e))
-    one false e = refl
+    one : (list_any (λ j. j == i) xs ≡ true → f i ≡ g i) → (b : Bool) → (x == i) ≡ b → (b || list_any (λ j. j == i) xs) ≡ true → f i ≡ g i
+    one later true is at = let found : x ≡ i = eqb-true x i is in ap f (sym found) ∙ (ap (λ l. get_or l 0 None) e ∙ ap g found)
+    one later false is at = later at
 
-absent_before : (xs own : List ℕ) (low high : ℕ) → AreAscendingWithin low (xs ++ own) high → AllAbsent own xs
-absent_before [] own low high h = tt
-absent_before (x ∷ xs) own low high h = (no_larger x own (from_second (x + 1) xs own (ascending_from (x + 1) (xs ++ own) high h.1)), absent_before xs own (x + 1) high h.1)
-
-absent_one : (x : ℕ) (own ys : List ℕ) → AllFrom (x + 1) ys → AllAbsent own ys → AllAbsent (x ∷ own) ys
-absent_one x own [] h k = tt
-absent_one x own (y ∷ ys) h k = (one (x == y) refl ∙ k.0, absent_one x own ys h.1 k.1)
+-- Two functions that agree at each number of a list agree on the list.
+same_on : (f g : ℕ → Option ℕ) (xs : List ℕ) → ((i : ℕ) → list_any (λ j. j == i) xs ≡ true → f i ≡ g i) → map f xs ≡ map g xs
+same_on f g [] each = refl
+same_on f g (x ∷ xs) each =
+    let here : list_any (λ j. j == x) (x ∷ xs) ≡ true = ap (λ b. b || list_any (λ j. j == x) xs) (eq-eqb x x refl) in
+    λ i. each x here i ∷ same_on f g xs (λ j at. each j (later (x == j) (list_any (λ k. k == j) xs) at)) i
   where
-    one : (b : Bool) → (x == y) ≡ b → (b || list_any (λ j. j == y) own) ≡ list_any (λ j. j == y) own
-    one true e = absurd (omega (arith, h.0, eqb-true x y e))
-    one false e = refl
-
-absent_nothing : (ys : List ℕ) → AllAbsent [] ys
-absent_nothing [] = tt
-absent_nothing (y ∷ ys) = (refl, absent_nothing ys)
-
-absent_after : (own ys : List ℕ) (low high : ℕ) → AreAscendingWithin low (own ++ ys) high → AllAbsent own ys
-absent_after [] ys low high h = absent_nothing ys
-absent_after (x ∷ own) ys low high h = absent_one x own ys (from_second (x + 1) own ys (ascending_from (x + 1) (own ++ ys) high h.1)) (absent_after own ys (x + 1) high h.1)
+    later : (b c : Bool) → c ≡ true → (b || c) ≡ true
+    later true c e = refl
+    later false c e = e
 
 -- ---- the marks of a body
 
@@ -174,6 +147,39 @@ record Parts (m : ParsedModule) (path : PathToBody) : Type 0 where
   whole : identifier_names (tree_of m) ≡ before ++ (identifier_names (body_at_path path (tree_of m)) ++ after)
   rest : identifier_names (module_without_body path (tree_of m)) ≡ before ++ after
 
+parts : (m : ParsedModule) (path : PathToBody) → Parts m path
+parts m path =
+    let s = split_module path (tree_of m) in
+    let own = identifiers role.DeclaringName (body_at_path path (tree_of m)) in
+    let last : List (Role × ℕ) = (s.closes, closing_name_at_path path (tree_of m)) ∷ s.after in
+    record {
+      before = names_without_roles s.before;
+      after = names_without_roles last;
+      whole = ap names_without_roles s.whole_is ∙ (leaves_append s.before (own ++ last) ∙ ap (λ z. names_without_roles s.before ++ z) (leaves_append own last));
+      rest = ap names_without_roles s.rest_is ∙ leaves_append s.before last;
+    }
+
+-- An identifier of a module that isn't in a body is in the module without the body.
+pub in_rest : (m : ParsedModule) (path : PathToBody) (i : ℕ) → list_any (λ j. j == i) (identifier_names (tree_of m)) ≡ true → list_any (λ j. j == i) (identifier_names (body_at_path path (tree_of m))) ≡ false → list_any (λ j. j == i) (identifier_names (module_without_body path (tree_of m))) ≡ true
+in_rest m path i there absent =
+    let p = parts m path in
+    let own = identifier_names (body_at_path path (tree_of m)) in
+    let among : List ℕ → Bool = list_any (λ j. j == i) in
+    ap among p.rest
+    ∙ (list_any-append (λ j. j == i) p.before p.after
+    ∙ (sym (ap (λ b. among p.before || (b || among p.after)) absent)
+    ∙ (sym (list_any-append (λ j. j == i) p.before (own ++ p.after) ∙ ap (λ b. among p.before || b) (list_any-append (λ j. j == i) own p.after))
+    ∙ (sym (ap among p.whole) ∙ there))))
+
+-- An identifier of a body is an identifier of the module.
+in_whole : (m : ParsedModule) (path : PathToBody) (i : ℕ) → list_any (λ j. j == i) (identifier_names (tree_of m)) ≡ false → list_any (λ j. j == i) (identifier_names (body_at_path path (tree_of m))) ≡ false
+in_whole m path i e =
+    let p = parts m path in
+    let own = identifier_names (body_at_path path (tree_of m)) in
+    let among : List ℕ → Bool = list_any (λ j. j == i) in
+    let last = or_parts (among p.before) (among (own ++ p.after)) (sym (ap among p.whole ∙ list_any-append (λ j. j == i) p.before (own ++ p.after)) ∙ e) in
+    (or_parts (among own) (among p.after) (sym (list_any-append (λ j. j == i) own p.after) ∙ last.1)).0
+
 module _ (m : ParsedModule) (path : PathToBody) (parsed : TreeMatchesText m) where
   abbrev own_statements : Tree ℕ (maybe body)
   own_statements = body_at_path path (tree_of m)
@@ -181,25 +187,12 @@ module _ (m : ParsedModule) (path : PathToBody) (parsed : TreeMatchesText m) whe
   abbrev count : ℕ
   count = length m.source.tokens
 
-  parts : Parts m path
-  parts =
-      let s = split_module path (tree_of m) in
-      let own = identifiers role.DeclaringName own_statements in
-      let last : List (Role × ℕ) = (s.closes, closing_name_at_path path (tree_of m)) ∷ s.after in
-      record {
-        before = names_without_roles s.before;
-        after = names_without_roles last;
-        whole = ap names_without_roles s.whole_is ∙ (leaves_append s.before (own ++ last) ∙ ap (λ z. names_without_roles s.before ++ z) (leaves_append own last));
-        rest = ap names_without_roles s.rest_is ∙ leaves_append s.before last;
-      }
-
-  rising : AreAscendingWithin 0 (parts.before ++ (identifier_names own_statements ++ parts.after)) count
-  rising = subst (λ l. AreAscendingWithin 0 l count) parts.whole (leaves_ascend m parsed)
-
   -- A table with entries for all tokens has the marks of a body after they are entered.
   marks_entered : (scope : Scope Name) (table : List (Option ℕ)) → count ≤ length table → HasMarks (ordinal_in (table_with_marks table (marks_in m.source scope own_statements))) (marks_in m.source scope own_statements)
   marks_entered scope table long =
-      let own = ascend_first 0 (identifier_names own_statements) parts.after count (ascend_second 0 parts.before (identifier_names own_statements ++ parts.after) count rising) in
+      let p = parts m path in
+      let rising = subst (λ l. AreAscendingWithin 0 l count) p.whole (leaves_ascend m parsed) in
+      let own = ascend_first 0 (identifier_names own_statements) p.after count (ascend_second 0 p.before (identifier_names own_statements ++ p.after) count rising) in
       marks_are_there (marks_in m.source scope own_statements) table 0 count (subst (λ ts. AreAscendingWithin 0 ts count) (sym (marks_tokens m.source scope own_statements)) own) long
 
   -- A table that is right has the marks of each body in its scope.
@@ -244,30 +237,29 @@ module _ (m : ParsedModule) (path : PathToBody) (parsed : TreeMatchesText m) whe
       let own = marks_in m.source scope own_statements in
       let tokens : tokens_of own ≡ identifier_names own_statements = marks_tokens m.source scope own_statements in
       let in_full : HasMarks (ordinal_in full) own = subst (λ s. HasMarks (ordinal_in full) (marks_in m.source s own_statements)) (scope_made m path table outside) (body_marked full is) in
-      let split : identifier_names (tree_of m) ≡ parts.before ++ (tokens_of own ++ parts.after) = parts.whole ∙ ap (λ z. parts.before ++ (z ++ parts.after)) (sym tokens) in
-      let kept : with_entries table own ≡ table_with_marks table own = part_kept m (ordinal_in full) table parts.before parts.after own (entries_few m w (ordinal_in full) parsed scan has) split in_full in
+      let p = parts m path in
+      let split : identifier_names (tree_of m) ≡ p.before ++ (tokens_of own ++ p.after) = p.whole ∙ ap (λ z. p.before ++ (z ++ p.after)) (sym tokens) in
+      let kept : with_entries table own ≡ table_with_marks table own = part_kept m (ordinal_in full) table p.before p.after own (entries_few m w (ordinal_in full) parsed scan has) split in_full in
       let made : (rebound table).marks ≡ table_with_marks table own =
       ap (λ (v : tabling.WalkState). v.marks) (used-entered table own_statements (before_body m.source scope)) ∙ kept in
       let now = table_with_marks table own in
-      let ascend : AreAscendingWithin 0 (parts.before ++ (tokens_of own ++ parts.after)) count = subst (λ l. AreAscendingWithin 0 l count) split (leaves_ascend m parsed) in
-      let front = absent_before parts.before (tokens_of own) 0 count (ascend_first 0 (parts.before ++ tokens_of own) parts.after count (subst (λ l. AreAscendingWithin 0 l count) (sym (append_assoc parts.before (tokens_of own) parts.after)) ascend)) in
-      let back = absent_after (tokens_of own) parts.after 0 count (ascend_second 0 parts.before (tokens_of own ++ parts.after) count ascend) in
-      let others : map (ordinal_in now) (parts.before ++ parts.after) ≡ map (ordinal_in full) (parts.before ++ parts.after) =
-      kept_at own table (parts.before ++ parts.after) (absent_both (tokens_of own) parts.before parts.after front back)
-      ∙ subst (λ l. map (ordinal_in table) l ≡ map (ordinal_in full) l) parts.rest (same_ordinals m.source table full (module_without_body path (tree_of m)) (sym outside ∙ bound_outside m path full is)) in
-      let has_own : HasMarks (ordinal_in now) own = marks_entered scope table long in
-      let all : map (ordinal_in full) (tokens_of v.marks) ≡ map (ordinal_in now) (tokens_of v.marks) =
-      subst (λ l. map (ordinal_in full) l ≡ map (ordinal_in now) l) (sym (paired.tokens ∙ split))
-      (spliced (ordinal_in full) (ordinal_in now) parts.before (tokens_of own) parts.after (sym others) (marked_alike (ordinal_in full) (ordinal_in now) own in_full has_own)) in
+      let absent : (i : ℕ) → list_any (λ j. j == i) (identifier_names own_statements) ≡ false → ordinal_in now i ≡ ordinal_in table i = λ i e. kept_elsewhere own table i (ap (list_any (λ j. j == i)) tokens ∙ e) in
+      let others = same_ordinals m.source full table (module_without_body path (tree_of m)) (sym (bound_outside m path full is) ∙ outside) in
+      let owns : map (ordinal_in full) (identifier_names own_statements) ≡ map (ordinal_in now) (identifier_names own_statements) =
+      subst (λ ts. map (ordinal_in full) ts ≡ map (ordinal_in now) ts) tokens (marked_alike (ordinal_in full) (ordinal_in now) own in_full (marks_entered scope table long)) in
+      let each : (i : ℕ) → list_any (λ j. j == i) (identifier_names (tree_of m)) ≡ true → ordinal_in full i ≡ ordinal_in now i =
+      λ i there. at_one full now i (λ at. same_at (ordinal_in full) (ordinal_in now) (identifier_names own_statements) i owns at)
+      (λ at. same_at (ordinal_in full) (ordinal_in table) (identifier_names (module_without_body path (tree_of m))) i others (in_rest m path i there at) ∙ sym (absent i at)) (list_any (λ j. j == i) (identifier_names own_statements)) refl in
+      let all = subst (λ l. map (ordinal_in full) l ≡ map (ordinal_in now) l) (sym paired.tokens) (same_on (ordinal_in full) (ordinal_in now) (identifier_names (tree_of m)) each) in
       record {
         marks = subst (λ (t : List (Option ℕ)). HasMarks (ordinal_in t) v.marks) (sym made) (marks_same (ordinal_in full) (ordinal_in now) v.marks all has);
-        elsewhere = λ i e. ap (λ (t : List (Option ℕ)). ordinal_in t i) made ∙ kept_elsewhere own table i (absent_within i parts.before (tokens_of own) parts.after (ap (list_any (λ j. j == i)) (sym split) ∙ e));
+        elsewhere = λ i e. ap (λ (t : List (Option ℕ)). ordinal_in t i) made ∙ absent i (in_whole m path i e);
       }
     where
-      absent_within : (i : ℕ) (xs own ys : List ℕ) → list_any (λ j. j == i) (xs ++ (own ++ ys)) ≡ false → list_any (λ j. j == i) own ≡ false
-      absent_within i xs own ys e =
-          let last = or_parts (list_any (λ j. j == i) xs) (list_any (λ j. j == i) (own ++ ys)) (sym (list_any-append (λ j. j == i) xs (own ++ ys)) ∙ e) in
-          (or_parts (list_any (λ j. j == i) own) (list_any (λ j. j == i) ys) (sym (list_any-append (λ j. j == i) own ys) ∙ last.1)).0
+      at_one : (full now : List (Option ℕ)) (i : ℕ) → (list_any (λ j. j == i) (identifier_names own_statements) ≡ true → ordinal_in full i ≡ ordinal_in now i) → (list_any (λ j. j == i) (identifier_names own_statements) ≡ false → ordinal_in full i ≡ ordinal_in now i)
+          → (b : Bool) → list_any (λ j. j == i) (identifier_names own_statements) ≡ b → ordinal_in full i ≡ ordinal_in now i
+      at_one full now i own other true e = own e
+      at_one full now i own other false e = other e
 
   -- The looked-up names of the walk are the occurrences in the body.
   pub rebound_uses : (table : List (Option ℕ)) → (rebound table).uses ≡ occurrences own_statements

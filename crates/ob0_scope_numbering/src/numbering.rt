@@ -20,6 +20,9 @@
 //! of `number_identifiers` says that the table results from entering the marks into an empty table.
 //! So all other proofs are about the marks, which are in the order of their tokens.
 //!
+//! `renumber_body` visits the statements of one body only. It makes their scope from the table, which
+//! has the ordinals of the names that are declared around the body.
+//!
 //! An entry of the table has 32 bits (`OrdinalEntry`). An ordinal that is too large for an entry is
 //! stored as the greatest one. So no function of the walk requires that ordinals are small. A text
 //! has at most 2^20 bytes and no more tokens than bytes, and each declaration has a different
