@@ -22,7 +22,7 @@ use Rattle.ob0_language_names.specs.Names.{Name, naming_by_spelling}
 use Rattle.ob0_language_names.specs.Scopes.{Scope, predeclared_scope, relabel_module, relabel_uses}
 use Rattle.ob0_scope_table.specs.BodyReplacement.{PathToBody, body_at_path, closing_name_at_path, module_without_body}
 use Rattle.ob0_scope_table.specs.Resolution.{IsBindingTable, ordinal_and_spelling, ordinal_and_spelling_at_token, ordinal_in}
-use Rattle.ob0_scope_table.proofs.BodyReplacement.{body_mapped, without_mapped}
+use Rattle.ob0_scope_table.proofs.BodyReplacement.{without_mapped}
 use Rattle.ob0_scope_numbering.specs.BodyScope.{declare_names_with_ordinals, scope_from_table, state_before_body}
 use Rattle.ob0_scope_numbering.specs.IdentifierSpellings.{original_spellings}
 use Rattle.ob0_scope_numbering.specs.IdentifierWalk.{visit_module, visit_nondeclaring_tree}
@@ -36,7 +36,7 @@ use Rattle.ob0_scope_numbering.proofs.Tabled.{used-entered}
 use Rattle.ob0_scope_numbering.proofs.Tables.{kept_elsewhere, marks_are_there, marks_in_table}
 use Rattle.ob0_scope.specs.NamesVisibleInBody.{names_visible_at_path}
 use Rattle.ob0_scope.proofs.BodySplit.{split_module}
-use Rattle.ob0_scope.proofs.NamesInBody.{body_bound, names_mapped, names_without_statements}
+use Rattle.ob0_scope.proofs.NamesInBody.{body_bound, body_mapped, names_mapped, names_without_statements}
 use Rattle.ob0_scope.proofs.TokensWith.{marks_same}
 use Rattle.ob0_scope.proofs.WithoutRelabelled.{without_relabelled}
 

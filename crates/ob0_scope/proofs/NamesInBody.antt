@@ -20,6 +20,20 @@ use Rattle.ob0_scope.proofs.WithoutRelabelled.{name_without}
 -- ---- a tree with its names replaced
 
 module _ {N M : Type 0} (f : N → M) (g : ℕ → ℕ) where
+  mutual
+    block_body_mapped : (path : PathToBody) (b : Tree N block) → body_at_path_in_block path (mapped_tree f g b) ≡ mapped_tree f g (body_at_path_in_block path b)
+    block_body_mapped [] (forms_block ds statements) = refl
+    block_body_mapped (k ∷ path) (forms_block (declares cs ts vs ps) statements) = procedures_body_mapped k path ps
+
+    procedures_body_mapped : (k : ℕ) (path : PathToBody) (ps : Tree N (items procedure)) → body_at_path_in_procedure_list k path (mapped_tree f g ps) ≡ mapped_tree f g (body_at_path_in_procedure_list k path ps)
+    procedures_body_mapped zero path end = refl
+    procedures_body_mapped (suc k) path end = refl
+    procedures_body_mapped zero path (more p ps) = procedure_body_mapped path p
+    procedures_body_mapped (suc k) path (more p ps) = procedures_body_mapped k path ps
+
+    procedure_body_mapped : (path : PathToBody) (p : Tree N (item procedure)) → body_at_path_in_procedure path (mapped_tree f g p) ≡ mapped_tree f g (body_at_path_in_procedure path p)
+    procedure_body_mapped path (declares_procedure x fs b closing) = block_body_mapped path b
+
   name_mapped : (p : Tree N (item procedure)) → procedure_name (mapped_tree f g p) ≡ f (procedure_name p)
   name_mapped (declares_procedure x fs b closing) = refl
 
@@ -42,6 +56,10 @@ module _ {N M : Type 0} (f : N → M) (g : ℕ → ℕ) where
 
 pub names_mapped : {N M : Type 0} (f : N → M) (g : ℕ → ℕ) (path : PathToBody) (t : Tree N module_text) → names_visible_at_path path (mapped_tree f g t) ≡ map f (names_visible_at_path path t)
 names_mapped f g path (forms_module x b closing) = block_names_mapped f g path b
+
+-- Replacing names commutes with taking a body.
+pub body_mapped : {N M : Type 0} (f : N → M) (g : ℕ → ℕ) (path : PathToBody) (t : Tree N module_text) → body_at_path path (mapped_tree f g t) ≡ mapped_tree f g (body_at_path path t)
+body_mapped f g path (forms_module x b closing) = block_body_mapped f g path b
 
 -- ---- a module without the body
 

@@ -1,6 +1,6 @@
 -- Proves facts about a module in which the statements of one body were replaced. Omitting these
--- statements commutes with renaming, and so does taking them. All other tokens are outside the
--- replaced range and have the same spellings.
+-- statements commutes with renaming. All other tokens are outside the replaced range and have the
+-- same spellings.
 use Rattle.std.proofs.Common.{◌≡◌, ℕ, zero, suc, true, [], ◌∷◌, length, slice_get, refl, sym, ap, ◌∙◌, subst}
 use Rattle.ob0_scan.specs.ReusedLexemes.{words_of_tokens}
 use Rattle.ob0_scan.specs.TextWithTokens.{TextWithTokens}
@@ -9,7 +9,7 @@ use Rattle.ob0_tree.specs.ParsedModule.{ParsedModule, tree_of}
 use Rattle.ob0_tree.specs.TokenIndexLeaves.{tree_with_names, token_text_at, token_value_at}
 use Rattle.ob0_tree.specs.Tree.{Tree, block, declares, declares_procedure, end, forms_block, forms_module, item, items, mapped_tree, module_text, more, procedure}
 use Rattle.ob0_scope_table.specs.TokenProperty.{EachTokenSatisfies}
-use Rattle.ob0_scope_table.specs.BodyReplacement.{ReplacesStatementsOfOneBody, PathToBody, block_without_body, body_at_path, body_at_path_in_block, body_at_path_in_procedure, body_at_path_in_procedure_list, shifted_token_index, procedure_without_body, procedure_list_without_body, module_without_body}
+use Rattle.ob0_scope_table.specs.BodyReplacement.{ReplacesStatementsOfOneBody, PathToBody, block_without_body, shifted_token_index, procedure_without_body, procedure_list_without_body, module_without_body}
 use Rattle.ob0_scope_table.specs.SpellingChangesInOneBody.{is_outside_range}
 use Rattle.ob0_scope_table.proofs.BodyOutside.{module_outside}
 use Rattle.ob0_scope_table.proofs.MappedAlike.{mapped_alike}
@@ -39,25 +39,6 @@ module _ {N M : Type 0} (f : N → M) (g : ℕ → ℕ) where
 -- Replacing names commutes with omitting a body.
 pub without_mapped : {N M : Type 0} (f : N → M) (g : ℕ → ℕ) (path : PathToBody) (t : Tree N module_text) → module_without_body path (mapped_tree f g t) ≡ mapped_tree f g (module_without_body path t)
 without_mapped f g path (forms_module x b closing) = ap (λ c. forms_module (f x) c (f closing)) (block_without_mapped f g path b)
-
-module _ {N M : Type 0} (f : N → M) (g : ℕ → ℕ) where
-  mutual
-    block_body_mapped : (path : PathToBody) (b : Tree N block) → body_at_path_in_block path (mapped_tree f g b) ≡ mapped_tree f g (body_at_path_in_block path b)
-    block_body_mapped [] (forms_block ds statements) = refl
-    block_body_mapped (k ∷ path) (forms_block (declares cs ts vs ps) statements) = procedures_body_mapped k path ps
-
-    procedures_body_mapped : (k : ℕ) (path : PathToBody) (ps : Tree N (items procedure)) → body_at_path_in_procedure_list k path (mapped_tree f g ps) ≡ mapped_tree f g (body_at_path_in_procedure_list k path ps)
-    procedures_body_mapped zero path end = refl
-    procedures_body_mapped (suc k) path end = refl
-    procedures_body_mapped zero path (more p ps) = procedure_body_mapped path p
-    procedures_body_mapped (suc k) path (more p ps) = procedures_body_mapped k path ps
-
-    procedure_body_mapped : (path : PathToBody) (p : Tree N (item procedure)) → body_at_path_in_procedure path (mapped_tree f g p) ≡ mapped_tree f g (body_at_path_in_procedure path p)
-    procedure_body_mapped path (declares_procedure x fs b closing) = block_body_mapped path b
-
--- Replacing names commutes with taking a body.
-pub body_mapped : {N M : Type 0} (f : N → M) (g : ℕ → ℕ) (path : PathToBody) (t : Tree N module_text) → body_at_path path (mapped_tree f g t) ≡ mapped_tree f g (body_at_path path t)
-body_mapped f g path (forms_module x b closing) = block_body_mapped f g path b
 
 -- ---- outside the body
 
