@@ -34,7 +34,7 @@ returns c =
     let path = path_to_body_in_module low (tree_of m) in
     let found = c.in_ok-found in
     let statements : body_of found.found.statements.now ≡ body_at_path path (tree_of m) = found.ensures.statements ∙ ap (λ (b : Block). body_at_path_in_block (path_to_body_in_block low (block_of b)) (block_of b)) c.block.ensures in
-    let names : c.find_body_in_block.new.names.items ≡ names_visible_at_path path (tree_of m) =
+    let names : c.find_body_in_block-found.new.names.items ≡ names_visible_at_path path (tree_of m) =
     found.ensures.names ∙ (ap (λ (is : List ℕ). is ++ names_visible_at_path_in_block (path_to_body_in_block low (block_of c.block.result.now)) (block_of c.block.result.now)) c.new.ensures.items
     ∙ ap (λ (b : Block). names_visible_at_path_in_block (path_to_body_in_block low (block_of b)) (block_of b)) c.block.ensures) in
     let walk : c.in_ok-numbering.numbering ≡ rebound m path was.parsed b.ordinals.items =
