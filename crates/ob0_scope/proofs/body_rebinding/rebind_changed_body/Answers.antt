@@ -34,13 +34,13 @@ returns c =
     let path = path_to_body_in_module low (tree_of m) in
     let found = c.in_ok-found in
     let statements : body_of found.found.statements.now ≡ body_at_path path (tree_of m) = found.ensures.statements ∙ ap (λ (b : Block). body_at_path_in_block (path_to_body_in_block low (block_of b)) (block_of b)) c.block.ensures in
-    let names : c.find_body_in_block-found.new.names.items ≡ names_visible_at_path path (tree_of m) =
-    found.ensures.names ∙ (ap (λ (is : List ℕ). is ++ names_visible_at_path_in_block (path_to_body_in_block low (block_of c.block.result.now)) (block_of c.block.result.now)) c.new.ensures.items
+    let names : c.find_body_in_block.new.names.items ≡ names_visible_at_path path (tree_of m) =
+    found.ensures.names ∙ (ap (λ (is : List ℕ). is ++ names_visible_at_path_in_block (path_to_body_in_block low (block_of c.block.result.now)) (block_of c.block.result.now)) c.new-names.ensures.items
     ∙ ap (λ (b : Block). names_visible_at_path_in_block (path_to_body_in_block low (block_of b)) (block_of b)) c.block.ensures) in
     let walk : c.in_ok-numbering.numbering ≡ rebound m path was.parsed b.ordinals.items =
     c.in_ok-numbering.ensures
     ∙ (λ i. visit_nondeclaring_tree (statements i) (state_before_body (c.tokens-tokens.ensures.source i) (scope_from_table (c.tokens-tokens.ensures.source i) b.ordinals.items ((c.deref.ensures.value ∙ names) i)) b.ordinals.items)) in
-    let parts = c.into_tokens_and_ordinals-_declared in
+    let parts = c.into_tokens_and_ordinals-declared in
     let made : parts.result.2.items ≡ (rebound m path was.parsed b.ordinals.items).marks = parts.ensures.table ∙ ap (λ (v : WalkState). v.marks) walk in
     let count : length c.tokens.result.now ≡ length m.source.tokens = ap length (c.tokens.ensures ∙ ap (λ (s : TextWithTokens). s.tokens) c.tokens-tokens.ensures.source) in
     let within : length m.source.tokens ≤ length b.ordinals.items = omega (arith, c.if-len-tokens.false, c.len.ensures, count, b.ordinals.ok) in

@@ -20,7 +20,7 @@ rebind_body_range-requires c =
       old_closing = c.old_closing_token.ensures;
       names_are = c.deref-2.ensures.value
           ∙ (found.ensures.names
-          ∙ (ap (λ (is : List ℕ). is ++ names_visible_at_path_in_block (path_to_body_in_block low (block_of c.block.result.now)) (block_of c.block.result.now)) c.new.ensures.items
+          ∙ (ap (λ (is : List ℕ). is ++ names_visible_at_path_in_block (path_to_body_in_block low (block_of c.block.result.now)) (block_of c.block.result.now)) c.new-names.ensures.items
           ∙ ap (λ (b : Block). names_visible_at_path_in_block (path_to_body_in_block low (block_of b)) (block_of b)) c.block.ensures));
       statements_are = found.ensures.statements ∙ ap (λ (b : Block). body_at_path_in_block (path_to_body_in_block low (block_of b)) (block_of b)) c.block.ensures;
     }
