@@ -1,7 +1,7 @@
 use Rattle.std.proofs.Common.{◌++◌, sym, ap, ◌∙◌, arith, append_assoc}
 use Rattle.std.proofs.lemmas.Result.{MatchResult-weaker}
-use Rattle.ob0_language_names.specs.BlockParts.{constant_names, declared_type_names, formal_parameter_names, formal_parameter_sections, section_constants, section_types, section_variables, variable_names}
-use Rattle.ob0_tree.specs.View.{block_of, body_of, constant_section_of, formals_of, type_section_of, variable_section_of}
+use Rattle.ob0_language_names.specs.BlockParts.{declared_type_names, formal_parameter_names, formal_parameter_sections, section_types, section_variables, variable_names}
+use Rattle.ob0_tree.specs.View.{block_of, body_of, formals_of, type_section_of, variable_section_of}
 use Rattle.ob0_tree.specs.declared.tree.Block.{out-Block}
 use Rattle.ob0_tree.specs.declared.tree.Procedure.{out-Procedure}
 use Rattle.ob0_tree.proofs.Viewed.{procedure_parts}
