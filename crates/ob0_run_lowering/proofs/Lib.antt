@@ -13,5 +13,6 @@ pub mod Assigned
 pub mod Called
 pub mod DeclaredBlocks
 pub mod Placings
-pub mod FollowingSites
+pub mod GrowingSites
+pub mod AscendingOrdinals
 pub mod LoweredBlocks

@@ -24,21 +24,6 @@ use Rattle.ob0_run_lowering.specs.declared.scene.LoweredSite.TheVariants as site
 use Rattle.ob0_run_lowering.specs.DeclaredBindings.{BindingsAreDeclared, ObjectByOrdinal}
 use Rattle.ob0_run_lowering.specs.PlacedNames.{SitesMatchPlacement, PlacementMatchesEnvironment, PlaceMatchesObject, SiteMatchesPlace, declared_size, place_of_first_binding, place_in_placement, add_declared_names_to_placement, place_variable_declarations, place_parameter_sections, sites_after_binding_ordinal, optional_shape_size, depth_of_site}
 
--- bindings
-
-pub holds_bound : (sites later : List LoweredSite) (d : ℕ) (placement : Placement Label) (o : Option ℕ) (name : Name) (s : LoweredSite) (w : BindingPlace) → SiteMatchesPlace d s w → ((k : ℕ) → site_in_table later k ≡ sites_after_binding_ordinal o s (site_in_table sites) k) → SitesMatchPlacement sites d placement → SitesMatchPlacement later d ((label_from_ordinal naming_by_spelling o name, w) ∷ placement)
-holds_bound sites later d placement None name s w new put h = λ k. subst (λ z. SiteMatchesPlace d z (place_in_placement placement (declared k))) (sym (put k)) (h k)
-holds_bound sites later d placement (Some j) name s w new put h = λ k.
-    subst (λ z. SiteMatchesPlace d z (place_in_placement ((declared j, w) ∷ placement) (declared k))) (sym (put k))
-    (by k (k == j))
-  where
-    by : (k : ℕ) (t : Bool) → SiteMatchesPlace d (if t then s else site_in_table sites k) (place_of_first_binding (elim t [ true ↦ (declared j, w) ∷ placement | false ↦ suffix_from_latest_binding naming_by_label placement (declared k) ]))
-    by k true = new
-    by k false = h k
-
-pub holds_same : (sites later : List LoweredSite) (d : ℕ) (placement : Placement Label) → ((k : ℕ) → site_in_table later k ≡ site_in_table sites k) → SitesMatchPlacement sites d placement → SitesMatchPlacement later d placement
-holds_same sites later d placement same h = λ k. subst (λ z. SiteMatchesPlace d z (place_in_placement placement (declared k))) (sym (same k)) (h k)
-
 -- what is nowhere needs no site
 holds_nowhere : (sites : List LoweredSite) (d : ℕ) (x : Label) (placement : Placement Label) → SitesMatchPlacement sites d placement → SitesMatchPlacement sites d ((x, nowhere) ∷ placement)
 holds_nowhere sites d x placement h = λ k. by k (same_ordinal_label (declared k) x)
