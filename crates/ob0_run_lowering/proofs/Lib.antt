@@ -14,5 +14,4 @@ pub mod Called
 pub mod DeclaredBlocks
 pub mod Placings
 pub mod GrowingSites
-pub mod AscendingOrdinals
 pub mod LoweredBlocks

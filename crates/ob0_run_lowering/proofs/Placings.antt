@@ -21,7 +21,7 @@ use Rattle.ob0_run_lowering.specs.Scenes.{SceneAgreesWithChecker, object_of_labe
 use Rattle.ob0_run_lowering.specs.declared.scene.Scene.{Scene}
 use Rattle.ob0_run_lowering.specs.declared.scene.LoweredSite.{LoweredSite}
 use Rattle.ob0_run_lowering.specs.declared.scene.LoweredSite.TheVariants as site
-use Rattle.ob0_run_lowering.specs.DeclaredBindings.{BindingsAreDeclared, ObjectByOrdinal}
+use Rattle.ob0_run_lowering.specs.DeclaredBindings.{BindingsAreDeclared, NewestIsBelow, ObjectByOrdinal, OrdinalsDescend}
 use Rattle.ob0_run_lowering.specs.PlacedNames.{SitesMatchPlacement, PlacementMatchesEnvironment, PlaceMatchesObject, SiteMatchesPlace, declared_size, place_of_first_binding, place_in_placement, add_declared_names_to_placement, place_variable_declarations, place_parameter_sections, sites_after_binding_ordinal, optional_shape_size, depth_of_site}
 
 -- what is nowhere needs no site
@@ -78,6 +78,17 @@ matches_found (b ∷ env) (w ∷ placement) m x o h =
     by following true e = subst (λ (z : Object Shape Signature). PlaceMatchesObject z w.1) (some_inverse e) m.1
     by following false e = following e
 matches_found _ _ m x o h = absurd m
+
+-- the names of a placement are those of its environment
+newest_below : (n : ℕ) (env : TypeEnvironment Label) (placement : Placement Label) → NewestIsBelow n env → PlacementMatchesEnvironment env placement → NewestIsBelow n placement
+newest_below n [] [] h m = tt
+newest_below n (b ∷ env) (w ∷ placement) h m = (h.0, sym m.0 ∙ h.1, h.2)
+newest_below n _ _ h m = absurd m
+
+pub descends : (objects : ObjectByOrdinal) (env : TypeEnvironment Label) (placement : Placement Label) → BindingsAreDeclared objects env → PlacementMatchesEnvironment env placement → OrdinalsDescend placement
+descends objects [] [] a m = tt
+descends objects (b ∷ env) (w ∷ placement) a m = ((a.0.0, sym m.0 ∙ a.0.1, newest_below a.0.0 env placement a.0.3 m.2), descends objects env placement a.1 m.2)
+descends objects _ _ a m = absurd m
 
 same_declared : (x : Label) (k : ℕ) → same_ordinal_label x (declared k) ≡ true → x ≡ declared k
 same_declared (declared j) k h = ap declared (eqb-true j k h)

@@ -79,7 +79,8 @@ impl Lowering {
             return Err(AllocError);
         };
         let ordinal = context.resolved.ordinal_at(p.name);
-        push_site(&mut self.sites, ordinal, LoweredSite::Procedure { depth, index })?;
+        let site = LoweredSite::Procedure { depth, index };
+        push_site(&mut self.sites, ordinal, site)?;
         let outside = self.sites.len();
         let heading = Frame {
             depth: inside,

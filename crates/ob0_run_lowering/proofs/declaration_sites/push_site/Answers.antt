@@ -13,8 +13,8 @@ loop-sites-preserved c = record {
   within = λ h. omega (arith, ap length c.in_ok-push.ensures.items, length-append c.loop-sites.sites.items (site.Nowhere ∷ []), c.loop-sites-test.true, c.len.ensures);
 }
 
-pub returns-in-None : goal.returns-in-None
-returns-in-None c = subst (λ o. AddsSite o c.args.site c.args.sites.now.items c.args.sites.now.items) (sym c.in-None.is) (no_site_added c.args.site c.args.sites.now.items)
+pub returns-in_default : goal.returns-in_default
+returns-in_default c = subst (λ o. AddsSite o c.args.site c.args.sites.now.items c.args.sites.now.items) (sym c.in_default.is) (no_site_added c.args.site c.args.sites.now.items)
 
 pub returns : goal.returns
 returns c =
