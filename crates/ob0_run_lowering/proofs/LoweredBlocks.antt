@@ -35,7 +35,7 @@ use Rattle.ob0_run_lowering.specs.declared.scene.LoweredSite.{LoweredSite}
 use Rattle.ob0_run_lowering.specs.declared.scene.LoweredSite.TheVariants as site
 use Rattle.ob0_run_lowering.specs.declared.scene.Scene.{Scene}
 use Rattle.ob0_run_lowering.specs.DeclaredBindings.{BindingsAreDeclared, BlockBindingsAreDeclared, ObjectByOrdinal, OrdinalsDescend}
-use Rattle.ob0_run_lowering.specs.Blocks.{BlockLoweringState, LowersBlock, LowersProcedures, RestOfBlockIsReadyToLower, count_after_block, count_after_procedures, table_of}
+use Rattle.ob0_run_lowering.specs.Blocks.{BlockLoweringState, LowersBlock, LowersProcedures, count_after_block, count_after_procedures, table_of}
 use Rattle.ob0_run_lowering.specs.PlacedNames.{AddsNames, AddsSite, FrameMatchesPlacement, GrowsTo, PlacementMatchesEnvironment, SitesEndAtNewestName, SitesMatchPlacement, declared_size, place_parameter_sections, place_variable_declarations, variable_slot_at_depth}
 use Rattle.ob0_run_lowering.specs.declared.programs.Lowering.{Lowering}
 use Rattle.ob0_run_lowering.specs.declared.declaration_sites.Frame.{Frame}
@@ -85,6 +85,14 @@ count_on r xs done x after inner next all h less here counted added =
     ∙ sym (ap (λ p. count_after_procedures after (more (tree_with_labels r p) rest)) (procedure_parts x))
     ∙ sym (ap (λ ys. count_after_procedures after (tree_with_labels r (items_of tree_procedure_of ys))) (split done xs x less here))
     ∙ h
+
+pub count_ends : (r : Resolution) (b : tree_block.Block) (xs : List tree.Procedure) (done count after : ℕ) → count_after_procedures after (tree_with_labels r (items_of tree_procedure_of (drop done xs))) ≡ count_after_procedures count (tree_with_labels r (items_of tree_procedure_of xs)) → length xs ≤ done → xs ≡ (tree_block.out-Block b).procedures.items
+    → after ≡ count_after_block count (tree_with_labels r (block_of b))
+count_ends r b xs done count after h all same =
+    sym (ap (λ ys. count_after_procedures after (tree_with_labels r (items_of tree_procedure_of ys))) (drop_all done xs all))
+    ∙ h
+    ∙ ap (λ ys. count_after_procedures count (tree_with_labels r (items_of tree_procedure_of ys))) same
+    ∙ sym (ap (λ z. count_after_block count (tree_with_labels r z)) (block_parts b))
 
 -- the routine that is added stays at its index
 

@@ -1,9 +1,8 @@
 -- Where what is in scope is placed, and what the code's table has of it.
-use Rattle.std.proofs.Common.{◌≡◌, ℕ, suc, ◌+◌, ◌-◌, ◌≤◌, ◌==◌, Bool, true, false, List, [], ◌∷◌, ◌++◌, map, Some, None, Option, option_and_then, if◌then◌else◌, refl, sym, ap, ◌∙◌, subst, arith, eqb-true, true≢false}
+use Rattle.std.proofs.Common.{◌≡◌, ℕ, suc, ◌+◌, ◌-◌, ◌≤◌, Bool, true, false, List, [], ◌∷◌, ◌++◌, map, Some, option_and_then, refl, sym, ap, ◌∙◌, subst, arith, eqb-true, true≢false}
 use Rattle.ob0_tree.specs.Tree.{Tree, block, constant, declares_constant, declares_type, declares_variable, end, section_after_semicolon, items, more, section, semicolon_then_section, type_definition, variable}
-use Rattle.ob0_language_names.specs.Names.{Label, Name, naming_by_label, naming_by_spelling, as_written, declared, same_ordinal_label}
+use Rattle.ob0_language_names.specs.Names.{Label, naming_by_label, as_written, declared, same_ordinal_label}
 use Rattle.ob0_language_names.specs.BlockParts.{block_constants, block_types, constant_names, declared_type_names, names_in_list, parameter_section_names, parameter_section_type}
-use Rattle.ob0_language_names.specs.Scopes.{label_from_ordinal}
 use Rattle.ob0_types_table.specs.DeclarationTables.{DeclarationTableView, declared_object_in}
 use Rattle.ob0_language_types.specs.Declarations.{declare_constants, declare_constants_and_types, declare_types}
 use Rattle.ob0_language_types.specs.Environments.{suffix_from_newest_binding, meanings, newest_object}
@@ -22,7 +21,7 @@ use Rattle.ob0_run_lowering.specs.declared.scene.Scene.{Scene}
 use Rattle.ob0_run_lowering.specs.declared.scene.LoweredSite.{LoweredSite}
 use Rattle.ob0_run_lowering.specs.declared.scene.LoweredSite.TheVariants as site
 use Rattle.ob0_run_lowering.specs.DeclaredBindings.{BindingsAreDeclared, NewestIsBelow, ObjectByOrdinal, OrdinalsDescend}
-use Rattle.ob0_run_lowering.specs.PlacedNames.{SitesMatchPlacement, PlacementMatchesEnvironment, PlaceMatchesObject, SiteMatchesPlace, declared_size, place_of_first_binding, place_in_placement, add_declared_names_to_placement, place_variable_declarations, place_parameter_sections, sites_after_binding_ordinal, optional_shape_size, depth_of_site}
+use Rattle.ob0_run_lowering.specs.PlacedNames.{SitesMatchPlacement, PlacementMatchesEnvironment, PlaceMatchesObject, SiteMatchesPlace, declared_size, place_of_first_binding, place_in_placement, add_declared_names_to_placement, place_variable_declarations, place_parameter_sections, optional_shape_size, depth_of_site}
 
 -- what is nowhere needs no site
 holds_nowhere : (sites : List LoweredSite) (d : ℕ) (x : Label) (placement : Placement Label) → SitesMatchPlacement sites d placement → SitesMatchPlacement sites d ((x, nowhere) ∷ placement)
@@ -166,7 +165,7 @@ has_size t x _ f = tt
 
 pub sizes_declared : (t : DeclarationTableView) (env : TypeEnvironment Label) → BindingsAreDeclared (declared_object_in t) env → ReturnsSizesOfVariables (declared_size t) env
 sizes_declared t [] a = tt
-sizes_declared t (b ∷ env) a = (has_size t b.0 b.1 a.0, sizes_declared t env a.1)
+sizes_declared t (b ∷ env) a = (has_size t b.0 b.1 (a.0.0, a.0.1, a.0.2), sizes_declared t env a.1)
 
 one_matches : (at : ℕ → Slot) (mode : ParameterMode) (x : Label) (n : ℕ) (s : Shape) (env : TypeEnvironment Label) (p : PlacementState Label) → PlacementMatchesEnvironment env p.placement → PlacementMatchesEnvironment ((x, a_variable s) ∷ env) (add_name_to_placement at mode x n p).placement
 one_matches at by_value x n s env p m = (refl, (at p.cells, refl), m)
@@ -200,7 +199,7 @@ section_placed t f s [] rest env p a = (refl, a)
 section_placed t f s (x ∷ xs) rest env p a =
     let head = typed_before (declared_object_in t) (of_section f s xs ++ rest) ((x, a_variable s) ∷ env) a in
     let following = section_placed t f s xs rest ((x, a_variable s) ∷ env) (add_name_to_placement (in_activation 0) (parameter_section_mode f) x (declared_size t x) p) a in
-    (ap (λ n. place_parameters (of_section f s xs ++ rest) (add_name_to_placement (in_activation 0) (parameter_section_mode f) x n p)) (sym (one_size t x s head.0)) ∙ following.0, following.1)
+    (ap (λ n. place_parameters (of_section f s xs ++ rest) (add_name_to_placement (in_activation 0) (parameter_section_mode f) x n p)) (sym (one_size t x s (head.0.0, head.0.1, head.0.2))) ∙ following.0, following.1)
 
 pub sections_placed : (t : DeclarationTableView) (fs : Tree Label (items section_after_semicolon)) (k : ℕ) (env outer : TypeEnvironment Label) (ps : List (TypedParameter Label)) (p : PlacementState Label) → typed_parameters naming_by_label env k fs ≡ Some ps → BindingsAreDeclared (declared_object_in t) (bind_typed_parameters ps outer)
     → place_parameters ps p ≡ place_parameter_sections (in_activation 0) (declared_size t) fs p

@@ -1,10 +1,10 @@
 -- States that each procedure and each block of a well-typed module is lowered to correct code. Code
--- calls procedures by their indices in the table of routines, so code is correct only together with a
--- table. Routines are only added at the end of the table. A clause about code holds for each table
--- that begins with the routines so far (`GrowsTo`). So the code is also correct for the final table,
--- and no clause mentions it. `LowersProcedures` is about some procedures of a block. It holds for any
--- procedures and statements that follow in the block. The loop over a block's procedures composes
--- such facts (`goes_then`).
+-- calls procedures by their indices in the table of routines, so code is correct only together with
+-- a table. Routines are only added at the end of the table. A clause about code holds for each
+-- table that begins with the routines so far (`GrowsTo`). So the code is also correct for the final
+-- table, which no clause mentions. `LowersProcedures` is about some procedures of a block. It holds
+-- for any procedures and statements that follow in the block. The loop over a block's procedures
+-- composes such facts (`goes_then`).
 -- Rule: none; used in contracts of lowering.
 use Rattle.std.specs.Prelude.{◌≡◌, ℕ, suc, true, List, length, map}
 use Rattle.ob0_tree.specs.Tree.{Tree, block, body, declares, declares_procedure, end, forms_block, items, maybe, more, procedure}
@@ -21,8 +21,8 @@ use Rattle.ob0_run_lowering.specs.PlacedNames.{FrameMatchesPlacement, GrowsTo, P
 use Rattle.ob0_run_lowering.specs.declared.programs.Lowering.{Lowering}
 use Rattle.ob0_run_lowering.specs.declared.declaration_sites.Frame.{Frame}
 
--- The number of routines after procedures are lowered, if there are `n` routines before. The routine
--- of a procedure follows the routines of the procedures inside it.
+-- The number of routines after procedures are lowered, if there are `n` routines before. A
+-- procedure's routine follows the routines of the procedures inside it.
 abbrev mutual
   -- returns the number of routines after the procedures of a block
   pub count_after_block : ℕ → Tree Label block → ℕ
@@ -83,8 +83,8 @@ pub record LowersProceduresFromState (t : DeclarationTableView) (v : Lowering) (
       → CodeMeansRestOfBlock routines s code statements ps
 
 -- States that lowering starts with the remaining procedures `ps` of a block, and reaches the
--- remaining procedures `left`. `w` and `v` are the data of lowering before and after. This holds for
--- each state in which lowering starts, and for any statements of the block
+-- remaining procedures `left`. `w` and `v` are the data of lowering before and after. This holds
+-- for each state in which lowering starts, and for any statements of the block
 -- (`LowersProceduresFromState`). Also states that both tables only grow, and by how many routines.
 pub record LowersProcedures (t : DeclarationTableView) (w v : Lowering) (depth : ℕ) (ps left : Tree Label (items procedure))
     : Type 0 where

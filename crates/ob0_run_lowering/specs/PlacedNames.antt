@@ -109,12 +109,12 @@ abbrev pub GrowsTo : {A : Type 0} → List A → List A → Type 0
 GrowsTo {A} before now = (more : List A) × (now ≡ before ++ more)
 
 -- States that the site `s` of the declaration with an ordinal is added at the end of the table
--- `before`. If `before` has no entry for this ordinal, `now` has the site there, and nothing after it.
+-- `before`. If `before` has no entry for this ordinal, `now` has the site there, as its last entry.
 pub record AddsSite (ordinal : Option ℕ) (s : LoweredSite) (before now : List LoweredSite) : Type 0 where
   pub grows : GrowsTo before now
   pub added : (k : ℕ) → ordinal ≡ Some k → length before ≤ k → (length now ≡ suc k) × (site_in_table now k ≡ s)
 
--- States that no site is at an ordinal above that of the newest name of a placement.
+-- states that a table of sites has no entry after the ordinal of a placement's newest name
 abbrev pub SitesEndAtNewestName : List LoweredSite → Placement Label → Type 0
 SitesEndAtNewestName sites [] = sites ≡ []
 SitesEndAtNewestName sites (b ∷ placement) = (k : ℕ) × (b.0 ≡ declared k) × (length sites ≤ suc k)

@@ -2,9 +2,9 @@
 //! the site of each of these declarations in lowered code (`LoweredSite`).
 //!
 //! Each declaration of a module has an ordinal, which is its index in the table of sites. The table
-//! is a stack: a declaration that comes into scope has a larger ordinal than all others in scope, so
-//! its site is added at the end. At the end of a procedure the sites inside it are dropped. No entry
-//! is ever changed.
+//! is a stack. A declaration that comes into scope has a larger ordinal than all others in scope,
+//! so its site is added at the end. At the end of a procedure the sites inside it are dropped. No
+//! entry is ever changed.
 
 ghost use Rattle.std.specs.Prelude.{◌≡◌, ◌≤◌, ◌+◌, ◌^◌, IfOk, OnOk, MatchOption};
 ghost use Rattle.ob0_tree.specs.View.{formals_of, names_of, variable_section_of};

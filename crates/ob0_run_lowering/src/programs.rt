@@ -1,7 +1,7 @@
 //! Lowers procedures, blocks, and a whole module.
 //!
-//! The routine of a procedure is added at the end of the table of routines, after the routines of the
-//! procedures inside it. So its index is known at its heading (`routine_count_after_block`).
+//! The routine of a procedure is added at the end of the table of routines, after the routines of
+//! the procedures inside it. Its index is known at its heading (`routine_count_after_block`).
 
 ghost use Rattle.std.specs.Prelude.{◌≡◌, ℕ, IfOk, IfSome, OnOk};
 ghost use Rattle.ob0_tree.specs.Tree.{more};

@@ -1,4 +1,4 @@
-use Rattle.std.proofs.Common.{ℕ, ◌-◌, ◌≤◌, length}
+use Rattle.std.proofs.Common.{◌-◌, ◌≤◌, length}
 use Rattle.ob0_run_lowering.specs.PlacedNames.{GrowsTo}
 use Rattle.ob0_run_lowering.proofs.declaration_sites.push_site.Given as goal
 

@@ -1,4 +1,4 @@
-use Rattle.std.proofs.Common.{◌≡◌, suc, ◌-◌, take, refl, ap, ◌∙◌, subst, arith}
+use Rattle.std.proofs.Common.{◌≡◌, suc, ◌-◌, length, take, refl, ap, ◌∙◌, subst, arith}
 use Rattle.ob0_tree.specs.View.{block_of, items_of, procedure_of}
 use Rattle.ob0_tree.specs.declared.tree.Procedure.{out-Procedure}
 use Rattle.ob0_scope_table.specs.LabelledTrees.{tree_with_labels}
@@ -33,20 +33,20 @@ lower_block-returns t c =
 pub lower_procedure-returns : goal.lower_procedure-returns
 lower_procedure-returns t c = λ rest.
     let r = c.args.context.now.resolved.now in
-    let o = out-Procedure c.args.p.now in
     let deep : c.in-Some.inside ≡ suc c.args.depth = omega (arith, c.in-Some.ensures) in
-    let index : c.in-Some-routine_count_after_block.index ≡ count_after_block c.len.result (tree_with_labels r (block_of o.block)) = c.in-Some-routine_count_after_block.ensures r in
+    let count : c.len.result ≡ length c.args.self.now.routines.items = omega (arith, c.len.ensures) in
+    let outside : c.len-outside.result ≡ length c.push_site.new.sites.items = omega (arith, c.len-outside.ensures) in
     procedure_means c.args.context.now.types.now c.args.self.now c.lower_block.new.self (record { sites = c.truncate.new.self; routines = c.push.new.self }) c.args.depth c.in-Some-routine_count_after_block.index c.args.p.now r c.in_ok-frame.frame c.in_ok-entry.entry rest
     record {
       headed = c.push_site.new.sites.items;
       first = record { depth = c.in-Some.inside; cells = 0; var_parameter_count = 0 };
       inside = record { sites = c.place_formals.new.sites; routines = c.args.self.now.routines };
-      index_is = index ∙ ap (λ n. count_after_block n (tree_with_labels r (block_of o.block))) c.len.ensures;
+      index_is = c.in-Some-routine_count_after_block.ensures r ∙ ap (λ n. count_after_block n (tree_with_labels r (block_of (out-Procedure c.args.p.now).block))) count;
       own_site = subst (λ o. AddsSite o (site.Procedure c.args.depth c.in-Some-routine_count_after_block.index) c.args.self.now.sites.items c.push_site.new.sites.items) c.ordinal_at-ordinal.ensures c.in_ok-push_site.ensures;
       first_is = ap (λ n. record { depth = n; cells = 0; var_parameter_count = 0 }) deep;
       parameters = c.in_ok-frame.ensures;
       unchanged = refl;
       lowers = c.in_ok-entry.ensures;
-      back = c.truncate.ensures.items ∙ ap (λ n. take n c.lower_block.new.self.sites.items) c.len-outside.ensures;
+      back = subst (λ n. c.truncate.new.self.items ≡ take n c.lower_block.new.self.sites.items) outside c.truncate.ensures.items;
       added = c.in_ok-push.ensures.items;
     }
