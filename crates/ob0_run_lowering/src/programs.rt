@@ -42,7 +42,8 @@ pub struct Program {
 }
 
 /// Returns the number of routines after the procedures of a block are lowered, if there are `count`
-/// routines before. Returns None if the number would have more than 64 bits.
+/// routines before. Returns None if the number would have more than 64 bits. This is called at each
+/// heading, so it visits a procedure as often as procedures are around it, at most 100 times.
 fn routine_count_after_block(count: usize, b: &Block) -> Option<usize>
     ensures { IfSome result (λ after. (r : Resolution)
         → after ≡ count_after_block count (tree_with_labels r (block_of b.now))) }
