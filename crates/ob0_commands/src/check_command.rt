@@ -1,7 +1,7 @@
 //! Prints the errors of a file.
 //!
-//! A file that has more bytes than a text may have is reported as too long. Whether such a file is
-//! UTF-8 isn't checked. The positions of all diagnostics are found in one pass over the text.
+//! If a file has more bytes than a text may have, it is reported as too long, and its bytes aren't
+//! checked for UTF-8. The positions of all diagnostics are found in one pass over the text.
 
 ghost use Rattle.std.specs.Prelude.{◌≡◌, ◌≢◌, ◌<◌, ◌≤◌, [], true, IfOk, IfNone, IfSome, MatchOption, OnOk, IfErr, length, map, string_bytes};
 ghost use Rattle.std.specs.Io.KnownBytes.{Appends};
@@ -85,8 +85,8 @@ fn diagnose(alloc: Global, text: &str) -> Result<Vec<Diagnosis>, AllocError>
     analysis.diagnoses(alloc)
 }
 
-/// Returns the analysis of a text. The analysis is never dropped. The process ends soon and frees
-/// all memory at once, which is faster than freeing the analysis part by part.
+/// Returns the analysis of a text. The analysis is never dropped, because the process ends soon and
+/// then frees all memory at once. This is faster than freeing the analysis part by part.
 pub fn analyse_without_drop(alloc: Global, text: &str) -> Result<ManuallyDrop<Analysis>, AllocError>
     ensures { IfOk result (λ analysis. manually_drop_value analysis ≡ text.now) }
 {
