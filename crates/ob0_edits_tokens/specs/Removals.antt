@@ -12,7 +12,7 @@ use Rattle.ob0_text.specs.Patches.{Cut, text_from_place_with_cuts}
 use Rattle.ob0_edits_tokens.specs.WordReplacements.{WordChanges}
 use Rattle.ob0_edits_tokens.specs.Replacements.{token_at_or_empty, token_span_or_empty, replacement_cut}
 
--- Returns a change of words that removes the words from the index `first` to the index `last`, both
+-- Returns the change that removes the words from the index `first` to the index `last`, both
 -- included. It changes all other words as `changes` does.
 abbrev pub changes_with_removal : ℕ → ℕ → WordChanges → WordChanges
 changes_with_removal first last changes k = if nat_le first k && nat_le k last then Some [] else changes k

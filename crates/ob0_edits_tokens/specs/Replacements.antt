@@ -50,8 +50,8 @@ replacement_cut tokens new p =
 abbrev pub text_after_replacement : TextWithTokens → List ℕ → List ℕ → List ℕ
 text_after_replacement s token_indexes new = text_from_place_with_cuts s.text 0 (map (replacement_cut s.tokens new) token_indexes)
 
--- States that the text of each lexeme belongs to the class of the lexeme's kind, and that the next
--- byte never continues the lexeme. `byte` is the byte after the last lexeme.
+-- States that each lexeme's text belongs to the class of the lexeme's kind, and that the byte after
+-- the lexeme never continues it. `byte` is the byte after the last lexeme.
 abbrev pub LexemesEndBeforeByte : List Lexeme → ℕ → Type 0
 LexemesEndBeforeByte [] byte = Unit {0}
 LexemesEndBeforeByte (l ∷ lexemes) byte =

@@ -31,8 +31,7 @@ use std::alloc::Global;
 /// Returns the edits that rename the declaration or field at `place` to `new`, in text order. For a
 /// declaration, there is one edit for each identifier that declares it, refers to it or repeats its
 /// name after END. For a field, there is one edit for each identifier that declares or selects it.
-/// If the present name is already `new`, there are no edits. The place may be in the name or at its
-/// end.
+/// If the name is already `new`, there are no edits. The place may be in the name or at its end.
 ///
 /// If several refusals apply, the first in this order is returned:
 /// - `NoName`: `place` is neither on a declared name nor on a field. The module's name doesn't

@@ -29,8 +29,8 @@ use std::alloc::{AllocError, Global};
 
 /// Returns the edits that rename a field to `new`, in text order, or the first refusal that
 /// applies. The token with the index `token` declares or selects the field. `owner` is the ordinal
-/// of the field's record. The ordinals number array and record types from 0, in the order of their
-/// words ARRAY and RECORD in the text.
+/// of the field's record. Ordinals of array and record types count the words ARRAY and RECORD of
+/// the text from 0.
 pub(crate) fn rename_field<T: TextStore>(
     alloc: Global,
     store: &T,

@@ -27,7 +27,7 @@ use std::alloc::{AllocError, Global};
 ///
 /// # Errors
 ///
-/// An allocation failed, or a count, for example of cells, has more than 64 bits.
+/// An allocation failed, or a count, for example of cells, doesn't fit in 64 bits.
 pub fn lower(alloc: Global, checked: &WellTyped<'_>) -> Result<Program, AllocError>
     ensures runs { IfOk result (ProgramRunsAsModule (named_tree_of checked.now.module_read)) }
     ensures means { IfOk result (λ made. ProgramMeansModule naming_by_label
