@@ -21,8 +21,8 @@ pub enum TestQuestion {
     Faults,
     /// The type of the declaration with this ordinal.
     TypeOfDeclaration(usize),
-    /// The byte range of the first name conflict if the declaration with this ordinal is renamed to
-    /// this new name. The answer is `free` if there is no conflict.
+    /// The byte range of the first name conflict that renaming the declaration with this ordinal to
+    /// this new name would cause. The answer is `free` if there is no conflict.
     ConflictAfterRename(usize, &'static str),
     /// The ordinal of the declaration to which each occurrence would be bound if the declaration
     /// with this ordinal were renamed to this new name.

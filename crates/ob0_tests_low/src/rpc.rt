@@ -15,8 +15,8 @@ use std::alloc::{AllocError, Global};
 use std::process::Abort;
 
 /// The message that a row tests: a content, a request or a notification (its method and params), or
-/// a message that is sent. The row also has the expected meaning in words. For a message that is
-/// sent, it has the expected content instead.
+/// a message that is sent. The row also has the expected meaning in words. If the message is sent,
+/// the row has the expected content instead.
 #[derive(Clone, Copy)]
 enum TestedMessage {
     Content(&'static str),
