@@ -142,7 +142,7 @@ impl Analysis {
     /// Analyses the changed text `text`, and reuses results for the parts that the old and the new
     /// text have in common (`ScannedTextAnalysis::reanalyse`). If the new text has lexical faults,
     /// the results for the last text without lexical faults are kept. If an earlier text was much
-    /// longer than the new text, nothing is reused or kept.
+    /// longer than the new text, nothing is reused or kept. Fails only if an allocation fails.
     pub fn reanalyse(self, alloc: Global, text: &str) -> Result<Analysis, AllocError>
         ensures { IfOk result (λ a. a ≡ text.now) }
     {

@@ -19,8 +19,8 @@ use Rattle.ob0_edits.specs.declared.inline_question.InliningKind.{InliningKind}
 use Rattle.ob0_edits.specs.declared.inline_question.InliningKind.TheVariants.{OneUse, Everywhere}
 use Rattle.ob0_edits.specs.declared.inline_question.InliningEdits as found_inlinings
 
--- States that `answer` (edits or a refusal) is the right answer to a request for this kind of
--- inlining at a byte offset of the module. `ob0_inline` defines the right answers.
+-- States that `answer`, edits or a refusal, is right for a request for this kind of inlining at a
+-- byte offset of the module. `ob0_inline` defines which answers are right.
 abbrev pub AnswersInlining : InliningKind
     → Unit
     → List ℕ

@@ -69,9 +69,9 @@ fn is_bound_to_ordinal(bound: &[Option<usize>], occurrence: usize, ordinal: usiz
     }
 }
 
-/// Returns whether the word for the constant's truth value, TRUE or FALSE, is shadowed at some use
-/// of the constant. The word is shadowed at a use if it wouldn't refer to the predeclared name
-/// there. If the value is a number, the result is false.
+/// Returns whether the constant has a shadowed use. A use is shadowed if TRUE or FALSE, the
+/// constant's value, wouldn't refer to the predeclared name there. If the value is a number, the
+/// result is false.
 pub(crate) fn has_shadowed_use(
     alloc: Global,
     names: &Resolved,
@@ -101,8 +101,8 @@ pub(crate) fn has_shadowed_use(
 }
 
 /// Returns whether `name` is shadowed at some use of the constant with the ordinal `constant`. The
-/// name is shadowed at a use if it wouldn't be bound to the declaration with the ordinal `ordinal`
-/// when written in place of the use.
+/// name is shadowed at a use if, in place of that use, it wouldn't be bound to the declaration with
+/// the ordinal `ordinal`.
 fn is_name_shadowed_at_some_use(
     alloc: Global,
     names: &Resolved,

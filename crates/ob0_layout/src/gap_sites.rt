@@ -210,8 +210,8 @@ fn comment_role(broken: bool, level: u32) -> LineRole
     }
 }
 
-/// Returns whether a comment begins a line. It does if the gap before it has a line break, or if it
-/// is the first token or comment of the text (`before` is None). `gap` has the bytes of the gap.
+/// Returns whether a comment begins a line. It does if a line break precedes it, or if no token or
+/// comment precedes it (`before` is None). `gap` has the bytes of the gap before the comment.
 fn comment_begins_line(before: Option<KindAndRole>, gap: &[u8]) -> bool
     ensures { result ≡ (is_none before || contains_line_break gap.now) }
 {

@@ -17,8 +17,8 @@ pub enum Of {
     Field { ordinal: usize, index: usize },
 }
 
-/// The answer of `at`, the lookup at a byte offset: the span of the identifier at the offset, in
-/// bytes, and what the identifier refers to.
+/// The answer of `at`, the lookup at a byte offset. It has the identifier's span in bytes, and the
+/// declaration or field that the identifier refers to.
 #[derive(Clone, Copy, PartialEq, Eq)]
 pub struct At {
     pub span: Span,

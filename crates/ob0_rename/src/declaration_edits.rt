@@ -43,6 +43,8 @@ use std::alloc::Global;
 /// - `Captures`: an occurrence (a name that is looked up) would be bound to another declaration.
 ///   The range is the range of the first such occurrence. A field is never refused with `Captures`.
 /// - `TooLong`: the edited text would be longer than a text may be.
+///
+/// If an allocation fails, the refusal is `Memory`.
 pub fn rename<T: TextStore>(
     alloc: Global,
     store: &T,

@@ -53,8 +53,8 @@ slot_of_binding_place nowhere = in_module_activation 0
 slot_of_binding_place (in_slot s) = s
 slot_of_binding_place (at_target t) = in_module_activation 0
 
--- returns the target of a procedure; if the place isn't a target, returns the target with the index
--- 0 that is 0 levels out
+-- returns the target of a procedure, or the target with the index 0 that is 0 levels out if the
+-- place isn't a target
 abbrev pub target_of_binding_place : BindingPlace → Target
 target_of_binding_place nowhere = record { procedure = 0; up = 0 }
 target_of_binding_place (in_slot s) = record { procedure = 0; up = 0 }
@@ -76,8 +76,8 @@ target_of_first_binding (b ∷ placement) = target_of_binding_place b.1
 abbrev pub slot_in_placement : {N : Type 0} → Naming N → Placement N → N → Slot
 slot_in_placement naming placement x = slot_of_first_binding (suffix_from_latest_binding naming placement x)
 
--- returns the target of a name in a placement; if the name has no target, returns the target with
--- the index 0 that is 0 levels out
+-- returns the target of a name in a placement, or the target with the index 0 that is 0 levels out
+-- if the name has no target
 abbrev pub target_in_placement : {N : Type 0} → Naming N → Placement N → N → Target
 target_in_placement naming placement x = target_of_first_binding (suffix_from_latest_binding naming placement x)
 
@@ -99,7 +99,7 @@ abbrev pub placement_seen_one_level_deeper : {N : Type 0} → Placement N → Pl
 placement_seen_one_level_deeper [] = []
 placement_seen_one_level_deeper (b ∷ placement) = (b.0, binding_place_seen_one_level_deeper b.1) ∷ placement_seen_one_level_deeper placement
 
--- The state while the names of an activation get their places: the placement so far, and the
+-- The state while the names of an activation get their places. It has the placement so far, and the
 -- numbers of cells and of VAR parameters so far.
 pub record PlacementState (N : Type 0) : Type 0 where
   pub placement : Placement N

@@ -17,9 +17,9 @@ use Rattle.ob0_run_cells.specs.LoweredExpressions.{end_of}
 abbrev pub run_of : execution.MachineRun → Run
 run_of r = record { output = map printed_item_of r.output; ending = end_of r.ending }
 
--- States that a program has the same run as a well-typed module if it is correct code for the
--- module (`ProgramMeansModule`). This holds for each input and for all bounds `c` on open calls and
--- `t` on iterations. Claims nothing if the number of cells doesn't fit in 64 bits.
+-- States that a program that is correct code for a well-typed module (`ProgramMeansModule`) has the
+-- module's run. This holds for each input and for all bounds `c` on open calls and `t` on
+-- iterations. Claims nothing if the number of cells doesn't fit in 64 bits.
 abbrev pub LoweringKeepsRuns : Type 0
 LoweringKeepsRuns =
     (m : Tree Name module_text) (program : lowered.LoweredCode) (c t : ℕ) (input : List ℤ)

@@ -2,8 +2,8 @@
 
 ghost use Rattle.ob0_run_cells.specs.LoweringLaws.{LoweringKeepsRuns};
 
-/// Proves that a program has the same output and the same end as a run of a well-typed module if it
-/// is correct code for the module (`ProgramMeansModule`). Claims nothing if the number of cells
+/// Proves that a program that is correct code for a well-typed module (`ProgramMeansModule`) has
+/// the module's run: the same output and the same end. Claims nothing if the number of cells
 /// doesn't fit in 64 bits.
 pub fn lowering_keeps_runs()
     ensures { LoweringKeepsRuns }

@@ -109,7 +109,7 @@ static TEXTS_WITH_CHANGES: &[(&str, u64, u64, &str)] = changes![
     "MODULE M; CONST n = 2; VAR x, x: INTEGER; BEGIN y := n END M.", 20, 21, "234";
     // White space next to a name.
     "MODULE M; VAR x: INTEGER; BEGIN x := TRUE END M.", 15, 15, " ";
-    // A name that is replaced by another one, and by one that is already declared.
+    // A declared name that is replaced by a new name, and by a name that is already declared.
     TWO_VARIABLES, 17, 18, "z";
     TWO_VARIABLES, 17, 18, "x";
     // One more statement in the first of two procedures, and a statement of the second procedure
@@ -117,8 +117,8 @@ static TEXTS_WITH_CHANGES: &[(&str, u64, u64, &str)] = changes![
     "MODULE M; VAR x: INTEGER; PROCEDURE P; BEGIN x := 1 END P; PROCEDURE Q; BEGIN P; y := 1 END Q; BEGIN Q END M.",
         51, 51, "; x := TRUE";
     "MODULE M; VAR x: INTEGER; PROCEDURE P; BEGIN x := z END P; PROCEDURE Q; BEGIN P; y := 1 END Q; BEGIN Q END M.", 86, 88, "";
-    // One more statement in a body of a valid module: a well-typed one, one with a type error, one
-    // with an undeclared name, and one that selects fields.
+    // One more statement in a body of a valid module: without an error, with a type error, with an
+    // undeclared name, and with selected fields.
     TWO_VARIABLES, 41, 41, "; y := x + 1";
     TWO_VARIABLES, 41, 41, "; y := TRUE";
     TWO_VARIABLES, 41, 41, "; z := 1";

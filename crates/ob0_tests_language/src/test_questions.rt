@@ -62,8 +62,8 @@ pub(crate) use rows;
 #[derive(Clone, Copy, PartialEq, Eq)]
 pub enum CheckMode {
     AskingQuestions,
-    /// Each question is asked, and an allocation may fail. A row whose answer isn't found because
-    /// of such a failure is accepted.
+    /// Each question is asked, and an allocation may fail. If the answer to a row isn't found
+    /// because an allocation failed, the row is accepted.
     AllowingFailedAllocation,
     /// Each question is a renaming. `renaming_edits` makes the edits: it takes the analysis instead
     /// of the well-typed module.

@@ -140,7 +140,7 @@ fn play_story(alloc: Global, story: &Story, events: &[Event]) -> StoryOutcome {
 }
 
 /// Runs a story, and returns the outcome. If an allocation fails at an event, the outcome's numbers
-/// count only what happened before that event.
+/// count only the events, edits and publications before it.
 fn run_story(alloc: Global, story: &Story, manner: StoryMode) -> StoryOutcome {
     match build_events_with_retry(alloc, story) {
         Ok(events) => match manner {
