@@ -137,9 +137,9 @@ PlaceHasOutcome {N} checked slots q s value =
     ≡ (value m >>= (λ p. succeeds_with (address m.typing p))))
     × PlaceOutcomeHasType m.typing s (value m)
 
--- States that the lowered place `q` means a place with values of the type `s` (`PlaceHasOutcome`). Also
--- states that `value` returns the value stored at this place. Both hold at each moment of the
--- checked module (`IsMomentOfModule`).
+-- States that the lowered place `q` is correct code for an evaluation of a place with values of the
+-- type `s` (`PlaceHasOutcome`). Also states that `value` returns the value stored at this place, at
+-- each moment of the checked module (`IsMomentOfModule`).
 abbrev pub PlaceHoldsValue : {N : Type 0}
     → TypeMeanings N
     → (N → Slot)
