@@ -25,9 +25,9 @@ use std::mem::ManuallyDrop;
 /// Prints one line `L:C: FaultCode: message` to `out` for each diagnostic of a file, and returns
 /// the program's exit status. `L` and `C` are the line and the UTF-16 unit at which the diagnostic
 /// starts, counted from 0. `file` holds all bytes of the file, or the first 1,048,577 if the file
-/// has more. The status is 0 if there are no diagnostics and 1 if there are some. If the bytes
-/// aren't UTF-8 or a write fails, the status is 4. If an allocation fails, it is 5. With status 4
-/// or 5, the line `fault: NAME` is printed to `err`.
+/// has more. The status is 0 if there are no diagnostics and 1 if there are some. If a file that
+/// isn't too long isn't UTF-8, or if a write fails, the status is 4. If an allocation fails, it is
+/// 5. With status 4 or 5, the line `fault: NAME` is printed to `err`.
 pub fn check_text<O: TrackedOutput, E: TrackedOutput>(
     alloc: Global,
     file: &[u8],

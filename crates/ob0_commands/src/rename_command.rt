@@ -27,9 +27,9 @@ use std::alloc::Global;
 /// returns the program's exit status. The position's line and UTF-16 unit are counted from 0. If
 /// the renaming is refused, `refused: TEXT` is printed to `err`. If the file isn't a well-typed
 /// module, its diagnostics are printed as `check_text` prints them. The status is 0 if the text is
-/// printed, and 1 for a refusal or diagnostics. If the bytes aren't UTF-8 or a write to `out`
-/// fails, the status is 4. If an allocation fails, it is 5. With status 4 or 5, the line `fault:
-/// NAME` is printed to `err`.
+/// printed, and 1 for a refusal or diagnostics. If a file that isn't too long isn't UTF-8, or if a
+/// write to `out` fails, the status is 4. If an allocation fails, it is 5. With status 4 or 5, the
+/// line `fault: NAME` is printed to `err`.
 pub fn rename_text<O: TrackedOutput, E: TrackedOutput>(
     alloc: Global,
     file: &[u8],

@@ -60,8 +60,8 @@ impl Question for LoweringQuestion {
 /// If the file isn't a well-typed module, its diagnostics are printed as `check_text` prints them,
 /// and the input isn't read. The status is 0 for `Done`, and 1 for another end or diagnostics. If
 /// the input can't be read, is too long or isn't a list of numbers, the status is 4. It is also 4
-/// if the file's bytes aren't UTF-8 or a write to `out` fails. If an allocation fails, it is 5.
-/// With status 4 or 5, the fault is also printed to `err` as `fault: NAME`.
+/// if a file that isn't too long isn't UTF-8, or if a write to `out` fails. If an allocation fails,
+/// it is 5. With status 4 or 5, the fault is also printed to `err` as `fault: NAME`.
 pub fn run_text<R: TrackedInput, O: TrackedOutput, E: TrackedOutput>(
     alloc: Global,
     file: &[u8],

@@ -60,8 +60,8 @@ pub record IsInliningRefusedInText (how : InliningKind) (unit : Unit) (text : Li
 
 -- ---- answers to inlining at a byte offset of a text: edits or None
 
--- States that `answer` has these edits. None means that `answer` is a refusal other than `Memory`
--- (a failed allocation).
+-- States that `answer` consists of these edits (Some). None means that `answer` is a refusal other
+-- than `Memory` (a failed allocation).
 abbrev pub AreEditsUnlessRefused : Result (Vec Edit Global) EditRefusal → Option (Vec Edit Global) → Type 0
 AreEditsUnlessRefused answer (Some edits) = answer ≡ Ok edits
 AreEditsUnlessRefused answer None = (refusal : EditRefusal) × ¬ (refusal ≡ Memory) × (answer ≡ Err refusal)

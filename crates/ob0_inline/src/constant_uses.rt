@@ -53,7 +53,7 @@ pub(crate) fn constant_use_at(module: &WellTyped, offset: usize) -> Option<Const
 fn occurrence_number_of_token(names: &Resolved, token: usize) -> Option<usize>
     ensures { result ≡ position_from (λ other. other == token) 0 names.now.uses }
 {
-    // The proof needs the contract of this call.
+    // The proof needs `IsResolution` of the names, which the contract of this call states.
     let _module = names.module();
     names.occurrences().binary_search(&token).ok()
 }

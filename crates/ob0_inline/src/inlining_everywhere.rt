@@ -147,7 +147,7 @@ fn tokens_of_uses(
 ) -> Result<Vec<usize>, AllocError>
     ensures { IfOk result (λ uses. uses.items ≡ tokens_of_uses names.now.module_read constant) }
 {
-    // The proof needs the contract of this call.
+    // The proof needs `IsResolution` of the names, which the contract of this call states.
     let _module = names.module();
     let mut uses = Vec::new(alloc);
     for token in names.occurrences() {

@@ -116,7 +116,7 @@ fn is_name_shadowed_at_some_use(
         && not (same_ordinal (resolve_name_at_occurrence (named_tree_of names.now.module_read) k name.now) ordinal))
         (range_with_len 0 (length (bindings (named_tree_of names.now.module_read))))) }
 {
-    // The proof needs the contract of this call.
+    // The proof needs `IsResolution` of the names, which the contract of this call states.
     let _module = names.module();
     let bound = resolve_name_at_each_occurrence(alloc, names, name)?;
     Ok(has_use_with_other_binding(names, &bound, constant, ordinal))

@@ -99,7 +99,7 @@ fn rename_declaration<T: TextStore>(
     renamed_tree_spells_renamed_words();
     renaming_to_free_name_keeps_typing_and_runs();
     let names = well_typed.resolved();
-    // The proof needs the contract of this call.
+    // The proof needs `IsScan` of the tokens, which the contract of this call states.
     let _text = names.tokens().text();
     if !is_identifier(new) {
         return Err(EditRefusal::BadName);
@@ -131,7 +131,7 @@ fn refusal_of_conflict<T: TextStore>(
         → result ≡ refused.Captures (range_of (width_of (T.unit_of store.now))
         (T.content store.now) (token_span names.now.module_read.source token)) }
 {
-    // The proof needs the contract of this call.
+    // The proof needs `IsResolution` of the names, which the contract of this call states.
     let _module = names.module();
     match capture {
         FirstConflict::Duplicate(other) => EditRefusal::Duplicate {

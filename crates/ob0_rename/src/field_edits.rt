@@ -60,7 +60,7 @@ pub(crate) fn rename_field<T: TextStore>(
     renaming_changes_field_tokens();
     duplicate_field_name_has_declaring_token();
     let names = well_typed.resolved();
-    // The proof needs the contract of this call.
+    // The proof needs `IsScan` of the tokens, which the contract of this call states.
     let _text = names.tokens().text();
     if !is_identifier(new) {
         return Err(EditRefusal::BadName);
