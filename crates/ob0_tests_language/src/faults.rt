@@ -124,9 +124,9 @@ static TEXTS_WITH_CHANGES: &[(&str, u64, u64, &str)] = changes![
     TWO_VARIABLES, 41, 41, "; z := 1";
     "MODULE M; TYPE T = RECORD f, g: INTEGER END; VAR t: T; PROCEDURE P(a, b: T); BEGIN a := b; a.f := t.g END P; \
         BEGIN P(t, t); t := t END M.", 101, 101, "; a.g := b.f";
-    // A change of a name in the body of a nested procedure. The name becomes or was a local name, a
-    // parameter, a name of an enclosing block, a later name, the procedure's name, or an undeclared
-    // name. There are undeclared names before the procedure, in it and after it.
+    // A name in a body that is replaced by the name of a later procedure, the name of an earlier
+    // procedure, a variable of an enclosing block, and an undeclared name. The first three texts
+    // have undeclared names outside that body.
     "MODULE M; VAR x, u: INTEGER; PROCEDURE P(a: INTEGER); VAR y: BOOLEAN; PROCEDURE Q(x: BOOLEAN); BEGIN x := y \
         END Q; PROCEDURE R; BEGIN q := 1 END R; BEGIN x := a END P; BEGIN P(x); v := u END M.", 106, 107, "R";
     "MODULE M; VAR x, u: INTEGER; PROCEDURE P(a: INTEGER); VAR y: BOOLEAN; PROCEDURE Q(x: BOOLEAN); BEGIN x := y \
@@ -134,7 +134,8 @@ static TEXTS_WITH_CHANGES: &[(&str, u64, u64, &str)] = changes![
     "MODULE M; VAR x, u: INTEGER; PROCEDURE P(a: INTEGER); VAR y: BOOLEAN; PROCEDURE Q; BEGIN u := x; u := y END Q; \
         BEGIN x := a; w := w END P; PROCEDURE S; BEGIN w := 1 END S; BEGIN P(x); v := u END M.", 130, 131, "u";
     "MODULE M; VAR x: INTEGER; PROCEDURE P; VAR x: BOOLEAN; BEGIN x := TRUE END P; BEGIN x := 1; Write(x) END M.", 98, 99, "y";
-    // A change of a body's first name with a number before it, and of a body's first and last name.
+    // A change of a body's first name and the number before it, and a change of both names of a
+    // body.
     "MODULE M; VAR x, y: INTEGER; PROCEDURE P; BEGIN IF 1 < x THEN y := x END END P; BEGIN P; z := x END M.", 51, 56, "2 < q";
     ONE_PROCEDURE, 48, 54, "q := r";
     // A change of a closing name, and of a closing name together with the last name of its body.
