@@ -169,13 +169,13 @@ abbrev pub ReturnsSizesOfVariables : {N : Type 0} → (N → ℕ) → TypeEnviro
 ReturnsSizesOfVariables size_of [] = Unit {0}
 ReturnsSizesOfVariables size_of (b ∷ env) = HasSizeIfVariable (size_of b.0) b.1 × ReturnsSizesOfVariables size_of env
 
--- returns the target of the procedure with this index, as seen from the activation in which the
--- procedure is declared
+-- returns the place of the procedure with this index: a target, as seen from the activation in
+-- which the procedure is declared
 abbrev pub local_procedure_target : ℕ → BindingPlace
 local_procedure_target i = at_target record { procedure = i; up = 0 }
 
--- returns the placement inside a procedure: the names around the procedure, as seen from one level
--- deeper, with the procedure's parameters added
+-- Returns the placement inside a procedure, with its numbers of cells and of VAR parameters. It has
+-- the names around the procedure, as seen from one level deeper, and the procedure's parameters.
 abbrev pub placement_inside_procedure : {N : Type 0} → List (TypedParameter N) → Placement N → PlacementState N
 placement_inside_procedure ps placement =
     place_parameters ps record { placement = placement_seen_one_level_deeper placement; cells = 0; var_parameters_so_far = 0 }
