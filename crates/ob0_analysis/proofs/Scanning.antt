@@ -1,5 +1,5 @@
--- The results of the scanner, the parser and the checks decide whether a text is a well-typed
--- module or has errors.
+-- Proves that a text is a well-typed module or has errors, from the results of the scanner, the
+-- parser and the checks.
 use Rattle.std.proofs.Common.{◌≡◌, ◌⊎◌, ◌<◌, ◌∙◌, ◌+◌, ◌++◌, ◌∷◌, ℕ, List, [], length, drop, map, encode_utf8_all, inl, inr, refl, sym, ap, subst, arith}
 use Rattle.std.proofs.lemmas.List.{take-append-drop}
 use Rattle.std.specs.Str.{chars, IsUtf8}

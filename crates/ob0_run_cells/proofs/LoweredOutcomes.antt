@@ -1,5 +1,5 @@
--- Proves that a step of lowered code and a step of the definition with the same outcome still agree
--- if further steps with the same outcomes follow them.
+-- Proves that two steps with the same outcome, one of lowered code and one of the definition, still
+-- agree if steps with the same outcomes follow them.
 use Rattle.std.proofs.Common.{◌≡◌, ℕ, ◌<◌, ◌+◌, ◌-ℤ◌, ◌+ℤ◌, ◌*ℤ◌, ◌^◌, Bool, true, false, ℤ, pos, if◌then◌else◌, Some, None, Option, option_and_then, sym, refl, ap, ◌∙◌, subst, arith}
 use Rattle.std.proofs.lemmas.Int.{ints}
 use Rattle.std.proofs.Math.Nat.{mod-eq_of_lt}

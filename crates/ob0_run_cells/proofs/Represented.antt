@@ -1,5 +1,5 @@
--- Proves that steps of the machine and of the definition keep the machine's state a representation
--- of the module's state.
+-- Proves that a state of the machine that represents a state of the module still does so after a
+-- step of both.
 use Rattle.std.proofs.Common.{◌≡◌, ℕ, zero, suc, Bool, true, false, List, [], ◌∷◌, ◌++◌, ℤ, slice_set, sym, refl, ap, ◌∙◌, subst}
 use Rattle.std.proofs.lemmas.List.{map-append}
 use Rattle.ob0_language_types.specs.WellTyped.{TypeMeanings}
