@@ -290,10 +290,11 @@ abbrev mutual
       CodeMeansBlock table (in_activation 0) checked p (k + formals_constructor_count (formal_parameter_sections fs))
       routine.cells routine.body b
 
--- States that one binding has the right place, as seen from the activations `ls`. A variable's slot
--- must have the address of the variable's place (LANGUAGE.md, Runs 1). A procedure's routine must
--- be correct code for the procedure's block, in the environment and a placement at the procedure's
--- declaration (Runs 6). Other bindings have no place.
+-- States that one binding has the right place, as seen from the activations `ls`. A variable's
+-- place must have values of its type, and its slot must have the address of that place
+-- (LANGUAGE.md, Runs 1). A procedure's routine must be correct code for the procedure's block (Runs
+-- 6). This must hold in the environment, and in a placement at the procedure's declaration for
+-- which `Fits` holds. Other bindings have no place.
 abbrev pub BindingIsPlaced : {N : Type 0}
     → RoutineTable N
     → StoreTyping
