@@ -1,5 +1,5 @@
--- If a changed text has lexical faults, the old tokens are returned, and all results for the old text still hold for
--- them.
+-- Proves that if a changed text has lexical faults, all results for the old text still hold for the
+-- old tokens, which are returned.
 use Rattle.std.proofs.Common.{ℕ, IfSome, List, Option, subst, sym}
 use Rattle.ob0_scan.specs.ScanRefusals.{IsRightRescanRefusal}
 use Rattle.ob0_scan.specs.TextWithTokens.{TextWithTokens}

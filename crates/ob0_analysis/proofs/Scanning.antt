@@ -1,4 +1,5 @@
--- A text is a well-typed module, or has errors, according to what the scanner, the parser and the checks found.
+-- Proves that a text is a well-typed module or has errors, from the results of the scanner, the
+-- parser and the checks.
 use Rattle.std.proofs.Common.{◌≡◌, ◌⊎◌, ◌<◌, ◌∙◌, ◌+◌, ◌++◌, ◌∷◌, ℕ, List, [], length, drop, map, encode_utf8_all, inl, inr, refl, sym, ap, subst, arith}
 use Rattle.std.proofs.lemmas.List.{take-append-drop}
 use Rattle.std.specs.Str.{chars, IsUtf8}

@@ -149,11 +149,12 @@ impl ScannedTextAnalysis {
     }
 
     /// Analyses the changed text `text`. These results for the previous text are reused:
-    /// - always the tokens and the trees of procedures that both texts have in common;
-    /// - if all tokens have the same kinds as before, the tree or the parser's refusal;
-    /// - if also all identifiers have the same spelling and no name has a fault, the bindings;
-    /// - if all differences lie in one body, the bindings and types outside this body;
-    /// - if all tokens have the same spelling, everything.
+    /// - always: the tokens and the trees of procedures that both texts have in common;
+    /// - if all tokens have the same kinds as before: the tree or the parser's refusal;
+    /// - if in addition all identifiers have the same spelling and no name has a fault: the
+    ///   bindings;
+    /// - if all differences lie in one body: the bindings and types outside this body;
+    /// - if all tokens have the same spelling: everything.
     ///
     /// If the new text has lexical faults, the error has these faults and the analysis of the
     /// previous text.

@@ -1,5 +1,5 @@
--- Proves that a text is printed only if the edits put the name into the file's text. If the name is refused, no text is
--- printed.
+-- Proves that `rename` prints a text only if the edits put the new name into the file's text. If
+-- the renaming is refused, no text is printed.
 use Rattle.std.proofs.Common.{◌≡◌, ◌∙◌, ◌≤◌, ℕ, List, Option, Some, Result, Ok, Err, Vec, Global, length, subst}
 use Rattle.std.proofs.lemmas.Str.{encodes-chars}
 use Rattle.std.specs.Str.{IsUtf8, chars}

@@ -1,4 +1,4 @@
--- Proves laws about how much is read from a reader.
+-- Proves how many bytes are taken from a reader by two reads, one after the other.
 use Rattle.std.proofs.Common.{◌≤◌, ℕ, ◌+◌, List, ◌++◌, Option, length, length-append, arith}
 use Rattle.std.specs.Io.KnownBytes.{Consumes}
 use Rattle.std.proofs.KnownBytes.{Consumes-trans}

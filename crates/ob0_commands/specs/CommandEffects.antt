@@ -63,7 +63,7 @@ RunsFile contents is_flushed has_failed before after IsPrintedOnStderr file rema
 
 -- States that `rename` ends with this status. With status 0, the file's text is printed, with the
 -- declaration or field at `position` renamed to `new`. With status 1, the file's errors are printed
--- or the new name is refused. With any other status, a fault ended the command (`EndsByFault`).
+-- or the renaming is refused. With any other status, a fault ended the command (`EndsByFault`).
 abbrev pub RenamesInFile : {O : Type 0}
     → (contents : O → Option (List ℕ))
     → (is_flushed has_failed : O → Bool)

@@ -24,7 +24,8 @@ use std::alloc::{AllocError, Global};
 
 /// Reads the whole input and returns its numbers, in order. The input consists of words, separated
 /// by white space. Each word has to be a 32-bit number in decimal digits, optionally after a `-`.
-/// The fault is `Input` if a read fails, the input is too long, or a word isn't such a number.
+/// The fault is `Input` if a read fails, the input is too long, or a word isn't a number of this
+/// form. If an allocation fails, the fault is `Memory`.
 pub fn read_numbers<R: TrackedInput>(
     alloc: Global,
     input: &mut R,

@@ -3,15 +3,15 @@
 //! `run_text` analyses the text once and lowers it to a program (`LoweringQuestion`). If the text
 //! isn't a well-typed module, the diagnostics are printed. Otherwise the analysis is dropped, the
 //! input is read, and the program is executed. `ProgramRunsAsText` states that the program runs
-//! like the text's module. From this fact, the contract of `execute` concludes that the outcome is
-//! a run of the module.
+//! like the text's module. From this fact and the contract of `execute` it follows that the outcome
+//! is a run of the module.
 //!
 //! The output is written in pieces of at most `IO_BUFFER_SIZE` bytes (`print_output_items`), so the
 //! whole text of the output is never stored. `IsWrittenExceptLastPart` separates the written text
 //! from the piece that isn't written yet. A piece is an `ArrayString`: it is on the stack and
-//! doesn't grow. It is written if the next item might not fit. So nothing is allocated after the
-//! first byte is printed. (A `String` could allocate between pieces, because its contract allows
-//! that.)
+//! doesn't grow. The piece is written when the next item might not fit. So nothing is allocated
+//! after the first byte is printed. (A `String` could allocate between pieces, because its contract
+//! allows that.)
 
 ghost use Rattle.std.specs.Prelude.{◌≡◌, ◌+◌, ◌≤◌, ◌++◌, true, IfOk, IfErr, IfNone, MatchOption, OnOk, OnErr, option_map, suc};
 ghost use Rattle.std.specs.Io.KnownBytes.{Appends};
@@ -60,8 +60,8 @@ impl Question for LoweringQuestion {
 /// If the file isn't a well-typed module, its diagnostics are printed as `check_text` prints them,
 /// and the input isn't read. The status is 0 for `Done`, and 1 for another end or diagnostics. If
 /// the input can't be read, is too long or isn't a list of numbers, the status is 4. It is also 4
-/// if the file's bytes aren't UTF-8 or a write to `out` fails. If an allocation fails, it is 5.
-/// With status 4 or 5, the fault is also printed to `err` as `fault: NAME`.
+/// if a file that isn't too long isn't UTF-8, or if a write to `out` fails. If an allocation fails,
+/// it is 5. With status 4 or 5, the fault is also printed to `err` as `fault: NAME`.
 pub fn run_text<R: TrackedInput, O: TrackedOutput, E: TrackedOutput>(
     alloc: Global,
     file: &[u8],
@@ -84,8 +84,7 @@ pub fn run_text<R: TrackedInput, O: TrackedOutput, E: TrackedOutput>(
     }
 }
 
-/// Does the work of `run_text`, but returns a fault instead of printing the line `fault: NAME` for
-/// the fault.
+/// Does the work of `run_text`, but returns a fault instead of printing its line `fault: NAME`.
 fn try_run_text<R: TrackedInput, O: TrackedOutput, E: TrackedOutput>(
     alloc: Global,
     file: &[u8],

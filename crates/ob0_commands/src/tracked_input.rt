@@ -90,7 +90,7 @@ impl<R: Read> TrackedInput for TrackedReader<R> {
 }
 
 /// Returns all bytes of a file, or the first 1,048,577 if the file has more. If a read fails, the
-/// fault is `File`.
+/// fault is `File`. If an allocation fails, it is `Memory`.
 pub fn read_file<R: TrackedInput>(alloc: Global, file: &mut R) -> Result<Vec<u8>, FileCommandFault>
     ensures bound { IfOk result (λ bytes. length bytes.items ≤ suc max_text_length) }
     ensures taken { IfOk result
@@ -108,6 +108,7 @@ pub fn read_file<R: TrackedInput>(alloc: Global, file: &mut R) -> Result<Vec<u8>
 
 /// Returns all bytes of the input. If a read fails, the fault is `Input`. If the input has more
 /// than 16,777,216 bytes, the fault is also `Input`. In that case one byte over the limit is read.
+/// If an allocation fails, the fault is `Memory`.
 pub fn read_input<R: TrackedInput>(
     alloc: Global,
     input: &mut R,
@@ -131,7 +132,7 @@ pub fn read_input<R: TrackedInput>(
 }
 
 /// Returns all remaining bytes of the reader, or the first `most` if there are more. If a read
-/// fails, returns `fault`.
+/// fails, returns `fault`. If an allocation fails, the fault is `Memory`.
 fn read_up_to_limit<R: TrackedInput>(
     alloc: Global,
     reader: &mut R,

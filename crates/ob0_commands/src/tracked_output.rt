@@ -7,8 +7,8 @@
 //! has written, or None if these bytes aren't known. For None, the contracts say nothing about the
 //! bytes.
 //!
-//! Each command flushes its output after it has printed. If `rename` refuses a name, nothing is
-//! printed to the output, so the output may still be unflushed (`IsFlushedOrUnchanged`). `check`
+//! Each command flushes its output after it has printed. If `rename` refuses the renaming, nothing
+//! is printed to the output, so the output may still be unflushed (`IsFlushedOrUnchanged`). `check`
 //! and `rename` print only once, so their contracts follow from one call of `print`. After a failed
 //! write, the contracts say nothing about the written bytes, because the contract of std's
 //! `write_all` says nothing about them.
@@ -23,8 +23,8 @@ ghost use Rattle.ob0_commands.specs.StderrLines.{PrintsOptionalLine};
 use crate::faults::FileCommandFault;
 use std::io::{self, Write};
 
-/// The size in bytes of two buffers. Files and inputs are read through one of them. The output of a
-/// run is collected in the other before it is written.
+/// The size, in bytes, of the buffer through which files and inputs are read, and of the buffer in
+/// which the output of a run is collected.
 pub(crate) const IO_BUFFER_SIZE: usize = 8192;
 
 /// A writer that remembers whether it has been flushed since the last write, and whether a call of

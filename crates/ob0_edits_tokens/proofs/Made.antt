@@ -1,4 +1,4 @@
--- Proves that the text that edits leave is scanned, and has the expected words and length.
+-- Proves that the edited text can be scanned and has the expected words and length.
 use Rattle.std.proofs.Common.{◌≡◌, ℕ, suc, ◌+◌, ◌≤◌, List, [], ◌∷◌, length, map, refl, sym, ap, ◌∙◌, arith}
 use Rattle.std.specs.Str.{IsUtf8, chars}
 use Rattle.std.proofs.lemmas.Simd.{map-map}

@@ -1,4 +1,4 @@
--- Proves which lexemes are left if identifiers of a text are replaced, and if a declaration before
+-- Proves which lexemes result if identifiers of a text are replaced, and if a declaration before
 -- them is removed.
 use Rattle.std.proofs.Common.{◌≡◌, ℕ, suc, ◌+◌, true, List, [], ◌∷◌, ◌++◌, length, get_or, map, sym, ap, ap₂, ◌∙◌, subst, arith, append_assoc, length-append, ⊎_elim}
 use Rattle.std.specs.Str.{IsUtf8}

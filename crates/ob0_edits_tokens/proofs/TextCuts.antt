@@ -1,4 +1,4 @@
--- Proves which text the edits at ascending places of a text leave, in bytes and in characters.
+-- Proves which text results from edits at ascending places of a text, in bytes and in characters.
 use Rattle.std.proofs.Common.{◌≡◌, ℕ, ◌+◌, ◌-◌, ◌≤◌, true, false, List, [], ◌∷◌, ◌++◌, length, get_or, take, drop, map, min, max, refl, sym, ap, ap₂, ◌∙◌, subst, arith, append_assoc, length-append, length-drop, get_or-append-add, le-leb}
 use Rattle.std.specs.Prelude.{if◌then◌else◌, Some, None, encode_utf8_all}
 use Rattle.std.specs.List.{list_all}

@@ -1,6 +1,6 @@
--- Proves the answer at a name of a constant.
--- As for uses, `Made` and `IsRefused` carry the facts about the edits over to the module of the
--- contract. If no use is hidden, `all_seen` shows the premise of the law of inlining everywhere.
+-- Proves that the answer to inlining everywhere at the name of a constant is right. `Made` and
+-- `IsRefused` carry the facts about the edits over to the module of the contract. If no use is
+-- shadowed, `all_seen` shows the premise of the law of inlining everywhere.
 use Rattle.std.proofs.Common.{zero, arith, ◌≡◌, ◌⊎◌, ℕ, ℤ, suc, ◌+◌, ◌-◌, ◌<◌, ◌&&◌, ◌||◌, not, Bool, true, false, if◌then◌else◌, Option, Some, None, List, [], ◌∷◌, length, map, refl, sym, ap, ◌∙◌, IsSomeAnd, MatchOption, option_and_then, slice_get, eq-eqb, true≢false}
 use Rattle.std.specs.List.{list_any, range_with_len}
 use Rattle.ob0_text.specs.declared.edits.Edit.{Edit}

@@ -1,6 +1,5 @@
--- Proves the answer at a use.
--- One `subst` carries the facts about the edits over to the module of the contract, as one record
--- (`Made`, `IsRefused`).
+-- Proves that the answer to inlining at one use is right. One `subst` carries the facts about the
+-- edits over to the module of the contract, as one record (`Made`, `IsRefused`).
 use Rattle.std.proofs.Common.{cond, zero, arith, eq-eqb, ◌≡◌, ◌⊎◌, ℕ, suc, ◌+◌, ◌==◌, Bool, true, false, if◌then◌else◌, Option, Some, None, List, [], ◌∷◌, length, map, refl, sym, ap, ◌∙◌, subst, option_and_then, option_map, slice_get, eqb-true, true≢false}
 use Rattle.std.specs.List.{flat_map, position_from}
 use Rattle.std.proofs.Math.Bool.{or-false}

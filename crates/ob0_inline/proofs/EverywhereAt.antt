@@ -1,5 +1,5 @@
--- Proves which uses a constant has, and which words remain after its value replaces them and its
--- declaration is removed.
+-- Proves which uses a constant has. Also proves which words remain after its value replaces them
+-- and its declaration is removed.
 use Rattle.std.proofs.Common.{◌≡◌, ℕ, zero, suc, ◌+◌, ◌<◌, ◌==◌, ◌||◌, ◌&&◌, Bool, true, false, cond, Option, Some, None, List, [], ◌∷◌, map, length, refl, sym, ap, ◌∙◌, arith, slice_get, eqb-true, eq-eqb}
 use Rattle.std.specs.List.{filter}
 use Rattle.ob0_scan.specs.declared.lexeme.Token.{Token}

@@ -1,5 +1,5 @@
--- Defines the use of a constant at a byte offset, the module after the constant is inlined at that
--- use, and the refusals of this edit.
+-- Defines the use of a constant at a byte offset. Also defines the module after the constant is
+-- inlined at that use, and the refusals of this edit.
 -- Rule: docs/PROTOCOL.md, Requests on documents 9, Refusals of edits.
 use Rattle.std.specs.Prelude.{◌≡◌, ◌⊎◌, ℕ, Bool, true, false, if◌then◌else◌, List, [], ◌∷◌, Option, Some, None, Result, Ok, Err, Vec, map, slice_get}
 use Rattle.std.specs.declared.alloc.Global.{Global}
@@ -49,8 +49,8 @@ truth_name_ordinal true = 2
 truth_name_ordinal false = 3
 
 -- Returns whether the word for a truth value, TRUE or FALSE, would refer to the predeclared name if
--- it replaced the occurrence with the number `occurrence`. If the value is a number, the result is
--- true.
+-- it replaced an occurrence. `occurrence` is the number of this occurrence. If the value is a
+-- number, the result is true.
 abbrev pub value_text_keeps_meaning : Tree Name module_text → ℕ → Scalar → Bool
 value_text_keeps_meaning m occurrence (scalar.Number n) = true
 value_text_keeps_meaning m occurrence (scalar.Truth b) =

@@ -51,7 +51,7 @@ fn constant_with_tokens(names: &Resolved, ordinal: usize, value: Scalar) -> Opti
     ensures { IsSomeAnd result (λ c. (c.ordinal ≡ ordinal)
         × IsDeclaredConstant names.now.module_read c) }
 {
-    // The proof needs the contract of this call.
+    // The proof needs `IsResolution` of the names, which the contract of this call states.
     let _module = names.module();
     match names.declaring_token(ordinal) {
         Some(first) => match end_of_declaration(names.tokens().tokens(), first) {

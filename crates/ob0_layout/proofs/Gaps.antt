@@ -1,6 +1,6 @@
 -- Proves that the gaps of a text lie between its tokens and comments, and that replacing them gives
 -- the formatted text.
--- Gaps that don't change can be omitted. So the length of the formatted text can be counted from
+-- Gaps that don't change can be omitted. So the length of the formatted text can be computed from
 -- the gaps that change (`changed_length`).
 use Rattle.std.proofs.Common.{◌≡◌, ℕ, zero, suc, ◌-◌, ◌<◌, ◌≤◌, Bool, true, false, not, cond, Some, List, [], ◌∷◌, ◌++◌, length, take, drop, map, slice_range, refl, sym, ap, ap₂, ◌∙◌, subst, arith, append_assoc}
 use Rattle.std.proofs.Math.Seq.{drop-length}

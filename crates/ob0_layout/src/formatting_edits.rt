@@ -60,7 +60,7 @@ pub fn format<T: TextStore>(
 }
 
 /// Returns whether a text of `len` bytes has at most `MAX_TEXT_LENGTH` bytes after formatting.
-/// Formatting changes only the gaps `gap_sites`.
+/// `gap_sites` are the gaps that formatting changes.
 fn is_formatted_text_within_limit(gap_sites: &[GapSite], len: usize, indent: Indent) -> bool
     requires length { len ≤ max_text_length }
     requires within { All (GapLiesInText len) gap_sites.now }

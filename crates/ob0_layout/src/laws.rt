@@ -46,8 +46,8 @@ pub fn formatting_is_idempotent()
 {}
 
 /// Proves that replacing the gaps that formatting changes gives the formatted text. Also proves
-/// that the formatted text is UTF-8, and that `length_from_place_with_cuts` computes its length in
-/// bytes.
+/// that the formatted text is UTF-8, and that `length_from_place_with_cuts` computes the formatted
+/// text's length in bytes.
 pub fn replacing_gaps_gives_formatted_text()
     ensures utf8 { (indent : Indent) (s : TextWithTokens) (scan : IsScan s)
         (tree : Tree (List ℕ) module_text)

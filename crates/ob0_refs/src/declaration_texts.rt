@@ -170,9 +170,8 @@ fn declaring_tokens_after_declaration<'r>(names: &'r Resolved<'_>, ordinal: usiz
 }
 
 /// Returns the parameters of a procedure for its hover text, each with its name and the text of its
-/// type. `formals` is the procedure's signature. `following` has the token indexes of the declaring
-/// identifiers after the procedure's name. The first of these identifiers are the parameters'
-/// names.
+/// type. `formals` is the procedure's signature. `following` has the token indexes of the
+/// identifiers that are declared after the procedure's name, the names of the parameters first.
 fn hover_parameters_of_signature<'s>(
     alloc: Global,
     known: &DeclarationTable,

@@ -1,4 +1,5 @@
--- Edits that write a new name at some tokens, or the refusal of a text that would be too long.
+-- Proves that there are edits that write a new name at some tokens, or that the edited text would
+-- be too long.
 use Rattle.std.proofs.Common.{◌≡◌, ◌∙◌, ◌++◌, ◌-◌, ◌<◌, ◌≤◌, ℕ, Bool, true, false, List, [], ◌∷◌, Result, Ok, Err, String, Vec, drop, get_or, length, map, take, inl, refl, ap, subst, sym, arith}
 use Rattle.std.specs.Prelude.{IfErr, nat_lt}
 use Rattle.std.specs.Str.{IsUtf8, chars}

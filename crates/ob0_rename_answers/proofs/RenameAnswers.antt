@@ -1,4 +1,5 @@
--- Each well-typed module has an answer to a request for a rename: the edits, or the refusal.
+-- Proves that a request for a rename has an answer for each well-typed module: the edits, or the
+-- refusal.
 use Rattle.std.proofs.Common.{◌≡◌, ◌∙◌, ℕ, Bool, true, false, if◌then◌else◌, List, [], ◌∷◌, Option, Some, None, Result, Ok, Err, Vec, length, option_and_then, option_map, inl, inr, refl, ap, sym}
 use Rattle.std.specs.Str.{chars}
 use Rattle.std.specs.declared.alloc.Global.{Global}

@@ -1,4 +1,4 @@
--- Assignments and the standard procedures in lowered code.
+-- Proves that lowered assignments and calls of standard procedures are correct code.
 use Rattle.std.proofs.Common.{◌≡◌, ℕ, ◌+◌, ◌≤◌, true, ◌&&◌, List, [], ◌∷◌, ◌++◌, length, take, drop, ℤ, if◌then◌else◌, nat_le, Some, Option, sym, refl, ap, ◌∙◌, subst}
 use Rattle.std.proofs.lemmas.Bool.{le-leb}
 use Rattle.ob0_tree.specs.Tree.{Tree, arguments, assigns, calls, expression, items, maybe, selector}

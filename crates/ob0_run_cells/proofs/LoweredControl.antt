@@ -1,4 +1,4 @@
--- Branches, loops and sequences of lowered code.
+-- Proves that lowered branches, loops and sequences are correct code.
 use Rattle.std.proofs.Common.{◌-◌}
 use Rattle.ob0_tree.specs.Tree.{Tree, branches, else_branch, else_part, elsif_branch, elsif_part, empty, end, expression, statement_after_semicolon, items, maybe, more, none, one, repeat_loop, runs, sequence, statement, semicolon_then_statement, while_loop}
 use Rattle.ob0_language_types.specs.Expressions.{evaluate}

@@ -1,4 +1,4 @@
--- Numbers of lowered code mean the expressions that they mean.
+-- Proves that lowered numbers are correct code for expressions.
 use Rattle.std.proofs.Common.{◌≡◌, ℕ, Bool, true, false, pos, neg_ℤ, Some, None, sym, refl, ap, ◌∙◌}
 use Rattle.ob0_tree.specs.declared.tree.Sign.TheVariants as sign
 use Rattle.ob0_tree.specs.declared.tree.AddOperator.{AddOperator}

@@ -1,4 +1,5 @@
--- Steps of lowered code and of the definition, one after the other.
+-- Proves that two steps with the same outcome, one of lowered code and one of the definition, still
+-- agree if steps with the same outcomes follow them.
 use Rattle.std.proofs.Common.{◌≡◌, ℕ, ◌<◌, ◌+◌, ◌-ℤ◌, ◌+ℤ◌, ◌*ℤ◌, ◌^◌, Bool, true, false, ℤ, pos, if◌then◌else◌, Some, None, Option, option_and_then, sym, refl, ap, ◌∙◌, subst, arith}
 use Rattle.std.proofs.lemmas.Int.{ints}
 use Rattle.std.proofs.Math.Nat.{mod-eq_of_lt}

@@ -1,4 +1,5 @@
--- Places of lowered code mean the designators that they mean, and cells at them the value of those.
+-- Proves that lowered places are correct code for designators, and that the cells at a lowered
+-- place hold the designator's value.
 use Rattle.std.proofs.Common.{◌≡◌, ℕ, zero, suc, ◌+◌, ◌*◌, ◌<◌, ◌%◌, ◌^◌, Bool, true, false, List, [], ◌∷◌, ◌++◌, ℤ, pos, negsuc, if◌then◌else◌, nat_lt, slice_get, Some, None, Option, option_map, option_and_then, unwrap_or, sym, refl, ap, ◌∙◌, subst, subst₂, arith, append_assoc, append-nil}
 use Rattle.std.proofs.Math.Nat.{add_assoc, add_comm, add-zero, add-mod-mod, mod-add-mod}
 use Rattle.std.proofs.lemmas.Option.{get_or_from_slice_get}

@@ -1,4 +1,4 @@
--- Truths of lowered code mean the expressions that they mean.
+-- Proves that lowered truths are correct code for expressions.
 use Rattle.std.proofs.Common.{◌≡◌, Bool, true, false, not, if◌then◌else◌, None, sym, refl, ap, ◌∙◌, subst}
 use Rattle.ob0_tree.specs.declared.tree.Relation.{Relation}
 use Rattle.ob0_tree.specs.declared.tree.Relation.TheVariants as relation

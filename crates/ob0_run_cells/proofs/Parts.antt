@@ -1,4 +1,4 @@
--- Parts of values lie in the cells of their wholes.
+-- Proves that the cells of a part of a value lie in the cells of the whole value.
 use Rattle.std.proofs.Common.{◌≡◌, ℕ, zero, suc, ◌+◌, ◌*◌, ◌<◌, ◌≤◌, true, false, List, [], ◌∷◌, ◌++◌, length, ℤ, if◌then◌else◌, nat_lt, Some, None, option_map, option_and_then, unwrap_or, sym, refl, ap, ◌∙◌, subst, arith, length-append}
 use Rattle.ob0_language_names.specs.Names.{Name, same_name}
 use Rattle.ob0_language_types.specs.Typing.{named_field_shape}

@@ -1,5 +1,6 @@
--- Arguments passed by lowered code, and calls.
--- `Both R`: both outcomes give what R relates, or end alike. `use-both`, `both-then` compose it.
+-- Proves that lowered code passes arguments and makes calls as the module does. `Both R` states
+-- that two outcomes have values that `R` relates, or end the run in the same way. `use-both` and
+-- `both-then` compose it.
 use Rattle.std.proofs.Common.{◌≡◌, ℕ, ◌+◌, ◌≤◌, Bool, List, [], ◌∷◌, ◌++◌, length, take, drop, ℤ, if◌then◌else◌, Some, Option, sym, refl, ap, ◌∙◌, subst, append-nil, append_assoc}
 use Rattle.std.proofs.lemmas.Bool.{le-leb}
 use Rattle.ob0_tree.specs.Tree.{Tree, arguments, calls, expression, items, maybe, selector}

@@ -1,6 +1,7 @@
--- Declarations and parameters of an activation, where lowered code finds them.
--- `Extends`: a frame with more variables, whose cells lie after those before. It composes (`extends-then`), so that
--- declarations and parameters are each one step and the rest.
+-- Proves that lowered code finds the declarations and parameters of an activation at their places.
+-- `Extends` states that a frame has more variables, whose cells follow the cells before. It
+-- composes (`extends-then`), so each declaration and each parameter is one step, followed by the
+-- rest.
 use Rattle.std.proofs.Common.{◌≡◌, ℕ, zero, suc, ◌+◌, true, ◌&&◌, List, [], ◌∷◌, ◌++◌, drop, length, map, replicate, ℤ, pos, slice_index_or, Some, option_and_then, option_map, sym, refl, ap, ◌∙◌, subst, arith, append-nil, append_assoc}
 use Rattle.std.proofs.lemmas.List.{replicate-append-replicate}
 use Rattle.ob0_tree.specs.Tree.{Tree, block, body, constant, declares, declares_constant, declares_type, declares_variable, end, forms_block, items, maybe, more, procedure, type_definition, variable}

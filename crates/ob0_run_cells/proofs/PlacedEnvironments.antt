@@ -1,4 +1,5 @@
--- Placings that fit: names found in them, stores that grow, and what is seen from further in.
+-- Proves laws about placements that match an activation: which place a name has, and that they
+-- still match if the store grows or if an activation one level deeper sees them.
 use Rattle.std.proofs.Common.{◌≡◌, true, false, [], ◌∷◌, ◌++◌, drop, Some, None, sym, refl, ap, ◌∙◌, subst}
 use Rattle.ob0_language_types.specs.Environments.{suffix_from_newest_binding, newest_object}
 use Rattle.ob0_language_types.specs.Expressions.{Object, a_constant, a_procedure, a_standard_procedure, a_type, a_variable}

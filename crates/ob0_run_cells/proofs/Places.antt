@@ -1,4 +1,4 @@
--- What places hold lies in the cells of the store.
+-- Proves that the value at a place lies in the cells of the store, at the place's address.
 use Rattle.std.proofs.Common.{◌≡◌, ℕ, zero, suc, ◌+◌, ◌≤◌, Bool, List, [], ◌∷◌, ◌++◌, length, take, ℤ, slice_get, slice_set, Some, option_map, option_and_then, unwrap_or, sym, refl, ap, ◌∙◌, subst, arith, length-append}
 use Rattle.ob0_language_values.specs.Values.{Place, Shape, PathStep, Store, Value, value_at_path, boolean_shape, integer_shape, number, read_place, truth, with_value_at_path, write_place}
 use Rattle.ob0_language_runs.specs.TypeAgreement.{HasShape, PlaceHasType, StoreHasTypes, StoreTyping, shape_at_step, shape_at_path}

@@ -1,4 +1,5 @@
--- Steps that states of lowered code and of the definition make alike.
+-- Proves that a state of the machine that represents a state of the module still does so after a
+-- step of both.
 use Rattle.std.proofs.Common.{◌≡◌, ℕ, zero, suc, Bool, true, false, List, [], ◌∷◌, ◌++◌, ℤ, slice_set, sym, refl, ap, ◌∙◌, subst}
 use Rattle.std.proofs.lemmas.List.{map-append}
 use Rattle.ob0_language_types.specs.WellTyped.{TypeMeanings}

@@ -1,4 +1,5 @@
--- Variables that begin, are added, and are dropped.
+-- Proves laws about the cells of variables that get their initial values, are added to the store,
+-- or are dropped.
 use Rattle.std.proofs.Common.{◌≡◌, ℕ, zero, suc, ◌+◌, ◌*◌, List, [], ◌∷◌, ◌++◌, length, replicate, take, ℤ, pos, slice_get, Some, option_and_then, option_map, unwrap_or, sym, refl, ap, ◌∙◌, arith, append_assoc, append-nil}
 use Rattle.std.proofs.lemmas.List.{replicate-append-replicate, take_at}
 use Rattle.ob0_language_values.specs.Values.{FieldShapes, Shape, Store, Value, array_shape, copies, initial_value, initial_members, next_field_shape, no_field_shape, record_shape}

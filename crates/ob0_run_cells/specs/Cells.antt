@@ -71,7 +71,7 @@ step_offset (record_shape k fs) (at_field x) = field_offset fs x
 step_offset _ _ = 0
 
 -- Returns the offset of the part at the end of a path, in cells from the start of a value with the
--- type `s`. The steps after one that selects no part are ignored.
+-- type `s`. If a step selects no part, the steps after it are ignored.
 abbrev pub offset : List PathStep → Shape → ℕ
 offset [] s = 0
 offset (step ∷ path) s =

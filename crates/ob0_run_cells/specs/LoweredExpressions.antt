@@ -20,8 +20,8 @@ use Rattle.ob0_run_machine.specs.LoweredSyntax as lowered
 use Rattle.ob0_run_cells.specs.Cells.{address, cells_of_store, store_cell_count}
 
 -- The slot of a variable: where running code finds the variable. A variable is at an offset in the
--- cells of the module or of the activation `up` levels out. A VAR parameter is found by the number
--- of levels out and its index among the VAR parameters.
+-- cells of the module or of the activation `up` levels out. A VAR parameter is found by its index
+-- among the VAR parameters of the activation `up` levels out.
 pub data Slot : Type 0 where
   in_module_activation : (offset : ℕ) → Slot
   in_activation : (up offset : ℕ) → Slot
@@ -137,9 +137,9 @@ PlaceHasOutcome {N} checked slots q s value =
     ≡ (value m >>= (λ p. succeeds_with (address m.typing p))))
     × PlaceOutcomeHasType m.typing s (value m)
 
--- States that the lowered place `q` means a place with values of the type `s` (`PlaceHasOutcome`). Also
--- states that `value` returns the value stored at this place. Both hold at each moment of the
--- checked module (`IsMomentOfModule`).
+-- States that the lowered place `q` is correct code for an evaluation of a place with values of the
+-- type `s` (`PlaceHasOutcome`). Also states that `value` returns the value stored at this place, at
+-- each moment of the checked module (`IsMomentOfModule`).
 abbrev pub PlaceHoldsValue : {N : Type 0}
     → TypeMeanings N
     → (N → Slot)
@@ -212,8 +212,9 @@ RestCompletesChain {N} {A} checked slots Means rest whole =
     × Means so_far
     × ((m : Moment N) → IsMomentOfModule checked slots m → (so_far m >>= rest m) ≡ whole m)
 
--- States that the lowered place `q` is correct code for the first part of a designator. From there,
--- the remaining selectors lead to the place of the whole designator.
+-- States that the lowered place `q` is correct code for the first part of a designator. Starting at
+-- the place of this part, the remaining selectors must lead to the place of the whole designator
+-- (`RestCompletesChain`).
 abbrev pub PlaceStartsChain : {N : Type 0}
     → TypeMeanings N
     → (N → Slot)
@@ -225,8 +226,9 @@ abbrev pub PlaceStartsChain : {N : Type 0}
 PlaceStartsChain checked slots q s rest =
     RestCompletesChain checked slots (PlaceHasOutcome checked slots q s) (outcome_of_remaining_selectors rest)
 
--- States that the lowered number `n` is correct code for the first part of a chain. Given its
--- value, the rest of the chain has the value of the whole chain.
+-- States that the lowered number `n` is correct code for the first part of a chain. The rest of the
+-- chain, given the value of this part, must have the outcome of the whole chain
+-- (`RestCompletesChain`).
 abbrev pub NumberStartsChain : {N : Type 0}
     → TypeMeanings N
     → (N → Slot)
@@ -236,8 +238,9 @@ abbrev pub NumberStartsChain : {N : Type 0}
     → Type 0
 NumberStartsChain checked slots n = RestCompletesChain checked slots (NumberHasOutcome checked slots n)
 
--- States that the lowered truth `t` is correct code for the first part of a chain. Given its value,
--- the rest of the chain has the value of the whole chain.
+-- States that the lowered truth `t` is correct code for the first part of a chain. The rest of the
+-- chain, given the value of this part, must have the outcome of the whole chain
+-- (`RestCompletesChain`).
 abbrev pub TruthStartsChain : {N : Type 0}
     → TypeMeanings N
     → (N → Slot)

@@ -32,7 +32,7 @@ pub record MachineStateRepresentsState (typing : StoreTyping) (low : execution.M
 
 -- States that a run of the machine and a run of the module agree. Both continue, in states that
 -- represent each other, or both have ended with the same end and output. Claims nothing if the
--- number of the machine's cells would have more than 64 bits (`no_room`).
+-- number of the machine's cells doesn't fit in 64 bits (`no_room`).
 abbrev pub MachineProgressRepresentsProgress : StoreTyping → execution.MachineProgress → Progress → Type 0
 MachineProgressRepresentsProgress typing execution.no_room q = Unit {0}
 MachineProgressRepresentsProgress typing (execution.running low) (running s) = MachineStateRepresentsState typing low s
@@ -179,8 +179,8 @@ CodeMeansElsifs checked slots targets bs cs rest last =
     (execution.execute_sequence b.lowered_call_effect t b.levels cs))
     (λ b t. execute_elsifs b.active b.enters t rest (execute_else b.active b.enters t last))
 
--- States that an expression is only a designator of a variable, and that the lowered place `q`
--- finds the place of this designator.
+-- States that an expression consists only of the designator of a variable, and that the lowered
+-- place `q` is correct code for this designator.
 pub record IsLoneDesignatorOfPlace {N : Type 0} (checked : TypeMeanings N) (slots : N → Slot) (q : lowered.Place) (s : Shape)
     (e : Tree N expression) : Type 0 where
   pub name : N

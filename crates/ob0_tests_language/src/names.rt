@@ -31,8 +31,8 @@ pub fn push_name_description(
     push_hover_at(alloc, out, module, offset, span)
 }
 
-/// Appends what a name refers to: a declaration's ordinal, `predeclared`, or a field's record
-/// (the record type's ordinal) and index.
+/// Appends the referent of a name: a declaration's ordinal, `predeclared`, or a field's record (the
+/// record type's ordinal) and index.
 fn push_referent(out: &mut String, of: Of) -> Result<(), AllocError> {
     match of {
         Of::Declared(ordinal) => push_number(out, "", ordinal),
@@ -126,8 +126,8 @@ pub fn push_all_hovers(
     Ok(())
 }
 
-/// Appends the hover text at the start of `span` and a bar. Returns whether there is such a text;
-/// if not, appends nothing.
+/// Appends the hover text at the start of `span`, and then a bar. Returns true if there is a hover
+/// text. Otherwise appends nothing and returns false.
 fn push_hover_if_any(
     alloc: Global,
     out: &mut String,

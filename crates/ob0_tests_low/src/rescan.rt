@@ -34,7 +34,7 @@ type ChangeInContext = (&'static str, &'static str, &'static str, &'static str);
 
 enum RescanCase {
     ChangeInShortText(ChangeInContext, RescanOutcome),
-    /// A change with 5,000 more statements before it and 5,000 more after it.
+    /// A change that has 5,000 more statements before it and 5,000 more after it.
     ChangeInLongText(ChangeInContext, RescanOutcome),
 }
 

@@ -12,7 +12,7 @@ use std::alloc::{AllocError, Global};
 /// `AboutOtherDocument`.
 #[derive(Clone, Copy)]
 pub enum ShortEvent {
-    /// This event, but about another document, `v`.
+    /// The given event, about the document `v` instead of `u`.
     AboutOtherDocument(&'static ShortEvent),
     Open(&'static str),
     /// A change notification without changes.

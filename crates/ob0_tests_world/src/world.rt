@@ -59,8 +59,8 @@ fn are_first_publications(found: &[Made], wanted: &[(i64, &str, bool)]) -> bool 
     true
 }
 
-/// Returns the outcome of a story's first events, `steps` in number. If their edits and
-/// publications aren't the first ones that the story expects, returns `UNEXPECTED_OUTCOME`.
+/// Returns the outcome of a story's first `steps` events. Returns `UNEXPECTED_OUTCOME` if their
+/// edits or their publications aren't a prefix of the list that the story expects.
 fn outcome_of_first_events(
     story: &Story,
     steps_result: StepsResult,
@@ -140,7 +140,7 @@ fn play_story(alloc: Global, story: &Story, events: &[Event]) -> StoryOutcome {
 }
 
 /// Runs a story, and returns the outcome. If an allocation fails at an event, the outcome's numbers
-/// count only what happened before that event.
+/// count only the events, edits and publications before it.
 fn run_story(alloc: Global, story: &Story, manner: StoryMode) -> StoryOutcome {
     match build_events_with_retry(alloc, story) {
         Ok(events) => match manner {
