@@ -1,10 +1,9 @@
 -- The faults of a module's declarations and bodies, in the order in which they are reported: text
--- order. A declaration is known in the text after it. A procedure is known in its own block and in
--- the text after that. The statements of a block's body are walked only if the block's closing name
--- passes a test. The walk lists the closing names of the walked bodies in which a fault is
--- reported. If every closing name passes the test, all faults of the module's declarations and
--- bodies are reported.
--- Rule: docs/LANGUAGE.md, Faults of scopes and types 2 to 11.
+-- order. A declaration is known in the text after it. A procedure is known in its own block and
+-- after it. The statements of a block's body are walked only if the block's closing name passes a
+-- test. The walk lists the closing names of the walked bodies in which a fault is reported. If
+-- every closing name passes the test, all faults of the module's declarations and bodies are
+-- reported. Rule: docs/LANGUAGE.md, Faults of scopes and types 2 to 11.
 use Rattle.std.specs.Prelude.{ℕ, Bool, true, false, List, [], ◌∷◌, ◌++◌, map}
 use Rattle.std.specs.List.{filter}
 use Rattle.ob0_language_names.specs.BlockParts.{formal_parameter_sections, module_block, names_in_list, section_constants, section_types, section_variables}
@@ -159,8 +158,8 @@ unfoldable mutual
 
   -- Returns the state of the walk after a block, and the faults of the block. The faults of its
   -- constants, types, variables and procedures come first, and then the faults of its statements.
-  -- The statements are walked only if the block's closing name `own` passes the test `wanted`. The
-  -- same holds for the blocks of the procedures.
+  -- The statements are walked only if the block's closing name `own` passes the test `wanted`, and
+  -- the statements of its procedures only if their closing names pass it.
   pub report_on_block : (ℕ → Bool) → ℕ → WalkProgress → Tree ℕ block → ResultWithFaults WalkProgress
   report_on_block wanted own w (forms_block (declares cs ts vs ps) statements) = do
     with_constants ← report_on_constant_declarations w.so_far (section_constants cs)
@@ -197,7 +196,8 @@ report_on_module wanted r =
 abbrev pub includes_every_body : ℕ → Bool
 includes_every_body closing = true
 
--- returns the faults at the undeclared names of a module, in text order, and then the module's faults of types
+-- returns the faults at the undeclared names of a module, in text order, and then the module's type
+-- faults
 unfoldable pub undeclared_name_and_type_faults : Resolution → List FaultAtTokens
 unfolding report_on_block
 undeclared_name_and_type_faults r = filter is_undeclared_fault r.faults ++ (report_on_module includes_every_body r).faults

@@ -42,13 +42,13 @@ pub fn types_agree_with_shapes_if_table_does()
     ensures { TypesAgreeWithShapesIfTableDoes }
 {}
 
-/// Proves that a module passes the type check if no fault of types and no undeclared name is
-/// reported for it. The type check ignores duplicate declarations and wrong closing names.
+/// Proves that a module passes the type check if no type fault and no undeclared name is reported
+/// for it. The type check ignores duplicate declarations and wrong closing names.
 pub fn modules_without_fault_pass_type_check()
     ensures { ModulesWithoutFaultPassTypeCheck }
 {}
 
-/// Proves that a walk that reports nothing finds correct meanings. If no fault of types and no
+/// Proves that a walk that reports nothing finds correct meanings. If no type fault and no
 /// undeclared name is reported for a module, the walk has found the right meaning of each
 /// declaration (`KnownDeclarationsAgreeWithModule`).
 pub fn walk_without_fault_finds_correct_meanings()
@@ -95,8 +95,8 @@ pub fn typed_modules_have_bound_names()
     ensures { TypedModulesHaveBoundNames }
 {}
 
-/// Proves that no fault of types and no undeclared name is reported for a module that passes the
-/// type check.
+/// Proves that no type fault and no undeclared name is reported for a module that passes the type
+/// check.
 pub fn typed_modules_have_no_fault()
     ensures { TypedModulesHaveNoFault }
 {}
