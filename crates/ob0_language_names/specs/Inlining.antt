@@ -114,7 +114,8 @@ abbrev pub constant_list_without_constant : ℕ → ℕ → Tree Name (items con
 constant_list_without_constant d k end = end
 constant_list_without_constant d k (more c cs) = if k == d then cs else more c (constant_list_without_constant d (suc k) cs)
 
--- returns a CONST section without the constant with ordinal `d`; `k` is the ordinal of the section's first constant
+-- returns an optional CONST section without the constant with ordinal `d`; `k` is the ordinal of
+-- the section's first constant
 abbrev pub section_without_constant : ℕ → ℕ → Tree Name (maybe constants) → Tree Name (maybe constants)
 section_without_constant d k none = none
 section_without_constant d k (one (declares_const_section cs)) = one (declares_const_section (constant_list_without_constant d k cs))

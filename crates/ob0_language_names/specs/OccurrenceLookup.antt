@@ -1,13 +1,12 @@
--- The declaration to which a name would be bound if the name replaced an occurrence of another
--- name.
--- Rule: docs/PROTOCOL.md, Refusals of edits (Shadowed).
+-- Finds the declaration to which a name would be bound if the name replaced an occurrence of
+-- another name. Rule: docs/PROTOCOL.md, Refusals of edits (Shadowed).
 use Rattle.std.specs.Prelude.{List, Option, map, option_and_then, slice_get, ℕ}
 use Rattle.ob0_tree.specs.Tree.{Tree, module_text, occurrences}
 use Rattle.ob0_language_names.specs.Names.{Name, Naming, predeclared_name, same_name}
 use Rattle.ob0_language_names.specs.Occurrences.{label_ordinal}
 use Rattle.ob0_language_names.specs.Scopes.{label_from_ordinal, relabel_module}
 
--- returns the interpretation of names that treats each looked-up name as the name `y`
+-- returns the interpretation of names that looks up the name `y` in place of each looked-up name
 abbrev pub naming_that_looks_up_one_name : Name → Naming Name
 naming_that_looks_up_one_name y = record { same = λ x. same_name y; written = λ x. x; predeclared = predeclared_name }
 

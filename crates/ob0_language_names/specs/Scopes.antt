@@ -34,8 +34,7 @@ abbrev pub predeclared_scope : {N : Type 0} → Naming N → Scope N
 predeclared_scope naming =
     declare_names 0 (map naming.predeclared (0 ∷ 1 ∷ 2 ∷ 3 ∷ 4 ∷ 5 ∷ 6 ∷ [])) []
 
--- returns the ordinal of the next declaration after these names, if the names' ordinals count up
--- from `k`
+-- returns the ordinal of the first declaration after these names, whose ordinals count up from `k`
 abbrev pub ordinal_after_names : {N : Type 0} → ℕ → List N → ℕ
 ordinal_after_names k [] = k
 ordinal_after_names k (x ∷ xs) = ordinal_after_names (suc k) xs
@@ -133,8 +132,8 @@ relabel_types naming label scope k (more (declares_type x t) ds) =
     more (declares_type (label (Some k) x) (relabel_uses naming label scope t))
     (relabel_types naming label ((x, k) ∷ scope) (suc k) ds)
 
--- returns declarations of variables with labels instead of names; the variables' ordinals count up from `k`, and each
--- variable is visible only after its own declaration
+-- returns declarations of variables with labels instead of names; the variables' ordinals count up
+-- from `k`, and the variables of a group are visible only after the group
 abbrev pub relabel_variables : {N M : Type 0}
     → Naming N
     → Labelling N M
@@ -161,7 +160,7 @@ relabel_parameter_section naming label scope k (value_section ns t) =
 relabel_parameter_section naming label scope k (variable_section ns t) =
     variable_section (relabel_names label k ns) (relabel_uses naming label scope t)
 
--- returns the sections of parameters after the first section, with labels instead of names; the parameters' ordinals
+-- returns a list of sections of parameters with labels instead of names; the parameters' ordinals
 -- count up from `k`, and each parameter is visible only after its own section
 abbrev pub relabel_parameter_section_list : {N M : Type 0}
     → Naming N

@@ -1,7 +1,6 @@
 -- The bindings that all declarations of a module make, newest first. A binding has a name and an
--- object. The object results from checking the declaration in the environment that precedes the
--- declaration.
--- Rule: docs/LANGUAGE.md, Scopes 2 to 4.
+-- object. The object is what the declaration means in the environment before it. Rule:
+-- docs/LANGUAGE.md, Scopes 2 to 4.
 use Rattle.std.specs.Prelude.{ℕ, ◌+◌, ◌-◌, List, [], ◌++◌, length, take, Some, None, Option}
 use Rattle.ob0_tree.specs.Tree.{Tree, block, declares, declares_procedure, end, forms_block, item, items, module_text, more, procedure}
 use Rattle.ob0_language_names.specs.Names.{Label, Name, Naming, naming_by_label, declared}
@@ -60,10 +59,9 @@ unfoldable mutual
       (k + procedure_constructor_count p) rest
       ++ procedure_bindings naming env k p)
 
-  -- Returns the bindings of a procedure: first the bindings of its block, then of its parameters,
-  -- then of its name. The procedure's array and record types are numbered from `k`, the count of
-  -- words ARRAY and RECORD before the procedure. Returns an empty list if a parameter's type has an
-  -- error.
+  -- Returns the bindings of a procedure: first those of its block, then its parameters, then its
+  -- name. The procedure's array and record types are numbered from `k`, the count of words ARRAY
+  -- and RECORD before the procedure. Returns an empty list if a parameter's type has an error.
   pub procedure_bindings : {N : Type 0}
       → Naming N
       → TypeEnvironment N

@@ -1,7 +1,6 @@
--- The environments after declarations of constants and types, both in the checker and in a run.
--- Also counts of the words ARRAY and RECORD in declarations, by which array and record types are
--- numbered.
--- Rule: docs/LANGUAGE.md, Scopes 2, Types 1.
+-- The environments after declarations of constants and types, both in the checker and in a run, and
+-- the numbers of words ARRAY and RECORD in declarations. Array and record types are numbered by
+-- these words. Rule: docs/LANGUAGE.md, Scopes 2, Types 1.
 use Rattle.std.specs.Prelude.{ℕ, ◌+◌, ◌∷◌, Some, Option}
 use Rattle.ob0_tree.specs.Tree.{Tree, block, constant, declares, declares_constant, declares_procedure, declares_type, declares_variable, end, section_after_semicolon, forms_block, item, items, more, procedure, semicolon_then_section, type_definition, variable}
 use Rattle.ob0_language_names.specs.Names.{Naming}

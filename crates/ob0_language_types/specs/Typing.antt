@@ -16,8 +16,6 @@ use Rattle.ob0_language_names.specs.BlockParts.{names_in_list}
 use Rattle.ob0_language_types.specs.Expressions.{Meanings, Object, a_constant, a_type, a_variable, evaluate}
 use Rattle.ob0_language_values.specs.Values.{FieldShapes, Outcome, Shape, Value, array_shape, boolean_shape, ends_run_with, succeeds_with, integer_shape, next_field_shape, no_field_shape, number, record_shape, truth}
 
--- applies the function on the right to the optional value on the left; None if there is no value or the function
--- returns None
 infixl 20 ◌>>=◌
 -- applies the function `next` to an optional value; None if there is no value or the function
 -- returns None
@@ -171,7 +169,7 @@ value_of_constant_object (Some (a_constant v)) = Some v
 value_of_constant_object _ = None
 
 -- Returns the meanings of names in constant expressions. The names of constants keep their meaning.
--- Any other name means nothing, because a constant expression may contain no other names.
+-- Any other name has no meaning, because a constant expression may only contain names of constants.
 abbrev pub meanings_in_constant_expressions : {N V P W Q : Type 0} → Meanings N V P → Meanings N W Q
 meanings_in_constant_expressions meaning =
     record {
@@ -185,8 +183,8 @@ abbrev pub outcome_value : Outcome Value → Option Value
 outcome_value (succeeds_with v) = Some v
 outcome_value (ends_run_with e) = None
 
--- Returns the value of a constant expression, in which only the names of constants have a meaning. Returns None if the
--- expression has no type or its evaluation ends with a fault.
+-- Returns the value of a constant expression, in which only the names of constants have a meaning.
+-- Returns None if the expression has no type or its evaluation ends the run.
 unfoldable pub constant_expression_value : {N V P : Type 0} → Meanings N V P → Tree N expression → Option Value
 unfolding type_of_expression evaluate
 constant_expression_value meaning e = do
@@ -266,7 +264,7 @@ abbrev mutual
   later_groups_constructor_count end = 0
   later_groups_constructor_count (more (semicolon_then_fields g) rest) = group_constructor_count g + later_groups_constructor_count rest
 
--- returns the type `s` of the object `a_type s`, which is a type; None for any other object
+-- returns the type `s` if the object is the type `s` (`a_type s`); None for any other object
 abbrev pub type_of_type_object : {V P : Type 0} → Option (Object V P) → Option Shape
 type_of_type_object (Some (a_type s)) = Some s
 type_of_type_object _ = None

@@ -15,8 +15,8 @@ use Rattle.ob0_language_values.specs.Values.{FieldShapes, Shape, array_shape, bo
 -- Returns whether two types are equal.
 abbrev mutual
   -- Returns whether two types are equal. Scalar types are equal if both are INTEGER or both are
-  -- BOOLEAN. Array and record types are equal if both come from the same ARRAY or RECORD of the
-  -- text and their parts are equal.
+  -- BOOLEAN. Array types, and record types, are equal if both come from the same word ARRAY or
+  -- RECORD of the text and their parts are equal.
   pub same_shape : Shape → Shape → Bool
   same_shape integer_shape integer_shape = true
   same_shape boolean_shape boolean_shape = true
