@@ -72,9 +72,8 @@ Labelling N M = Option ℕ → N → M
 abbrev pub label_in_scope : {N M : Type 0} → Naming N → Labelling N M → Scope N → N → M
 label_in_scope naming label scope x = label (ordinal_in_scope naming scope x) x
 
--- Returns an expression, statements or a type as it is written, with labels instead of names. The
--- names in such a tree are looked up in `scope`. The names of fields aren't looked up: they get the
--- labels of unbound names.
+-- Returns an expression, statements or a written type, with labels instead of names. Its names are
+-- looked up in `scope`. The names of fields aren't looked up: they get the labels of unbound names.
 abbrev pub relabel_uses : {N M : Type 0} {s : Sort}
     → Naming N
     → Labelling N M

@@ -13,7 +13,8 @@ use Rattle.ob0_types_check.specs.OperandFaults.{without_fault, previous_token_in
 use Rattle.ob0_types_check.specs.KnownDeclarations.{TypeSize, KnownDeclarations, TypeWithFollowingDeclarations, KnownField, facts_from_declarations, make_composite_type, zero_size, of_elements, of_fields, size_of_known_type}
 use Rattle.ob0_types_check.specs.TypeFaults.{length_from_operand, type_named_by_token}
 
--- returns the size of an array of `n` elements that each have this size
+-- returns the size of an array of `n` elements that each have this size: `n` times the scalars, and
+-- one level more
 abbrev pub array_size : ℕ → TypeSize → TypeSize
 array_size n z = record { scalars = z.scalars * n; depth = z.depth + 1 }
 
@@ -26,8 +27,8 @@ next_type_ordinal around p = length p.made + around
 
 -- Makes an array type, given the ordinal of its word ARRAY, the operand and value of its length,
 -- and its element type. If the length has a fault (None), the result is the unknown type. If the
--- array is too large, `TypeTooLarge` is reported at the word ARRAY, which is the token before the
--- length.
+-- array is too large, the result is also the unknown type, and `TypeTooLarge` is reported at the
+-- word ARRAY, which is the token before the length.
 abbrev pub made_array_type : ℕ → Operand TypeId → Option ℕ → TypeWithFollowingDeclarations → ResultWithFaults TypeWithFollowingDeclarations
 made_array_type ordinal o None element =
     without_fault (record { of = type.Unknown; following = element.following })
@@ -70,7 +71,8 @@ abbrev pub append_field_group : KnownFields → List ℕ → TypeWithFollowingDe
 append_field_group g xs t =
     append_known_fields t.of (record { fields = g.fields; size = g.size; following = t.following }) xs
 
--- returns the size of a record, which has at least one scalar
+-- returns the size of a record whose fields together have this size: at least one scalar, and one
+-- level more
 abbrev pub record_size : TypeSize → TypeSize
 record_size z = record { scalars = max z.scalars 1; depth = z.depth + 1 }
 

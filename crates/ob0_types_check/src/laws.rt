@@ -102,8 +102,9 @@ pub fn typed_modules_have_no_fault()
 {}
 
 /// Proves that, after a change of a module's text, a walk over only some bodies gives the same
-/// report as a walk over all bodies. The walked bodies must include every body whose tokens changed
-/// and every body that had a fault before the change.
+/// report as a walk over all bodies. The change must keep the module's tree and the number of
+/// tokens. The walked bodies must include every body whose tokens changed and every body that had a
+/// fault before the change.
 pub fn walking_changed_and_faulty_bodies_suffices()
     ensures { WalkingChangedAndFaultyBodiesSuffices }
 {}

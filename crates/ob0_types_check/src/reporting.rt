@@ -18,7 +18,7 @@
 //! the `ResultWithFaults` of the definitions, and `x` is the value that the function returns. The
 //! clause states that `x` is the result of `t`, and that the list `after` is the list `before`
 //! followed by the faults of `t`. One walk over an expression finds its operand: its type, its
-//! value if it is constant, whether it may be a variable, and its first and last token.
+//! value if constants determine one, whether it may be a variable, and its first and last token.
 //!
 //! The definitions work over any representation of types that has an unknown type (`Types`). One
 //! such representation is the code's `TypeId`, which refers to array and record types by their
@@ -135,10 +135,11 @@ pub fn module_report<'t>(
     module_report_walking_wanted_bodies(alloc, resolved, &includes_every_body)
 }
 
-/// Returns the report of a module after a change. The report is the same as `module_report`
-/// returns, but only the declarations and the bodies in the list `bodies` are walked. Each body in
-/// the list is given by the token of its block's closing name. The list must include every body
-/// that changed and every body that had a type fault before the change.
+/// Returns the same report as `module_report`, after a change of the module's text, but walks only
+/// the declarations and the bodies in the list `bodies`. Each body in the list is given by the
+/// token of its block's closing name. The change must keep the module's tree and the number of
+/// tokens. The list must include every body whose tokens changed and every body that had a type
+/// fault before the change.
 pub fn module_report_walking_some_bodies<'t>(
     alloc: Global,
     resolved: &'t Resolved<'t>,

@@ -583,9 +583,9 @@ impl<'t> CheckerState<'t> {
         Ok(base.operand_with_selector(of, self.next_token_index(index.last)))
     }
 
-    /// Returns the element type of the array type `base`, and reports `NotArray` if `base` is known
-    /// and isn't an array. The result is the unknown type if `base` isn't an array or `index_type`
-    /// isn't INTEGER.
+    /// Returns the element type of the array type `base`. Reports `NotArray` at the `[` before
+    /// `index` if `base` is known and isn't an array type. Returns the unknown type if `base` isn't
+    /// an array type or `index_type` isn't INTEGER.
     fn array_element_type(
         &self,
         faults: &mut Vec<FaultAtTokens>,

@@ -291,10 +291,10 @@ impl<'t> CheckerState<'t> {
         Ok(())
     }
 
-    /// Reports a fault if an argument doesn't fit its formal parameter. `operand` is the result of
-    /// checking the argument. An argument for a VAR parameter must be a variable, and every
-    /// argument must have its parameter's type. Returns the parameter's type if the argument has it
-    /// and nothing is reported, otherwise the unknown type.
+    /// Reports a fault if an argument, given its operand, doesn't fit its formal parameter. Reports
+    /// `NotVariable` if a VAR parameter gets an argument that can't be a variable, otherwise
+    /// `TypeMismatch` if both types are known and differ. Returns the parameter's type if the
+    /// argument has it and nothing is reported, otherwise the unknown type.
     fn check_argument_operand(
         &self,
         faults: &mut Vec<FaultAtTokens>,

@@ -213,9 +213,11 @@ impl<'t> ReportingWalk<'t> {
         self.make_array_type(ordinal, size, length, element)
     }
 
-    /// Makes an array type and returns it. `size` is the operand of the length's expression. If the
-    /// length has a fault (`length` is None), returns the unknown type. If the type is too large,
-    /// reports `TypeTooLarge` at the word ARRAY, the token before the length.
+    /// Makes an array type and returns it. `size` is the operand of the length's expression.
+    /// `ordinal` counts the words ARRAY and RECORD before the type's own word ARRAY, which is the
+    /// token before the length. If the length has a fault (`length` is None), returns the unknown
+    /// type. If the type is too large, reports `TypeTooLarge` at the word ARRAY and returns the
+    /// unknown type.
     fn make_array_type(
         &mut self,
         ordinal: usize,
