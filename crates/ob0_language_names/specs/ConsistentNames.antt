@@ -78,9 +78,9 @@ formals_have_distinct_fields (more (semicolon_then_section s) fs) = has_distinct
 -- each procedure's closing name equals the procedure's name. A procedure's parameters and locals
 -- count as one block.
 abbrev mutual
-  -- Returns true if the block and each block inside it declare distinct names, each record inside
-  -- has distinct field names, and each procedure inside has the right closing name. If this is a
-  -- procedure's block, `own` has the names of the parameters, which count as names of the block.
+  -- Returns true if three things hold: the block and each block inside it declare distinct names,
+  -- each record has distinct field names, and each procedure has the right closing name. If this is
+  -- a procedure's block, `own` has the names of the parameters, which count as names of the block.
   pub block_has_consistent_names : List Name → Tree Name block → Bool
   block_has_consistent_names own (forms_block (declares cs ts vs ps) statements) =
       are_distinct (own ++ names_declared_in_block (forms_block (declares cs ts vs ps) statements))

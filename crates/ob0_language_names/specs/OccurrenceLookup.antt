@@ -20,7 +20,7 @@ resolve_name_at_occurrence m occurrence y =
 
 -- Returns an entry for each occurrence of a name, in text order. The entry is the ordinal of the
 -- declaration to which the name `y` would be bound if `y` replaced the occurrence. The entry is
--- None if `y` would be unbound there.
+-- None if `y` would be unbound at this occurrence.
 abbrev pub resolve_name_at_each_occurrence : Tree Name module_text → Name → List (Option ℕ)
 resolve_name_at_each_occurrence m y =
     map label_ordinal (occurrences (relabel_module (naming_that_looks_up_one_name y) (label_from_ordinal (naming_that_looks_up_one_name y)) m))

@@ -1,5 +1,5 @@
 -- The bindings that all declarations of a module make, newest first. A binding has a name and an
--- object. The object is what the declaration means in the environment before it. Rule:
+-- object. The object is the declaration's meaning in the environment before it. Rule:
 -- docs/LANGUAGE.md, Scopes 2 to 4.
 use Rattle.std.specs.Prelude.{ℕ, ◌+◌, ◌-◌, List, [], ◌++◌, length, take, Some, None, Option}
 use Rattle.ob0_tree.specs.Tree.{Tree, block, declares, declares_procedure, end, forms_block, item, items, module_text, more, procedure}
@@ -59,9 +59,10 @@ unfoldable mutual
       (k + procedure_constructor_count p) rest
       ++ procedure_bindings naming env k p)
 
-  -- Returns the bindings of a procedure: first those of its block, then its parameters, then its
-  -- name. The procedure's array and record types are numbered from `k`, the count of words ARRAY
-  -- and RECORD before the procedure. Returns an empty list if a parameter's type has an error.
+  -- Returns the bindings of a procedure: first the bindings of its block, then of its parameters,
+  -- then of its name. The procedure's array and record types are numbered from `k`, the count of
+  -- words ARRAY and RECORD before the procedure. Returns an empty list if a parameter's type has an
+  -- error.
   pub procedure_bindings : {N : Type 0}
       → Naming N
       → TypeEnvironment N
@@ -85,7 +86,7 @@ object_of_ordinal bindings k = newest_object (suffix_from_newest_binding naming_
 
 -- Returns the object of the declaration with ordinal `k`. A declaration's ordinal is its number in
 -- text order, after the predeclared names 0 to 6. Looks for `k` in the bindings of the numbered
--- tree, in which ordinals replace names. Returns None if `k` has no binding there.
+-- tree, in which ordinals replace names. Returns None if these bindings don't contain `k`.
 abbrev pub declared_object : Tree Name module_text → ℕ → Option (Object Shape Signature)
 declared_object m k = object_of_ordinal (module_bindings naming_by_label (numbered m)) k
 

@@ -28,16 +28,16 @@ Is32BitScalar (truth b) = Unit {0}
 Is32BitScalar (elements vs) = ⊥
 Is32BitScalar (members k ms) = ⊥
 
--- States that TRUE or FALSE, the word for the given truth value, would be bound to the predeclared
--- constant if it replaced the name at the occurrence with number `occurrence`. Occurrences of names
--- are numbered from 0 in text order. States nothing for a value that isn't a truth value.
+-- States that the word for a truth value, TRUE or FALSE, would be bound to the predeclared constant
+-- if it replaced an occurrence of a name. `occurrence` is the occurrence's number, counted from 0
+-- in text order. States nothing for a value that isn't a truth value.
 abbrev pub TruthWordMeansPredeclared : Tree Name module_text → ℕ → Value → Type 0
 TruthWordMeansPredeclared m occurrence (truth true) = resolve_name_at_occurrence m occurrence (codes "TRUE") ≡ Some 2
 TruthWordMeansPredeclared m occurrence (truth false) = resolve_name_at_occurrence m occurrence (codes "FALSE") ≡ Some 3
 TruthWordMeansPredeclared m occurrence _ = Unit {0}
 
--- States that a CONST section declares a constant with ordinal `d`, that its value `w` is a 32-bit
--- number or a truth value, and that the factor `v` is the literal for this value.
+-- States that a CONST section declares a constant with ordinal `d` and the value `w`. The value
+-- must be a 32-bit number or a truth value, and the factor `v` must be its literal.
 pub record IsConstantWithLiteral
     (m : Tree Name module_text) (d : ℕ) (w : Value) (v : Tree Name factor) : Type 0 where
   pub value : constant_value_in_module m d ≡ Some w

@@ -26,8 +26,8 @@ pub record Meanings (N V P : Type 0) : Type 0 where
   pub written : N → Name
 
 -- Returns the step of a path (`at_index`) that leads from an array to its element at an index.
--- Returns the end Index if the index is below 0 or not below the array's length, and the end Stuck
--- if the two values aren't an array and a number.
+-- Returns the end Index if the index is below 0 or not below the array's length. Returns the end
+-- Stuck if the values aren't an array and a number.
 abbrev pub element_step : Value → Value → Outcome PathStep
 element_step (elements vs) (number (pos i)) =
     if nat_lt i (count_values vs) then succeeds_with (at_index i) else ends_run_with Index

@@ -1,6 +1,6 @@
--- Laws about numbering a module and about inlining a constant: what they leave unchanged in the
--- type check and in evaluation. In a module's numbered tree (`numbered`), each bound name is
--- replaced by the ordinal of its declaration. Rule: none; states laws about types.
+-- Laws about the type check, the values of constants, and evaluation. Numbering a module or
+-- inlining a constant leaves them unchanged. In a module's numbered tree (`numbered`), each bound
+-- name is replaced by the ordinal of its declaration. Rule: none; states laws about types.
 use Rattle.std.specs.Prelude.{◌≡◌, ℕ, suc, true, ◌↔◌, List, [], ◌∷◌, IsTrue, Some}
 use Rattle.ob0_tree.specs.Tree.{Tree, expression, factor, module_text, occurrences}
 use Rattle.ob0_language_names.specs.Inlining.{OccurrenceSet, inline_in_tree}

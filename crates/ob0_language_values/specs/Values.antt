@@ -140,8 +140,8 @@ apply_relation relation.Equal (truth a) (truth b) = succeeds_with (truth (same_t
 apply_relation relation.NotEqual (truth a) (truth b) = succeeds_with (truth (not (same_truth a b)))
 apply_relation _ _ _ = ends_run_with Stuck
 
--- returns the value with an optional sign applied; the end Overflow if a number with its sign
--- doesn't fit in 32 bits, the end Stuck if there is a sign and the value isn't a number
+-- Returns the value with an optional sign applied. If there is a sign, returns the end Overflow if
+-- the result doesn't fit in 32 bits, and the end Stuck if the value isn't a number.
 abbrev pub apply_sign : Option Sign → Value → Outcome Value
 apply_sign None v = succeeds_with v
 apply_sign (Some sign.Plus) (number a) = checked_number a

@@ -158,8 +158,8 @@ unfoldable mutual
 
   -- Returns the state of the walk after a block, and the faults of the block. The faults of its
   -- constants, types, variables and procedures come first, and then the faults of its statements.
-  -- The statements are walked only if the block's closing name `own` passes the test `wanted`, and
-  -- the statements of its procedures only if their closing names pass it.
+  -- The statements are walked only if the block's closing name `own` passes the test `wanted`. The
+  -- statements of a procedure are walked only if the procedure's closing name passes it.
   pub report_on_block : (ℕ → Bool) → ℕ → WalkProgress → Tree ℕ block → ResultWithFaults WalkProgress
   report_on_block wanted own w (forms_block (declares cs ts vs ps) statements) = do
     with_constants ← report_on_constant_declarations w.so_far (section_constants cs)

@@ -49,8 +49,8 @@ report_on_assignment_target facts x path = do
   t ← target_name_type facts x
   report_on_selectors facts (typed_name_operand t x) path
 
--- returns the faults of the assignment of `e` to a checked target: first the target's faults, then
--- those of the right side `e`, which must have the target's type
+-- Returns the faults of an assignment: first the faults of its target, then the faults of its right
+-- side `e`. The right side must have the target's type.
 abbrev pub assignment_faults : {T : Type 0}
     → Facts T
     → ResultWithFaults (Operand T)

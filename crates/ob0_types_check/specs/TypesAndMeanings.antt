@@ -47,9 +47,9 @@ pub record Facts (T : Type 0) : Type 0 where
   pub only_constants : Bool
 
 -- The result of checking an expression: its type (`of`), its value, and its first and last token.
--- The value is what constants give to the expression, or None if they give none. `FALSE & x` has a
--- value even if `x` is a variable or has a fault. `may_be_variable` is true if the expression is
--- only a name with its selectors, if any, and the name isn't a constant's.
+-- The value is None if constants don't determine it. In `FALSE & x` they do, even if `x` is a
+-- variable or has a fault. `may_be_variable` is true if the expression is only a name with its
+-- selectors, if any, and the name isn't a constant's.
 pub record Operand (T : Type 0) : Type 0 where
   pub of : T
   pub value : Option Value

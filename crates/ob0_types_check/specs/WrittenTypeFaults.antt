@@ -19,16 +19,16 @@ abbrev pub array_size : ℕ → TypeSize → TypeSize
 array_size n z = record { scalars = z.scalars * n; depth = z.depth + 1 }
 
 -- Returns the number of array and record types made so far plus `around`, the number of types that
--- enclose the next word ARRAY or RECORD. Each such word makes one type, and inner types are made
--- first. So, if nothing is reported, this sum is the ordinal of the next word: the number of words
--- ARRAY and RECORD before it in the text.
+-- enclose the next word ARRAY or RECORD. Each of these words makes one type, and inner types are
+-- made first. So, if nothing is reported, this sum is the ordinal of the next word: the number of
+-- words ARRAY and RECORD before it in the text.
 abbrev pub next_type_ordinal : ℕ → KnownDeclarations → ℕ
 next_type_ordinal around p = length p.made + around
 
 -- Makes an array type, given the ordinal of its word ARRAY, the operand and value of its length,
 -- and its element type. If the length has a fault (None), the result is the unknown type. If the
--- array is too large, the result is also the unknown type, and `TypeTooLarge` is reported at the
--- word ARRAY, which is the token before the length.
+-- array is too large, `TypeTooLarge` is reported at the word ARRAY, the token before the length,
+-- and the result is the unknown type.
 abbrev pub made_array_type : ℕ → Operand TypeId → Option ℕ → TypeWithFollowingDeclarations → ResultWithFaults TypeWithFollowingDeclarations
 made_array_type ordinal o None element =
     without_fault (record { of = type.Unknown; following = element.following })

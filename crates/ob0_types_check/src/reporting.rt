@@ -12,13 +12,13 @@
 //!
 //! The definitions give the faults of each production of the grammar, in order, with codes and
 //! tokens. They also give the result of the production, for example the type of an expression. A
-//! `ResultWithFaults` is such a result with its faults. The operator `>>=` puts the faults of one
+//! `ResultWithFaults` has this result and the faults. The operator `>>=` puts the faults of one
 //! step before the faults of the next step. Statements have faults but no result. The contract of a
 //! function that returns a value has one clause, `ReturnsAndReports before after x t`. Here `t` is
 //! the `ResultWithFaults` of the definitions, and `x` is the value that the function returns. The
 //! clause states that `x` is the result of `t`, and that the list `after` is the list `before`
-//! followed by the faults of `t`. One walk over an expression finds its operand: its type, its
-//! value if constants determine one, whether it may be a variable, and its first and last token.
+//! followed by the faults of `t`. One walk over an expression finds its `Operand`: its type, its
+//! value if constants determine one, whether it may be a variable, and its tokens.
 //!
 //! The definitions work over any representation of types that has an unknown type (`Types`). One
 //! such representation is the code's `TypeId`, which refers to array and record types by their
@@ -59,7 +59,7 @@
 //! text is long enough for this.
 //!
 //! The faults at undeclared names are copied from the faults that were found when the names were
-//! bound (`Resolved::faults`). The walk itself reports nothing at such a name.
+//! bound (`Resolved::faults`). The walk itself reports nothing at an undeclared name.
 
 mod checker_state;
 mod declarations;

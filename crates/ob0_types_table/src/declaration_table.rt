@@ -157,7 +157,7 @@ impl DeclarationTable {
     }
 
     /// Returns the number of declarations in the table, including the predeclared names. The
-    /// ordinals of the declarations are the numbers from 0 up to, but not including, this number.
+    /// ordinals of the declarations are the numbers below this number.
     pub fn declaration_count(&self) -> usize
         ensures { result ≡ length self.now.objects }
     {

@@ -68,7 +68,7 @@ fn first_fields_by_name(
 }
 
 impl FieldTable {
-    /// Makes the table of these fields. Fails only if an allocation fails.
+    /// Makes the table of these fields. If an allocation fails, returns an error.
     pub fn new(fields: Vec<Field>) -> Result<FieldTable, AllocError>
         ensures { IfOk result (λ t. t ≡ fields.items) }
     {

@@ -30,8 +30,8 @@ use std::alloc::AllocError;
 #[derive(Clone, Copy)]
 pub(crate) struct Operand {
     pub(crate) of: TypeId,
-    /// The value that constants give to the expression, or None if they give none. `FALSE & x` has
-    /// a value even if `x` is a variable or has a fault.
+    /// The value, or None if constants don't determine it. In `FALSE & x` they do, even if `x` is a
+    /// variable or has a fault.
     pub(crate) value: Option<Scalar>,
     /// True if the expression is only a name with its selectors, if any, and the name isn't a
     /// constant's.
