@@ -1,6 +1,6 @@
 -- Laws about renamed fields: a well-typed module remains well-typed and has the same runs if
--- different fields of the same record get different names. Rule: none; states laws about renamed
--- fields.
+-- different fields of the same record get different names.
+-- Rule: none; states laws about renamed fields.
 use Rattle.std.specs.Prelude.{◌≡◌, ℕ, Some}
 use Rattle.ob0_tree.specs.Tree.{Tree, module_text}
 use Rattle.ob0_language_names.specs.Names.{Name, naming_by_spelling, same_name}

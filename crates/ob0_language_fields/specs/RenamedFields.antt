@@ -1,5 +1,6 @@
 -- Defines the module in which fields are renamed. A field is renamed at its declaration in a record
--- and in each selector that selects this field. Rule: docs/LANGUAGE.md, Scopes 7.
+-- and in each selector that selects this field.
+-- Rule: docs/LANGUAGE.md, Scopes 7.
 use Rattle.std.specs.Prelude.{ℕ, suc, ◌+◌, List, [], Some, None, Option, option_and_then, unwrap_or}
 use Rattle.ob0_tree.specs.Tree.{GrammarItem, Sort, Tree, adds, array_type, assigns, begins, block, branches, calls, compares, declares, declares_procedure, declares_type, declares_type_section, declares_variable, declares_var_section, designator, else_branch, elsif_branch, end, field, fields, formals, fields_after_semicolon, section_after_semicolon, forms_block, index, forms_module, item, items, maybe, module_text, more, multiplies, named_type, negation, no_fields, no_formals, none, one, parenthesised, procedure, product, record_type, relates, repeat_loop, runs, section, some_arguments, some_fields, some_formals, sum, comma_then_argument, semicolon_then_fields, semicolon_then_section, semicolon_then_statement, type_definition, type_definitions, value_section, variable, variable_section, variables, while_loop, written_type}
 use Rattle.ob0_language_names.specs.MappedNames.{map_names}

@@ -1,5 +1,5 @@
--- Modules that declare no name twice in a block or record, and in which each closing name equals
--- the name of its module or procedure.
+-- Defines modules with consistent names: no name is declared twice in a block or record, and each
+-- closing name equals the name of its module or procedure.
 -- Rule: docs/LANGUAGE.md, Scopes 5 to 7.
 use Rattle.std.specs.Prelude.{Bool, true, false, not, ◌&&◌, ◌||◌, List, [], ◌∷◌, ◌++◌}
 use Rattle.ob0_tree.specs.Tree.{Tree, array_type, block, declares, declares_procedure, declares_type, declares_variable, end, fields, fields_after_semicolon, section_after_semicolon, forms_block, forms_module, item, items, module_text, more, named_type, no_fields, procedure, record_type, some_fields, semicolon_then_fields, semicolon_then_section, type_definition, variable, written_type}

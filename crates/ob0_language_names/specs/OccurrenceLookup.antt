@@ -1,5 +1,6 @@
 -- Finds the declaration to which a name would be bound if the name replaced an occurrence of
--- another name. Rule: docs/PROTOCOL.md, Refusals of edits (Shadowed).
+-- another name.
+-- Rule: docs/PROTOCOL.md, Refusals of edits (Shadowed).
 use Rattle.std.specs.Prelude.{List, Option, map, option_and_then, slice_get, ℕ}
 use Rattle.ob0_tree.specs.Tree.{Tree, module_text, occurrences}
 use Rattle.ob0_language_names.specs.Names.{Name, Naming, predeclared_name, same_name}

@@ -1,5 +1,6 @@
 -- Laws about renaming. A renaming to a free name keeps the names of a module consistent. A new name
--- has a conflict exactly if it isn't free. Rule: none; states laws about renaming.
+-- has a conflict exactly if it isn't free.
+-- Rule: none; states laws about renaming.
 use Rattle.std.specs.Prelude.{IsTrue, None, ℕ, ◌↔◌, ◌≡◌}
 use Rattle.ob0_tree.specs.Tree.{Tree, module_text}
 use Rattle.ob0_language_names.specs.Names.{Name}

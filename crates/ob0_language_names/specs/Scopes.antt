@@ -1,4 +1,5 @@
--- Scopes: the declaration that each name is bound to, and trees in which labels replace the names.
+-- Defines scopes, the declaration to which each name is bound, and trees in which labels replace
+-- the names.
 -- Rule: docs/LANGUAGE.md, Scopes 1 to 6.
 use Rattle.std.specs.Prelude.{ℕ, suc, Bool, true, false, List, [], ◌∷◌, map, if◌then◌else◌, ◌==◌, Some, None, Option}
 use Rattle.ob0_tree.specs.Tree.{Sort, Tree, block, constant, constants, declares, declares_constant, declares_const_section, declares_procedure, declares_type, declares_type_section, declares_variable, declares_var_section, end, formals, name_after_comma, section_after_semicolon, forms_block, forms_module, item, items, listed, maybe, module_text, more, names, no_formals, none, one, procedure, section, some_formals, comma_then_name, semicolon_then_section, type_definition, type_definitions, value_section, variable, variable_section, variables}
@@ -346,8 +347,9 @@ abbrev pub label_from_ordinal : {N : Type 0} → Naming N → Labelling N Label
 label_from_ordinal naming None x = as_written (naming.written x)
 label_from_ordinal naming (Some k) x = declared k
 
--- Returns the numbered tree of a module. Each name is replaced by the ordinal of its declaration, or kept as written if
--- the name is unbound. A declaration's ordinal is its number in text order, after the predeclared names 0 to 6.
+-- Returns the numbered tree of a module. Each name that is bound to a declaration is replaced by
+-- the declaration's ordinal. Any other name is kept as written. A declaration's ordinal is its
+-- number in text order, after the predeclared names 0 to 6.
 abbrev pub numbered : Tree Name module_text → Tree Label module_text
 numbered = relabel_module naming_by_spelling (label_from_ordinal naming_by_spelling)
 

@@ -1,5 +1,5 @@
--- Laws about edits that leave a module well-typed, with the same runs. Rule: none; states laws
--- about edits and runs.
+-- Laws about edits that leave a module well-typed, with the same runs.
+-- Rule: none; states laws about edits and runs.
 use Rattle.std.specs.Prelude.{List, Some, ℕ, ℤ, ◌≡◌, ◌≢◌}
 use Rattle.ob0_tree.specs.Tree.{Tree, factor, module_text}
 use Rattle.ob0_language_names.specs.Inlining.{OccurrenceSet, inlined, inlined_everywhere_and_removed, module_without_constant}

@@ -1,6 +1,6 @@
 -- Defines runs in which each call drops its variables when it returns. Then the store has only the
--- variables of the module and of open calls. Rule: docs/LANGUAGE.md, Runs 6 (that no run can tell
--- whether variables are freed).
+-- variables of the module and of open calls.
+-- Rule: docs/LANGUAGE.md, Runs 6 (that no run can tell whether variables are freed).
 use Rattle.std.specs.Prelude.{ℕ, zero, suc, length, take, List, ℤ}
 use Rattle.ob0_tree.specs.Tree.{Tree, module_text}
 use Rattle.ob0_language_names.specs.Names.{Naming}

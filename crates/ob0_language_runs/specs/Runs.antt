@@ -1,7 +1,7 @@
 -- Defines runs by big-step semantics: the meaning of statements, calls and whole modules. A run
 -- depends on an environment, a store and the remaining input. It also depends on two bounds: `c` on
--- the number of open calls, and `t` on the iterations of each loop. Rule: docs/LANGUAGE.md, Runs 1
--- to 10.
+-- the number of open calls, and `t` on the iterations of each loop.
+-- Rule: docs/LANGUAGE.md, Runs 1 to 10.
 use Rattle.std.specs.Prelude.{ℕ, zero, suc, ◌+◌, ◌-◌, true, false, List, [], ◌∷◌, ◌++◌, map, length, ℤ, Some, None, Option, option_map, option_and_then}
 use Rattle.ob0_tree.specs.Tree.{Tree, assigns, begins, block, body, branches, calls, declares_variable, else_branch, else_part, elsif_branch, elsif_part, empty, end, expression, section_after_semicolon, statement_after_semicolon, item, items, maybe, module_text, more, none, one, procedure, repeat_loop, runs, sequence, statement, semicolon_then_section, semicolon_then_statement, variable, while_loop}
 use Rattle.ob0_language_names.specs.Names.{Label, Name, Naming, naming_by_label, naming_by_spelling}
@@ -309,9 +309,9 @@ declare_block_in_frame naming k b f =
     record { env = env; store = f.store }))
     (declare_constants_and_types naming f.env k b)
 
--- Returns the frame with a parameter bound to its argument. A VAR parameter is bound to the argument's place. Any other
--- parameter is bound to a separate variable with the argument's value. Returns None if a VAR parameter gets a value, or
--- another parameter gets a place.
+-- Returns the frame with a parameter bound to its argument. A VAR parameter is bound to the
+-- argument's place. Any other parameter is bound to a new variable with the argument's value.
+-- Returns None if a VAR parameter gets a value, or another parameter gets a place.
 abbrev pub bind_parameter : {N : Type 0} → ParameterMode → N → Argument → Frame N → Option (Frame N)
 bind_parameter by_place x (place_argument p) f =
     Some record { env = (x, a_variable p) ∷ f.env; store = f.store }

@@ -1,5 +1,6 @@
 -- Defines when the values, places and meanings of names in a run agree with the types that the
--- checker gives them. Rule: docs/LANGUAGE.md, Runs 11.
+-- checker gives them.
+-- Rule: docs/LANGUAGE.md, Runs 11.
 use Rattle.std.specs.Prelude.{◌≡◌, true, List, [], ◌∷◌, map, if◌then◌else◌, nat_lt, slice_get, Some, None, Option, option_and_then}
 use Rattle.ob0_language_names.specs.Names.{Naming}
 use Rattle.ob0_language_names.specs.BlockParts.{procedure_formals}

@@ -1,6 +1,6 @@
--- The bindings that all declarations of a module make, newest first. A binding has a name and an
--- object. The object is the declaration's meaning in the environment before it. Rule:
--- docs/LANGUAGE.md, Scopes 2 to 4.
+-- Defines the bindings that all declarations of a module make, newest first. A binding has a name
+-- and an object. The object is the declaration's meaning in the environment before it.
+-- Rule: docs/LANGUAGE.md, Scopes 2 to 4.
 use Rattle.std.specs.Prelude.{ℕ, ◌+◌, ◌-◌, List, [], ◌++◌, length, take, Some, None, Option}
 use Rattle.ob0_tree.specs.Tree.{Tree, block, declares, declares_procedure, end, forms_block, item, items, module_text, more, procedure}
 use Rattle.ob0_language_names.specs.Names.{Label, Name, Naming, naming_by_label, declared}

@@ -1,4 +1,5 @@
--- The bodies of a module: the statements of each block, with the environment in which they are checked.
+-- Defines the bodies of a module: the statements of each block, with the environment in which they
+-- are checked.
 -- Rule: docs/LANGUAGE.md, Scopes 2.
 use Rattle.std.specs.Prelude.{◌≡◌, ℕ, ◌+◌, List, [], ◌∷◌, ◌++◌, Some, All}
 use Rattle.ob0_tree.specs.Tree.{Tree, block, body, declares, declares_procedure, end, forms_block, item, items, maybe, module_text, more, procedure}

@@ -1,5 +1,5 @@
--- The value of an expression, given the meanings of its names and a store with the values of variables. Evaluation
--- doesn't change the store.
+-- Defines the value of an expression, given the meanings of its names and a store with the values
+-- of variables. Evaluation doesn't change the store.
 -- Rule: docs/LANGUAGE.md, Runs 2 to 4.
 use Rattle.std.specs.Prelude.{true, false, List, [], ◌∷◌, ◌++◌, pos, negsuc, if◌then◌else◌, nat_lt, Some, Option}
 use Rattle.ob0_tree.specs.Tree.{Tree, addend, adds, compares, designator, end, expression, factor, field, index, integer, items, more, multiplier, multiplies, negation, none, one, parenthesised, product, relates, selector, simple, sum, term}

@@ -1,5 +1,5 @@
--- The type that a written type denotes, the types of expressions, and the values of constant
--- expressions. A written type is a type as it is written in the text.
+-- Defines the type that a written type denotes, the types of expressions, and the values of
+-- constant expressions. A written type is a type as it is written in the text.
 -- Rule: docs/LANGUAGE.md, Types 1 to 7, Nesting and limits 2.
 use Rattle.std.specs.Prelude.{ℕ, suc, ◌+◌, ◌*◌, max, ◌&&◌, List, [], ◌∷◌, map, pos, if◌then◌else◌, nat_lt, nat_le, Some, None, Option, option_map, option_and_then}
 use Rattle.ob0_tree.specs.declared.tree.Relation.{Relation}
@@ -242,24 +242,23 @@ abbrev pub type_within_limits : Shape → Option Shape
 type_within_limits s =
     if nat_le (scalars s) max_scalars_in_type && nat_le (depth s) max_type_depth then Some s else None
 
--- Counts the words ARRAY and RECORD in a type as it is written. Array and record types are numbered
--- by these counts.
+-- Counts the words ARRAY and RECORD in a written type. Array and record types are numbered by these
+-- counts.
 abbrev mutual
-  -- counts the words ARRAY and RECORD in a type as it is written, to number array and record types;
-  -- a type's name counts 0, even if it means an array or a record
+  -- counts the words ARRAY and RECORD in a written type; a type's name counts 0, even if it means
+  -- an array or a record
   pub constructor_count : {N : Type 0} → Tree N written_type → ℕ
   constructor_count (named_type x) = 0
   constructor_count (array_type e t) = suc (constructor_count t)
   constructor_count (record_type g rest) = suc (group_constructor_count g + later_groups_constructor_count rest)
 
-  -- counts the words ARRAY and RECORD in a group of fields, such as `x, y: T`, to number array and
-  -- record types; the type is written once for all names of the group
+  -- counts the words ARRAY and RECORD in a group of fields, such as `x, y: T`; the type is written
+  -- once for all names of the group
   pub group_constructor_count : {N : Type 0} → Tree N fields → ℕ
   group_constructor_count no_fields = 0
   group_constructor_count (some_fields ns t) = constructor_count t
 
-  -- counts the words ARRAY and RECORD in the groups of fields after the first group, to number
-  -- array and record types
+  -- counts the words ARRAY and RECORD in the groups of fields after the first group
   pub later_groups_constructor_count : {N : Type 0} → Tree N (items fields_after_semicolon) → ℕ
   later_groups_constructor_count end = 0
   later_groups_constructor_count (more (semicolon_then_fields g) rest) = group_constructor_count g + later_groups_constructor_count rest

@@ -1,4 +1,4 @@
--- Valid modules: the type checks of statements, declarations, blocks and modules.
+-- Defines well-typed modules, by the type checks of statements, declarations, blocks and modules.
 -- Rule: docs/LANGUAGE.md, Types 8.
 use Rattle.std.specs.Prelude.{ℕ, ◌+◌, Bool, true, false, ◌&&◌, List, [], ◌∷◌, ◌++◌, map, IsTrue, ◌==◌, Some, None, Option}
 use Rattle.ob0_tree.specs.Tree.{Tree, assigns, begins, block, body, branches, calls, declares, declares_procedure, declares_variable, else_branch, else_part, elsif_branch, elsif_part, empty, end, expression, section_after_semicolon, statement_after_semicolon, forms_block, item, items, maybe, module_text, more, none, one, procedure, repeat_loop, runs, section, selector, sequence, statement, semicolon_then_section, semicolon_then_statement, value_section, variable, variable_section, while_loop}

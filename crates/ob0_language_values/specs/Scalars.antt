@@ -1,5 +1,6 @@
 -- Converts the code's scalars, faults and results of operators to the values and outcomes of the
--- definitions. Rule: none; used in contracts of code that computes with scalars.
+-- definitions.
+-- Rule: none; used in contracts of code that computes with scalars.
 use Rattle.std.specs.Prelude.{ℤ, Some, None, Ok, Err, Option, Result}
 use Rattle.ob0_language_values.specs.declared.scalar.OperatorFault.{OperatorFault}
 use Rattle.ob0_language_values.specs.declared.scalar.OperatorFault.TheVariants as fault

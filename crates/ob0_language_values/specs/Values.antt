@@ -1,5 +1,5 @@
--- Defines types, values, places and the store, and the results of operators. Rule:
--- docs/LANGUAGE.md, Types 1, Runs 2 to 5, 10.
+-- Defines types, values, places and the store, and the results of operators.
+-- Rule: docs/LANGUAGE.md, Types 1, Runs 2 to 5, 10.
 use Rattle.std.specs.Prelude.{ℕ, zero, suc, ◌^◌, Bool, true, false, not, ◌&&◌, ◌||◌, List, [], ◌∷◌, ℤ, pos, negsuc, ◌+ℤ◌, ◌-ℤ◌, ◌*ℤ◌, neg_ℤ, if◌then◌else◌, nat_lt, slice_get, slice_set, int_lt, int_le, Some, None, Option, option_map, option_and_then}
 use Rattle.ob0_tree.specs.declared.tree.Relation.{Relation}
 use Rattle.ob0_tree.specs.declared.tree.Relation.TheVariants as relation

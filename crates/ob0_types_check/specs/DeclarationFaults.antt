@@ -3,7 +3,8 @@
 -- after it. The statements of a block's body are walked only if the block's closing name passes a
 -- test. The walk lists the closing names of the walked bodies in which a fault is reported. If
 -- every closing name passes the test, all faults of the module's declarations and bodies are
--- reported. Rule: docs/LANGUAGE.md, Faults of scopes and types 2 to 11.
+-- reported.
+-- Rule: docs/LANGUAGE.md, Faults of scopes and types 2 to 11.
 use Rattle.std.specs.Prelude.{ℕ, Bool, true, false, List, [], ◌∷◌, ◌++◌, map}
 use Rattle.std.specs.List.{filter}
 use Rattle.ob0_language_names.specs.BlockParts.{formal_parameter_sections, module_block, names_in_list, section_constants, section_types, section_variables}

@@ -1,5 +1,5 @@
--- Defines when a module passes the type check without the statements of one body. Rule:
--- docs/LANGUAGE.md, Types 8.
+-- Defines when a module passes the type check without the statements of one body.
+-- Rule: docs/LANGUAGE.md, Types 8.
 use Rattle.std.specs.Prelude.{◌≡◌, ℕ, true}
 use Rattle.ob0_language_names.specs.Names.{naming_by_spelling}
 use Rattle.ob0_language_types.specs.WellTyped.{passes_type_check}

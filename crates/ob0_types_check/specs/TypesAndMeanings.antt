@@ -1,6 +1,6 @@
 -- How the definitions of faults represent types, the meanings of names, and checked expressions. A
--- type may be unknown, as a whole or in parts. Rule: docs/LANGUAGE.md, Faults of scopes and types
--- 2.
+-- type may be unknown, as a whole or in parts.
+-- Rule: docs/LANGUAGE.md, Faults of scopes and types 2.
 use Rattle.std.specs.Prelude.{ℕ, Bool, List, Option}
 use Rattle.ob0_scan.specs.TextWithTokens.{TextWithTokens}
 use Rattle.ob0_scope_table.specs.declared.faults.FaultAtTokens.{FaultAtTokens}

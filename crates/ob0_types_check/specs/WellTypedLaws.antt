@@ -1,6 +1,6 @@
 -- Laws about well-typed modules, expressions and statements: no type fault is reported for them.
--- `N` is the type of names. Rule: docs/LANGUAGE.md, Types 8; states laws about the faults that are
--- reported.
+-- `N` is the type of names.
+-- Rule: docs/LANGUAGE.md, Types 8; states laws about the faults that are reported.
 use Rattle.std.specs.Prelude.{◌≡◌, ℕ, Bool, true, false, [], List, Option, Some, None, option_and_then, is_some, slice_get}
 use Rattle.std.specs.List.{filter}
 use Rattle.ob0_language_names.specs.Names.{naming_by_spelling}

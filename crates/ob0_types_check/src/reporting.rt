@@ -28,18 +28,17 @@
 //! The faults of written types, declarations and blocks depend on a state, `KnownDeclarations`.
 //! This state has the meanings of the declarations, by ordinal, and a list of the array and record
 //! types with their parts. `declarations_in_state` converts the code's `CheckerState` to a
-//! `KnownDeclarations`. So the definitions of the faults don't mention `CheckerState`. For blocks the
-//! state also has the list of the bodies with faults (`WalkProgress`).
-//! `CheckerState` and the list of faults are separate values. The functions for expressions and
-//! statements take `&self` and the list. The functions for declarations take a `ReportingWalk`,
-//! which has both.
+//! `KnownDeclarations`. So the definitions of faults don't mention `CheckerState`. For blocks the
+//! state also has the list of the bodies with faults (`WalkProgress`). `CheckerState` and the list
+//! of faults are separate values. The functions for expressions and statements take `&self` and the
+//! list. The functions for declarations take a `ReportingWalk`, which has both.
 //!
 //! The trees of the definitions don't contain the tokens ARRAY and RECORD. Definitions and code
 //! both find these tokens from their neighbors. ARRAY is the token before the array's length.
 //! Between RECORD and the name of the first field there are only semicolons, one for each empty
 //! group of fields before that name (`record_keyword_token`). Every token has a next token, because
-//! `next_token_index` returns the end of the text unchanged. Every fault has a span, because a token
-//! that doesn't exist counts as the last token (`fault_with_span`).
+//! `next_token_index` returns the end of the text unchanged. Every fault has a span, because a
+//! token that doesn't exist counts as the last token (`fault_with_span`).
 //!
 //! A body declares nothing. So if only the tokens of one body changed, the types and meanings known
 //! everywhere else are unchanged. Any other body that had no faults still has none

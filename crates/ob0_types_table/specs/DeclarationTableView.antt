@@ -1,6 +1,6 @@
 -- Converts the checker's table of types and declarations to values of the definitions: its types to
--- shapes, and its declarations to objects. Rule: none; used in contracts about the checker's
--- tables.
+-- shapes, and its declarations to objects.
+-- Rule: none; used in contracts about the checker's tables.
 use Rattle.std.specs.Prelude.{◌≡◌, ℕ, ◌<◌, Bool, true, false, List, [], ◌∷◌, ◌++◌, map, length, slice_index_or, All, Some, None, Option, string_bytes}
 use Rattle.ob0_language_values.specs.Scalars.{scalar_value}
 use Rattle.ob0_language_values.specs.Values.{FieldShapes, Shape, array_shape, boolean_shape, integer_shape, next_field_shape, no_field_shape, record_shape}

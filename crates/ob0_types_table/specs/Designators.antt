@@ -1,6 +1,6 @@
 -- Finds the designator of a factor, term or simple expression that is only a designator. Converts
--- expressions to trees with labels. Rule: none; used in contracts about designators and labelled
--- trees.
+-- expressions to trees with labels.
+-- Rule: none; used in contracts about designators and labelled trees.
 use Rattle.std.specs.Prelude.{ℕ, List, map, Some, None, Option}
 use Rattle.ob0_tree.specs.Tree.{Tree, designator, end, expression, factor, items, product, selector, simple, sum, term}
 use Rattle.ob0_tree.specs.View.{expression_of}

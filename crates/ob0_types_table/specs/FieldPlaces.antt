@@ -1,5 +1,5 @@
--- Finds the field that a name selects in a type: its record and its position. Rule: none; used in
--- contracts of functions that find a field by its name.
+-- Finds the field that a name selects in a type: its record and its position.
+-- Rule: none; used in contracts of functions that find a field by its name.
 use Rattle.std.specs.Prelude.{ℕ, suc, Some, None, Option, option_map, if◌then◌else◌}
 use Rattle.ob0_language_names.specs.Names.{Name, same_name}
 use Rattle.ob0_types_table.specs.declared.declaration_table.FieldId.{FieldId}

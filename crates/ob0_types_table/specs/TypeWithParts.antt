@@ -1,5 +1,6 @@
 -- Defines the shape and the size of a type with its parts (`TypeWithParts`), and whether it is a
--- type of the module. Rule: none; used in contracts about `TypeWithParts`.
+-- type of the module.
+-- Rule: none; used in contracts about `TypeWithParts`.
 use Rattle.std.specs.Prelude.{Bool, true, false, List, Option, Some, None, slice_get}
 use Rattle.ob0_types_table.specs.DeclarationTables.{DeclarationTableView}
 use Rattle.ob0_types_table.specs.DeclarationTableView.{HasSizeOfShape, entry_shape, faulty_shape}
