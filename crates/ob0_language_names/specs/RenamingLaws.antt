@@ -8,8 +8,8 @@ use Rattle.ob0_language_names.specs.Occurrences.{IsFreeName, first_name_conflict
 use Rattle.ob0_language_names.specs.Scopes.{renamed}
 use Rattle.ob0_language_names.specs.ConsistentNames.{has_consistent_names}
 
--- States that, if a module has consistent names, it also has after a declaration is renamed to a
--- free name. Consistent means that no name is declared twice in a block or record, and that the
+-- States that a module with consistent names still has consistent names after a declaration is
+-- renamed to a free name. Names are consistent if no block or record declares a name twice, and the
 -- closing names are right.
 abbrev pub RenamingToFreeNameKeepsConsistentNames : Type 0
 RenamingToFreeNameKeepsConsistentNames =

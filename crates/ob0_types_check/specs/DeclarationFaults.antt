@@ -124,7 +124,8 @@ pub record WalkProgress : Type 0 where
   pub so_far : KnownDeclarations
   pub bodies_with_faults : List ℕ
 
--- returns the walk `w` with its declarations replaced by `p`, and with the same list of bodies
+-- returns the state `w` of a walk with its declarations replaced by `p`, and with the same list of
+-- bodies
 abbrev pub walk_with_declarations : WalkProgress → KnownDeclarations → WalkProgress
 walk_with_declarations w p = record { so_far = p; bodies_with_faults = w.bodies_with_faults }
 
@@ -183,7 +184,8 @@ unfoldable mutual
     h ← report_on_parameter_sections (record { formals = []; following = w.so_far }) (formal_parameter_sections fs)
     report_on_block wanted closing (walk_with_declarations w (declarations_after_heading x h)) b
 
--- returns the walk at the beginning of a module: only the predeclared names are known, and no body has been walked
+-- returns the state of the walk at the beginning of a module: only the predeclared names have a
+-- meaning, and no body has been walked
 abbrev pub walk_progress_at_module_start : Resolution → WalkProgress
 walk_progress_at_module_start r = record { so_far = known_declarations_at_module_start r; bodies_with_faults = [] }
 

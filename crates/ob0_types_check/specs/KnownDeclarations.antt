@@ -200,8 +200,8 @@ report_on_too_large_type p word =
     }
 
 -- Appends an array or record type to the known types, and returns its `TypeId`. If the size exceeds
--- the limits, nothing is appended, the result is the unknown type, and `TypeTooLarge` is reported
--- at `word`, the type's token ARRAY or RECORD.
+-- the limits, nothing is appended and the result is the unknown type. In this case `TypeTooLarge`
+-- is reported at `word`, the type's token ARRAY or RECORD.
 abbrev pub make_composite_type : KnownDeclarations → ℕ → ℕ → CompositeParts → TypeSize → ResultWithFaults TypeWithFollowingDeclarations
 make_composite_type p word ordinal parts size =
     if is_within_limits size then without_fault (append_composite p ordinal parts size) else report_on_too_large_type p word
