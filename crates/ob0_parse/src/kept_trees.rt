@@ -7,12 +7,12 @@
 //! kinds (`KeptTrees::move_to_changed_text`). If a text has a syntax error, the procedures before
 //! the error are kept. The trees from earlier texts after the error are also kept.
 //!
-//! Whichever parse made a kept tree, the tree can be reused if the token after it can't continue
-//! it. No token can continue a procedure, because a procedure ends with a semicolon (`stops_zero`).
-//! The token after a reused body is END, which can't continue a body. In both cases no other tree
-//! has the same tokens (the lemma `same`). The descent reads every tree that the tokens spell (the
-//! lemma `finishes`). So the tree fulfils `IsReadTree` if it spells the tokens (the lemma
-//! `is_read_tree_at`).
+//! A kept tree can be reused, whichever parse made it, if the token after the tree can't continue
+//! the tree. No token can continue a procedure, because a procedure's tokens end with a semicolon
+//! (`stops_zero`). The token after a reused body is END, which can't continue a body. In both cases
+//! no other tree has the same tokens (the lemma `same`). The descent reads every tree that the
+//! tokens spell (the lemma `finishes`). So the tree fulfils `IsReadTree` if it spells the tokens
+//! (the lemma `is_read_tree_at`).
 //!
 //! The leaves of a procedure determine the range of its tokens. A procedure's name is its second
 //! token, and its closing name is its second-last token. The leaves of a body don't determine the
@@ -98,9 +98,8 @@ impl KeptTrees {
     }
 
     /// Returns the kept trees whose tokens are also in the changed text, with the ranges of these
-    /// tokens in the changed text. `same` describes the tokens that the old and the changed text
-    /// share: those before and those after the change. The trees whose tokens have changed are
-    /// dropped.
+    /// tokens in the changed text. `same` describes the tokens before the change and the tokens
+    /// after it, which both texts share. The trees whose tokens have changed are dropped.
     pub fn move_to_changed_text(self, same: CommonPrefixAndSuffix) -> KeptTrees
         ensures { (old new : List Token)
             → PrefixAndSuffixHaveSameKinds same old new

@@ -17,7 +17,7 @@ pub record ReplacesRange (old new : List ℕ) (from removed added : ℕ) : Type 
   pub front : take from old ≡ take from new
   pub behind : drop (from + removed) old ≡ drop (from + added) new
 
--- Returns the kind of a token with the value of an integer set to 0. Other kinds are returned
+-- Returns a token's kind, with the value of an integer set to 0. Any other kind is returned
 -- unchanged.
 abbrev pub kind_without_value : TokenKind → TokenKind
 kind_without_value (kind.Integer value) = kind.Integer 0

@@ -7,8 +7,8 @@
 //!
 //! Spans are shifted by a loop over indexes (`for index in first..tokens.len()`). The loop's
 //! invariant is `ChangedTo`: the items from `first` up to the current index are changed, and the
-//! other items aren't. A call with `&mut items[first..]` isn't used, because the proof would have
-//! no name for the list that such a call leaves.
+//! other items aren't. A call with `&mut items[first..]` isn't used, because a proof about such a
+//! call would have no name for the whole list after it.
 
 ghost use Rattle.std.specs.Prelude.{◌≡◌, ◌+◌, ◌-◌, ◌<◌, ◌≤◌, ◌^◌, ◌||◌, ◌++◌, OnOk, length, map, take, drop, nat_lt, option_copied, string_bytes};
 ghost use Rattle.std.specs.List.{All, prefix_len};
