@@ -143,7 +143,7 @@ fn kept_tree_of_body(
 /// Moves procedures to the end of `kept`, beginning with the last procedure, so that `kept` is in
 /// reverse text order. The leaves of the procedures must be the indexes of their tokens in the
 /// present text, because the leaves determine the ranges. If the index after a procedure's last
-/// token would be out of range, this procedure and those before it are dropped.
+/// token would be out of range, this procedure and the procedures before it are dropped.
 pub(crate) fn keep_procedures(
     kept: &mut Vec<KeptTree>,
     mut procedures: Vec<Procedure>,
@@ -170,8 +170,8 @@ pub(crate) fn keep_procedures(
 
 /// Removes from `kept` the tree that begins at the token `at`, and adapts its leaves to the present
 /// text. Returns that tree and the index of the token after it. Returns None if no kept tree begins
-/// at the token `at`, or if the token after the tree could continue it. Drops the trees that begin
-/// before the token `at`.
+/// at the token `at`, or if the token after the tree could continue the tree. Drops the trees that
+/// begin before the token `at`.
 pub(crate) fn take_tree_at(
     parser: &Parser<'_>,
     kept: &mut Vec<KeptTree>,
@@ -197,7 +197,7 @@ pub(crate) fn take_tree_at(
 impl KeptTree {
     /// Changes the tree's range to the range of its tokens in the changed text, and returns true.
     /// Returns false if the changed text doesn't have these tokens. `same` describes the tokens
-    /// that the old and the changed text share.
+    /// before the change and the tokens after it, which both texts share.
     fn move_to_changed_text(&mut self, same: CommonPrefixAndSuffix) -> bool
         ensures { RelocatesTree same self.old self.new result }
     {

@@ -359,7 +359,7 @@ impl<'t> Parser<'t> {
     }
 
     /// Parses a further term with the operator before it, `("+" | "-" | OR) term`. Returns None if
-    /// the token at `at` is no such operator.
+    /// the token at `at` isn't one of these operators.
     #[cycle(expressions)]
     fn parse_addend(&self, at: usize, room: u32) -> ItemResult<Addend>
         requires { at ≤ length self.now.tokens.now }
@@ -392,7 +392,7 @@ impl<'t> Parser<'t> {
     }
 
     /// Parses a further factor with the operator before it, `("*" | DIV | MOD | "&") factor`.
-    /// Returns None if the token at `at` is no such operator.
+    /// Returns None if the token at `at` isn't one of these operators.
     #[cycle(expressions)]
     fn parse_multiplier(&self, at: usize, room: u32) -> ItemResult<Multiplier>
         requires { at ≤ length self.now.tokens.now }

@@ -65,11 +65,11 @@ abbrev pub comments_ending_before : ℕ → List Span → List Span
 comments_ending_before place comments =
     take (prefix_len (λ c. nat_lt c.end place) comments) comments
 
--- Returns the tokens without the leading ones that begin before the byte offset `place`.
+-- Returns the tokens without the leading tokens that begin before the byte offset `place`.
 abbrev pub tokens_beginning_at_or_after : ℕ → List Token → List Token
 tokens_beginning_at_or_after place tokens = drop (prefix_len (λ t. nat_lt t.span.start place) tokens) tokens
 
--- Returns the comments without the leading ones that begin before the byte offset `place`.
+-- Returns the comments without the leading comments that begin before the byte offset `place`.
 abbrev pub comments_beginning_at_or_after : ℕ → List Span → List Span
 comments_beginning_at_or_after place comments = drop (prefix_len (λ c. nat_lt c.start place) comments) comments
 

@@ -3,9 +3,9 @@
 //!
 //! `rescan_in_place` takes the tokens of the old text and turns them into the tokens of the new
 //! text. If the new text has faults, the function returns the faults and the old tokens. `rescan`
-//! does the same with a copy of the old tokens. Both functions return the tokens and comments that
-//! `scan` of the new text returns. `ReusesOldLexemes` (`specs/ReusedLexemes`) says which of these
-//! are reused from the old scan:
+//! does the same with a copy of the old tokens, which it never returns. Both functions return the
+//! tokens and comments that `scan` of the new text returns. `ReusesOldLexemes`
+//! (`specs/ReusedLexemes`) says which of these are reused from the old scan:
 //! - Before the change: each token and comment that ends before it. (A token that ends right at the
 //!   change may continue with the inserted text.)
 //! - After the change, shifted by `added - removed` bytes: each token and comment that begins at a

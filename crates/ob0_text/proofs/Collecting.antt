@@ -1,5 +1,5 @@
 -- Proves one iteration of a loop that collects the results of a function for the elements of a
--- list: after it, the results of one more element are collected.
+-- list. The iteration adds the result for the next element.
 use Rattle.std.proofs.Common.{◌≡◌, ℕ, ◌+◌, ◌<◌, List, [], ◌∷◌, ◌++◌, map, length, take, get_or, sym, ◌∙◌}
 use Rattle.std.proofs.lemmas.List.{map_more}
 

@@ -62,10 +62,10 @@ pub struct RangeOffsets {
     pub counted_piece: CountedPiece,
 }
 
-/// Returns the byte offsets of a range's start and end, and the counted piece from whose end the
-/// start was searched. If `last`, the piece that was counted last, begins at the start of the
-/// range's first line, only the difference between the two pieces is counted. If the range's end is
-/// in the same line as its start and not before the start, the search for the end begins at the
+/// Returns the byte offsets of a range's start and end, and a counted piece (`CountedPiece`) of the
+/// line in which the range starts. If `last`, the piece that was counted last, begins at the start
+/// of this line, only the difference between the two pieces is counted. If the range's end is in
+/// the same line as its start and not before the start, the search for the end begins at the
 /// range's start.
 pub fn range_offsets(
     text: &str,
@@ -96,9 +96,9 @@ pub fn range_offsets(
 }
 
 /// Returns a counted piece (`CountedPiece`) that begins at the start of the position's line and
-/// ends at or before the position. If the text has no such line, the piece is one of the last line.
-/// If `last`, the piece that was counted last, begins at the same offset, only the difference
-/// between the two pieces is counted.
+/// ends at or before the position. If the text has no such line, the piece is in the last line. If
+/// `last`, the piece that was counted last, begins at the same offset, only the difference between
+/// the two pieces is counted.
 fn counted_piece_before_position(
     text: &str,
     table: &LineTable,
@@ -224,7 +224,8 @@ pub fn offsets_from_line_table(
 }
 
 /// Returns the place of `position`. If the previous position `last` is in the same line and not
-/// after `position`, the search begins at `place`, the place of `last`.
+/// after `position`, the search begins at `place`, the place of `last`. Otherwise the search begins
+/// at the start of the position's line.
 fn place_from_previous_position(
     text: &str,
     table: &LineTable,
@@ -292,8 +293,9 @@ pub fn line_from_line_table<'a>(text: &'a str, table: &LineTable, k: usize) -> O
     Some(&text[table.line_start(k)..end])
 }
 
-/// Returns the byte offset of the end of line `k`, counted from 0, its ending included. The result
-/// is the start of the next line, or the text's length `len` if line `k` is the last one.
+/// Returns the byte offset at which line `k`, counted from 0, ends together with its line ending.
+/// The result is the start of the next line, or the text's length `len` if line `k` is the last
+/// one.
 fn line_end_offset(table: &LineTable, len: usize, k: usize) -> usize
     requires { k < length table.now.starts }
     ensures next { k + 1 < length table.now.starts → result ≡ slice_index table.now.starts (k + 1) }
