@@ -7,7 +7,7 @@ use Rattle.serde_json.specs.Find.{get, as_str, as_bool, as_number, as_i64, as_u6
 use Rattle.ob0_text.specs.declared.position_types.Position.{Position}
 use Rattle.ob0_text.specs.declared.position_types.Range.{Range}
 
--- Returns whether an optional member is absent (None) or null. Both mean the same.
+-- Returns whether an optional member is absent (None) or null.
 abbrev pub is_absent_or_null : Option Data → Bool
 is_absent_or_null None = true
 is_absent_or_null (Some null) = true

@@ -19,8 +19,8 @@ pub enum Id {
     Text(String),
 }
 
-/// A message that has been read. A request has an id, a method and params. A notification has a
-/// method and params. A response is ignored.
+/// A message that has been read: a request (id, method and params), a notification (method and
+/// params), or a response. The server ignores responses, so `Ignored` has no fields.
 #[derive(Drop)]
 pub enum Incoming {
     Request(Id, String, Value),
@@ -96,8 +96,8 @@ impl<T: Drop> From<AllocFailed<T>> for RpcFault {
     }
 }
 
-/// Reads the content of one message: the bytes after the header. If the content isn't one JSON
-/// value in UTF-8, nested at most 127 deep, the fault is `NotJson`. If the JSON value isn't a
+/// Reads the content of one message: the bytes after the head. The content must be one JSON value
+/// in UTF-8, nested at most 127 deep; otherwise the fault is `NotJson`. If the JSON value isn't a
 /// message, the fault is `NotAMessage`. If an allocation fails, the fault is `Memory`.
 pub fn read(alloc: Global, content: &[u8]) -> Result<Incoming, RpcFault>
     ensures { ReadsMessage content.now result }

@@ -8,7 +8,7 @@ ghost use Rattle.ob0_rpc.specs.Members.{is_absent_or_null as absent, text_member
 use ob0_text::{Position, Range};
 use serde_json::Value;
 
-/// Returns whether an optional member is absent (None) or null. Both mean the same.
+/// Returns whether an optional member is absent (None) or null.
 pub fn is_absent_or_null(member: Option<&Value>) -> bool
     ensures { result ≡ absent (option_map (λ v. view v.now) member.entry) }
 {

@@ -261,7 +261,7 @@ fn spaces_per_level(size: u64) -> u8
 
 /// Returns the kinds of code actions that the object `context` requests in its member `only`. The
 /// result `Some(None)` means that all kinds are requested. The result `None` means that the context
-/// isn't an object, or that the kinds can't be read.
+/// is missing or isn't an object, or that the kinds can't be read.
 fn read_requested_action_kinds(
     alloc: Global,
     context: Option<&Value>,

@@ -106,9 +106,9 @@ IsNonAskId ids (Some id) = ask_number_of_request_id ids id ≡ Some None
 
 -- ---- an editor and a session
 
--- An editor and a session with the contents of the messages between them. `ids` are the ids of the
--- requests that the editor sent. `announced` are the documents that it announced to the session.
--- `applied` are the edits that it applied.
+-- An editor and a session, with the contents of the messages between them. `ids` lists the ids of
+-- the requests that the editor sent. `announced` lists the documents that the editor announced to
+-- the session, and `applied` lists the edits that it applied.
 pub record Exchange : Type 0 where
   pub editor : Editor
   pub ids : List SentRequestId
@@ -157,10 +157,10 @@ IsReadOnlyRequest (Ok (asked.code_action uri range only)) = ⊤
 IsReadOnlyRequest (Ok (asked.formatting uri indent)) = ⊤
 IsReadOnlyRequest (Err fault) = ⊤
 
--- States that the message is outside the model. It opens, changes and closes no document, and
--- requests no edits that the editor applies. It may be a response, JSON that isn't a message, or a
--- notification that the server ignores. It may also be a request that changes nothing in the
--- session, unless it has the id of a request for edits.
+-- States that the message is outside the model: a response, JSON that isn't a message, a
+-- notification that the server ignores, or a request that changes nothing in the session. A request
+-- must have a method other than `initialize`, and its id mustn't be the id of a request for edits
+-- (`IsNonAskId`).
 abbrev pub IsUnmodeledMessage : List SentRequestId → MessageMeaning → Type 0
 IsUnmodeledMessage ids not_json = ⊥
 IsUnmodeledMessage ids not_a_message = ⊤
@@ -265,7 +265,7 @@ AreMessagesToSession client ids requested (None ∷ messages) [] = ⊥
 -- ---- turns, and the exchanges to which they lead
 
 -- Returns the message that the editor reads in a content, or None if the content isn't a message to
--- the editor. The ids of the sent requests (`ids`) decide which request is answered.
+-- the editor. `ids` maps the id in an answer to the number of the request that it answers.
 abbrev pub message_to_editor_by_request_ids : List SentRequestId → List SentAsk → List ℕ → Option MessageToEditor
 message_to_editor_by_request_ids ids requested content = message_to_editor_by_id_conversion (ask_number_of_json_id ids) requested content
 
@@ -275,7 +275,7 @@ abbrev pub editor_after_optional_message : Editor → Option MessageToEditor →
 editor_after_optional_message e None = e
 editor_after_optional_message e (Some message) = editor_after_message e message
 
--- States that the editor takes the first waiting content, and reads the message in it if there is
+-- States that the editor takes the first waiting content, and reads the content's message if it has
 -- one. If no content waits for the editor, nothing changes.
 abbrev pub EditorReadsFirstContent : List (List ℕ) → Exchange → Exchange → Type 0
 EditorReadsFirstContent [] old new = new ≡ old
@@ -357,9 +357,9 @@ AreMessagesToEditor ids requested (Some m ∷ messages) [] = ⊥
 AreMessagesToEditor ids requested (None ∷ messages) [] = ⊥
 
 -- States that these turns may lead the model (`EditorAndServer`) to a state that matches the
--- exchange `x`. Both have the same editor, and the session has the documents of the model's server.
--- The waiting contents are the messages that wait in the model. So the model's guarantees hold for
--- the exchange (`GuaranteesHoldForEditorAndServer`).
+-- exchange `x`. The state and the exchange have the same editor, and the session has the documents
+-- of the model's server. The waiting contents are the messages that wait in the model. The
+-- guarantees (`GuaranteesHoldForEditorAndServer`) hold for this state.
 pub record FollowsModel (unit : Unit) (turns : List ExchangeTurn) (x : Exchange) : Type 0 where
   pub model : EditorAndServer
   pub leads : IsCourseOfTurns (initial_editor_and_server unit) turns model
@@ -500,7 +500,7 @@ GuaranteesHoldForEveryExchange =
     → IsExchangeCourse begin turns now
     → GuaranteesHoldForExchange begin now
 
--- ---- the law that each list of events that `play` plays is an exchange
+-- ---- the law that each list of events that `play` performs is an exchange
 
 -- States that each list of events of the model's editor and a session (`IsConnectionCourse`) is
 -- also an exchange of an editor that keeps ob0's rules. So each guarantee for exchanges also holds

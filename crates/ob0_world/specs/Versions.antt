@@ -1,7 +1,7 @@
 -- Defines the versions that answers mention, and a client that compares versions. The model's
--- editor numbers each opening of a document, but LSP has no such number. Versions are enough for a
--- real client. The reason is that an answer mentions the document that was asked about, with its
--- version at the time of the request.
+-- editor numbers each opening of a document, but LSP has no opening numbers. Versions are enough
+-- for a real client, because an answer mentions the document that was asked about, with its version
+-- at the time of the request.
 use Rattle.std.specs.Prelude.{◌≡◌, ◌⊎◌, ⊤, ℕ, ℤ, List, [], ◌∷◌, All, Bool, Option, Some, None, option_and_then, option_map, if◌then◌else◌, codes}
 use Rattle.serde_json.specs.Data.{Data}
 use Rattle.serde_json.specs.Find.{get, at, as_array, as_number, as_integer}
@@ -66,8 +66,8 @@ IsFormatting (inline_all position) = ⊥
 IsFormatting (format indent) = ⊤
 
 -- States that the answer mentions the request's document, with the version that the document had
--- when the request was sent. Two kinds of answers needn't mention it: an answer without edits, and
--- an answer to a formatting request.
+-- when the request was sent. Two kinds of answers needn't mention the document: answers without
+-- edits, and answers to formatting requests.
 abbrev pub MentionsAskedDocument : SentAsk → Data → Type 0
 MentionsAskedDocument a answer =
     (uri_and_version_in_answer a.ask answer ≡ Some (a.uri, a.version))
@@ -99,8 +99,8 @@ abbrev pub has_version : ℤ → OpenDocument → Bool
 has_version version d = is_same_version d.version version
 
 -- Returns the result of applying an answer's edits in a client that relies on the uri and the
--- version in the answer. The edits are made in the open document with this uri. Returns None if no
--- open document has this uri and this version, or if two edits share a character.
+-- version in the answer. The client makes the edits in the open document with this uri. Returns
+-- None if no open document has this uri and this version, or if two edits share a character.
 abbrev pub result_of_applying_by_version : Editor → List ℕ → ℤ → List Replacement → Option ActResult
 result_of_applying_by_version e uri version edits =
     option_and_then
@@ -115,9 +115,9 @@ result_of_applying_by_version e uri version edits =
 abbrev pub IsNotReopened : Editor → SentAsk → Type 0
 IsNotReopened e a = (d : OpenDocument) → editor_document_with_uri e a.uri ≡ Some d → d.opening ≡ a.opening
 
--- States that versions are enough to apply an answer's edits. A client that relies on the version
--- in the answer gets the same result as the model's editor. The condition is that the document
--- hasn't been opened again since the request.
+-- States that versions are enough to decide whether to apply an answer's edits. If the document
+-- hasn't been opened again since the request, a client that relies on the version in the answer
+-- gets the same result as the model's editor.
 abbrev pub VersionsSufficeToApplyAnswers : Type 0
 VersionsSufficeToApplyAnswers =
     (e : Editor) (k : ℕ) (a : SentAsk) (edits : List Replacement)
