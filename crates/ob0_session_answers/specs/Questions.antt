@@ -28,7 +28,7 @@ pub data NameQuestion : Type 0 where
   references_question : Bool → NameQuestion
   prepare_rename_question : NameQuestion
 
--- ---- JSON values (arguments: the unit of positions, the uri, and the text's characters)
+-- ---- JSON values. `unit` is the unit of positions, and `text` has the text's characters.
 
 -- Returns the JSON value of the range that a span covers in the text.
 abbrev pub range_value_of_span : Unit → List ℕ → Span → Data
@@ -49,7 +49,8 @@ abbrev pub value_or_null : Option Data → Data
 value_or_null (Some value) = value
 value_or_null None = null
 
--- Returns the byte offset in the text of the position `at.position`, which is counted in `unit`.
+-- Returns the byte offset of the position `at.position` in the text. The position is counted in
+-- `unit`.
 abbrev pub offset_of_place : Unit → List ℕ → DocumentPlace → ℕ
 offset_of_place unit text at = offset_of (width_of unit) text at.position
 

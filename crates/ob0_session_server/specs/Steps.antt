@@ -1,4 +1,5 @@
--- States what one step of a session does with the content of one message, and when a step may fail.
+-- Defines the result of one step of a session, which takes the content of one message. Also defines
+-- when a step may fail.
 -- Rule: docs/PROTOCOL.md, The program 8 (out of memory).
 use Rattle.std.specs.Prelude.{◌≡◌, ◌≢◌, ℕ, List, map}
 use Rattle.ob0_session_server.specs.Answers.{ServerState, Answers}

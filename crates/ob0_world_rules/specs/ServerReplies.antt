@@ -17,8 +17,9 @@ SendsDiagnostics uri (Some OutOfStep) sent made = (sent ≡ []) × (made ≡ [])
 SendsDiagnostics uri None sent made = (sent ≡ []) × (made ≡ [])
 
 -- States that the server replies to this notification with the messages `sent`. The list `made` has
--- the publications with a version among them. `held` are the server's documents before the
--- notification. If an open document is closed, its diagnostics are cleared.
+-- the publications with a version among these messages. `held` has the server's documents before
+-- the notification. When an open document is closed, the server publishes an empty list of
+-- diagnostics without a version.
 abbrev pub RepliesToNotification : OpenDocuments
     → DocumentEvent
     → List MessageToEditor
@@ -34,7 +35,8 @@ RepliesToNotification held (Closed uri) sent made =
     × (made ≡ [])
 
 -- States that the server replies to this message with the messages `sent`. The list `made` has the
--- publications with a version among them. `held` are the server's documents before the message.
+-- publications with a version among the messages `sent`. `held` has the server's documents before
+-- the message.
 abbrev pub RepliesToMessage : OpenDocuments → MessageToServer → List MessageToEditor → List PublicationWithText → Type 0
 RepliesToMessage held (notifies note) sent made = RepliesToNotification held note sent made
 RepliesToMessage held (requests number uri ask) sent made =
