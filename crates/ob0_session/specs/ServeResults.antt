@@ -32,9 +32,9 @@ pub record AnswersAllContents (taken : List ℕ) (rest : StreamRest) (put : List
   pub served : AnswersAllButWaiting taken [] rest after put
   pub not_ended : HasNotEnded after.phase
 
--- States that the server has answered a prefix of the message contents in the bytes `taken`: no
--- contents, some or all. The bytes `put` are the frames of these answers. The other contents
--- (`waiting`) aren't answered yet.
+-- States that the server has answered a prefix of the message contents in the bytes `taken`. The
+-- prefix may have no contents, some contents or all contents. The bytes `put` are the frames of
+-- these answers. The other contents (`waiting`) aren't answered yet.
 pub record AnswersSomeContents (taken put : List ℕ) : Type 0 where
   pub after : ServerState
   pub waiting : List (List ℕ)
@@ -65,8 +65,8 @@ pub record AnswersPrefixOfContents (taken put : List ℕ) : Type 0 where
 abbrev pub NoDeviceFailedAndFlushed : (reader_failed writer_failed : Bool) (flushed : Type 0) → Type 0
 NoDeviceFailedAndFlushed r w flushed = (r ≡ false) × (w ≡ false) × flushed
 
--- States that the writer is flushed if it was flushed before, or if something was written. `put`
--- are the bytes written.
+-- States that the writer is flushed if it was flushed before, or if something was written. The list
+-- `put` has the written bytes.
 abbrev pub LeavesWriterFlushed : (was_flushed is_flushed : Bool) (put : List ℕ) → Type 0
 LeavesWriterFlushed was_flushed is_flushed put =
     (was_flushed ≡ true) ⊎ (put ≢ []) → is_flushed ≡ true

@@ -116,8 +116,8 @@ fn convert_diagnoses_with_positions<T: TextStore>(
     Ok(list)
 }
 
-/// Returns the position of a byte offset. The n-th of the `positions` is the position of the n-th of
-/// the `offsets`. If a binary search finds the offset in `offsets`, its position is read from
+/// Returns the position of a byte offset. The n-th of the `positions` is the position of the n-th
+/// of the `offsets`. If a binary search finds the offset in `offsets`, its position is read from
 /// `positions`. Otherwise the store computes the position.
 fn position_at<T: TextStore>(
     store: &T,

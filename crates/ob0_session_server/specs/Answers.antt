@@ -55,9 +55,9 @@ start = record { phase = Starting; client = no_client_features; held = no_open_d
 
 -- ---- the reply to one message
 
--- The reply to one message: nothing, a given message (`fixed_reply`), or a message that depends on a
--- document's text. Such a message publishes the text's diagnostics, or answers a request about the
--- text.
+-- The reply to one message: nothing, a given message (`fixed_reply`), or a message that depends on
+-- a document's text. Such a message publishes the text's diagnostics, or answers a request about
+-- the text.
 pub data Reply : Type 0 where
   no_reply : Reply
   -- Exactly this message.

@@ -22,8 +22,8 @@ pub fn each_ask_has_answers()
     inlining_everywhere_always_has_answer();
 }
 
-/// Proves that each list of events has a course: the events lead from the initial state to some
-/// state.
+/// Proves that each list of events has a course: it is impossible that the events lead from the
+/// initial state to no state.
 pub fn each_event_list_has_a_course()
     ensures { EachEventListHasACourse }
 {

@@ -131,8 +131,8 @@ publication_of_notification d =
     then option_and_then publication_of_params (get (codes "params") d) else None
 
 -- Reads a JSON value as a message to the editor: as a publication if it has a member `method`,
--- otherwise as an answer. `number_of` converts an answer's id to the number of the answered request.
--- Returns None if the value can't be read.
+-- otherwise as an answer. `number_of` converts an answer's id to the number of the answered
+-- request. Returns None if the value can't be read.
 abbrev pub message_to_editor_of_value : (Data → Option ℕ) → List SentAsk → Data → Option MessageToEditor
 message_to_editor_of_value number_of requested d =
     if is_some (get (codes "method") d)

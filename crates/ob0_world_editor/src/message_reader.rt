@@ -205,8 +205,8 @@ fn answer_edit_values<'v>(uri: &str, ask: &Ask, answer: &'v Value) -> Option<&'v
 }
 
 /// Returns the JSON list of the text edits in a WorkspaceEdit. If there is a member
-/// `documentChanges`, the list is in the member's first element, whose uri is ignored. Otherwise the
-/// list is in the member `changes`, under this uri. Returns None if the list is missing.
+/// `documentChanges`, the list is in the member's first element, whose uri is ignored. Otherwise
+/// the list is in the member `changes`, under this uri. Returns None if the list is missing.
 fn workspace_edit_values<'v>(edit: &'v Value, uri: &str) -> Option<&'v Vec<Value>>
     ensures { option_map (λ v. items_view v.now.items) result
         ≡ workspace_edit_items uri.now (view edit.now) }
