@@ -52,8 +52,8 @@ members_after_definition_provider client =
     then member (codes "positionEncoding") (text_value (codes "utf-8")) (members_after_position_encoding client)
     else members_after_position_encoding client))
 
--- Returns the server's capabilities. If the client accepts literal code actions, the first member is
--- `codeActionProvider`. The next members are `definitionProvider` (true) and
+-- Returns the server's capabilities. If the client accepts literal code actions, the first member
+-- is `codeActionProvider`. The next members are `definitionProvider` (true) and
 -- `members_after_definition_provider`.
 abbrev pub server_capabilities : ClientFeatures → Data
 server_capabilities client =
