@@ -164,8 +164,9 @@ IsReachable w = (unit : Unit) × (events : List Event) × IsCourse (start unit) 
 
 -- ---- clauses of the functions that serve, send and take a content
 
--- Returns the publication that `publication_in_message` finds in the first content. Returns None if
--- there is no content, or no such publication in the first content.
+-- Returns the publication in the first content (`publication_in_message`). Returns None if there is
+-- no content, if the first content isn't a message to the editor, or if `publication_in_message`
+-- gives None.
 abbrev pub publication_in_first_content : OpenDocuments → List SentAsk → Contents → Option PublicationWithText
 publication_in_first_content held requested [] = None
 publication_in_first_content held requested (content ∷ contents) =

@@ -29,14 +29,14 @@ uri_and_version_in_identifier d =
     (text_member (codes "uri") d)
 
 -- Returns the uri and the version of the first document in the `documentChanges` of a
--- WorkspaceEdit. Returns None if there is no such document, or if its uri or version is missing.
+-- WorkspaceEdit. Returns None if there is no document, or if its uri or version is missing.
 abbrev pub uri_and_version_in_edit : Data → Option (List ℕ × ℤ)
 uri_and_version_in_edit edit =
     option_and_then uri_and_version_in_identifier (option_and_then (get (codes "textDocument"))
     (option_and_then (at 0) (get (codes "documentChanges") edit)))
 
--- Returns the WorkspaceEdit of the first action with this title in a list of code actions. Returns
--- None if there is no such action, or if the action has no edit.
+-- Returns the WorkspaceEdit of the first action with this title in a JSON list of code actions.
+-- Returns None if no action has this title, or if the action has no edit.
 abbrev pub edit_of_action_with_title : List ℕ → Data → Option Data
 edit_of_action_with_title title value =
     option_and_then (get (codes "edit")) (option_and_then (first_action_with_title title) (as_array value))
@@ -73,8 +73,9 @@ MentionsAskedDocument a answer =
     (uri_and_version_in_answer a.ask answer ≡ Some (a.uri, a.version))
     ⊎ ((edits_in_answer a.uri a.ask answer ≡ []) ⊎ IsFormatting a.ask)
 
--- States that a content with a number as its id answers the request with this number, and mentions
--- that request's document (`MentionsAskedDocument`). Nothing is stated about any other content.
+-- States that the content, if it is a JSON value with a number as its id, answers the request with
+-- this number and mentions that request's document (`MentionsAskedDocument`). Nothing is stated
+-- about any other content.
 abbrev pub ContentMentionsAskedDocument : List SentAsk → List ℕ → Type 0
 ContentMentionsAskedDocument requested content =
     (answer : Data) (k : ℕ)
@@ -83,8 +84,8 @@ ContentMentionsAskedDocument requested content =
     → (a : SentAsk) × (sent_ask_with_number requested k ≡ Some a) × MentionsAskedDocument a answer
 
 -- States that after any list of events, `ContentMentionsAskedDocument` holds for each content that
--- waits for the editor. Each content that the editor has taken waited before, so it also holds for
--- the taken contents.
+-- waits for the editor. So each content mentioned the document while it waited, even if the editor
+-- has taken it since.
 abbrev pub AnswersMentionVersions : Type 0
 AnswersMentionVersions =
     (unit : Unit) (begin : Connection) (events : List Event) (now : Connection)

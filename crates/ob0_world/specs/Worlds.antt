@@ -26,12 +26,12 @@ use Rattle.ob0_world.specs.declared.play_results.Played as played
 -- the session that serves the editor, and the contents of all messages between the two
 pub record Wire : Type 0 where
   pub session : ServerState
-  -- the contents that the editor has sent: the session has taken those in `taken`, and those in
-  -- `to_server` still wait for the session
+  -- the contents that the editor has sent: the session has taken the contents in `taken`, and the
+  -- contents in `to_server` still wait for the session
   pub taken : List (List ℕ)
   pub to_server : List (List ℕ)
-  -- the contents that the session has sent: the editor has taken those in `got`, and those in
-  -- `to_editor` still wait for the editor
+  -- the contents that the session has sent: the editor has taken the contents in `got`, and the
+  -- contents in `to_editor` still wait for the editor
   pub got : List (List ℕ)
   pub to_editor : List (List ℕ)
 
@@ -157,7 +157,7 @@ pub record IsResultOfPlaying (unit : Unit) (events : List event.Event) (p : play
       (bytes_of_contents p.got.items ++ bytes_of_contents p.unread.items) after
 
 -- States that no event happened: `fault` reports 0 steps, and has no edit, no publication and no
--- content. So the guarantees (`GuaranteesHoldForEvents`) hold for the empty list of events.
+-- content. The guarantees (`GuaranteesHoldForEvents`) hold for the empty list of events.
 pub record IsFaultBeforeFirstEvent (unit : Unit) (fault : PlayFault) : Type 0 where
   pub none : fault.steps ≡ 0
   pub headline : GuaranteesHoldForEvents unit [] (played_edits fault.played) (played_publications fault.played)

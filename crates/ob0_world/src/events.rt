@@ -41,7 +41,7 @@ pub enum Seen {
     /// diagnostics is empty.
     Published { uri: String, empty: bool },
     /// The editor took the answer to the request for edits with number `k`. `edits` is true if the
-    /// answer has edits. The editor stores the answer only then.
+    /// answer has edits. The editor stores only answers with edits.
     Answered { k: u64, edits: bool },
     /// The editor made the edits of the answer to request `k`.
     Applied { k: u64 },
