@@ -44,7 +44,7 @@ location_value_of_span unit uri text span = location_value_of_range uri (range_o
 abbrev pub hover_value_with_range : Unit → List ℕ → HoverTextWithSpan → Data
 hover_value_with_range unit text shown = hover_value shown.text (range_value_of_span unit text shown.span)
 
--- Returns the JSON value if there is one, otherwise null.
+-- Returns this JSON value, or the JSON value null for None.
 abbrev pub value_or_null : Option Data → Data
 value_or_null (Some value) = value
 value_or_null None = null
@@ -55,7 +55,7 @@ abbrev pub offset_of_place : Unit → List ℕ → DocumentPlace → ℕ
 offset_of_place unit text at = offset_of (width_of unit) text at.position
 
 -- States that the JSON value is the list of the locations of all references to the name or field at
--- the position, in text order. The list contains the declaration if `include` is true.
+-- the position, in text order. The list contains the declaration only if `include` is true.
 abbrev pub AnswersReferencesQuestion : Unit → List ℕ → DocumentPlace → Bool → Resolution → Data → Type 0
 AnswersReferencesQuestion unit text at include names value =
     (spans : List Span)

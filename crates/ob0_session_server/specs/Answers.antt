@@ -133,9 +133,9 @@ react_with_fault s id fault = react_with_error s id (error_code fault) (error_te
 abbrev pub state_after_initialize : ClientFeatures → ServerState
 state_after_initialize client = record { phase = Running; client = client; held = no_open_documents (unit_for_client client) }
 
--- Returns the reaction to a request about a document, which is None if no such document is open. If
--- the document is in step (its text is known), the function `say` makes the reply from its version
--- and text. Otherwise the reply is a refusal.
+-- Returns the reaction to a request about a document. If the document is in step (its text is
+-- known), the function `say` makes the reply from the document's version and text. If the document
+-- is out of step or isn't open (None), the reply is a refusal.
 abbrev pub react_to_document_request : ServerState → Data → Option Document → (ℤ → List ℕ → Reply) → Reaction
 react_to_document_request s id (Some (InStep version text)) say = reaction_without_change s (say version text)
 react_to_document_request s id (Some OutOfStep) say = reaction_without_change s (fixed_reply (edit_refusal_message id (codes "out of step")))

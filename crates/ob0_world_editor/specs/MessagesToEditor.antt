@@ -26,15 +26,15 @@ has_no_items no_items = true
 has_no_items (item d ds) = false
 
 -- Returns the publication with this uri, version and list of diagnostics. Returns None if the uri
--- or the list is missing.
+-- or the list is None.
 abbrev pub publication_if_complete : Option (List ℕ) → Option ℤ → Option Items → Option MessageToEditor
 publication_if_complete (Some uri) version (Some diagnostics) =
     Some (publishes uri version (has_no_items diagnostics))
 publication_if_complete (Some uri) version None = None
 publication_if_complete None version diagnostics = None
 
--- Returns the publication that the params of a notification mean. Returns None if the uri or the
--- diagnostics can't be read.
+-- Reads the params of a notification as a publication. Returns None if the uri or the diagnostics
+-- can't be read.
 abbrev pub publication_of_params : Data → Option MessageToEditor
 publication_of_params params =
     publication_if_complete (text_member (codes "uri") params)
@@ -43,18 +43,18 @@ publication_of_params params =
 
 -- ---- edits
 
--- Returns the edit with this range and text, or None if one of them is missing.
+-- Returns the edit with this range and text, or None if either is None.
 abbrev pub edit_if_complete : Option Range → Option (List ℕ) → Option Replacement
 edit_if_complete (Some range) (Some text) = Some (record { range = range; text = chars text })
 edit_if_complete (Some range) None = None
 edit_if_complete None text = None
 
--- Returns the edit that a JSON value means. Returns None if the value can't be read as an edit.
+-- Reads a JSON value as an edit. Returns None if the value can't be read as an edit.
 abbrev pub edit_of_value : Data → Option Replacement
 edit_of_value d = edit_if_complete (range_member (codes "range") d) (text_member (codes "newText") d)
 
--- Returns the edits that a list of JSON values means, in order. Returns None if one of the values
--- can't be read as an edit.
+-- Reads each JSON value of a list as an edit, and returns the edits in order. Returns None if one
+-- of the values can't be read as an edit.
 abbrev pub edits_of_items : Items → Option (List Replacement)
 edits_of_items no_items = Some []
 edits_of_items (item d ds) = option_and_then (λ e. option_map (λ es. e ∷ es) (edits_of_items ds)) (edit_of_value d)
@@ -123,7 +123,7 @@ answer_of_response number_of requested answer =
 
 -- ---- messages
 
--- Returns the publication that a notification means. Returns None if the method isn't
+-- Reads a notification as a publication. Returns None if the method isn't
 -- `textDocument/publishDiagnostics`, or if the params can't be read.
 abbrev pub publication_of_notification : Data → Option MessageToEditor
 publication_of_notification d =
@@ -138,15 +138,15 @@ message_to_editor_of_value number_of requested d =
     if is_some (get (codes "method") d)
     then publication_of_notification d else answer_of_response number_of requested d
 
--- Returns the message to the editor in a content, or None if the content has no such message.
--- `requested` lists the requests for edits that the editor has sent. `number_of` converts an
--- answer's id to the number of the answered request.
+-- Returns the message to the editor in a content, or None if the content isn't a message to the
+-- editor. `requested` lists the requests for edits that the editor has sent. `number_of` converts
+-- an answer's id to the number of the answered request.
 unfoldable pub message_to_editor_by_id_conversion : (Data → Option ℕ) → List SentAsk → List ℕ → Option MessageToEditor
 message_to_editor_by_id_conversion number_of requested content =
     if is_utf8 content
     then option_and_then (message_to_editor_of_value number_of requested) (read content) else None
 
--- Returns the message to the editor in a content, or None if the content has no such message. The
--- id of each of the editor's requests for edits is the request's number.
+-- Returns the message to the editor in a content, or None if the content isn't a message to the
+-- editor. The id of an answer is the number of the answered request for edits.
 abbrev pub message_to_editor_in_content : List SentAsk → List ℕ → Option MessageToEditor
 message_to_editor_in_content requested content = message_to_editor_by_id_conversion request_number_from_id requested content

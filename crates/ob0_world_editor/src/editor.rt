@@ -210,9 +210,9 @@ impl Editor {
     }
 
     /// Makes the edits of the answer to request `k`, and returns the outcome. No edit is made if
-    /// the editor has no such answer, or if two edits share a character. No edit is made, either,
-    /// if the document has been changed, closed or reopened since the request. The answer is always
-    /// removed, even if an allocation fails.
+    /// the editor doesn't have the answer, if the document has been changed, closed or reopened
+    /// since the request, or if two edits share a character. The answer is always removed, even if
+    /// an allocation fails.
     pub fn apply_answer(&mut self, k: u64) -> Result<ApplyOutcome, AllocError>
         requires { CountsCanGrow self.old }
         ensures ok { IfOk result (λ applying. IsApplyOutcome (act_result self.old (apply k))
@@ -336,8 +336,8 @@ impl Editor {
     }
 }
 
-/// Returns the record of the request for edits `ask`. It has copies of the request, of the uri, and
-/// of the document's present text. Its opening number and version are also the document's.
+/// Returns the record of the request for edits `ask`. The record has copies of the request, of the
+/// uri and of the document's text, and the document's present opening number and version.
 fn sent_ask_for_document(
     alloc: Global,
     ask: &Ask,

@@ -59,7 +59,8 @@ IsAnswerForText unit text ask given =
     ⊎ ((RefusesAsk unit text ask ⊎ ¬ WellTypedText text) × (given ≡ []))
 
 -- States that the edits `given` answer this request for edits (`ask`) of the document. If the
--- document isn't open (None) or is out of step (its text isn't known), `given` is empty.
+-- document is in step, they answer the request for its text (`IsAnswerForText`). If the document
+-- isn't open (None) or is out of step (its text isn't known), `given` is empty.
 abbrev pub IsAnswerForDocument : Unit → Option Document → Ask → List Replacement → Type 0
 IsAnswerForDocument unit (Some (InStep version text)) ask given = IsAnswerForText unit text ask given
 IsAnswerForDocument unit (Some OutOfStep) ask given = given ≡ []

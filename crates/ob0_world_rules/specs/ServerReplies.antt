@@ -6,9 +6,9 @@ use Rattle.ob0_world_rules.specs.TextEdits.{Replacement}
 use Rattle.ob0_world_rules.specs.Answers.{IsAnswerForDocument, NoDiagnosticsExactlyIfWellTyped}
 use Rattle.ob0_world_rules.specs.ClientAndServer.{MessageToServer, notifies, requests, MessageToEditor, publishes, answers, PublicationWithText}
 
--- States that the server sends the diagnostics of a document in step, with its version. If the
--- document is out of step (its text isn't known) or isn't open, the server sends nothing. `made`
--- has the same publication, with the text for which the diagnostics were made.
+-- States that the server sends the diagnostics of a document in step, with the document's version.
+-- If the document is out of step (its text isn't known) or isn't open, the server sends nothing.
+-- The list `made` has the same publication, with the text for which the diagnostics were made.
 abbrev pub SendsDiagnostics : List ℕ → Option Document → List MessageToEditor → List PublicationWithText → Type 0
 SendsDiagnostics uri (Some (InStep version text)) sent made =
     (empty : Bool) × NoDiagnosticsExactlyIfWellTyped text empty × (sent ≡ publishes uri (Some version) empty ∷ [])
