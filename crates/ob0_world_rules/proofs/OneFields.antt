@@ -1,8 +1,8 @@
 -- Proves that a module's text has one list of fields, whichever table of ordinals is used.
 -- Two tables of ordinals agree only at identifiers, so the proof doesn't compare the tables.
--- Instead it appends the ordinal of the field's record to the name of each field. The module with
--- these names is the same for both tables (`IsOwnerTable`), and each identifier's record can be
--- read from its name.
+-- Instead it puts the ordinal of the field's record in front of the name of each field. The module
+-- with these names is the same for both tables (`IsOwnerTable`), and each identifier's record can
+-- be read from its name.
 use Rattle.std.proofs.Common.{◌≡◌, ◌≢◌, ◌∙◌, ℕ, suc, ◌+◌, ◌<◌, ◌≤◌, Option, Some, None, List, [], ◌∷◌, map, length, replicate, set, refl, sym, ap, subst, arith, le_refl, get_or-set_other, get_or-set_same}
 use Rattle.std.proofs.Math.ListN.{length-set}
 use Rattle.std.proofs.lemmas.List.{get_or-replicate, length-replicate}
