@@ -18,7 +18,7 @@ pub struct ClientFeatures {
     pub prepares_renames: bool,
     /// The client accepts literal code actions, which contain their edits and aren't commands.
     pub accepts_literal_actions: bool,
-    /// The client accepts edits that specify the versions of their documents.
+    /// The client accepts edits that mention their documents' versions.
     pub accepts_document_changes: bool,
 }
 

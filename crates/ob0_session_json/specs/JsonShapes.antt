@@ -117,9 +117,9 @@ document_edit_value uri version es =
     object (member (codes "edits") (edit_list_value es)
     (member (codes "textDocument") (versioned_document_value uri version) no_members))
 
--- Returns the JSON value of the edits of one document. If the client accepts edits with document
--- versions, the value is {"documentChanges":[..]}. Otherwise it is {"changes":{u:[E,..]}}, which
--- has no version.
+-- Returns the JSON value of the edits of one document. If the client accepts edits that mention
+-- their documents' versions, the value is {"documentChanges":[..]}. Otherwise it is
+-- {"changes":{u:[E,..]}}, which has no version.
 abbrev pub workspace_edit_value : ClientFeatures → List ℕ → ℤ → List Edit → Data
 workspace_edit_value client uri version es =
     if client.accepts_document_changes

@@ -1,4 +1,4 @@
-//! Keeps the state of a session, and answers each message according to the session's phase
+//! Keeps the state of a session, and reacts to each message according to the session's phase
 //! (docs/PROTOCOL.md, Lifecycle).
 ghost use Rattle.std.specs.Prelude.{◌≡◌, ◌≢◌, Ok, IfOk, IfErr, map, option_map, string_bytes};
 ghost use Rattle.ob0_rpc.specs.MessageViews.{json_of_id};

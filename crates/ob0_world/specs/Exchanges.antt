@@ -1,8 +1,8 @@
 -- Defines the exchanges between a session and an editor that keeps ob0's rules, and states the
--- guarantees for them. An exchange is like a state of the model (`EditorAndServer`), with a session
--- instead of the model's server and contents instead of messages. A content is the bytes of one
--- message. The session may be any that the protocol (`Answers`) allows. An ask is a request whose
--- answer the editor may apply: a rename, an inlining or a formatting.
+-- guarantees for exchanges. An exchange is like a state of the model (`EditorAndServer`), with a
+-- session instead of the model's server and contents instead of messages. A content is the bytes of
+-- one message. The session may be any session that the protocol (`Answers`) allows. An ask is a
+-- request for edits, which the editor may apply: a rename, an inlining or a formatting.
 use Rattle.std.specs.Prelude.{◌≡◌, ◌⊎◌, ◌<◌, ◌≤◌, ◌==◌, map, filter_map, ⊤, ℕ, ℤ, List, [], ◌∷◌, ◌++◌, All, fold, Bool, true, false, Option, Some, None, MatchOption, option_map, option_and_then, Result, Ok, Err, if◌then◌else◌, codes}
 use Rattle.std.specs.Str.{bytes_eq}
 use Rattle.serde_json.specs.Data.{Data, null, boolean, number, string, array, object, unsigned, negative, float}

@@ -62,9 +62,9 @@ impl<T: TextStore> Model for World<T> {
 
 impl<T: TextStore> World<T> {
     /// Returns a world in which no document is open and no message waits. The editor has
-    /// initialized the session. It has declared that it accepts literal code actions, which contain
-    /// their edits, and edits that mention their documents' versions. Both sides count positions in
-    /// UTF-16 units.
+    /// initialized the session, and has declared that it accepts literal code actions, which
+    /// contain their edits, and edits that mention their documents' versions. Both sides count
+    /// positions in UTF-16 units.
     pub fn new(alloc: Global) -> Result<World<T>, WorldFault>
         ensures start { IfOk result (IsNewWorld Utf16) }
         ensures err { IfErr result (λ fault. fault ≡ Memory) }

@@ -71,8 +71,8 @@ ServeMayReturn result taken put =
 abbrev pub AllOutputIsWritten : Result ℕ ServeFault → Type 0
 AllOutputIsWritten result = (result ≢ Err Memory) × (result ≢ Err Write)
 
--- states that the bytes read determine this result of `serve`: an `exit`, the end of the input, or
--- a bad head ended the call
+-- states that the bytes that `serve` has read determine this result, because an `exit`, the end of
+-- the input or a bad head ended the call
 abbrev pub IsDeterminedByBytes : Result ℕ ServeFault → Type 0
 IsDeterminedByBytes (Ok status) = ⊤
 IsDeterminedByBytes (Err BadHead) = ⊤
