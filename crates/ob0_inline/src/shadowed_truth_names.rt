@@ -4,7 +4,7 @@
 ghost use Rattle.std.specs.Prelude.{◌≡◌, IfOk, ◌==◌, ◌&&◌, not, length, option_and_then, slice_get};
 ghost use Rattle.std.specs.List.{list_any, range_with_len};
 ghost use Rattle.ob0_tree.specs.ParsedModule.{named_tree_of};
-ghost use Rattle.ob0_language_names.specs.Occurrences.{bindings, ordinal_bound_at_occurrence};
+ghost use Rattle.ob0_language_names.specs.Occurrences.{labels_of_occurrences, ordinal_bound_at_occurrence};
 ghost use Rattle.ob0_language_names.specs.Scopes.{same_ordinal};
 ghost use Rattle.ob0_language_names.specs.OccurrenceLookup.{resolve_name_at_occurrence};
 ghost use Rattle.ob0_inline.specs.Everywhere.{has_shadowed_use};
@@ -114,18 +114,18 @@ fn is_name_shadowed_at_some_use(
         hidden
         ≡ list_any (λ k. same_ordinal (ordinal_bound_at_occurrence (named_tree_of names.now.module_read) k) constant
         && not (same_ordinal (resolve_name_at_occurrence (named_tree_of names.now.module_read) k name.now) ordinal))
-        (range_with_len 0 (length (bindings (named_tree_of names.now.module_read))))) }
+        (range_with_len 0 (length (labels_of_occurrences (named_tree_of names.now.module_read))))) }
 {
     // The proof needs `IsResolution` of the names, which the contract of this call states.
     let _module = names.module();
     let bound = resolve_name_at_each_occurrence(alloc, names, name)?;
-    Ok(has_use_with_other_binding(names, &bound, constant, ordinal))
+    Ok(has_use_with_shadowed_name(names, &bound, constant, ordinal))
 }
 
 /// Returns whether the constant with the ordinal `constant` has a use whose item in `bound` isn't
 /// `ordinal`. `bound` has an item for each occurrence, in text order: the ordinal of a declaration,
 /// or None.
-fn has_use_with_other_binding(
+fn has_use_with_shadowed_name(
     names: &Resolved,
     bound: &[Option<usize>],
     constant: usize,
@@ -137,7 +137,7 @@ fn has_use_with_other_binding(
         (range_with_len 0 (length names.now.uses)) }
 {
     for occurrence in 0..names.occurrences().len() {
-        if is_use_with_other_binding(names, bound, occurrence, constant, ordinal) {
+        if is_use_with_shadowed_name(names, bound, occurrence, constant, ordinal) {
             return true;
         }
     }
@@ -147,7 +147,7 @@ fn has_use_with_other_binding(
 /// Returns whether the occurrence with the number `occurrence` is a use of the constant with the
 /// ordinal `constant`, and its item in `bound` isn't `ordinal`. `bound` has an item for each
 /// occurrence, in text order: the ordinal of a declaration, or None.
-fn is_use_with_other_binding(
+fn is_use_with_shadowed_name(
     names: &Resolved,
     bound: &[Option<usize>],
     occurrence: usize,

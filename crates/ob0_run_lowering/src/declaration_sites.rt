@@ -17,7 +17,7 @@ ghost use Rattle.ob0_run_lowering.specs.PlacedNames.{AddsNames, AddsSite, IsSite
 
 use crate::LoweredSite;
 use crate::lowering_context::LoweringContext;
-use ob0_tree::{Names as NameList, ParameterSection, VariableDeclaration};
+use ob0_tree::{IdentifierList as NameList, ParameterSection, VariableDeclaration};
 use std::alloc::AllocError;
 
 /// The state of an activation while its variables and parameters get their sites: its depth, and

@@ -1,5 +1,5 @@
 use Rattle.std.proofs.Common.{refl, sym, ap, ◌∙◌, subst}
-use Rattle.ob0_tree.specs.View.{items_of, names_of, variable_of, variable_section_of}
+use Rattle.ob0_tree.specs.View.{items_of, names_of, variable_declaration_of, variable_section_of}
 use Rattle.ob0_language_names.specs.BlockParts.{names_in_list, section_variables}
 use Rattle.ob0_scope_table.specs.LabelledTrees.{tree_with_labels}
 use Rattle.ob0_language_types.specs.WellTyped.{by_value}
@@ -22,7 +22,7 @@ loop-group-preserved c =
     let at = variable_slot_at_depth c.args.frame.depth in
     let size_of = declared_size c.args.context.now.types.now in
     record {
-      placed = in_on (λ v. add_declared_names_to_placement at size_of by_value (names_in_list (tree_with_labels r (names_of v.names)))) _ _ c.group-item.result c.group-item.result (λ x xs p. refl) (λ xs p. groups-earlier at size_of (tree_with_labels r (items_of variable_of xs)) p)
+      placed = in_on (λ v. add_declared_names_to_placement at size_of by_value (names_in_list (tree_with_labels r (names_of v.names)))) _ _ c.group-item.result c.group-item.result (λ x xs p. refl) (λ xs p. groups-earlier at size_of (tree_with_labels r (items_of variable_declaration_of xs)) p)
           c.loop-group.invariant.placed c.loop-group-test.true c.group-item.is
           (as_deep _ _ _ _ c.loop-group.now.depth c.args.frame.depth (λ d. add_declared_names_to_placement (variable_slot_at_depth d) size_of by_value (names_in_list (tree_with_labels r (names_of c.group-item.result.names)))) c.loop-group.invariant.placed.depth c.in_ok-now.ensures);
     }
@@ -31,5 +31,5 @@ pub returns : goal.returns
 returns c =
     let r = c.args.context.now.resolved.now in
     subst (λ gs. AddsNames c.args.sites.now.items c.loop-group.sites.items c.args.frame (placed.place_variable_declarations (variable_slot_at_depth c.args.frame.depth) (declared_size c.args.context.now.types.now) gs) c.loop-group.now)
-    (ap (λ xs. tree_with_labels r (items_of variable_of xs)) c.deref-group-items.ensures.value ∙ sym (ap (λ section. section_variables (tree_with_labels r (variable_section_of section))) c.in-Some.is))
+    (ap (λ xs. tree_with_labels r (items_of variable_declaration_of xs)) c.deref-group-items.ensures.value ∙ sym (ap (λ section. section_variables (tree_with_labels r (variable_section_of section))) c.in-Some.is))
     (in_ends (λ p. refl) c.loop-group.invariant.placed c.loop-group-test.false)
