@@ -16,10 +16,10 @@ pub record FramerState : Type 0 where
   pub waiting : List (List ℕ)
   pub rest : StreamRest
 
--- States what reading a piece of the stream does. Arguments: the rest of the stream before the
--- piece, the piece, the contents of the messages that the piece completes, and the rest after the
--- piece. If no message can begin with the bytes after the last complete message, the rest after the
--- piece is `Broken`. A broken stream remains broken, and no later piece completes a message.
+-- States what reading a piece of the stream does. The arguments are the rest of the stream before
+-- the piece, the piece, the contents of the messages that the piece completes, and the rest after
+-- the piece. If no message can begin with the bytes after the last complete message, the rest after
+-- the piece is `Broken`. A broken stream remains broken, and no later piece completes a message.
 abbrev pub FeedsStream : StreamRest → List ℕ → List (List ℕ) → StreamRest → Type 0
 FeedsStream (Open rest) piece contents (Open left) = Frames (rest ++ piece) contents left × ¬ (CannotBeginMessage left)
 FeedsStream (Open rest) piece contents Broken =

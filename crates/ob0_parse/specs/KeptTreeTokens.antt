@@ -73,8 +73,9 @@ pub record TokensContainProcedures (ts : List Token) (ps : List Procedure) : Typ
   pub shallow : nesting (items_of procedure_of ps) ≤ max_nesting
   pub within : next ≤ length ts
 
--- States that `ts` has the tokens of the procedures `ps` and then of the body `statements`. One
--- token follows the body, and `closing` is the index after it.
+-- States that `ts` has the tokens of the procedures `ps`, directly followed by the tokens of the
+-- optional body `statements`. One token stands between these tokens and the token with the index
+-- `closing`.
 pub record ModuleEndsWithParts
     (ts : List Token) (ps : List Procedure) (statements : Option (Vec Statement Global)) (closing : ℕ)
     : Type 0 where

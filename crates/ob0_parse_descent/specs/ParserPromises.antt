@@ -250,7 +250,7 @@ abbrev pub IsOperatorOfKind : {A : Type 0} → (A → TokenKind) → ℕ → Tok
 IsOperatorOfKind mark r k (Some a) = k ≡ mark a
 IsOperatorOfKind mark r k None = kind_rank k ≢ r
 
--- States that the tokens `at..next` spell the list `xs`: its first element, then the further
+-- States that the list `xs` is read from the tokens `at..next`: its first element, then the further
 -- elements, each with the separator before it. `view` returns the tree of the first element, and
 -- `further` returns the tree of a further element with its separator.
 pub record IsReadList

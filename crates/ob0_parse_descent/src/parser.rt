@@ -1,6 +1,6 @@
-//! Parses names and expressions by recursive descent. Each function takes the index `at` of the
-//! construct's first token, and the number `room` of nesting levels that are left. It returns the
-//! construct's tree and the index of the token after the construct.
+//! Parses names and expressions by recursive descent. Most functions take the index `at` of the
+//! construct's first token, and the number `room` of nesting levels that are left. Each of these
+//! functions returns the construct's tree and the index of the token after the construct.
 
 ghost use Rattle.std.specs.Prelude.{true, ◌≡◌, ◌+◌, ◌<◌, ◌≤◌, ◌∷◌, length, IfSome, IfNone, IfOk, IfErr};
 ghost use Rattle.ob0_scan.specs.declared.lexeme.TokenKind.TheVariants as kind;
@@ -38,8 +38,8 @@ const ADDITION_RANK: u8 = 3;
 /// with a lower rank bind more strongly.
 const COMPARISON_RANK: u8 = 4;
 
-/// The binding rank (`binding_rank`) of every other token: it is no operator and begins no
-/// selector. Such a token doesn't bind the operand before it.
+/// The binding rank (`binding_rank`) of every token that is no operator and begins no selector, and
+/// of the end of the text. Such a token doesn't bind the operand before it.
 const NON_OPERATOR_RANK: u8 = 5;
 
 /// The result of parsing a construct: the construct's tree and the index of the token after the
@@ -359,7 +359,7 @@ impl<'t> Parser<'t> {
     }
 
     /// Parses a further term with the operator before it, `("+" | "-" | OR) term`. Returns None if
-    /// the token at `at` is no such operator.
+    /// the token at `at` isn't one of these operators.
     #[cycle(expressions)]
     fn parse_addend(&self, at: usize, room: u32) -> ItemResult<Addend>
         requires { at ≤ length self.now.tokens.now }
@@ -392,7 +392,7 @@ impl<'t> Parser<'t> {
     }
 
     /// Parses a further factor with the operator before it, `("*" | DIV | MOD | "&") factor`.
-    /// Returns None if the token at `at` is no such operator.
+    /// Returns None if the token at `at` isn't one of these operators.
     #[cycle(expressions)]
     fn parse_multiplier(&self, at: usize, room: u32) -> ItemResult<Multiplier>
         requires { at ≤ length self.now.tokens.now }

@@ -1,5 +1,6 @@
--- Proves that the tokens and the identifiers of the whole text have the same spellings as before,
--- if the new tokens have the spellings of the ones that they replace.
+-- Proves that spellings in a changed text are the same as in the old text, if the new tokens have
+-- the same spellings as the replaced tokens. This is proved for all tokens, and for identifiers
+-- only.
 use Rattle.std.proofs.Common.{◌≡◌, ℕ, ◌+◌, ◌-◌, ◌≤◌, List, [], ◌∷◌, ◌++◌, map, take, drop, length, refl, sym, ap, ap₂, ◌∙◌, arith, append_assoc, length-append, ⊎_elim}
 use Rattle.std.specs.List.{All}
 use Rattle.std.proofs.lemmas.List.{take-append-drop, drop-drop, drop-take, take-take, take-map, drop-map, take_at, drop_at, length-map, length-take-le}

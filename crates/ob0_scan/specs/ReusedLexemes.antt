@@ -17,7 +17,7 @@ pub record ReplacesRange (old new : List ℕ) (from removed added : ℕ) : Type 
   pub front : take from old ≡ take from new
   pub behind : drop (from + removed) old ≡ drop (from + added) new
 
--- Returns the kind of a token with the value of an integer set to 0. Other kinds are returned
+-- Returns a token's kind, with the value of an integer set to 0. Any other kind is returned
 -- unchanged.
 abbrev pub kind_without_value : TokenKind → TokenKind
 kind_without_value (kind.Integer value) = kind.Integer 0
@@ -65,11 +65,11 @@ abbrev pub comments_ending_before : ℕ → List Span → List Span
 comments_ending_before place comments =
     take (prefix_len (λ c. nat_lt c.end place) comments) comments
 
--- Returns the tokens without the leading ones that begin before the byte offset `place`.
+-- Returns the tokens without the leading tokens that begin before the byte offset `place`.
 abbrev pub tokens_beginning_at_or_after : ℕ → List Token → List Token
 tokens_beginning_at_or_after place tokens = drop (prefix_len (λ t. nat_lt t.span.start place) tokens) tokens
 
--- Returns the comments without the leading ones that begin before the byte offset `place`.
+-- Returns the comments without the leading comments that begin before the byte offset `place`.
 abbrev pub comments_beginning_at_or_after : ℕ → List Span → List Span
 comments_beginning_at_or_after place comments = drop (prefix_len (λ c. nat_lt c.start place) comments) comments
 

@@ -3,18 +3,18 @@
 //!
 //! `rescan_in_place` takes the tokens of the old text and turns them into the tokens of the new
 //! text. If the new text has faults, the function returns the faults and the old tokens. `rescan`
-//! does the same with a copy of the old tokens. Both functions return the tokens and comments that
-//! `scan` of the new text returns. `ReusesOldLexemes` (`specs/ReusedLexemes`) says which of these
-//! are reused from the old scan:
+//! does the same with a copy of the old tokens, which it never returns. Both functions return the
+//! tokens and comments that `scan` of the new text returns. `ReusesOldLexemes`
+//! (`specs/ReusedLexemes`) says which of these are reused from the old scan:
 //! - Before the change: each token and comment that ends before it. (A token that ends right at the
 //!   change may continue with the inserted text.)
 //! - After the change, shifted by `added - removed` bytes: each token and comment that begins at a
 //!   certain place or later. This is the first place after the change at which a token or comment
 //!   begins in both texts (`MatchesNoOldLexemeAfterChange`).
 //!
-//! If `same_kinds` is true in the result, the new tokens have the same kinds as the old tokens. If
-//! `same_names` is true, the identifiers have the same spellings. If `same_words` is true, all
-//! tokens have the same kinds and spellings.
+//! If `same_kinds` is true in the result, the new tokens have the same kinds as the old tokens,
+//! except that the values of integers may differ. If `same_names` is true, the identifiers have the
+//! same spellings. If `same_words` is true, all tokens have the same kinds and spellings.
 //!
 //! Binary search finds the old tokens and comments before the change
 //! (`LexemeSlices::lexemes_ending_before`). A scanner continues at the end of the last of them.
@@ -105,8 +105,8 @@ impl RescannedMiddle {
         )
     }
 
-    /// Returns whether the new tokens have the same names as the old tokens that they replace. Both
-    /// lists must be equally long and have the same identifiers at the same indexes.
+    /// Returns whether the new tokens have the same names as the old tokens that they replace: both
+    /// lists are equally long and have identifiers with the same spellings at the same indexes.
     fn has_same_names_as_replaced_tokens(&self, new_text: &str, old: &Tokens) -> bool
         requires ordered { self.now.old_start.tokens ≤ self.now.old_end.tokens }
         requires inside { self.now.old_end.tokens ≤ length old.now.tokens }

@@ -32,8 +32,8 @@ impl From<AllocError> for PatchFault {
     }
 }
 
-/// An edit with byte offsets: the start and the end of the removed text, and the text that replaces
-/// it.
+/// An edit with byte offsets. `text` replaces the bytes from `start` (included) to `end`
+/// (excluded).
 #[derive(Drop)]
 struct ByteEdit<'e> {
     start: usize,

@@ -26,8 +26,8 @@ use crate::tree::{
 };
 use std::alloc::AllocError;
 
-/// The state of a walk over the identifiers of a module, or of a part of one, in text order. The
-/// walk updates the state at each identifier.
+/// A value that a walk updates at each identifier. The walk visits the identifiers of a module, or
+/// of a part of one, in text order.
 pub trait Visitor {
     /// Returns the state after the visit of an identifier. The arguments are the identifier's role,
     /// the index of its token and the state before the visit.
