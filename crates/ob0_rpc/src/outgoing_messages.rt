@@ -46,7 +46,7 @@ impl<'a> WriteJson for ErrorObject<'a> {
 }
 
 /// An error response: the answer to a refused request, or to received bytes that aren't a message.
-/// `id` is the id of the request, or None in the second case.
+/// `id` is the id of the request, or None if the received bytes aren't a message.
 #[derive(Drop)]
 pub struct ErrorResponse<'a> {
     pub error: ErrorObject<'a>,

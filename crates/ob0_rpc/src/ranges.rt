@@ -1,11 +1,11 @@
 //! Writes positions, ranges and edits as JSON.
 //!
-//! The text of a range is built backwards, from its last byte to its first. The reason is that the
-//! digits of a number are computed from the last to the first. So each digit is written directly to
-//! its final position in the buffer.
+//! The text of a range is built backwards, from its last byte to its first, because the digits of a
+//! number are computed in that order. So each digit is written directly to its final position in
+//! the buffer.
 //!
-//! The text of a range is built in a fixed array on the stack and copied once. If it were appended
-//! piece by piece, each piece would cost a capacity check and a copy.
+//! The buffer is a fixed array on the stack, which is appended to the output in one copy. If the
+//! text were appended piece by piece, each piece would cost a capacity check and a copy.
 
 ghost use Rattle.std.specs.Prelude.{◌≡◌, ◌++◌, ◌∷◌, [], ◌+◌, ◌<◌, ◌≤◌, ◌^◌, OnOk, codes, decimal, drop, length};
 ghost use Rattle.serde_json.specs.Written.{compact_text};
@@ -110,8 +110,8 @@ fn write_position_ending_at(buffer: &mut [u8], at: usize, position: Position) ->
     write_verbatim_ending_at(buffer, at_character, b"{\"character\":")
 }
 
-/// Writes the decimal digits of `count` into the buffer. The digits end right before the index
-/// `at`. Returns the index of the first digit.
+/// Writes the decimal digits of `count` into the buffer. They take at most 20 bytes, and end right
+/// before the index `at`. Returns the index of the first digit.
 #[inline(always)]
 fn write_digits_ending_at(buffer: &mut [u8], at: usize, count: u64) -> usize
     requires { (20 ≤ at) × (at ≤ length buffer.old) }

@@ -1,6 +1,6 @@
--- Defines which bytes the server has written when `serve` returns. `Serves` relates the bytes
--- written to the bytes read, for each result of `serve`. The bytes are frames: each frame is one
--- message, a head followed by its content.
+-- Defines which bytes the server has written when `serve` returns. For each result of `serve`,
+-- `Serves` relates the written bytes to the bytes that were read. The bytes are frames: each frame
+-- is one message, a head followed by its content.
 use Rattle.std.specs.Prelude.{◌≡◌, ◌≢◌, ◌≤◌, ◌+◌, ◌-◌, ◌^◌, ◌*◌, ◌⊎◌, ℕ, min, max, List, [], ◌++◌, Bool, true, false, Result, Ok, Err, length}
 use Rattle.std.specs.List.{flat_map}
 use Rattle.ob0_frame.specs.Frames.{frame}
@@ -12,10 +12,11 @@ use Rattle.ob0_session.specs.Devices.{ReadStatistics}
 use Rattle.ob0_session.specs.declared.serve_loop.ServeFault.{ServeFault}
 use Rattle.ob0_session.specs.declared.serve_loop.ServeFault.TheVariants.{BadHead, Truncated, Read, Write, Memory, TooManyReads}
 
--- States which message contents the server has answered. The bytes `taken` are the frames of the
--- contents `answered`, then of the contents `waiting`, then the `rest`: unfinished bytes (`Open`)
--- or a bad head (`Broken`). The bytes `put` are the frames of valid answers to the contents
--- `answered`. After these answers, the session is in the state `after`.
+-- States that the server has answered the message contents in the bytes `taken`, except the
+-- contents `waiting`. The bytes `taken` are the frames of the contents `answered`, the frames of
+-- the contents `waiting`, and the `rest`: unfinished bytes (`Open`) or a bad head (`Broken`). The
+-- bytes `put` are the frames of valid answers to the contents `answered`. After these answers, the
+-- session is in the state `after`.
 pub record AnswersAllButWaiting (taken : List ℕ) (waiting : List (List ℕ)) (rest : StreamRest)
     (after : ServerState) (put : List ℕ) : Type 0 where
   pub answered : List (List ℕ)
@@ -32,9 +33,9 @@ pub record AnswersAllContents (taken : List ℕ) (rest : StreamRest) (put : List
   pub served : AnswersAllButWaiting taken [] rest after put
   pub not_ended : HasNotEnded after.phase
 
--- States that the server has answered a prefix of the message contents in the bytes `taken`: no
--- contents, some or all. The bytes `put` are the frames of these answers. The other contents
--- (`waiting`) aren't answered yet.
+-- States that the server has answered a prefix of the message contents in the bytes `taken`. The
+-- prefix may have no contents, some contents or all contents. The bytes `put` are the frames of
+-- these answers. The other contents (`waiting`) aren't answered yet.
 pub record AnswersSomeContents (taken put : List ℕ) : Type 0 where
   pub after : ServerState
   pub waiting : List (List ℕ)
@@ -65,8 +66,8 @@ pub record AnswersPrefixOfContents (taken put : List ℕ) : Type 0 where
 abbrev pub NoDeviceFailedAndFlushed : (reader_failed writer_failed : Bool) (flushed : Type 0) → Type 0
 NoDeviceFailedAndFlushed r w flushed = (r ≡ false) × (w ≡ false) × flushed
 
--- States that the writer is flushed if it was flushed before, or if something was written. `put`
--- are the bytes written.
+-- States that the writer is flushed if it was flushed before, or if something was written. The list
+-- `put` has the written bytes.
 abbrev pub LeavesWriterFlushed : (was_flushed is_flushed : Bool) (put : List ℕ) → Type 0
 LeavesWriterFlushed was_flushed is_flushed put =
     (was_flushed ≡ true) ⊎ (put ≢ []) → is_flushed ≡ true

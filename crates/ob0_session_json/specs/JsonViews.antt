@@ -24,7 +24,6 @@ diagnostic_view d = record {
   end = d.range.end;
 }
 
--- States that the code's diagnostics (`list`) are the diagnostics `ds` of the specs, in the same
--- order.
+-- States that the code's diagnostics (`list`), as diagnostics of the specs, are the list `ds`.
 abbrev pub AreSameDiagnostics : List shapes.Diagnostic → List Diagnostic → Type 0
 AreSameDiagnostics ds list = ds ≡ map diagnostic_view list

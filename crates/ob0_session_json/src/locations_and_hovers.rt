@@ -78,8 +78,8 @@ fn write_locations(out: &mut Vec<u8>, uri: &str, ranges: &[Range]) -> Result<(),
     Ok(())
 }
 
-/// Returns a buffer in which the texts of locations are built, one after another. The buffer begins
-/// with 192 bytes of free space. Then come the bytes with which the text of each location ends: a
+/// Returns a buffer in which the texts of locations are built, one after another. The first 192
+/// bytes of the buffer are free space. The other bytes are the last part of each location's text: a
 /// comma, the member `uri` and the closing brace.
 fn location_buffer_with_uri(alloc: Global, uri: &str) -> Result<Vec<u8>, AllocError>
     ensures { IfOk result (λ buffer. EndsWithUriMember uri.now buffer.items) }

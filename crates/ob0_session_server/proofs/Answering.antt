@@ -1,4 +1,4 @@
--- Proves that the server's reaction to a content meets the definition of its answers.
+-- Proves that the server's reaction to a content meets the definition of its replies (`Answers`).
 use Rattle.std.proofs.Common.{◌≡◌, ◌≢◌, ◌∙◌, ℕ, ℤ, List, [], ◌∷◌, Option, Some, None, Result, Err, Vec, Global, option_map, map, sym, subst, ap, refl}
 use Rattle.std.specs.Option.{option_to_list}
 use Rattle.serde_json.specs.Data.{Data, null}

@@ -55,9 +55,9 @@ start = record { phase = Starting; client = no_client_features; held = no_open_d
 
 -- ---- the reply to one message
 
--- The reply to one message: nothing, a given message (`fixed_reply`), or a message that is computed
--- from a document's text. A computed message contains the text's diagnostics, or answers a request
--- about the text.
+-- The reply to one message: nothing, a given message (`fixed_reply`), or a message that depends on
+-- a document's text. Such a message publishes the text's diagnostics, or answers a request about
+-- the text.
 pub data Reply : Type 0 where
   no_reply : Reply
   -- Exactly this message.
@@ -83,8 +83,8 @@ abbrev pub SendsMessage : Data → List (List ℕ) → Type 0
 SendsMessage message sent = (bytes : List ℕ) × (sent ≡ bytes ∷ []) × Writes message bytes
 
 -- States that the session gives this reply by sending the contents `sent`. A content is the bytes
--- of one message without the header. For the reply `no_reply`, `sent` is empty. For any other
--- reply, `sent` is exactly one content: the text of a message that this reply allows.
+-- of one message after its head. For the reply `no_reply`, `sent` is empty. For any other reply,
+-- `sent` is exactly one content: the text of a message that this reply allows.
 abbrev pub AreContentsOfReply : Reply → List (List ℕ) → Type 0
 AreContentsOfReply no_reply sent = sent ≡ []
 AreContentsOfReply (fixed_reply message) sent = SendsMessage message sent
@@ -133,9 +133,9 @@ react_with_fault s id fault = react_with_error s id (error_code fault) (error_te
 abbrev pub state_after_initialize : ClientFeatures → ServerState
 state_after_initialize client = record { phase = Running; client = client; held = no_open_documents (unit_for_client client) }
 
--- Returns the reaction to a request about a document. The document is None if it isn't open. If it
--- is open and in step (its text is known), the function `say` makes the reply from its version and
--- text. Otherwise the reply is a refusal.
+-- Returns the reaction to a request about a document. If the document is in step (its text is
+-- known), the function `say` makes the reply from the document's version and text. If the document
+-- is out of step or isn't open (None), the reply is a refusal.
 abbrev pub react_to_document_request : ServerState → Data → Option Document → (ℤ → List ℕ → Reply) → Reaction
 react_to_document_request s id (Some (InStep version text)) say = reaction_without_change s (say version text)
 react_to_document_request s id (Some OutOfStep) say = reaction_without_change s (fixed_reply (edit_refusal_message id (codes "out of step")))
@@ -285,9 +285,9 @@ AnswersInPhase phase before content sent after = AnswersBeforeSessionEnd before 
 abbrev pub Answers : ServerState → List ℕ → List (List ℕ) → ServerState → Type 0
 Answers before content sent after = AnswersInPhase before.phase before content sent after
 
--- States that the messages `sent` are the messages `first`, followed by the messages `later`. The
--- server replies to this content with `first`, and `between` is its state after that. The parameter
--- `Follows` states a condition, which holds for `between` and `later`.
+-- States that the server replies to this content with the messages `first`, which begin the list
+-- `sent`. `between` is the server's state after this reply, and `later` has the other messages of
+-- `sent`. The condition `Follows` holds for `between` and `later`.
 pub record AnswersFirstContent (before : ServerState) (content : List ℕ) (sent : List (List ℕ))
     (Follows : ServerState → List (List ℕ) → Type 0) : Type 0 where
   pub between : ServerState

@@ -1,4 +1,4 @@
-//! Keeps the state of a session, and answers each message according to the session's phase
+//! Keeps the state of a session, and reacts to each message according to the session's phase
 //! (docs/PROTOCOL.md, Lifecycle).
 ghost use Rattle.std.specs.Prelude.{◌≡◌, ◌≢◌, Ok, IfOk, IfErr, map, option_map, string_bytes};
 ghost use Rattle.ob0_rpc.specs.MessageViews.{json_of_id};
@@ -44,7 +44,7 @@ pub enum Next {
     End(u8),
 }
 
-/// The result of a step: the contents of the messages to send (their bytes without headers), and
+/// The result of a step: the contents of the messages to send (their bytes without the heads), and
 /// whether the session continues.
 #[derive(Drop)]
 pub struct Step {
@@ -53,7 +53,7 @@ pub struct Step {
 }
 
 /// The reason why a step has no result: an allocation failed in this step (`Memory`) or in an
-/// earlier one (`Failed`).
+/// earlier step (`Failed`).
 #[derive(Clone, Copy, Debug, Drop, PartialEq, Eq, Error)]
 pub enum SessionFault {
     #[error("Memory")]
@@ -121,10 +121,10 @@ impl<T: TextStore> Session<T> {
         self.documents.documents()
     }
 
-    /// Performs one step: reads the content of one message (its bytes without the header), and
-    /// returns the contents of the messages to send in reply. If the session ended before this
-    /// step, nothing is sent, and the step's `next` is `End` with the exit status. If an allocation
-    /// fails, returns `Memory`, and every later step returns `Failed`.
+    /// Performs one step: reads the content of one message (its bytes after the head), and returns
+    /// the contents of the messages to send in reply. If the session ended before this step,
+    /// nothing is sent, and the step's `next` is `End` with the exit status. If an allocation
+    /// fails, the step returns `Memory`, and every later step returns `Failed`.
     pub fn step(&mut self, content: &[u8]) -> Result<Step, SessionFault>
         ensures ok { IfOk result (λ step. SessionSteps self.old content.now step self.new) }
         ensures err { IfErr result (λ fault. SessionFails self.old fault self.new) }
@@ -227,7 +227,7 @@ impl<T: TextStore> Session<T> {
     }
 
     /// Answers a request. If the phase of the lifecycle doesn't allow the request, the answer is an
-    /// error. Returns None if the session has ended or has failed before.
+    /// error. Returns None if the session has already ended or failed.
     fn reply_to_request(
         &mut self,
         id: &Id,
@@ -326,7 +326,7 @@ impl<T: TextStore> Session<T> {
     }
 
     /// Answers a request for the references to the name or field at this position in a document
-    /// (`place`).
+    /// (`place`). The declaration is included if `include_declaration` is true.
     fn reply_to_references(
         &mut self,
         id: &Id,
@@ -389,7 +389,7 @@ impl<T: TextStore> Session<T> {
     }
 
     /// Returns the answer to a request about the document with this uri. If the document isn't
-    /// open, or its text isn't known (out of step), returns a refusal.
+    /// open, or is out of step (its text isn't known), returns a refusal.
     fn reply_to_document_request<Q: DocumentRequest<T>>(
         &mut self,
         id: &Id,
@@ -417,7 +417,7 @@ impl<T: TextStore> Session<T> {
 
     /// Applies a notification if the session is running. In any other phase, `exit` ends the
     /// session, and every other notification is ignored. Returns the message to send, or None if
-    /// there is none.
+    /// there is no message.
     fn react_to_notification(
         &mut self,
         method: &str,
@@ -436,8 +436,8 @@ impl<T: TextStore> Session<T> {
         Ok(None)
     }
 
-    /// Reads a notification from its method and params, and applies it while the session runs.
-    /// Returns the message to send, or None if there is none.
+    /// Reads a notification to a running session from its method and params, and applies it.
+    /// Returns the message to send, or None if there is no message.
     fn parse_and_apply_notification(
         &mut self,
         method: &str,
@@ -462,8 +462,8 @@ impl<T: TextStore> Session<T> {
         };
     }
 
-    /// Applies a notification that has been read, while the session runs. Returns the message to
-    /// send, or None if there is none.
+    /// Applies a notification to a running session. Returns the message to send, or None if there
+    /// is no message.
     fn apply_notification(
         &mut self,
         note: ClientNotification,
@@ -513,8 +513,8 @@ impl<T: TextStore> Session<T> {
         self.diagnostics_message(uri)
     }
 
-    /// Applies changes to a document, and returns the message that publishes its diagnostics.
-    /// Returns None if the document isn't open or is out of step after the changes.
+    /// Applies changes to a document, and returns the message that publishes the document's
+    /// diagnostics. Returns None if the document isn't open or is out of step after the changes.
     fn change_and_publish_diagnostics(
         &mut self,
         uri: String,
@@ -556,8 +556,8 @@ impl<T: TextStore> Session<T> {
     }
 }
 
-/// Returns the reply to a request that has this outcome. The reply is the outcome's message, or a
-/// refusal if the document is out of step or isn't open. The result is never None.
+/// Returns the reply to a request with this outcome: the outcome's message, or a refusal if the
+/// document is out of step or isn't open. The result is never None.
 fn reply_for_outcome(
     alloc: Global,
     id: &Id,

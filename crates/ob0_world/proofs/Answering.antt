@@ -1,8 +1,10 @@
--- Proves that the replies of a session, by its contract, are the replies of the model's server. The main lemma is
--- `served`. `request_served` has a case for each request with edits, which uses `about_document` and a lemma for a text
--- in step: `formatted`, `renamed` or `inlined`. Answers are stated in the session's own words (`AreRequestedEdits`, `RefusesAsk`
--- by cases of the ask), so they are passed on unchanged. Both asks to inline send the same request. The editor reads
--- the action with the title that it asked for (`actions_read_back`), if that is offered.
+-- Proves that the replies of a session, according to its contract, are the replies of the model's
+-- server. The main lemma is `served`. `request_served` has a case for each kind of ask. Each case
+-- uses `about_document` and a lemma for a document in step: `formatted`, `renamed` or `inlined`.
+-- The model states answers by the session's definitions (`AreRequestedEdits` and `RefusesAsk`, by
+-- cases of the ask), so the proof uses them unchanged. Both asks to inline send the same request.
+-- The editor reads the action with the title that it asked for (`actions_read_back`), if the
+-- session offers that action.
 use Rattle.std.proofs.Common.{◌≡◌, ◌∙◌, ℕ, Bool, true, false, cond, List, [], ◌∷◌, length, refl, sym, ap, subst, inl, inr, arith, ◌<◌}
 use Rattle.std.specs.Prelude.{◌⊎◌, ◌&&◌, min, ℤ, Vec, All, Option, Some, None, is_some, map, fold, filter_map, option_map, option_and_then, unwrap_or, codes, Ok}
 use Rattle.std.specs.List.{cons_option}

@@ -1,4 +1,4 @@
--- Proves that a step raises each count of the editor by one at most.
+-- Proves that a step raises each count of the editor by at most one.
 use Rattle.std.proofs.Common.{◌≡◌, ◌∙◌, ◌≤◌, ◌<◌, ◌+◌, ◌-◌, ◌^◌, ℕ, List, [], ◌∷◌, ◌++◌, length, Some, sym, ap, subst, arith}
 use Rattle.std.specs.Prelude.{pos}
 use Rattle.std.specs.FinMap as map_of

@@ -1,8 +1,7 @@
--- Extends a course by one event. Derives the results of a list of events and the session's
--- conversation from a course. The returned contents are a conversation (`IsConversation`) by a
--- lemma over the course (`course_conversed`), by cases of the event. `serve` has the same relation
--- (`Served`). A step whose allocation fails keeps the results and the exchanged contents
--- (`HaveSameHistory`), so the claims hold for the events before it.
+-- Extends a course by one event, and derives the results of a list of events from a course.
+-- `course_conversed` proves by cases of the event that the exchanged contents are a conversation
+-- (`IsConversation`). A step whose allocation fails keeps the results and the exchanged contents
+-- (`HaveSameHistory`), so these claims hold for the events before that step.
 use Rattle.std.proofs.Common.{◌≡◌, ◌∙◌, ℕ, ◌+◌, ◌<◌, List, [], ◌∷◌, ◌++◌, length, take, get_or, map, refl, sym, ap, subst, inl, inr}
 use Rattle.std.proofs.lemmas.List.{map-append, take_more, append-nil, append_assoc}
 use Rattle.ob0_text.specs.declared.position_types.Unit.{Unit}

@@ -1,4 +1,5 @@
--- Proves that a session that takes `shutdown` and then `exit` answers `shutdown`, and has ended with status 0.
+-- Proves that a session that takes `shutdown` and then `exit` answers `shutdown`, and then ends
+-- with status 0.
 use Rattle.std.proofs.Common.{◌≡◌, ◌∙◌, ℕ, List, [], ◌∷◌, ◌++◌, append-nil, sym, ap, subst}
 use Rattle.std.specs.Prelude.{codes}
 use Rattle.serde_json.specs.Data.{Data, null}

@@ -1,4 +1,5 @@
--- Proves that the model's editor and a session exchange messages as an editor that keeps ob0's rules does.
+-- Proves that each course of the model's editor and a session is also an exchange of an editor that
+-- keeps ob0's rules.
 use Rattle.std.proofs.Common.{◌≡◌, ◌∙◌, ℕ, zero, suc, ◌+◌, ◌≤◌, Bool, true, false, cond, arith, List, [], ◌∷◌, ◌++◌, map, length, append-nil, get_or, refl, sym, ap, subst, inl, inr}
 use Rattle.std.specs.Prelude.{◌==◌, Some, None, Ok, codes, option_and_then, slice_get}
 use Rattle.std.specs.Option.{option_to_list}

@@ -1,6 +1,6 @@
--- Proves that an answer with edits mentions the document that was asked about. When the server takes a request, its
--- document has the version that the editor had when it sent the request (`AsksHeld`). A session writes the version that
--- it has.
+-- Proves that an answer with edits mentions the document that was asked about. When the server
+-- takes a request, its document has the version that the editor's document had when the request was
+-- sent (`AsksHeld`). The session writes this version into the answer.
 use Rattle.std.proofs.Common.{◌≡◌, ◌∙◌, ℕ, suc, Bool, true, false, cond, List, [], ◌∷◌, ◌++◌, length, append-nil, refl, sym, ap, subst, inl, inr, ◌+◌, ◌&&◌}
 use Rattle.std.specs.Prelude.{◌⊎◌, ⊤, ℤ, pos, negsuc, Vec, All, Option, Some, None, is_some, fold, option_map, option_and_then, codes, Ok, ◌==◌}
 use Rattle.std.specs.declared.alloc.Global.{Global}

@@ -1,8 +1,8 @@
 -- Defines the exchanges between a session and an editor that keeps ob0's rules, and states the
--- guarantees for them. An exchange is like a state of the model (`EditorAndServer`), with a session
--- instead of the model's server and contents instead of messages. A content is the bytes of one
--- message. The session may be any that the protocol (`Answers`) allows. An ask is a request whose
--- answer the editor may apply: a rename, an inlining or a formatting.
+-- guarantees for exchanges. An exchange is like a state of the model (`EditorAndServer`), with a
+-- session instead of the model's server and contents instead of messages. A content is the bytes of
+-- one message. The session may be any session that the protocol (`Answers`) allows. An ask is a
+-- request for edits, which the editor may apply: a rename, an inlining or a formatting.
 use Rattle.std.specs.Prelude.{◌≡◌, ◌⊎◌, ◌<◌, ◌≤◌, ◌==◌, map, filter_map, ⊤, ℕ, ℤ, List, [], ◌∷◌, ◌++◌, All, fold, Bool, true, false, Option, Some, None, MatchOption, option_map, option_and_then, Result, Ok, Err, if◌then◌else◌, codes}
 use Rattle.std.specs.Str.{bytes_eq}
 use Rattle.serde_json.specs.Data.{Data, null, boolean, number, string, array, object, unsigned, negative, float}
@@ -106,9 +106,9 @@ IsNonAskId ids (Some id) = ask_number_of_request_id ids id ≡ Some None
 
 -- ---- an editor and a session
 
--- An editor and a session with the contents of the messages between them. `ids` are the ids of the
--- requests that the editor sent. `announced` are the documents that it announced to the session.
--- `applied` are the edits that it applied.
+-- An editor and a session, with the contents of the messages between them. `ids` lists the ids of
+-- the requests that the editor sent. `announced` lists the documents that the editor announced to
+-- the session, and `applied` lists the edits that it applied.
 pub record Exchange : Type 0 where
   pub editor : Editor
   pub ids : List SentRequestId
@@ -157,10 +157,10 @@ IsReadOnlyRequest (Ok (asked.code_action uri range only)) = ⊤
 IsReadOnlyRequest (Ok (asked.formatting uri indent)) = ⊤
 IsReadOnlyRequest (Err fault) = ⊤
 
--- States that the message is outside the model. It opens, changes and closes no document, and
--- requests no edits that the editor applies. It may be a response, JSON that isn't a message, or a
--- notification that the server ignores. It may also be a request that changes nothing in the
--- session, unless it has the id of a request for edits.
+-- States that the message is outside the model: a response, JSON that isn't a message, a
+-- notification that the server ignores, or a request that changes nothing in the session. A request
+-- must have a method other than `initialize`, and its id mustn't be the id of a request for edits
+-- (`IsNonAskId`).
 abbrev pub IsUnmodeledMessage : List SentRequestId → MessageMeaning → Type 0
 IsUnmodeledMessage ids not_json = ⊥
 IsUnmodeledMessage ids not_a_message = ⊤
@@ -265,7 +265,7 @@ AreMessagesToSession client ids requested (None ∷ messages) [] = ⊥
 -- ---- turns, and the exchanges to which they lead
 
 -- Returns the message that the editor reads in a content, or None if the content isn't a message to
--- the editor. The ids of the sent requests (`ids`) decide which request is answered.
+-- the editor. `ids` maps the id in an answer to the number of the request that it answers.
 abbrev pub message_to_editor_by_request_ids : List SentRequestId → List SentAsk → List ℕ → Option MessageToEditor
 message_to_editor_by_request_ids ids requested content = message_to_editor_by_id_conversion (ask_number_of_json_id ids) requested content
 
@@ -275,7 +275,7 @@ abbrev pub editor_after_optional_message : Editor → Option MessageToEditor →
 editor_after_optional_message e None = e
 editor_after_optional_message e (Some message) = editor_after_message e message
 
--- States that the editor takes the first waiting content, and reads the message in it if there is
+-- States that the editor takes the first waiting content, and reads the content's message if it has
 -- one. If no content waits for the editor, nothing changes.
 abbrev pub EditorReadsFirstContent : List (List ℕ) → Exchange → Exchange → Type 0
 EditorReadsFirstContent [] old new = new ≡ old
@@ -357,9 +357,9 @@ AreMessagesToEditor ids requested (Some m ∷ messages) [] = ⊥
 AreMessagesToEditor ids requested (None ∷ messages) [] = ⊥
 
 -- States that these turns may lead the model (`EditorAndServer`) to a state that matches the
--- exchange `x`. Both have the same editor, and the session has the documents of the model's server.
--- The waiting contents are the messages that wait in the model. So the model's guarantees hold for
--- the exchange (`GuaranteesHoldForEditorAndServer`).
+-- exchange `x`. The state and the exchange have the same editor, and the session has the documents
+-- of the model's server. The waiting contents are the messages that wait in the model. The
+-- guarantees (`GuaranteesHoldForEditorAndServer`) hold for this state.
 pub record FollowsModel (unit : Unit) (turns : List ExchangeTurn) (x : Exchange) : Type 0 where
   pub model : EditorAndServer
   pub leads : IsCourseOfTurns (initial_editor_and_server unit) turns model
@@ -460,9 +460,10 @@ notifications_in_contents contents = filter_map (message_to_server_in_content []
 pub record GuaranteesHoldForExchange (begin now : Exchange) : Type 0 where
   -- each edit that the editor applied keeps the module's run
   pub applied : All PreservesRun now.applied
-  -- `since` are the contents that the session has sent after `begin`. The n-th list of diagnostics
-  -- with a version in `since` is correct for the n-th document in `published_documents`. The
-  -- announced documents begin with this list.
+  -- The list `since` has the contents that the session has sent after `begin`. The n-th list of
+  -- diagnostics with a version in `since` is correct for the n-th document in
+  -- `published_documents`. The list of announced documents consists of `published_documents`,
+  -- followed by `unpublished_documents`.
   pub since : List (List ℕ)
   pub sent : now.wire.got ++ now.wire.to_editor ≡ begin.wire.got ++ since
   pub published_documents : List AnnouncedDocument
@@ -478,7 +479,7 @@ pub record GuaranteesHoldForExchange (begin now : Exchange) : Type 0 where
       → editor_document_with_uri now.editor uri ≡ Some d
       → MatchOption (last_versioned_publication uri (versioned_publications_in_contents since)) ⊥
       (λ p. (p.version ≡ d.version) × NoDiagnosticsExactlyIfWellTyped d.text p.no_diagnostics)
-  -- once the session has taken the waiting contents, the session's documents are the editor's
+  -- once the session has taken the waiting contents, it has the same documents as the editor
   pub mirrors : (uri : List ℕ)
       → document_at (fold documents_after_message now.wire.session.held (notifications_in_contents now.wire.to_server)) uri
       ≡ option_map in_step_document (editor_document_with_uri now.editor uri)
@@ -500,7 +501,7 @@ GuaranteesHoldForEveryExchange =
     → IsExchangeCourse begin turns now
     → GuaranteesHoldForExchange begin now
 
--- ---- the law that each list of events that `play` plays is an exchange
+-- ---- the law that each list of events that `play` performs is an exchange
 
 -- States that each list of events of the model's editor and a session (`IsConnectionCourse`) is
 -- also an exchange of an editor that keeps ob0's rules. So each guarantee for exchanges also holds

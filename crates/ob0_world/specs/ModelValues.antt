@@ -36,7 +36,7 @@ model_publication_of m =
       no_diagnostics = m.empty;
     }
 
--- returns the list of bytes of each content, in order; a content is the bytes of one message
+-- returns these contents as lists of bytes, in order; a content is the bytes of one message
 abbrev pub bytes_of_contents : List (Vec ℕ Global) → List (List ℕ)
 bytes_of_contents contents = map (λ v. v.items) contents
 

@@ -3,8 +3,8 @@
 -- functions' contracts. No contract of a public function mentions these definitions. A connection
 -- stores each queue as a list of contents. A content is the bytes of one message. The messages of
 -- the model are read from these contents (`messages_to_server_in_contents`,
--- `messages_to_editor_in_contents`). By the invariant, each queued content is a message of the
--- model. It is still the same message after the editor has sent more requests (`proofs/Waiting`).
+-- `messages_to_editor_in_contents`). By the invariant, each waiting content is a message of the
+-- model. It stays the same message when the editor sends more requests (`proofs/Waiting`).
 -- `RunsWithModelEditor` states that the session's client has two features of the model's editor. So
 -- the session writes each WorkspaceEdit with the member `documentChanges`.
 use Rattle.std.specs.Prelude.{◌≡◌, ◌≤◌, ◌⊎◌, ℕ, ℤ, List, [], ◌∷◌, ◌++◌, map, length, All, Bool, true, Option, Some, None, Vec, option_and_then, filter_map}
@@ -92,7 +92,7 @@ abbrev pub publication_in_first_message : OpenDocuments → List MessageToEditor
 publication_in_first_message held [] = None
 publication_in_first_message held (m ∷ ms) = publication_in_message held m
 
--- ---- the model's state for the parts that the code stores
+-- ---- the model's state for the fields of the code's connection
 
 -- States that each waiting content is a message to its receiver. The session has failed, or it runs
 -- with a client like the model's editor (`RunsWithModelEditor`).
@@ -151,8 +151,8 @@ connection_from_fields e to_server session to_editor applied made taken got =
 
 -- ---- the invariant of a world: bounds on the editor's counters, and a reachable state
 
--- States that three numbers are at most `n`. They are the number of the editor's openings of
--- documents, the number of its sent requests for edits, and each open document's version.
+-- States that three numbers are at most `n`: how often the editor has opened a document, how many
+-- requests for edits it has sent, and each open document's version.
 pub record CountsAreAtMost (n : ℕ) (e : Editor) : Type 0 where
   pub openings : e.openings ≤ n
   pub asks : length e.requested ≤ n
@@ -164,8 +164,9 @@ IsReachable w = (unit : Unit) × (events : List Event) × IsCourse (start unit) 
 
 -- ---- clauses of the functions that serve, send and take a content
 
--- Returns the publication that `publication_in_message` finds in the first content. Returns None if
--- there is no content, or no such publication in the first content.
+-- Returns the publication in the first content (`publication_in_message`). Returns None if there is
+-- no content, if the first content isn't a message to the editor, or if `publication_in_message`
+-- gives None.
 abbrev pub publication_in_first_content : OpenDocuments → List SentAsk → Contents → Option PublicationWithText
 publication_in_first_content held requested [] = None
 publication_in_first_content held requested (content ∷ contents) =

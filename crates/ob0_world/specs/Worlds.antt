@@ -26,12 +26,12 @@ use Rattle.ob0_world.specs.declared.play_results.Played as played
 -- the session that serves the editor, and the contents of all messages between the two
 pub record Wire : Type 0 where
   pub session : ServerState
-  -- the contents that the editor has sent: the session has taken those in `taken`, and those in
-  -- `to_server` still wait for the session
+  -- the contents that the editor has sent: the session has taken the contents in `taken`, and the
+  -- contents in `to_server` still wait for the session
   pub taken : List (List ℕ)
   pub to_server : List (List ℕ)
-  -- the contents that the session has sent: the editor has taken those in `got`, and those in
-  -- `to_editor` still wait for the editor
+  -- the contents that the session has sent: the editor has taken the contents in `got`, and the
+  -- contents in `to_editor` still wait for the editor
   pub got : List (List ℕ)
   pub to_editor : List (List ℕ)
 
@@ -157,7 +157,7 @@ pub record IsResultOfPlaying (unit : Unit) (events : List event.Event) (p : play
       (bytes_of_contents p.got.items ++ bytes_of_contents p.unread.items) after
 
 -- States that no event happened: `fault` reports 0 steps, and has no edit, no publication and no
--- content. So the guarantees (`GuaranteesHoldForEvents`) hold for the empty list of events.
+-- content. The guarantees (`GuaranteesHoldForEvents`) hold for the empty list of events.
 pub record IsFaultBeforeFirstEvent (unit : Unit) (fault : PlayFault) : Type 0 where
   pub none : fault.steps ≡ 0
   pub headline : GuaranteesHoldForEvents unit [] (played_edits fault.played) (played_publications fault.played)
@@ -165,9 +165,9 @@ pub record IsFaultBeforeFirstEvent (unit : Unit) (fault : PlayFault) : Type 0 wh
   pub got : fault.played.got.items ≡ []
   pub unread : fault.played.unread.items ≡ []
 
--- States what holds if `play` returns this fault. Either the first `fault.steps` events happened,
--- which are fewer than all, and the fault has their results (`IsResultOfPlaying`). Or no event
--- happened, and the fault has no results (`IsFaultBeforeFirstEvent`).
+-- States that `play` may return this fault. Either the first `fault.steps` events happened, but not
+-- all events, and the fault has their results (`IsResultOfPlaying`). Or no event happened, and the
+-- fault has no results (`IsFaultBeforeFirstEvent`).
 abbrev pub IsFaultOfPlaying : Unit → List event.Event → PlayFault → Type 0
 IsFaultOfPlaying unit events fault =
     ((fault.steps < length events) × IsResultOfPlaying unit (take fault.steps events) fault.played)
@@ -197,8 +197,8 @@ pub record IsReportedAndCountedStep (old : World) (event : Event) (seen : Seen) 
   pub counted : new.steps ≡ old.steps + 1
   pub has_not_ended : new.ended ≡ false
 
--- States that the world makes this step (`IsReportedAndCountedStep`). The first argument is true
--- if the world had ended before the step. In that case, the statement is false.
+-- States that the world makes this step (`IsReportedAndCountedStep`). The first argument says
+-- whether the world had ended before the step. If it is true, the statement is false.
 abbrev pub StepsUnlessEnded : Bool → World → Event → Seen → World → Type 0
 StepsUnlessEnded false old event seen new = IsReportedAndCountedStep old event seen new
 StepsUnlessEnded true old event seen new = ⊥
@@ -217,10 +217,10 @@ pub record HaveSameHistory (old new : Connection) : Type 0 where
   pub got : new.wire.got ≡ old.wire.got
   pub unread : new.wire.to_editor ≡ old.wire.to_editor
 
--- States that a step fails with this fault. The first argument is true if the world had ended
--- before the step. A step that fails with `Memory` isn't counted, and ends the world. The world
--- keeps its results and the exchanged contents (`HaveSameHistory`). Each step of an ended world
--- fails with `Ended` and changes nothing.
+-- States that a step fails with this fault. The first argument says whether the world had ended
+-- before the step. If it hadn't, the fault is `Memory`: the step isn't counted, and the world ends
+-- and keeps its results and the exchanged contents (`HaveSameHistory`). If it had, the fault is
+-- `Ended`, and the step changes nothing.
 abbrev pub WorldFailsGivenEnded : Bool → World → WorldFault → World → Type 0
 WorldFailsGivenEnded false old Memory new =
     HaveSameHistory old.connection new.connection × (new.steps ≡ old.steps) × (new.ended ≡ true)

@@ -28,9 +28,9 @@ use std::alloc::{AllocError, Global};
 use std::collections::VecDeque;
 use std::marker::Model;
 
-/// An editor and a session with the contents that they exchange. `to_server` and `to_editor` have
-/// the contents that wait for the session and for the editor. `applied` and `made` are the results
-/// so far: the applied edits and the publications.
+/// An editor and a session, with the contents that they exchange. The contents in `to_server` wait
+/// for the session, and the contents in `to_editor` wait for the editor. `applied` has the edits
+/// that were applied, and `made` has the publications that were sent.
 #[derive(Drop)]
 pub struct Connection<T: TextStore> {
     alloc: Global,
@@ -88,7 +88,7 @@ impl<T: TextStore> Connection<T> {
         })
     }
 
-    /// Does nothing, and is called only for its contract. The contract states that the queued
+    /// Does nothing, and is called only for its contract. The contract states that the waiting
     /// contents are the messages that wait in the model (`ClientAndServer`). It also states that
     /// the session has the documents of the model's server.
     pub(crate) fn prove_queues_match(&self)
@@ -179,9 +179,10 @@ impl<T: TextStore> Connection<T> {
         send(&mut self.to_server, content)
     }
 
-    /// Gives the first waiting content to the session, and queues its replies for the editor. If
-    /// the first reply publishes diagnostics with a version, the publication is recorded with its
-    /// document's text in the session. If no content waits, nothing happens.
+    /// Gives the first waiting content to the session, and queues the session's replies for the
+    /// editor. If the first reply publishes diagnostics with a version, the publication is recorded
+    /// with the text that its document has in the session. If no content waits for the session,
+    /// nothing happens.
     fn serve(&mut self) -> Result<Seen, AllocError>
         ensures ok { IfOk result
             (λ seen. EventLeadsToWithReport self.old.model events.serve (model_report_of seen) self.new.model) }
@@ -272,8 +273,8 @@ impl<T: TextStore> Connection<T> {
     }
 }
 
-/// Removes the first content of `waiting` and appends it to `got`. If nothing waits, does nothing.
-/// The list `got` must have room for one more content.
+/// Removes the first content of `waiting` and appends it to `got`. If `waiting` is empty, does
+/// nothing. The list `got` must have room for one more content.
 fn move_first_content(waiting: &mut VecDeque<Vec<u8>>, got: &mut Vec<Vec<u8>>)
     requires { vec_len got.old < vec_capacity got.old }
     ensures { MovesFirstContent waiting.old.items got.old.items waiting.new.items got.new.items }
@@ -283,8 +284,8 @@ fn move_first_content(waiting: &mut VecDeque<Vec<u8>>, got: &mut Vec<Vec<u8>>)
     }
 }
 
-/// Appends a content to the queue, and returns `Sent`. If there is no content, returns `Nothing`.
-/// If the allocation fails, the queue is unchanged.
+/// Appends a content to the queue, and returns `Sent`. If the content is None, returns `Nothing`
+/// and leaves the queue unchanged. If the allocation fails, the queue is also unchanged.
 fn send(queue: &mut VecDeque<Vec<u8>>, content: Option<Vec<u8>>) -> Result<Seen, AllocError>
     ensures ok { IfOk result (λ seen. QueuesContent queue.old.items content seen queue.new.items) }
     ensures err { OnErr result (queue.new.items ≡ queue.old.items) }
@@ -298,8 +299,8 @@ fn send(queue: &mut VecDeque<Vec<u8>>, content: Option<Vec<u8>>) -> Result<Seen,
     }
 }
 
-/// Gives a content to the session, and returns the contents of its replies. After a failed
-/// allocation, the session's phase is `Failed` for good.
+/// Gives a content to the session, and returns the contents of the session's replies. If an
+/// allocation fails, the session's phase is then `Failed`.
 fn serve_content<T: TextStore>(
     session: &mut Session<T>,
     content: &[u8],

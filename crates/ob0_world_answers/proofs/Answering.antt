@@ -1,4 +1,4 @@
--- Each request has an answer, and each list of events a course.
+-- Proves that each request for edits has an answer, and that each list of events has a course.
 use Rattle.std.proofs.Common.{List, [], ◌∷◌}
 use Rattle.std.specs.Prelude.{All}
 use Rattle.std.proofs.lemmas.List.Elements.{All-append, All-nil, All-push}

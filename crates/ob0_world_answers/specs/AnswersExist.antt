@@ -1,5 +1,5 @@
 -- States that each request for edits has an answer, and that each list of events leads to some
--- state. The events and states belong to the model of client and server.
+-- state of the model of client and server.
 -- Rule: docs/PROTOCOL.md, Requests on documents 6 to 10.
 use Rattle.std.specs.Prelude.{List}
 use Rattle.ob0_text.specs.declared.position_types.Unit.{Unit}
@@ -9,7 +9,7 @@ use Rattle.ob0_world_rules.specs.Events.{Event, IsCourse}
 use Rattle.ob0_world_rules.specs.Laws.{AlwaysHasAnswer}
 
 -- States that each request for edits has an answer for each text and unit. The formula is a double
--- negation (`AlwaysHasAnswer`).
+-- negation: it is impossible that there is no answer (`AlwaysHasAnswer`).
 abbrev pub EachAskHasAnswers : Type 0
 EachAskHasAnswers = (ask : Ask) → AlwaysHasAnswer ask
 

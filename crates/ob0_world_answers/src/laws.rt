@@ -1,6 +1,5 @@
 //! Proves that each request for edits has an answer, and that each list of events leads to some
-//! state. The events and states belong to the model of client and server. So a law about every list
-//! of events isn't vacuous.
+//! state of the model of client and server. So a law about every list of events isn't vacuous.
 ghost use Rattle.ob0_world_answers.specs.AnswersExist.{EachAskHasAnswers, EachEventListHasACourse};
 
 use ob0_inline_answers::laws::{
@@ -11,7 +10,8 @@ use ob0_rename_answers::laws::renaming_always_has_answer;
 use ob0_world_rules::laws::course_exists_if_asks_have_answers;
 use ob0_world_worked::laws::formatting_always_has_answer;
 
-/// Proves that each request for edits has an answer for each text.
+/// Proves that each request for edits has an answer for each text: it is impossible that there is
+/// none (`AlwaysHasAnswer`).
 pub fn each_ask_has_answers()
     ensures { EachAskHasAnswers }
 {
@@ -22,8 +22,8 @@ pub fn each_ask_has_answers()
     inlining_everywhere_always_has_answer();
 }
 
-/// Proves that each list of events has a course: the events lead from the initial state to some
-/// state.
+/// Proves that each list of events has a course: it is impossible that the events lead from the
+/// initial state to no state.
 pub fn each_event_list_has_a_course()
     ensures { EachEventListHasACourse }
 {

@@ -1,5 +1,6 @@
--- Proves that whatever fails, the bytes that `serve` has written are a prefix. They begin the output for the same
--- input, or for more of it, of a call in which neither an allocation nor the writer fails.
+-- Proves that the output of each call of `serve` is a prefix of the output of a second call, if
+-- neither an allocation nor the writer fails in the second call. The second call has the same
+-- input, or the same input with more bytes after it. In the first call anything may fail.
 use Rattle.std.proofs.Common.{◌≡◌, ◌∙◌, ℕ, List, [], ◌++◌, Result, Ok, Err, sym, ap, subst, inl, inr, append_assoc, append-nil}
 use Rattle.std.specs.List.{flat_map}
 use Rattle.std.proofs.lemmas.Grind.{flat_map-append}

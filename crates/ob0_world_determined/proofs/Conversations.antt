@@ -1,4 +1,5 @@
--- Proves that a conversation is determined if each reply is.
+-- Proves that the contents that a session takes determine its replies and its state, if each reply
+-- (`Reply`) determines the contents that are sent.
 use Rattle.std.proofs.Common.{◌≡◌, ◌∙◌, ℕ, Option, Some, None, List, [], ◌∷◌, ◌++◌, refl, sym, subst}
 use Rattle.serde_json.specs.Data.{Data}
 use Rattle.ob0_rpc.specs.Messages.{IsJsonOfContent, meaning_of_content}

@@ -1,9 +1,11 @@
--- Proves that the first bytes of a stream have a list of contents, and that the list of the whole stream begins with
--- it.
--- An input may be cut into other pieces, so that more of it is read after an `exit` or a bad head. The contents of the
--- first bytes begin the contents of the whole, even after a bad head (`fed_front`).
--- If memory ran out, the answered contents begin each list of contents of the bytes read. There is such a list because
--- the whole stream has one (`framed_first`, which decides whether the rest of the first bytes is bad).
+-- Proves that the first bytes of a stream have a list of contents, and that this list is a prefix
+-- of the list of the whole stream.
+-- If an input is cut into other pieces, more of it may be read after an `exit` or a bad head. The
+-- contents of the first bytes are a prefix of the contents of the whole stream, even after a bad
+-- head (`fed_front`).
+-- If an allocation failed, the answered contents are a prefix of each list of contents of the bytes
+-- that were read. These bytes have a list of contents because the whole stream has one
+-- (`framed_first`, whose proof decides whether the rest of the first bytes is bad).
 use Rattle.std.proofs.Common.{◌≡◌, ◌∙◌, ◌⊎◌, ◌<◌, ◌≤◌, ℕ, arith, List, [], ◌∷◌, ◌++◌, length, take, drop, refl, sym, ap, subst, inl, inr}
 use Rattle.std.proofs.lemmas.List.{append_assoc, append_cancel_left, length-append, take_all, take_at, take-append-drop, take-append-le, take-take}
 use Rattle.std.proofs.lemmas.Bool.{cases_lt}

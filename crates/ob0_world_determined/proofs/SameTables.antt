@@ -1,4 +1,5 @@
--- Proves that the faults of a module depend on its table of ordinals only by the ordinals at the module's tokens.
+-- Proves that two tables of ordinals give a module the same faults if they have the same ordinals
+-- at the module's tokens.
 use Rattle.std.proofs.Common.{◌≡◌, ℕ, suc, ◌+◌, Bool, true, false, cond, Option, Some, None, List, [], ◌∷◌, ◌++◌, map, length, refl, ap, subst}
 use Rattle.std.specs.Prelude.{option_and_then, slice_index_or, slice_set}
 use Rattle.ob0_language_values.specs.Values.{Value}

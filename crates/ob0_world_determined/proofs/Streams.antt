@@ -1,6 +1,7 @@
--- Proves that the input of `serve` determines what it writes and returns, however the input is cut.
--- If one call ended at an `exit`, no other call can go beyond it: after its end a server sends nothing and doesn't
--- change.
+-- Proves that the input of `serve` determines its output and its result, no matter how the input is
+-- cut into pieces.
+-- If one call ended at an `exit`, no other call answers a content after this `exit`: a session that
+-- has ended sends nothing, and its state doesn't change.
 use Rattle.std.proofs.Common.{◌≡◌, ◌≢◌, ◌≤◌, ◌∙◌, ℕ, ◌⊎◌, List, [], ◌∷◌, ◌++◌, length, Result, Ok, Err, refl, sym, ap, subst, inl, inr, append_assoc, append-nil}
 use Rattle.std.specs.Prelude.{⊤, All}
 use Rattle.std.specs.List.{flat_map}

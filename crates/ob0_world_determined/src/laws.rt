@@ -1,5 +1,5 @@
 //! Proves that the server's input determines the server's output, and that `serve` writes the
-//! frames of a conversation: each message's head and content.
+//! frames of the messages that a session sends. A frame is a message's head and content.
 ghost use Rattle.ob0_world_determined.specs.DeterminedOutput.{FramingExists, ServeAnswersLikeSession, ServeAnswersPrefixLikeSession, ServeEndsLikeSession, AnswerIsDetermined, ConversationIsDetermined, DiagnosesAreDetermined, OutputIsDetermined, ReplyContentsAreDetermined, ResultIsDetermined, ResolutionIsDetermined};
 ghost use Rattle.ob0_world_determined.specs.ServeGuarantees.{ServeGuaranteesHoldForEveryExchange};
 
@@ -51,11 +51,10 @@ pub fn conversation_is_determined()
 }
 
 /// Proves how the outputs of two calls of `serve` are related if the first call's input is a prefix
-/// of the second call's input. If the second call returns neither `Memory` nor `Write`, the first
-/// call's output is a prefix of the second call's output. The two outputs are equal if two more
-/// conditions hold. First, the first call also returns neither `Memory` nor `Write`. Second, the
-/// two inputs are equal, or an `exit` or a bad head ended the first call. So it makes no difference
-/// how an input is cut into pieces.
+/// of the second call's input, and the second call returns neither `Memory` nor `Write`. The first
+/// call's output is then a prefix of the second call's output. The outputs are equal if the first
+/// call also returns neither `Memory` nor `Write`, and either the inputs are equal, or an `exit` or
+/// a bad head ended the first call. So it makes no difference how an input is cut into pieces.
 pub fn output_is_determined()
     ensures { OutputIsDetermined }
 {
@@ -64,8 +63,8 @@ pub fn output_is_determined()
 }
 
 /// Proves that two calls of `serve` with the same input return the same result. If an `exit` or a
-/// bad head ended the first call, the input of the second call may have further bytes. The law
-/// excludes calls that return `Read`, `TooManyReads`, `Write` or `Memory`.
+/// bad head ended the first call, the second call's input may continue after the first call's. The
+/// law excludes calls that return `Read`, `TooManyReads`, `Write` or `Memory`.
 pub fn result_is_determined()
     ensures { ResultIsDetermined }
 {
@@ -73,8 +72,9 @@ pub fn result_is_determined()
     feeding_is_determined();
 }
 
-/// Proves that each list of bytes can be split into complete messages with some contents, and a
-/// rest that doesn't begin with a complete message. So a law about every such split isn't vacuous.
+/// Proves that each list of bytes can be split into complete messages and a rest that doesn't begin
+/// with a complete message. (It is impossible that there is no split.) So a law about all splits
+/// isn't vacuous.
 pub fn framing_exists()
     ensures { FramingExists }
 {}

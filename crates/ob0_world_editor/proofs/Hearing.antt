@@ -1,4 +1,4 @@
--- Proves which message a content is, once its JSON value is known.
+-- Proves which message a content means if its JSON value is given.
 use Rattle.std.proofs.Common.{◌≡◌, ◌∙◌, ℕ, Bool, true, false, List, refl, Option, Some, None, option_and_then, option_map, cond, ap}
 use Rattle.std.specs.Prelude.{Result, Ok, Err, IfOk}
 use Rattle.std.specs.Str.{is_utf8}

@@ -1,4 +1,5 @@
--- Proves that asks and answers are found by their numbers, and what the editor's calls do with them.
+-- Proves that asks and answers are found by their numbers. Also proves that the calls of the code's
+-- editor that open a document, ask or apply an answer perform the acts of the model's editor.
 use Rattle.std.proofs.Common.{◌≡◌, ◌∙◌, ◌<◌, ◌≤◌, ◌+◌, ℕ, zero, suc, Bool, true, false, cond, List, [], ◌∷◌, ◌++◌, length, take, drop, get_or, map, Option, Some, None, option_map, arith, refl, ap, sym, subst, add-one}
 use Rattle.std.specs.Prelude.{Vec, is_some, unwrap_or, option_and_then, slice_get, ◌==◌}
 use Rattle.std.specs.declared.alloc.Global.{Global}

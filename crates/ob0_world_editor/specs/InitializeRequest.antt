@@ -25,7 +25,7 @@ workspace_edit_capability = object (member (codes "documentChanges") (boolean tr
 abbrev pub workspace_capabilities : Data
 workspace_capabilities = object (member (codes "workspaceEdit") workspace_edit_capability no_members)
 
--- the general capabilities, which offer to count positions in UTF-8:
+-- the general capabilities, which offer to count positions in bytes of UTF-8:
 -- {"positionEncodings":["utf-8"]}
 abbrev pub general_capabilities : Data
 general_capabilities =

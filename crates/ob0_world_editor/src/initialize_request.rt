@@ -11,9 +11,9 @@ use ob0_text::Unit;
 use std::alloc::{AllocError, Global};
 
 /// Returns the content of the request `initialize`, which begins a conversation. The client
-/// declares two capabilities. It accepts literal code actions, which contain their edits. And it
-/// accepts edits that mention their documents' versions. If the unit is UTF-8, the client also
-/// offers to count positions in UTF-8.
+/// declares that it accepts literal code actions, which contain their edits, and edits that mention
+/// their documents' versions. If the unit is UTF-8, the client also offers to count positions in
+/// bytes of UTF-8.
 pub fn initialize(alloc: Global, unit: Unit) -> Result<Vec<u8>, AllocError>
     ensures { IfOk result (λ content. IsJsonOfContent content.items
         (Some (initialize_message unit))) }

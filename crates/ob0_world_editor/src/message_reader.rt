@@ -32,7 +32,7 @@ pub enum ServerMessage {
     },
 }
 
-/// Returns the message in a content. `requested` lists the requests for edits that the editor has
+/// Reads the message in a content. `requested` lists the requests for edits that the editor has
 /// sent. Returns None if the content is neither a publication nor the answer to one of these
 /// requests.
 pub fn read_message(
@@ -204,9 +204,9 @@ fn answer_edit_values<'v>(uri: &str, ask: &Ask, answer: &'v Value) -> Option<&'v
     }
 }
 
-/// Returns the list of edits in a WorkspaceEdit. If there is a member `documentChanges`, the list
-/// is in its first element, whose uri is ignored. Otherwise the list is in `changes`, under this
-/// uri. Returns None if there is no such list.
+/// Returns the JSON list of the text edits in a WorkspaceEdit. If there is a member
+/// `documentChanges`, the list is in the member's first element, whose uri is ignored. Otherwise
+/// the list is in the member `changes`, under this uri. Returns None if the list is missing.
 fn workspace_edit_values<'v>(edit: &'v Value, uri: &str) -> Option<&'v Vec<Value>>
     ensures { option_map (λ v. items_view v.now.items) result
         ≡ workspace_edit_items uri.now (view edit.now) }
@@ -217,8 +217,9 @@ fn workspace_edit_values<'v>(edit: &'v Value, uri: &str) -> Option<&'v Vec<Value
     }
 }
 
-/// Returns the list of edits in the first code action with this title. `workspace_edit_values`
-/// reads the list from the action's WorkspaceEdit. Returns None if there is no such list.
+/// Returns the JSON list of the text edits in the first code action with this title.
+/// `workspace_edit_values` finds the list in the action's WorkspaceEdit. Returns None if the action
+/// or the list is missing.
 fn action_edit_values<'v>(actions: &'v Value, title: &str, uri: &str) -> Option<&'v Vec<Value>>
     ensures { option_map (λ v. items_view v.now.items) result
         ≡ action_edit_items title.now uri.now (view actions.now) }
@@ -251,8 +252,8 @@ fn has_string_member(value: &Value, name: &str, text: &str) -> bool
 
 // ---- edits
 
-/// Returns the edits that a list of JSON values means, in order. Returns None if one of the values
-/// can't be read as an edit.
+/// Reads each JSON value of a list as an edit, and returns the edits in order. Returns None if one
+/// of the values can't be read as an edit.
 fn read_edit_list(alloc: Global, values: &[Value]) -> Result<Option<Vec<Edit>>, AllocError>
     ensures { IfOk result (λ found. option_map (λ edits. replacements_of_edits edits.items) found
         ≡ edits_of_items (items_view values.now)) }

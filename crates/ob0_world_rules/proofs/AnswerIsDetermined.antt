@@ -1,5 +1,5 @@
--- Proves that an ask about a text has at most one answer.
--- By cases of the ask: two answers to it are both edits, both empty, or one of each, which can't be.
+-- Proves that an ask about a text has at most one answer. The proof is by cases of the ask: two
+-- answers both have the requested edits, or both are empty. One of each is impossible.
 use Rattle.std.proofs.Common.{◌≡◌, ◌∙◌, ℕ, List, sym, ap, inl, inr}
 use Rattle.ob0_text.specs.declared.edits.Edit.{Edit}
 use Rattle.ob0_text.specs.declared.position_types.Position.{Position}

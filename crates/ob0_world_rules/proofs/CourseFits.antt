@@ -1,6 +1,7 @@
--- Proves that a list of events can't be without a course if its asks have answers. The results of the editor's acts are
--- functions. The server publishes a list that is empty or not, according to whether the text is a module, and an ask
--- has an answer.
+-- Proves that a list of events can't be without a course if its asks always have answers. An act of
+-- the editor has a result, because `act_result` is a function. The server can always publish: the
+-- list is empty exactly if the text is a well-typed module. It can always answer an ask, by the
+-- condition.
 use Rattle.std.proofs.Common.{◌≡◌, Bool, true, false, cond, ℕ, List, [], ◌∷◌, ◌++◌, refl, sym, subst}
 use Rattle.std.specs.Prelude.{⊤, All, Option, Some, None, is_some, unwrap_or, option_and_then}
 use Rattle.std.proofs.lemmas.List.Elements.{All-nil, All-push, All-head, All-tail, All-append}

@@ -1,5 +1,5 @@
--- Proves that an event leads to at most one state, since an ask has at most one answer, and so a list of events has at
--- most one course.
+-- Proves that an event leads to at most one state, because an ask has at most one answer. So a list
+-- of events also leads to at most one state.
 use Rattle.std.proofs.Common.{◌≡◌, ◌∙◌, ℕ, Bool, true, false, List, [], ◌∷◌, ◌++◌, refl, sym, ap, subst}
 use Rattle.std.specs.Prelude.{◌↔◌, IsTrue, ℤ, Option, Some, None}
 use Rattle.ob0_text.specs.declared.position_types.Unit.{Unit}

@@ -1,5 +1,5 @@
--- Proves the guarantees for every editor that keeps ob0's rules. Apart from other messages, its moves keep the
--- invariant of the model's acts.
+-- Proves the guarantees for every editor that keeps ob0's rules. Each turn keeps the invariant of
+-- the model, if the messages outside the model are left out of the queues.
 use Rattle.std.proofs.Common.{◌≡◌, ◌∙◌, ℕ, suc, ◌+◌, cond, List, [], ◌∷◌, ◌++◌, map, length, append-nil, append_assoc, refl, sym, ap, subst}
 use Rattle.std.specs.Prelude.{ℤ, All, Option, Some, None, option_map}
 use Rattle.std.specs.FinMap as map_of

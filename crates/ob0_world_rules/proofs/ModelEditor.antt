@@ -1,4 +1,5 @@
--- Proves that the model's editor keeps ob0's rules: each of its acts is a move that it may make, or changes nothing.
+-- Proves that the model's editor keeps ob0's rules: each of its acts is an allowed move, or changes
+-- nothing.
 use Rattle.std.proofs.Common.{◌≡◌, ◌∙◌, ℕ, ◌+◌, cond, inl, inr, List, [], ◌∷◌, ◌++◌, map, append-nil, append_assoc, refl, sym, ap, subst}
 use Rattle.std.specs.Prelude.{◌⊎◌, ℤ, pos, Some}
 use Rattle.std.proofs.lemmas.List.{map-append}

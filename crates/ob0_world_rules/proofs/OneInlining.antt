@@ -1,7 +1,8 @@
--- Proves that a constant is inlined in at most one way at a place: two lists of edits are equal, and there are no edits
--- if inlining is refused.
--- Token, constant and value are determined by the place. The occurrence is determined since tokens of occurrences
--- ascend (`one_place`). So the first refusal and the parts of the edits are equal.
+-- Proves that a constant is inlined in at most one way at a place: two lists of edits are equal,
+-- and there are no edits if the inlining is refused.
+-- The place determines the token, the constant and its value. It also determines the occurrence,
+-- because the tokens of the occurrences are in ascending order (`one_place`). So the first refusal
+-- and the parts of the edits are equal.
 use Rattle.std.proofs.Common.{◌≡◌, ◌∙◌, ℕ, nat_lt, Option, Some, None, List, [], ◌∷◌, map, length, drop, slice_get, sym, ap, inl, inr, eq-eqb, eqb-true}
 use Rattle.std.specs.Prelude.{Ok, Err, Vec, if◌then◌else◌}
 use Rattle.std.specs.List.{filter, list_any, position_from, zip}

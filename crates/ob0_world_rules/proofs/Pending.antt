@@ -1,6 +1,7 @@
--- Defines which announced documents still wait for the server, and proves that the server will publish them in order.
--- For each message that announces a document, the server will have that document once it has taken the message. The
--- document is as it was in the editor when the message was sent.
+-- Defines which announced documents still wait for the server, and proves that the server will
+-- publish their diagnostics in order.
+-- Once the server has taken a message that announces a document, it has the document as it was in
+-- the editor when the message was sent.
 use Rattle.std.proofs.Common.{◌≡◌, ◌∙◌, ℕ, List, [], ◌∷◌, ◌++◌, map, append-nil, append_assoc, refl, sym, ap, subst}
 use Rattle.std.specs.Prelude.{fold, Option, Some, None, option_map}
 use Rattle.std.proofs.lemmas.List.{map-append}

@@ -1,5 +1,5 @@
--- Lists the possible results of an act of the editor. A claim that holds of each of these seven cases holds of every
--- act.
+-- Lists the possible results of an act of the editor, as seven cases. A claim that holds in each
+-- case holds for every act.
 use Rattle.std.proofs.Common.{◌≡◌, ℕ, cond, List, [], ◌∷◌, refl, sym, subst}
 use Rattle.std.specs.Prelude.{Option, Some, None, is_some, unwrap_or, option_and_then}
 use Rattle.std.proofs.lemmas.Option.{same_Some, none-some}

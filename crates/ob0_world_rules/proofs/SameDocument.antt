@@ -1,5 +1,6 @@
--- Proves that a document with the same opening and version as at a request has the text that it had then. No act makes
--- such a document of another one, since opening numbers are fresh and versions only rise.
+-- Proves that a document with the opening number and the version that are stored with a request
+-- also has the text that is stored with it. The reason is that opening numbers are never reused,
+-- and that each change of a document's text raises its version.
 use Rattle.std.proofs.Common.{◌≡◌, ◌∙◌, ℕ, zero, suc, ◌+◌, ◌≤◌, ◌<◌, Bool, true, false, cond, List, [], ◌∷◌, ◌++◌, refl, sym, ap, subst, arith, ◌&&◌}
 use Rattle.std.specs.Prelude.{ℤ, pos, negsuc, Option, Some, None, All, option_and_then, slice_get, ◌==◌}
 use Rattle.std.specs.Str.{bytes_eq}

@@ -116,9 +116,9 @@ result_of_applying_answer e k edits = do
   let made : Applied = record { uri = a.uri; before = d.text; after = text }
   Some (result_of_changing_text e a.uri d text (whole_text_change text ∷ []) (made ∷ []))
 
--- Returns the result of an act. Nothing happens if an open document is opened, or if a document
--- that isn't open is changed, closed or asked about. `apply` and `discard` always remove the
--- answer, even if its edits can't be made.
+-- Returns the result of an act. Nothing happens if the act opens a document that is open already,
+-- or if it changes, closes or asks about a document that isn't open. `apply` and `discard` always
+-- remove the answer, even if its edits can't be made.
 abbrev pub act_result : Editor → EditorAct → ActResult
 act_result e (open_document uri text) =
     if is_some (editor_document_with_uri e uri) then result_without_messages e else result_of_opening_document e uri text

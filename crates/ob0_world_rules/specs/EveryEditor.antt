@@ -15,9 +15,10 @@ use Rattle.ob0_world_rules.specs.EditorMoves.{EditorMove, IsAllowedMove}
 
 -- ---- an editor and the server
 
--- An editor and the server. Their queues may contain messages outside the model (`None`). These are
--- read-only requests such as hover requests, their answers, other responses, notifications that the
--- server ignores, and JSON that isn't a message.
+-- An editor and the server, with a queue of messages in each direction. A queue may contain
+-- messages outside the model (`None`). These are read-only requests (for example hover requests),
+-- their answers, other responses, notifications that the server ignores, and JSON that isn't a
+-- message.
 pub record EditorAndServer : Type 0 where
   pub editor : Editor
   pub to_server : List (Option MessageToServer)
@@ -54,8 +55,8 @@ notifications_in_queue [] = []
 notifications_in_queue (notifies note ∷ queue) = notifies note ∷ notifications_in_queue queue
 notifications_in_queue (requests k uri ask ∷ queue) = notifications_in_queue queue
 
--- returns the state as a `ClientAndServer`, without the messages outside the model and the
--- announced documents
+-- returns the state as a `ClientAndServer`, without the messages outside the model and without the
+-- list of announced documents
 abbrev pub model_state_of : EditorAndServer → ClientAndServer
 model_state_of w =
     record {
@@ -149,11 +150,11 @@ pub record GuaranteesHoldForEditorAndServer (w : EditorAndServer) : Type 0 where
   -- If no notification waits for the server, the latest diagnostics of each open document are for
   -- its present text. This holds even if asks and messages outside the model still wait.
   pub latest : notifications_in_queue (modeled_messages w.to_server) ≡ [] → PublicationsAreUpToDate w.editor w.made
-  -- once the server has taken the waiting messages, its documents are the editor's
+  -- once the server has taken the waiting messages, it has the same documents as the editor
   pub mirrors : ServerWillMirrorEditor (model_state_of w)
-  -- The list of announced documents is cut in two. The n-th publication is for the n-th document of
-  -- the first part, `published`. The documents of the second part, `waiting`, are announced by
-  -- messages that still wait for the server.
+  -- The list of announced documents consists of `published`, followed by `waiting`. The n-th
+  -- publication is for the n-th document in `published`. The documents in `waiting` are announced
+  -- by messages that still wait for the server.
   pub published : List AnnouncedDocument
   pub waiting : List AnnouncedDocument
   pub all : w.announced ≡ published ++ waiting

@@ -90,9 +90,9 @@ HasAnswerIfAsk (editor_acts (discard k)) = ⊤
 HasAnswerIfAsk serve = ⊤
 HasAnswerIfAsk take_message = ⊤
 
--- States that each list of events leads from the initial state to some state. The condition is that
--- each request for edits in the list has an answer. So the laws about all courses of events aren't
--- vacuous. The formula is a double negation: it is impossible that the events lead to no state.
+-- States that a list of events leads from the initial state to some state if each request for edits
+-- in the list always has an answer. So the laws about all courses of events aren't vacuous. The
+-- formula is a double negation: it is impossible that the events lead to no state.
 abbrev pub CourseExistsIfAsksHaveAnswers : Type 0
 CourseExistsIfAsksHaveAnswers =
     (unit : Unit) (events : List Event)
@@ -105,8 +105,9 @@ abbrev pub GuaranteesHoldInEveryInterleaving : Type 0
 GuaranteesHoldInEveryInterleaving =
     (u : Unit) (events : List Event) (w : ClientAndServer) → IsCourse (start u) events w → GuaranteesHold w
 
--- States that the server's documents are the editor's once the server has taken all waiting
--- messages. This holds in each state to which a list of events leads from the initial state.
+-- States that the server and the editor have the same documents once the server has taken all
+-- waiting messages. This holds in each state to which a list of events leads from the initial
+-- state.
 abbrev pub ServerMirrorsEditor : Type 0
 ServerMirrorsEditor =
     (u : Unit) (events : List Event) (w : ClientAndServer) → IsCourse (start u) events w → ServerWillMirrorEditor w

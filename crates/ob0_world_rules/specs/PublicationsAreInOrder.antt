@@ -87,10 +87,10 @@ uris_and_versions_announced_in_queue (message ∷ queue) = uri_and_version_annou
 abbrev pub uri_and_version_of : AnnouncedDocument → List ℕ × ℤ
 uri_and_version_of t = (t.uri, t.document.version)
 
--- States which documents the publications `made` are for. The editor's announced documents are the
--- lists `announced` and `waiting`, in this order. The n-th publication was made for the n-th
--- document in `announced`. Messages that still wait for the server announce the documents in
--- `waiting`.
+-- States that the publications `made` follow the documents that the editor announces by these
+-- events. These documents are the list `announced` followed by the list `waiting`. The n-th
+-- publication was made for the n-th document in `announced`. The documents in `waiting` are
+-- announced by messages that still wait for the server.
 pub record PublicationsFollowAnnouncements (unit : Unit) (events : List Event) (made : List PublicationWithText) : Type 0 where
   pub announced : List AnnouncedDocument
   pub waiting : List AnnouncedDocument

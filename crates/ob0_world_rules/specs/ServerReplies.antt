@@ -6,9 +6,9 @@ use Rattle.ob0_world_rules.specs.TextEdits.{Replacement}
 use Rattle.ob0_world_rules.specs.Answers.{IsAnswerForDocument, NoDiagnosticsExactlyIfWellTyped}
 use Rattle.ob0_world_rules.specs.ClientAndServer.{MessageToServer, notifies, requests, MessageToEditor, publishes, answers, PublicationWithText}
 
--- States that the server sends the diagnostics of a document in step, with its version. If the
--- document is out of step (its text isn't known) or isn't open, the server sends nothing. `made`
--- has the same publication, with the text for which the diagnostics were made.
+-- States that the server sends the diagnostics of a document in step, with the document's version.
+-- If the document is out of step (its text isn't known) or isn't open, the server sends nothing.
+-- The list `made` has the same publication, with the text for which the diagnostics were made.
 abbrev pub SendsDiagnostics : List ℕ → Option Document → List MessageToEditor → List PublicationWithText → Type 0
 SendsDiagnostics uri (Some (InStep version text)) sent made =
     (empty : Bool) × NoDiagnosticsExactlyIfWellTyped text empty × (sent ≡ publishes uri (Some version) empty ∷ [])
@@ -17,8 +17,9 @@ SendsDiagnostics uri (Some OutOfStep) sent made = (sent ≡ []) × (made ≡ [])
 SendsDiagnostics uri None sent made = (sent ≡ []) × (made ≡ [])
 
 -- States that the server replies to this notification with the messages `sent`. The list `made` has
--- the publications with a version among them. `held` are the server's documents before the
--- notification. If an open document is closed, its diagnostics are cleared.
+-- the publications with a version among these messages. `held` has the server's documents before
+-- the notification. When an open document is closed, the server publishes an empty list of
+-- diagnostics without a version.
 abbrev pub RepliesToNotification : OpenDocuments
     → DocumentEvent
     → List MessageToEditor
@@ -34,7 +35,8 @@ RepliesToNotification held (Closed uri) sent made =
     × (made ≡ [])
 
 -- States that the server replies to this message with the messages `sent`. The list `made` has the
--- publications with a version among them. `held` are the server's documents before the message.
+-- publications with a version among the messages `sent`. `held` has the server's documents before
+-- the message.
 abbrev pub RepliesToMessage : OpenDocuments → MessageToServer → List MessageToEditor → List PublicationWithText → Type 0
 RepliesToMessage held (notifies note) sent made = RepliesToNotification held note sent made
 RepliesToMessage held (requests number uri ask) sent made =

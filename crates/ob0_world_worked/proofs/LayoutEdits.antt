@@ -1,4 +1,5 @@
--- Edits for the gaps that formatting changes, and the text that they leave.
+-- Proves that each gap that formatting changes has an edit, if the formatted text isn't too long.
+-- Also proves which text results from these edits.
 use Rattle.std.proofs.Common.{◌≡◌, ◌∙◌, ◌<◌, ◌≤◌, ℕ, zero, suc, true, List, [], ◌∷◌, Some, map, length, refl, ap, arith}
 use Rattle.std.specs.Str.{chars}
 use Rattle.ob0_scan.specs.TextWithTokens.{IsScan, TextWithTokens}

@@ -1,4 +1,4 @@
--- The worked answers.
+-- Proves which answers the four requests about the example text get.
 use Rattle.std.proofs.Common.{◌≡◌, ◌∙◌, ◌≤◌, ℕ, pos, List, [], ◌∷◌, Some, Ok, Err, Vec, map, length, inl, inr, refl, sym, ap, subst, arith}
 use Rattle.std.specs.Prelude.{codes}
 use Rattle.std.specs.declared.alloc.Global.{Global}

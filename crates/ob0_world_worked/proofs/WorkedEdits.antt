@@ -1,4 +1,4 @@
--- The edits of the worked answers, and the texts that they leave.
+-- Defines the edits of the answers about the example text, and proves which texts result from them.
 use Rattle.std.proofs.Common.{◌≡◌, ◌∙◌, ◌≤◌, ℕ, List, [], ◌∷◌, Some, map, length, refl, sym, ap, arith}
 use Rattle.std.specs.Prelude.{codes, decimal}
 use Rattle.std.specs.Fmt.{digits}

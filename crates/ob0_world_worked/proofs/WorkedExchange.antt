@@ -1,4 +1,4 @@
--- Proves the worked exchange, turn by turn.
+-- Proves that the example exchange exists, turn by turn.
 use Rattle.std.proofs.Common.{◌≡◌, ◌∙◌, ℕ, pos, true, List, [], ◌∷◌, Option, Some, None, inl, inr, refl, sym, ap, subst, arith, if◌then◌else◌}
 use Rattle.std.specs.Prelude.{codes, nat_lt, option_and_then, option_map}
 use Rattle.std.specs.FinMap as map_of

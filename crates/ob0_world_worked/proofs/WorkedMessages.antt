@@ -1,4 +1,4 @@
--- The contents of the worked exchange, by their JSON values.
+-- Proves that the JSON values of the messages in the example exchange read back from their texts.
 use Rattle.std.proofs.Common.{◌≡◌, ◌<◌, ◌^◌, ℕ, pos, true, List, [], ◌∷◌, Some, Vec, refl, ap, arith}
 use Rattle.std.specs.Prelude.{codes, nat_lt}
 use Rattle.std.specs.declared.alloc.Global.{Global}

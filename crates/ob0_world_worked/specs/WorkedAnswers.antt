@@ -1,4 +1,4 @@
--- States the answers to four requests (`Ask`) about the example text `example_text`.
+-- States which answers four requests (`Ask`) about the example text `example_text` get.
 -- Rule: docs/PROTOCOL.md, Requests on documents 6, 9; worked examples.
 use Rattle.std.specs.Prelude.{◌≡◌, ◌↔◌, ℕ, List, [], ◌∷◌, codes}
 use Rattle.ob0_text.specs.declared.position_types.Range.{Range}
@@ -10,7 +10,7 @@ use Rattle.ob0_world_rules.specs.Answers.{IsAnswerForText}
 use Rattle.ob0_world_rules.specs.TextEdits.{Replacement}
 use Rattle.ob0_world_worked.specs.WorkedText.{line_position, example_text}
 
--- returns the range on this line from the character `from` to the character `to`, which is
+-- returns the range on this line from the character `from`, included, to the character `to`,
 -- excluded; lines and characters are counted from 0
 abbrev pub range_on_line : ℕ → ℕ → ℕ → Range
 range_on_line line from to = record { start = line_position line from; end = line_position line to }

@@ -102,9 +102,10 @@ change_notification =
 
 -- ---- the law
 
--- States that `example_turns` lead from an initial exchange to one in which the session has taken
--- five messages, including `initialize`. The notification of the change still waits for the
--- session. The editor has applied one answer, which replaces `example_text` by `inlined_text`.
+-- States that `example_turns` lead from the initial exchange `first` to the exchange `last`. In
+-- `last`, the session has taken five messages, the first of which is `initialize`. The notification
+-- of the change still waits for the session. The editor has applied one answer, which replaced
+-- `example_text` by `inlined_text`.
 pub record ExampleExchangeExists : Type 0 where
   pub first : Exchange
   pub last : Exchange
