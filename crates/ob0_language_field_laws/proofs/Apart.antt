@@ -1,4 +1,5 @@
--- If fields get other names, only these names change in the types of expressions and in the meanings of names.
+-- If fields are renamed, only the names of fields change in the types of expressions and in the
+-- meanings of names.
 use Rattle.std.proofs.Common.{◌≡◌, ℕ, suc, ◌+◌, ◌*◌, max, Bool, true, false, ◌&&◌, List, [], ◌∷◌, map, if◌then◌else◌, nat_le, ◌==◌, Some, None, Option, option_map, option_and_then, refl, ap, ◌∙◌, subst}
 use Rattle.ob0_tree.specs.declared.tree.Relation.{Relation}
 use Rattle.ob0_tree.specs.declared.tree.Relation.TheVariants as relation

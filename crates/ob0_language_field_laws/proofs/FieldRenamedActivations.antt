@@ -1,4 +1,5 @@
--- Declarations do the same in two runs: one with tagged fields, the other with fields under other names.
+-- Declarations with renamed fields add the same variables and procedures to a run as with tagged
+-- fields.
 use Rattle.std.proofs.Common.{◌≡◌, ℕ, zero, suc, ◌+◌, true, false, List, [], ◌∷◌, ◌++◌, map, length, Some, None, Option, option_map, option_and_then, sym, refl, ap, ◌∙◌, subst₂}
 use Rattle.std.proofs.lemmas.List.{length-map, map-append}
 use Rattle.ob0_tree.specs.Tree.{Tree, block, body, constant, constants, declares, declares_constant, declares_type, declares_variable, end, expression, section_after_semicolon, forms_block, item, items, maybe, more, procedure, semicolon_then_section, type_definition, type_definitions, variable, variables, written_type}

@@ -1,4 +1,5 @@
--- A statement does the same in two runs: one with tagged fields, the other with fields under other names.
+-- A statement with renamed fields does the same as with tagged fields, unless the run with tagged
+-- fields gets stuck.
 use Rattle.std.proofs.Common.{◌≡◌, ℕ, zero, suc, ◌-◌, List, [], ◌∷◌, map, ℤ, ◌⊎◌, inl, inr, true, false, Some, None, Option, option_map, sym, refl, ap, subst₂}
 use Rattle.ob0_tree.specs.Tree.{Tree, assigns, branches, calls, else_branch, else_part, elsif_branch, elsif_part, empty, end, expression, statement_after_semicolon, items, maybe, more, none, one, repeat_loop, runs, selector, sequence, statement, semicolon_then_statement, while_loop}
 use Rattle.ob0_language_names.specs.Names.{Name}

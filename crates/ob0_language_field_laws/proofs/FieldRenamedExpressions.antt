@@ -1,4 +1,5 @@
--- An expression has the same outcome in two runs: one with tagged fields, the other with fields under other names.
+-- An expression with renamed fields has the same outcome as with tagged fields, unless the
+-- evaluation with tagged fields gets stuck.
 use Rattle.std.proofs.Common.{◌≡◌, ℤ, Bool, List, [], ◌∷◌, ◌++◌, map, inl, pos, true, false, Some, None, Option, option_map, sym, refl}
 use Rattle.std.proofs.lemmas.List.{map-append}
 use Rattle.ob0_tree.specs.Tree.{Tree, addend, adds, compares, designator, end, expression, factor, field, index, integer, items, more, multiplier, multiplies, negation, none, one, parenthesised, product, relates, selector, simple, sum, term}

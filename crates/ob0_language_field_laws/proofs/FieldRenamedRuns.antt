@@ -1,4 +1,5 @@
--- A module has the same run with tagged fields and with fields under other names.
+-- A module that passes the type check has the same run with renamed fields as with tagged fields.
+-- The renaming must keep the fields of a record distinct.
 use Rattle.std.proofs.Common.{◌≡◌, ℕ, zero, suc, ◌+◌, ◌≢◌, true, false, List, [], ◌∷◌, map, ℤ, ◌⊎◌, inl, inr, Some, None, Option, option_map, option_and_then, sym, refl, ap, ◌∙◌, subst, subst₂}
 use Rattle.ob0_tree.specs.Tree.{Tree, begins, block, body, declares, declares_procedure, formals, forms_block, forms_module, item, maybe, module_text, none, one, procedure}
 use Rattle.ob0_language_names.specs.Names.{Name, naming_by_spelling}

@@ -1,5 +1,6 @@
--- If the fields of an environment's types and of a tree get other names, the tree's type is the old type with the same
--- new names. Each step is an equation, so no premise is needed.
+-- If the fields of an environment's types and of a tree are renamed, the tree's type is the old
+-- type with renamed fields. The renaming must keep the fields of a record distinct. Each step is an
+-- equation.
 use Rattle.std.proofs.Common.{◌≡◌, ℕ, suc, ◌+◌, ◌∷◌, map, Some, None, Option, option_map, option_and_then, refl, ap, ◌∙◌, sym}
 use Rattle.ob0_tree.specs.Tree.{Tree, addend, adds, array_type, compares, designator, end, expression, factor, field, fields, fields_after_semicolon, name_after_comma, index, integer, items, listed, more, multiplier, multiplies, named_type, names, negation, no_fields, none, one, parenthesised, product, record_type, relates, selector, simple, some_fields, sum, term, semicolon_then_fields, comma_then_name, written_type}
 use Rattle.ob0_language_names.specs.MappedNames.{map_names}

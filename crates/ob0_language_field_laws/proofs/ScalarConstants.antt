@@ -1,4 +1,5 @@
--- A constant expression over numbers and truth values evaluates to a number or a truth value.
+-- A constant expression evaluates to a number or a truth value if all its constants are numbers or
+-- truth values.
 use Rattle.std.proofs.Common.{◌≡◌, Bool, true, false, ℤ, ◌+ℤ◌, ◌-ℤ◌, ◌*ℤ◌, neg_ℤ, List, [], ◌∷◌, if◌then◌else◌, Some, None, Option, option_map, option_and_then, refl, sym, ap, ◌∙◌, subst}
 use Rattle.ob0_tree.specs.declared.tree.Relation.{Relation}
 use Rattle.ob0_tree.specs.declared.tree.Relation.TheVariants as relation

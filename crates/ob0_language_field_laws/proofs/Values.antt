@@ -1,9 +1,10 @@
--- The values, places and stores of two runs. In the first run, each field's name is tagged: the ordinal of its record
--- precedes it. In the second run, fields have other names.
--- In the first run a selector finds a field only in a value of the same record. The second run finds whatever the first
--- one finds. So each step of the first run is stuck, or the second run makes the same step. The tagged module is
--- well-typed, so its run never gets stuck. Both the original module and the module with other names are compared with
--- the tagged one. So no typing of the store is needed. The contents of both runs are functions of one thing
+-- The values, places and stores of two runs. In the first run, each field's name is tagged: the
+-- ordinal of its record precedes it. In the second run, fields are renamed. In the first run a
+-- selector finds a field only in a value of the same record. The second run finds whatever the
+-- first one finds. So each step of the first run is stuck, or the second run makes the same step.
+-- The tagged module is well-typed, so its run never gets stuck. Both the original module and the
+-- module with renamed fields are compared with the tagged one. So the proof needs no typing of the
+-- store. Corresponding values, places and states of the two runs are images of one original
 -- (`value_by`, `place_by`, `state_by`).
 use Rattle.std.proofs.Common.{◌≡◌, ℕ, suc, Bool, true, false, ◌&&◌, List, [], ◌∷◌, map, ◌⊎◌, inl, inr, if◌then◌else◌, ◌==◌, slice_get, slice_set, Some, None, Option, option_map, option_and_then, sym, refl, ap, ◌∙◌, subst, subst₂, eq-eqb}
 use Rattle.std.proofs.Math.Dec.{eqb-suc-suc, eqb-zero-suc}

@@ -1,5 +1,5 @@
--- Two functions for the names of fields give the same module, if the module is well-typed and both agree on each field
--- that its records declare.
+-- Two renamings give the same tree of a part of a well-typed module if both agree on each field
+-- that the module's records declare.
 use Rattle.std.proofs.Common.{◌≡◌, ℕ, suc, ◌+◌, true, false, ◌&&◌, List, [], ◌∷◌, ◌++◌, map, if◌then◌else◌, nat_le, Some, None, Option, option_and_then, sym, refl, ap, ◌∙◌, subst}
 use Rattle.ob0_tree.specs.Tree.{Tree, addend, adds, arguments, array_type, assigns, branches, calls, compares, designator, else_branch, else_part, elsif_branch, elsif_part, empty, end, expression, factor, field, fields, argument_after_comma, fields_after_semicolon, name_after_comma, statement_after_semicolon, index, integer, items, listed, maybe, more, multiplier, multiplies, named_type, names, negation, no_arguments, no_fields, none, one, parenthesised, product, record_type, relates, repeat_loop, runs, selector, sequence, simple, some_arguments, some_fields, statement, sum, term, comma_then_argument, semicolon_then_fields, comma_then_name, semicolon_then_statement, while_loop, written_type}
 use Rattle.ob0_language_names.specs.ConsistentNames.{group_field_names, field_names_after_first_group}

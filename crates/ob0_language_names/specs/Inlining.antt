@@ -1,4 +1,5 @@
--- Inlining a constant: a factor replaces uses of the constant, and the constant's declaration may be removed.
+-- Defines the inlining of a constant: a factor replaces uses of the constant, and the constant's
+-- declaration may be removed.
 -- Rule: docs/PROTOCOL.md, Requests on documents 9.
 use Rattle.std.specs.Prelude.{ℕ, suc, ◌+◌, Bool, length, if◌then◌else◌, ◌==◌}
 use Rattle.ob0_tree.specs.Tree.{Sort, Tree, adds, array_type, assigns, begins, block, branches, calls, compares, constant, constants, declares, declares_constant, declares_const_section, declares_procedure, declares_type, declares_type_section, declares_variable, declares_var_section, designator, else_branch, elsif_branch, empty, end, factor, field, forms_block, index, integer, forms_module, item, items, listed, maybe, module_text, more, multiplies, named_type, negation, no_arguments, no_fields, no_formals, none, occurrences, one, parenthesised, procedure, product, record_type, relates, repeat_loop, runs, some_arguments, some_fields, some_formals, sum, comma_then_argument, semicolon_then_fields, comma_then_name, semicolon_then_section, semicolon_then_statement, value_section, variable_section, while_loop}
@@ -114,7 +115,8 @@ abbrev pub constant_list_without_constant : ℕ → ℕ → Tree Name (items con
 constant_list_without_constant d k end = end
 constant_list_without_constant d k (more c cs) = if k == d then cs else more c (constant_list_without_constant d (suc k) cs)
 
--- returns a CONST section without the constant with ordinal `d`; `k` is the ordinal of the section's first constant
+-- returns an optional CONST section without the constant with ordinal `d`; `k` is the ordinal of
+-- the section's first constant
 abbrev pub section_without_constant : ℕ → ℕ → Tree Name (maybe constants) → Tree Name (maybe constants)
 section_without_constant d k none = none
 section_without_constant d k (one (declares_const_section cs)) = one (declares_const_section (constant_list_without_constant d k cs))

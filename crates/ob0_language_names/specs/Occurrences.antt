@@ -1,4 +1,5 @@
--- The declaration that each occurrence of a name is bound to, and the new names that are free for a declaration.
+-- Defines the declaration to which each occurrence of a name is bound, and the new names that are
+-- free for a declaration.
 -- Rule: docs/LANGUAGE.md, Scopes 2 to 4; docs/PROTOCOL.md, Refusals of edits (Duplicate, Captures).
 use Rattle.std.specs.Prelude.{◌≡◌, ℕ, suc, Bool, false, not, ◌&&◌, List, [], ◌∷◌, ◌++◌, if◌then◌else◌, ◌==◌, slice_get, Some, None, Option, option_map, option_and_then}
 use Rattle.ob0_tree.specs.Tree.{Tree, block, declares, declares_procedure, end, forms_block, item, items, module_text, more, occurrences, procedure}
@@ -24,11 +25,12 @@ label_ordinal (as_written x) = None
 abbrev pub ordinal_bound_at_occurrence : Tree Name module_text → ℕ → Option ℕ
 ordinal_bound_at_occurrence m occurrence = option_and_then label_ordinal (slice_get (bindings m) occurrence)
 
--- Returns a list with the declarations of each block, as names with their ordinals. A procedure's parameters and its
--- own declarations count as one block.
+-- Returns a list that has, for each block, the names that the block declares, with their ordinals.
+-- A procedure's parameters and its own declarations count as one block.
 abbrev mutual
-  -- Returns a list with the declarations of a block, then the declarations of each block within it. The block's first
-  -- declaration has ordinal `k`. If this is a procedure's block, `own` has the declarations of the parameters.
+  -- Returns the declarations of a block, then the declarations of each block within it, as one
+  -- scope for each block. The block's first declaration has ordinal `k`. If this is a procedure's
+  -- block, `own` has the declarations of the parameters.
   pub scopes_in_block : {N : Type 0} → ℕ → Scope N → Tree N block → List (Scope N)
   scopes_in_block k own (forms_block (declares cs ts vs ps) statements) =
       body_scope k (forms_block (declares cs ts vs ps) statements) own

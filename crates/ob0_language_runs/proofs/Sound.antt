@@ -1,4 +1,5 @@
--- An expression of some type evaluates to a value of that type, or ends the run, but never stuck.
+-- An expression of some type evaluates to a value of that type, or ends the run, but never with
+-- Stuck.
 use Rattle.std.proofs.Common.{◌≡◌, ℕ, zero, suc, ◌<◌, Bool, true, false, T, List, [], ◌∷◌, ℤ, pos, negsuc, ◌+ℤ◌, ◌-ℤ◌, ◌*ℤ◌, neg_ℤ, if◌then◌else◌, nat_lt, slice_get, Some, None, Option, option_and_then, sym, refl, ap, ◌∙◌, subst, subst₂, arith, ltb→lt}
 use Rattle.ob0_tree.specs.declared.tree.Relation.{Relation}
 use Rattle.ob0_tree.specs.declared.tree.Relation.TheVariants as relation

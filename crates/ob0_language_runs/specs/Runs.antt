@@ -1,6 +1,6 @@
--- Big-step semantics of runs: the meaning of statements, calls and whole modules. A run depends on an environment, a
--- store and the remaining input. It also depends on two bounds: `c` on the number of open calls, and `t` on the
--- iterations of each loop.
+-- Defines runs by big-step semantics: the meaning of statements, calls and whole modules. A run
+-- depends on an environment, a store and the remaining input. It also depends on two bounds: `c` on
+-- the number of open calls, and `t` on the iterations of each loop.
 -- Rule: docs/LANGUAGE.md, Runs 1 to 10.
 use Rattle.std.specs.Prelude.{ℕ, zero, suc, ◌+◌, ◌-◌, true, false, List, [], ◌∷◌, ◌++◌, map, length, ℤ, Some, None, Option, option_map, option_and_then}
 use Rattle.ob0_tree.specs.Tree.{Tree, assigns, begins, block, body, branches, calls, declares_variable, else_branch, else_part, elsif_branch, elsif_part, empty, end, expression, section_after_semicolon, statement_after_semicolon, item, items, maybe, module_text, more, none, one, procedure, repeat_loop, runs, sequence, statement, semicolon_then_section, semicolon_then_statement, variable, while_loop}
@@ -232,14 +232,15 @@ unfoldable mutual
   execute_else meaning enter t (one (else_branch statements)) s =
       execute_sequence meaning enter t statements s
 
--- A procedure in a run, with its text. `constructors_before` is the count of words ARRAY and RECORD
--- before the procedure; the procedure's array and record types are numbered from this count.
+-- The data about a procedure in a run: its tree (`text`), and the number of words ARRAY and RECORD
+-- before it (`constructors_before`). The procedure's array and record types are numbered from this
+-- number.
 pub record ProcedureText (N : Type 0) : Type 0 where
   pub constructors_before : ℕ
   pub text : Tree N (item procedure)
 
--- the bindings of names in an activation: an environment that has the place of each variable and the text of each
--- procedure
+-- the bindings of names in an activation: an environment with the place of each variable and the
+-- `ProcedureText` of each procedure
 abbrev pub RunEnvironment : Type 0 → Type 0
 RunEnvironment N = Environment N Place (ProcedureText N)
 
@@ -275,9 +276,8 @@ declare_variables naming k (more (declares_variable ns u) gs) f =
     (add_variables_to_frame (names_in_list ns) (initial_value s) f))
     (denoted_type (meanings naming f.env) k u)
 
--- Returns the environment `env` with these procedures added. Each procedure gets its text and the
--- count of words ARRAY and RECORD before it; its array and record types are numbered from this
--- count. `k` is the count for the first procedure.
+-- Returns the environment `env` with these procedures added. Each is bound to its tree and to the
+-- number of words ARRAY and RECORD before it. `k` is this number for the first procedure.
 abbrev pub declare_procedures : {N : Type 0}
     → ℕ
     → Tree N (items procedure)
@@ -309,9 +309,9 @@ declare_block_in_frame naming k b f =
     record { env = env; store = f.store }))
     (declare_constants_and_types naming f.env k b)
 
--- Returns the frame with a parameter bound to its argument. A VAR parameter is bound to the argument's place. Any other
--- parameter is bound to a separate variable with the argument's value. Returns None if a VAR parameter gets a value, or
--- another parameter gets a place.
+-- Returns the frame with a parameter bound to its argument. A VAR parameter is bound to the
+-- argument's place. Any other parameter is bound to a new variable with the argument's value.
+-- Returns None if a VAR parameter gets a value, or another parameter gets a place.
 abbrev pub bind_parameter : {N : Type 0} → ParameterMode → N → Argument → Frame N → Option (Frame N)
 bind_parameter by_place x (place_argument p) f =
     Some record { env = (x, a_variable p) ∷ f.env; store = f.store }
@@ -382,8 +382,8 @@ execute_body naming env enter t none s = running s
 execute_body naming env enter t (one (begins statements)) s =
     execute_sequence (meanings_for_statements naming env) enter t statements s
 
--- continues a run with the function `next` in a frame; the run gets the frame's store; ends the run with Stuck if the
--- frame is None
+-- continues a run from the state `s`, with the store of the given frame, by applying `next`; ends
+-- the run with Stuck if the frame is None
 abbrev pub continue_in_frame : {N : Type 0}
     → State
     → Option (Frame N)

@@ -1,4 +1,5 @@
--- States which values, places and meanings of names in a run agree with the types that the checker gives them.
+-- Defines when the values, places and meanings of names in a run agree with the types that the
+-- checker gives them.
 -- Rule: docs/LANGUAGE.md, Runs 11.
 use Rattle.std.specs.Prelude.{◌≡◌, true, List, [], ◌∷◌, map, if◌then◌else◌, nat_lt, slice_get, Some, None, Option, option_and_then}
 use Rattle.ob0_language_names.specs.Names.{Naming}
@@ -101,9 +102,10 @@ ArgumentsMatchSignature typing (f ∷ fs) (value_argument v ∷ args) =
     (f.mode ≡ by_value) × HasShape v f.shape × ArgumentsMatchSignature typing fs args
 ArgumentsMatchSignature typing _ _ = ⊥
 
--- States that the object of the name `x` in an activation agrees with the object of `x` in the checked environment.
--- `checked` has the bindings of that environment that are older than the binding of `x`. A procedure must also be
--- well-typed, given these older bindings.
+-- States that the object of the name `x` in an activation agrees with the object of `x` in the
+-- checked environment. `checked` has the bindings of that environment that are older than the
+-- binding of `x`. A procedure's signature must have the modes and types of the parameters in its
+-- heading, and the procedure must be well-typed, both given these older bindings.
 abbrev pub RunBindingAgreesWithCheckedBinding : {N : Type 0}
     → Naming N
     → StoreTyping

@@ -1,5 +1,5 @@
--- Replacing uses of a constant by its literal leaves the values of constant expressions and the types that texts denote
--- unchanged.
+-- Replacing uses of a constant by its literal leaves the values of constant expressions and the
+-- types that written types denote unchanged.
 use Rattle.std.proofs.Common.{List, Some, [], ap, length, map, option_and_then, option_map, refl, suc, ℕ, ◌+◌, ◌∙◌, ◌∷◌, ◌≡◌}
 use Rattle.ob0_tree.specs.Tree.{Tree, array_type, end, expression, factor, fields, fields_after_semicolon, items, more, named_type, no_fields, occurrences, record_type, some_fields, semicolon_then_fields, written_type}
 use Rattle.ob0_language_names.specs.Inlining.{OccurrenceSet, inline_in_tree}

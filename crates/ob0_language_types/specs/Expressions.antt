@@ -1,5 +1,5 @@
--- The value of an expression, given the meanings of its names and a store with the values of variables. Evaluation
--- doesn't change the store.
+-- Defines the value of an expression, given the meanings of its names and a store with the values
+-- of variables. Evaluation doesn't change the store.
 -- Rule: docs/LANGUAGE.md, Runs 2 to 4.
 use Rattle.std.specs.Prelude.{true, false, List, [], ◌∷◌, ◌++◌, pos, negsuc, if◌then◌else◌, nat_lt, Some, Option}
 use Rattle.ob0_tree.specs.Tree.{Tree, addend, adds, compares, designator, end, expression, factor, field, index, integer, items, more, multiplier, multiplies, negation, none, one, parenthesised, product, relates, selector, simple, sum, term}
@@ -25,22 +25,23 @@ pub record Meanings (N V P : Type 0) : Type 0 where
   pub object_for : N → Option (Object V P)
   pub written : N → Name
 
--- Returns the step of a path (`at_index`) that leads from an array to its element at an index. An
--- index below 0 or not below the array's length ends the run with Index. Returns the end Stuck if
--- the operands aren't an array and a number.
+-- Returns the step of a path (`at_index`) that leads from an array to its element at an index.
+-- Returns the end Index if the index is below 0 or not below the array's length. Returns the end
+-- Stuck if the values aren't an array and a number.
 abbrev pub element_step : Value → Value → Outcome PathStep
 element_step (elements vs) (number (pos i)) =
     if nat_lt i (count_values vs) then succeeds_with (at_index i) else ends_run_with Index
 element_step (elements vs) (number (negsuc i)) = ends_run_with Index
 element_step _ _ = ends_run_with Stuck
 
--- returns the place of a variable in the store (`Place`); the end Stuck for any other object
+-- returns the place of a variable in the store (`Place`); the end Stuck for any other object and
+-- for None
 abbrev pub object_place : {P : Type 0} → Option (Object Place P) → Outcome Place
 object_place (Some (a_variable p)) = succeeds_with p
 object_place _ = ends_run_with Stuck
 
--- returns the value of a constant, or the value at a variable's place; the end Stuck for any other
--- object
+-- returns the value of a constant, or the value at a variable's place in the store; the end Stuck
+-- if the place doesn't exist, for any other object and for None
 abbrev pub object_value : {P : Type 0} → Store → Option (Object Place P) → Outcome Value
 object_value store (Some (a_constant v)) = succeeds_with v
 object_value store (Some (a_variable p)) = result_or_stuck (read_place store p)
@@ -108,8 +109,8 @@ unfoldable mutual
   evaluate_factor meaning store (negation f) = evaluate_factor meaning store f >>= negate
 
   -- Returns the path that selectors describe in the value `v`. Evaluates each index and checks it
-  -- against the length of its array. Returns the end Stuck if a selector doesn't fit the value,
-  -- such as an index after a record.
+  -- against the length of its array. Returns the end Stuck if a selector doesn't fit the value, for
+  -- example an index after a record.
   pub evaluate_selectors : {N P : Type 0}
       → Meanings N Place P
       → Store

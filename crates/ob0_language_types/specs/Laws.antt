@@ -1,6 +1,7 @@
--- Laws about type checks, the values of constants, and evaluation. They are about numbering a module, and about
--- inlining a constant. In a module's numbered tree (`numbered`), each bound name is replaced by the ordinal of its
--- declaration.
+-- Laws about the type check and about evaluation. Numbering a module doesn't change its type check,
+-- and inlining a constant doesn't change types and values. A constant has the same value in a run
+-- as in the checker. In a module's numbered tree (`numbered`), each bound name is replaced by the
+-- ordinal of its declaration.
 -- Rule: none; states laws about types.
 use Rattle.std.specs.Prelude.{◌≡◌, ℕ, suc, true, ◌↔◌, List, [], ◌∷◌, IsTrue, Some}
 use Rattle.ob0_tree.specs.Tree.{Tree, expression, factor, module_text, occurrences}

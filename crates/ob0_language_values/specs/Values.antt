@@ -1,4 +1,4 @@
--- Types, values, places and the store, and the results of operators.
+-- Defines types, values, places and the store, and the results of operators.
 -- Rule: docs/LANGUAGE.md, Types 1, Runs 2 to 5, 10.
 use Rattle.std.specs.Prelude.{ℕ, zero, suc, ◌^◌, Bool, true, false, not, ◌&&◌, ◌||◌, List, [], ◌∷◌, ℤ, pos, negsuc, ◌+ℤ◌, ◌-ℤ◌, ◌*ℤ◌, neg_ℤ, if◌then◌else◌, nat_lt, slice_get, slice_set, int_lt, int_le, Some, None, Option, option_map, option_and_then}
 use Rattle.ob0_tree.specs.declared.tree.Relation.{Relation}
@@ -140,8 +140,8 @@ apply_relation relation.Equal (truth a) (truth b) = succeeds_with (truth (same_t
 apply_relation relation.NotEqual (truth a) (truth b) = succeeds_with (truth (not (same_truth a b)))
 apply_relation _ _ _ = ends_run_with Stuck
 
--- returns the value with an optional sign applied; the end Overflow if the result doesn't fit in 32
--- bits, the end Stuck if a value that isn't a number has a sign
+-- Returns the value with an optional sign applied. If there is a sign, returns the end Overflow if
+-- the result doesn't fit in 32 bits, and the end Stuck if the value isn't a number.
 abbrev pub apply_sign : Option Sign → Value → Outcome Value
 apply_sign None v = succeeds_with v
 apply_sign (Some sign.Plus) (number a) = checked_number a
@@ -158,7 +158,7 @@ pub data PathStep : Type 0 where
   at_index : ℕ → PathStep
   at_field : Name → PathStep
 
--- A place, which a designator gives. `variable` is the index of a variable in the store, counted
+-- The place that a designator denotes. `variable` is the index of a variable in the store, counted
 -- from 0. `path` leads from the variable's value to an element or member within it. An empty path
 -- leads to the whole value.
 pub record Place : Type 0 where
@@ -208,12 +208,12 @@ with_value_at_step (elements vs) (at_index i) new = elements (with_nth_value vs 
 with_value_at_step (members k ms) (at_field x) new = members k (with_named_member ms x new)
 with_value_at_step v _ new = v
 
--- returns the value that a path leads to, starting at a value; None if a step selects nothing
+-- returns the part of a value to which a path leads; None if a step selects nothing
 abbrev pub value_at_path : List PathStep → Value → Option Value
 value_at_path [] v = Some v
 value_at_path (s ∷ path) v = option_and_then (value_at_path path) (value_at_step v s)
 
--- returns the value `v`, in which `new` replaces the value that a path leads to; None if a step
+-- returns the value `v` with `new` in place of the part to which a path leads; None if a step
 -- selects nothing
 abbrev pub with_value_at_path : List PathStep → Value → Value → Option Value
 with_value_at_path [] new v = Some new

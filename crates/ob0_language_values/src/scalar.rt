@@ -1,4 +1,5 @@
-//! Numbers and truth values, and the operators on them (Wirth, Compiler Construction, Oberon-0).
+//! Defines scalars, which are numbers and truth values, and the operators on them
+//! (docs/LANGUAGE.md, Runs 2 and 3).
 
 ghost use Rattle.std.specs.Prelude.{◌≡◌};
 ghost use Rattle.ob0_language_values.specs.Values.{add, add_operator_short_circuits, compare_numbers, division_outcome, checked_number, multiply, multiply_operator_short_circuits, negate, number, apply_relation, apply_sign, truth};

@@ -1,5 +1,5 @@
--- Each name of a well-typed module is bound. The proof is about the numbered tree. There, a label that has only a
--- spelling is bound in no environment (`only-written`). So the proof needs no invariant.
+-- Each name of a well-typed module is bound. The proof is about the numbered tree. It needs no
+-- invariant, because no environment binds a label that is only a spelling (`only-written`).
 use Rattle.std.proofs.Common.{◌≡◌, ℕ, ◌+◌, true, false, ◌&&◌, List, [], ◌∷◌, ◌++◌, map, Some, None, option_and_then, if◌then◌else◌, refl, sym, ap, ◌∙◌}
 use Rattle.std.proofs.lemmas.Bool.{and_parts}
 use Rattle.ob0_scan.specs.declared.fault.FaultCode.TheVariants as code

@@ -1,6 +1,7 @@
--- Written types for which no fault is reported denote the shapes that their types have in the state. Fields are
--- gathered from the left, but their shapes are built from the right. So `GroupGathers` is about the fields of a group
--- before any fields that follow. Definitions nest two sums differently; `grouped` proves that they are equal.
+-- Written types for which no fault is reported denote the shapes that their types have in the
+-- state. Fields are gathered from the left, but their shapes are built from the right. So
+-- `GroupGathers` is about the fields of a group before any fields that follow. Two definitions nest
+-- optional steps differently; `grouped` proves that the nestings are equal.
 use Rattle.std.proofs.Common.{◌≡◌, ℕ, suc, ◌+◌, Bool, true, false, List, [], ◌∷◌, ◌++◌, length, map, Option, Some, None, option_and_then, if◌then◌else◌, refl, sym, ap, ◌∙◌, subst, subst₂, le_refl, arith}
 use Rattle.ob0_tree.specs.TokenIndexLeaves.{tree_with_names, token_text_at, token_value_at}
 use Rattle.ob0_tree.specs.Tree.{Tree, array_type, end, fields, fields_after_semicolon, items, mapped_tree, more, named_type, no_fields, occurrences, record_type, some_fields, semicolon_then_fields, written_type}

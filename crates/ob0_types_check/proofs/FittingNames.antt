@@ -1,6 +1,7 @@
--- The meaning of a name agrees with its object. Only the tokens of the tree itself are considered. The reason is that a
--- declaration remains in the state after its scope has ended, although its name has no meaning there. The same list of
--- tokens requires that a field is spelled as in the text. So fields need no further facts, whatever the labels are.
+-- The meaning of a name agrees with its object. Only the tokens of the tree itself are considered.
+-- The reason is that a declaration remains in the state after the end of its scope, although its
+-- name has no meaning after that. The same list of tokens requires that a field is spelled as in
+-- the text. So fields need no further facts, whatever the labels are.
 use Rattle.std.proofs.Common.{◌≡◌, ℕ, Bool, true, false, true≢false, List, [], ◌∷◌, Option, Some, None, option_map, is_some, if◌then◌else◌, refl, sym, subst, subst₂}
 use Rattle.ob0_tree.specs.declared.tree.Role.{Role}
 use Rattle.ob0_tree.specs.declared.tree.Role.TheVariants as role

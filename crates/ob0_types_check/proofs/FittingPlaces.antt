@@ -1,4 +1,5 @@
--- An expression that may be a place is a variable with its selectors.
+-- If no fault is reported for an expression that may be a variable, it is a variable or parameter
+-- with its selectors.
 use Rattle.std.proofs.Common.{◌≡◌, ℕ, true, false, true≢false, List, [], ◌++◌, Option, Some, None, refl, sym, ap, ◌∙◌}
 use Rattle.ob0_tree.specs.declared.tree.Role.{Role}
 use Rattle.ob0_tree.specs.declared.tree.Role.TheVariants as role

@@ -1,6 +1,7 @@
--- The tokens of a part are alike in two texts if they have the same spelling and binding (`Alikeness`). The part then
--- has the same report in both texts. A state contains its text. So two states are alike if they are one value viewed over
--- each of the texts (`Alike`).
+-- The tokens of a part are alike in two texts if they have the same spelling and binding
+-- (`Alikeness`). The part then has the same report in both texts. A state contains its text. So two
+-- results are alike (`Alike`) if one value gives both, each with its own text, and they have the
+-- same faults.
 use Rattle.std.proofs.Common.{◌≡◌, ℕ, Bool, false, List, [], ◌∷◌, ◌++◌, Option, Some, None, length, nat_eq, option_and_then, pos, ◌+◌, refl, sym, ap, ◌∙◌, subst, if◌then◌else◌}
 use Rattle.std.specs.Prelude.{nat_lt}
 use Rattle.ob0_scan.specs.declared.fault.FaultCode.TheVariants as code

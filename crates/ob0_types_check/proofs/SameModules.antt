@@ -1,5 +1,5 @@
--- If the tokens of a part are alike in two texts, it has the same faults of types in both. The parts are written types,
--- declarations and bodies.
+-- If the tokens of a part are alike in two texts, it has the same type faults in both. The parts
+-- are written types, declarations and bodies.
 use Rattle.std.proofs.Common.{◌≡◌, ℕ, suc, Bool, true, false, List, [], ◌∷◌, ◌++◌, Option, Some, None, map, slice_index_or, refl, sym, ap, ◌∙◌, subst, if◌then◌else◌}
 use Rattle.std.specs.List.{filter}
 use Rattle.ob0_scan.specs.ReusedLexemes.{words_of_tokens}

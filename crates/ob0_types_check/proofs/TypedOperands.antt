@@ -1,6 +1,7 @@
--- No fault is reported for operations on operands of the right types. The proofs need two facts about types
--- (`TypesApart`). INTEGER and BOOLEAN differ from all others, and a type with the form of a scalar is one of them. If
--- two steps give a result, each of them does (`and-then`).
+-- No fault is reported for operations on operands of the right types. The proofs need two facts
+-- about types (`TypesApart`). Only INTEGER and BOOLEAN have their shapes, and a type with the form
+-- of a scalar has no array's or record's shape. If two steps give a result, each of them does
+-- (`and-then`).
 use Rattle.std.proofs.Common.{◌≡◌, ℕ, true, ◌||◌, List, [], ◌++◌, if◌then◌else◌, Option, Some, None, option_map, option_and_then, refl, sym, ap, ◌∙◌}
 use Rattle.ob0_scan.specs.declared.fault.FaultCode.TheVariants as code
 use Rattle.ob0_tree.specs.declared.tree.AddOperator.{AddOperator}

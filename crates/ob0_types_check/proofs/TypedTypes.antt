@@ -1,5 +1,6 @@
--- No fault is reported for written types that denote a type. `given-again` moves a hypothesis about the result of two
--- steps to the value that another law gives, without an equality of values.
+-- No fault is reported for written types that denote a type. If two optional steps together have
+-- the result `r` and the first step has the value `a`, the second step has the result `r` for `a`
+-- (`given-again`).
 use Rattle.std.proofs.Common.{◌≡◌, ℕ, suc, ◌+◌, Bool, true, false, ◌&&◌, List, [], map, Option, Some, None, option_and_then, if◌then◌else◌, is_some, nat_le, refl, sym, ap, ◌∙◌, le_refl, length, arith}
 use Rattle.ob0_tree.specs.TokenIndexLeaves.{tree_with_names, token_text_at, token_value_at}
 use Rattle.ob0_tree.specs.Tree.{Tree, array_type, end, fields, fields_after_semicolon, items, mapped_tree, more, named_type, no_fields, occurrences, record_type, some_fields, semicolon_then_fields, written_type}

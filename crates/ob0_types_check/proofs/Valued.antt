@@ -1,7 +1,7 @@
--- The values of expressions over constants, operand by operand, as the operands have them. In a
--- list of terms or factors, everything before an operator is also an operand. The value of the list
--- depends on that operand's value, an Option. So one lemma for each operator connects the operand
--- with the evaluation, without a case distinction.
+-- The value of an expression over constants is the value that its operand has. The proof goes
+-- operand by operand. In a list of terms or factors, everything before an operator is also an
+-- operand. The value of the list depends on that operand's value, an Option. So one lemma for each
+-- operator connects the operand with the evaluation, without a case distinction.
 use Rattle.std.proofs.Common.{◌≡◌, Bool, true, false, cond, [], ◌∷◌, Option, Some, None, option_and_then, option_map, is_some, refl, ap, ◌∙◌}
 use Rattle.ob0_tree.specs.declared.tree.AddOperator.{AddOperator}
 use Rattle.ob0_tree.specs.declared.tree.MultiplyOperator.{MultiplyOperator}

@@ -36,7 +36,7 @@ FormAgreesWithShape shape unknown_form s = ⊥
 
 -- States that types agree with the shapes that `shape` returns for them. INTEGER and BOOLEAN have
 -- their own shapes, and the unknown type has none. Types that `types` calls the same have the same
--- shape. The form of a type has the parts of the type's shape.
+-- shape, and INTEGER is the same as itself. If a type has a shape, its form agrees with that shape.
 pub record TypesAgreeWithShapes {T : Type 0} (types : Types T) (shape : T → Option Shape) : Type 0 where
   pub integer : shape types.integer ≡ Some integer_shape
   pub boolean : shape types.boolean ≡ Some boolean_shape
@@ -154,9 +154,8 @@ shape_if_record (array_shape k n s) = None
 shape_if_record (record_shape k fs) = Some (record_shape k fs)
 
 -- Returns the shape of a type. `shapes` has the shapes of the array and record types found so far,
--- in the order of their indexes. The result is None for the unknown type. It is also None if
--- `shapes` has no array's shape at an array type's index, or no record's shape at a record type's
--- index.
+-- in the order of their indexes. The result is None for the unknown type. It is also None if the
+-- entry of `shapes` at the type's index is missing or is of the other kind.
 abbrev pub shape_of_type_in : List Shape → TypeId → Option Shape
 shape_of_type_in shapes type.Integer = Some integer_shape
 shape_of_type_in shapes type.Boolean = Some boolean_shape
@@ -173,8 +172,8 @@ FieldsAgreeWithShapes shape (f ∷ fields) no_field_shape = ⊥
 FieldsAgreeWithShapes shape (f ∷ fields) (next_field_shape x s fs) =
     (f.name ≡ x) × (shape f.of ≡ Some s) × FieldsAgreeWithShapes shape fields fs
 
--- States that the parts of an array or record type agree with its shape. `k` is the ordinal of the type's word ARRAY or
--- RECORD: the number of such words before this one in the text.
+-- States that the parts of an array or record type agree with its shape. `k` is the type's ordinal:
+-- the number of words ARRAY and RECORD before its own in the text.
 abbrev pub PartsAgreeWithShape : (TypeId → Option Shape) → ℕ → CompositeParts → Shape → Type 0
 PartsAgreeWithShape shape k (of_elements n t) s = (u : Shape) × (s ≡ array_shape k n u) × (shape t ≡ Some u)
 PartsAgreeWithShape shape k (of_fields fields) s =

@@ -136,7 +136,8 @@ declarations_in_state s = record {
 abbrev pub heading_in_state : CheckerState → List formal.FormalParameter → KnownHeading
 heading_in_state s formals = record { formals = map known_parameter_of formals; following = declarations_in_state s }
 
--- caps both numbers of a size at 2^64 - 1, because the code's arithmetic stops there
+-- returns the size with both numbers capped at 2^64 - 1, because the code's sums and products stop
+-- there
 abbrev pub capped_size : TypeSize → TypeSize
 capped_size z = record { scalars = min z.scalars (2 ^ 64 - 1); depth = min z.depth (2 ^ 64 - 1) }
 

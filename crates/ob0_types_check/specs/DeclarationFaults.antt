@@ -1,9 +1,9 @@
 -- The faults of a module's declarations and bodies, in the order in which they are reported: text
--- order. A declaration is known in the text after it. A procedure is known in its own block and in
--- the text after that. The statements of a block's body are walked only if the block's closing name
--- passes a test. The walk lists the closing names of the walked bodies in which a fault is
--- reported. If every closing name passes the test, all faults of the module's declarations and
--- bodies are reported.
+-- order. A declaration is known in the text after it. A procedure is known in its own block and
+-- after it. The statements of a block's body are walked only if the block's closing name passes a
+-- test. The walk lists the closing names of the walked bodies in which a fault is reported. If
+-- every closing name passes the test, all faults of the module's declarations and bodies are
+-- reported.
 -- Rule: docs/LANGUAGE.md, Faults of scopes and types 2 to 11.
 use Rattle.std.specs.Prelude.{ℕ, Bool, true, false, List, [], ◌∷◌, ◌++◌, map}
 use Rattle.std.specs.List.{filter}
@@ -124,7 +124,8 @@ pub record WalkProgress : Type 0 where
   pub so_far : KnownDeclarations
   pub bodies_with_faults : List ℕ
 
--- returns the walk `w` with its declarations replaced by `p`, and with the same list of bodies
+-- returns the state `w` of a walk with its declarations replaced by `p`, and with the same list of
+-- bodies
 abbrev pub walk_with_declarations : WalkProgress → KnownDeclarations → WalkProgress
 walk_with_declarations w p = record { so_far = p; bodies_with_faults = w.bodies_with_faults }
 
@@ -160,7 +161,7 @@ unfoldable mutual
   -- Returns the state of the walk after a block, and the faults of the block. The faults of its
   -- constants, types, variables and procedures come first, and then the faults of its statements.
   -- The statements are walked only if the block's closing name `own` passes the test `wanted`. The
-  -- same holds for the blocks of the procedures.
+  -- statements of a procedure are walked only if the procedure's closing name passes it.
   pub report_on_block : (ℕ → Bool) → ℕ → WalkProgress → Tree ℕ block → ResultWithFaults WalkProgress
   report_on_block wanted own w (forms_block (declares cs ts vs ps) statements) = do
     with_constants ← report_on_constant_declarations w.so_far (section_constants cs)
@@ -183,7 +184,8 @@ unfoldable mutual
     h ← report_on_parameter_sections (record { formals = []; following = w.so_far }) (formal_parameter_sections fs)
     report_on_block wanted closing (walk_with_declarations w (declarations_after_heading x h)) b
 
--- returns the walk at the beginning of a module: only the predeclared names are known, and no body has been walked
+-- returns the state of the walk at the beginning of a module: only the predeclared names have a
+-- meaning, and no body has been walked
 abbrev pub walk_progress_at_module_start : Resolution → WalkProgress
 walk_progress_at_module_start r = record { so_far = known_declarations_at_module_start r; bodies_with_faults = [] }
 
@@ -197,7 +199,8 @@ report_on_module wanted r =
 abbrev pub includes_every_body : ℕ → Bool
 includes_every_body closing = true
 
--- returns the faults at the undeclared names of a module, in text order, and then the module's faults of types
+-- returns the faults at the undeclared names of a module, in text order, and then the module's type
+-- faults
 unfoldable pub undeclared_name_and_type_faults : Resolution → List FaultAtTokens
 unfolding report_on_block
 undeclared_name_and_type_faults r = filter is_undeclared_fault r.faults ++ (report_on_module includes_every_body r).faults

@@ -13,8 +13,8 @@ use Rattle.ob0_language_values.specs.Values.{truth}
 use Rattle.ob0_types_check.specs.TypesAndMeanings.{Facts, TypeForm, Meaning, ResultWithFaults, Types, a_constant, a_procedure, a_record, a_scalar, a_type, an_array, unknown_form}
 use Rattle.ob0_types_check.specs.OperandFaults.{fault_at_token, without_fault}
 
--- the size of a type: the number of INTEGER and BOOLEAN values in it (its scalars), and the depth to which its arrays
--- and records are nested
+-- the size of a type: the number of INTEGER and BOOLEAN values in it (its scalars), and how many
+-- levels of arrays and records it has
 pub record TypeSize : Type 0 where
   pub scalars : ℕ
   pub depth : ℕ
@@ -29,16 +29,17 @@ pub data CompositeParts : Type 0 where
   of_elements : ℕ → TypeId → CompositeParts
   of_fields : List KnownField → CompositeParts
 
--- An array or record type: its ordinal, its parts and its size. Such types are numbered by the
--- words ARRAY and RECORD: the ordinal is the number of these words before the type's own word.
+-- An array or record type: its ordinal, its parts and its size. The ordinal is the number of words
+-- ARRAY and RECORD before the type's own word ARRAY or RECORD.
 pub record CompositeType : Type 0 where
   pub ordinal : ℕ
   pub parts : CompositeParts
   pub size : TypeSize
 
--- The state of a walk over declarations. `ordinals` has the ordinal of each identifier's declaration, by token.
--- `declared` has the meaning of each declaration, by ordinal, or None if the meaning isn't found yet. `made` has the
--- array and record types found so far. A `TypeId` refers to such a type by its index in `made`.
+-- The state of a walk over declarations. `ordinals` has, by token, the ordinal of the declaration
+-- to which an identifier is bound, or None. `declared` has the meaning of each declaration, by
+-- ordinal, or None if the meaning isn't found yet. `made` has the array and record types found so
+-- far. A `TypeId` refers to such a type by its index in `made`.
 pub record KnownDeclarations : Type 0 where
   pub source : TextWithTokens
   pub ordinals : List (Option ℕ)
@@ -199,8 +200,8 @@ report_on_too_large_type p word =
     }
 
 -- Appends an array or record type to the known types, and returns its `TypeId`. If the size exceeds
--- the limits, nothing is appended. Then `TypeTooLarge` is reported at `word`, the type's token
--- ARRAY or RECORD.
+-- the limits, nothing is appended and the result is the unknown type. In this case `TypeTooLarge`
+-- is reported at `word`, the type's token ARRAY or RECORD.
 abbrev pub make_composite_type : KnownDeclarations → ℕ → ℕ → CompositeParts → TypeSize → ResultWithFaults TypeWithFollowingDeclarations
 make_composite_type p word ordinal parts size =
     if is_within_limits size then without_fault (append_composite p ordinal parts size) else report_on_too_large_type p word
@@ -215,7 +216,8 @@ predeclared_meanings =
     ∷ Some (a_procedure (record { by_place = false; of = type.Integer } ∷ []))
     ∷ Some (a_procedure []) ∷ []
 
--- returns the known declarations at the beginning of a module, which are only the predeclared names
+-- returns the declarations known at the beginning of a module: each predeclared name has its
+-- meaning, and each declaration of the module has None
 abbrev pub known_declarations_at_module_start : Resolution → KnownDeclarations
 known_declarations_at_module_start r =
     record {

@@ -1,5 +1,5 @@
 -- The faults of operators, names and selectors. Each function also returns the operand for the
--- checked expression (`Operand`): its type, its value if it is constant, and its tokens.
+-- checked expression (`Operand`): its type, its value if constants determine one, and its tokens.
 -- Rule: docs/LANGUAGE.md, Types 2, 3, Faults of scopes and types 3, 5.
 use Rattle.std.specs.Prelude.{◌≡◌, ℕ, ◌+◌, ◌-◌, nat_lt, Bool, true, false, ◌||◌, List, [], ◌∷◌, ◌++◌, length, if◌then◌else◌, Option, Some, None, option_and_then, pos}
 use Rattle.ob0_scan.specs.declared.fault.FaultCode.{FaultCode}
@@ -66,16 +66,17 @@ fault_at_operand c o = fault_at_token_range c o.first o.last
 abbrev pub may_be_same_type : {T : Type 0} → Types T → T → T → Bool
 may_be_same_type types s t = types.same s t || (types.same s types.unknown || types.same t types.unknown)
 
--- Returns `wanted` if the operand has this type, otherwise the unknown type. A mismatch is reported
--- if the operand's type and `wanted` are both known and differ.
+-- Returns `wanted` if the operand has this type, otherwise the unknown type. Reports `TypeMismatch`
+-- at the operand if its type and `wanted` are both known and differ.
 abbrev pub require_type : {T : Type 0} → Facts T → T → Operand T → ResultWithFaults T
 require_type facts wanted o = record {
   known = if facts.types.same o.of wanted then wanted else facts.types.unknown;
   faults = if may_be_same_type facts.types o.of wanted then [] else fault_at_operand code.TypeMismatch o;
 }
 
--- Returns `wanted` if both operands have this type, otherwise the unknown type. A mismatch is
--- reported at the left operand or, if the left operand has no mismatch, at the right operand.
+-- Returns `wanted` if both operands have this type, otherwise the unknown type. If `wanted` and an
+-- operand's type are both known and differ, reports `TypeMismatch` at that operand; if both
+-- operands differ, only at the left one.
 abbrev pub require_type_of_both_operands : {T : Type 0} → Facts T → T → Operand T → Operand T → ResultWithFaults T
 require_type_of_both_operands facts wanted a b =
     if may_be_same_type facts.types a.of wanted
@@ -101,8 +102,8 @@ operand_type_of_multiplication types multiply_operator.Modulo = types.integer
 operand_type_of_multiplication types multiply_operator.And = types.boolean
 
 -- Returns the type that `=` and `#` require of both operands: INTEGER if the left operand is
--- INTEGER, otherwise BOOLEAN. If the left operand's type is unknown, the result is unknown, so
--- nothing is required.
+-- INTEGER, otherwise BOOLEAN. If the left operand's type is unknown, nothing is required, and the
+-- result is the unknown type.
 abbrev pub operand_type_of_equality : {T : Type 0} → Types T → T → T
 operand_type_of_equality types left =
     if types.same left types.integer then types.integer
@@ -180,7 +181,7 @@ signed_operand facts (Some s) o = do
   t ← require_type facts facts.types.integer o
   without_fault (prefixed_operand t (option_and_then (λ x. outcome_value (with_sign (Some s) x)) o.value) o)
 
--- returns the operand for the negation `~` of the operand `o`, with a fault if `o` has a known type
+-- returns the operand for the negation `~` of the operand `o`, and a fault if `o` has a known type
 -- other than BOOLEAN
 abbrev pub negated_operand : {T : Type 0} → Facts T → Operand T → ResultWithFaults (Operand T)
 negated_operand facts o = do
@@ -209,8 +210,8 @@ operand_in_parentheses facts o =
       last = next_token_index facts.source o.last;
     }
 
--- Returns the operand for the name at a token, if the name isn't used as a constant. The operand
--- has the type `of` and no value, and its `may_be_variable` is true.
+-- Returns the operand for a name that isn't a constant's, given its token. The operand has the type
+-- `of` and no value, and its `may_be_variable` is true.
 abbrev pub typed_name_operand : {T : Type 0} → T → ℕ → Operand T
 typed_name_operand of token = record { of = of; value = None; may_be_variable = true; first = token; last = token }
 
@@ -223,15 +224,16 @@ value_type types (Some (truth b)) = types.boolean
 value_type types (Some (elements vs)) = types.unknown
 value_type types (Some (members k ms)) = types.unknown
 
--- returns the operand of a constant's name at a token; None means that the constant has no known
--- value
+-- returns the operand for a constant's name at a token, given the constant's value; for None, the
+-- operand's type is unknown
 abbrev pub constant_name_operand : {T : Type 0} → Types T → Option Value → ℕ → Operand T
 constant_name_operand types v token =
     record { of = value_type types v; value = v; may_be_variable = false; first = token; last = token }
 
--- Returns the operand for a name that must refer to a value, given the name's token and meaning. The name of a type or
--- procedure is a fault. If only constants are allowed, the name of a variable is also a fault. In both cases, and for a
--- name without a known meaning (None), the operand's type is unknown. An undeclared name is reported elsewhere.
+-- Returns the operand for a name that must be a constant's or a variable's, given the name's token
+-- and meaning. Reports `WrongKind` at a type's or procedure's name, and `NotConstant` at a
+-- variable's if only constants are allowed. In these cases, and for a name without a known meaning
+-- (None), the operand's type is unknown. An undeclared name is reported elsewhere.
 abbrev pub operand_from_meaning : {T : Type 0} → Facts T → ℕ → Option (Meaning T) → ResultWithFaults (Operand T)
 operand_from_meaning facts token None = without_fault (typed_name_operand facts.types.unknown token)
 operand_from_meaning facts token (Some (a_constant v)) = without_fault (constant_name_operand facts.types v token)
@@ -247,7 +249,8 @@ operand_from_meaning facts token (Some (a_procedure fs)) =
     record
     { known = typed_name_operand facts.types.unknown token; faults = fault_at_token code.WrongKind token }
 
--- returns the operand of the name at a token, with a fault if the name doesn't refer to a value
+-- returns the operand for the name at a token, and the fault, if any, that `operand_from_meaning`
+-- gives for the name's meaning
 abbrev pub name_operand : {T : Type 0} → Facts T → ℕ → ResultWithFaults (Operand T)
 name_operand facts token = operand_from_meaning facts token (facts.object_for token)
 

@@ -1,5 +1,5 @@
--- Laws about the reports of expressions and statements: an expression or statement is well-typed if nothing is reported
--- for it. `N` is the type of the names in a tree.
+-- Laws about the faults reported for expressions and statements: if none is reported, they are
+-- well-typed. `N` is the type of the names in a tree.
 -- Rule: none; states laws about the faults that are reported for expressions and statements.
 use Rattle.std.specs.Prelude.{◌≡◌, ℕ, Bool, true, false, List, [], Option, Some, is_some}
 use Rattle.ob0_tree.specs.TokenIndexLeaves.{token_value_at}
@@ -22,9 +22,9 @@ allowed_meanings true meaning = meanings_in_constant_expressions meaning
 allowed_meanings false meaning = meaning
 
 -- States that the operand `o`, the result of checking an expression, has the type and the value of
--- the expression `e`. The value is None if the expression isn't constant or its evaluation fails.
--- Otherwise the value is a scalar of the operand's type. If `may_be_variable` is true, the
--- expression is a variable or parameter with its selectors.
+-- the expression `e`. The value is the result of evaluating `e` with only the meanings of
+-- constants, or None if this evaluation fails. A value is a scalar of the operand's type. If
+-- `may_be_variable` is true, the expression is a variable or parameter with its selectors.
 pub record OperandAgreesWithExpression
     {T N P : Type 0} (shape : T → Option Shape) (meaning : Meanings N Shape P) (o : Operand T)
     (e : Tree N expression) : Type 0 where

@@ -49,8 +49,8 @@ report_on_assignment_target facts x path = do
   t ← target_name_type facts x
   report_on_selectors facts (typed_name_operand t x) path
 
--- returns the faults of an assignment's target, and then of its right side, which must have the
--- type of the target
+-- Returns the faults of an assignment: first the faults of its target, then the faults of its right
+-- side `e`. The right side must have the target's type.
 abbrev pub assignment_faults : {T : Type 0}
     → Facts T
     → ResultWithFaults (Operand T)
@@ -58,10 +58,10 @@ abbrev pub assignment_faults : {T : Type 0}
     → List FaultAtTokens
 assignment_faults facts target e = target.faults ++ faults_of_expression_of_type facts target.known.of e
 
--- Returns the parameter's type if the argument `o` has this type, otherwise the unknown type. A
--- mismatch of known types is reported. An argument for a VAR parameter must also be a variable,
--- with or without selectors. If it isn't, only `NotVariable` is reported, and the result is the
--- unknown type.
+-- Returns the parameter's type if the argument `o` has this type, otherwise the unknown type.
+-- Reports `TypeMismatch` if both types are known and differ. An argument for a VAR parameter must
+-- also be a variable, with or without selectors. If it isn't, reports only `NotVariable`, and
+-- returns the unknown type.
 abbrev pub require_type_of_argument : {T : Type 0} → Facts T → KnownParameter T → Operand T → ResultWithFaults T
 require_type_of_argument facts f o =
     if f.by_place && not o.may_be_variable

@@ -59,9 +59,10 @@ abbrev pub length_from_value : {T : Type 0} → Operand T → Option Value → R
 length_from_value o None = record { known = None; faults = fault_at_operand code.ConstFault o }
 length_from_value o (Some v) = length_or_fault o (array_length_from_value v)
 
--- Returns the length of an array, given the operand of its length expression. Returns None if the
--- operand isn't INTEGER, has no value or isn't a valid length. Each of these is reported, unless
--- the operand's type is unknown.
+-- Returns the length of an array, given the operand of its length expression. Reports
+-- `TypeMismatch` if the operand isn't INTEGER, `ConstFault` if it has no value, and `ArrayLength`
+-- if the value isn't a valid length. In these cases, and if the operand's type is unknown, returns
+-- None. An unknown type isn't reported.
 abbrev pub length_from_operand : {T : Type 0} → Facts T → Operand T → ResultWithFaults (Option ℕ)
 length_from_operand facts o = do
   t ← require_type facts facts.types.integer o

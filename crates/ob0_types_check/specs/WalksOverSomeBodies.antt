@@ -31,16 +31,17 @@ AllClosingNamesPass test (closing ∷ others) = (test closing ≡ true) × AllCl
 abbrev pub includes_body : BodiesToWalk → ℕ → Bool
 includes_body w closing = w.includes_every_body || is_body_in_list w.these.now closing
 
--- States that the module `r` has an older version (`old`), and that each faulty body of the older version passes the
--- test `wanted`. The two versions are equal except in the statements of bodies that pass this test.
+-- States that the module `r` has an older version (`old`) whose faulty bodies all pass the test
+-- `wanted`. The two versions are equal except in the statements of bodies that pass this test.
 pub record IncludesChangedAndFaultyBodies (wanted : ℕ → Bool) (r : Resolution) : Type 0 where
   pub old : Resolution
   pub resolved : IsResolution old
   pub bodies_with_faults : AllClosingNamesPass wanted (faulty_bodies old)
   pub alike : AreEqualExceptInBodies wanted old r
 
--- States that walking only the bodies that pass the test `wanted` gives the same report as walking all bodies. Every
--- body that changed, and every body that had a fault before the change, must pass the test.
+-- States that walking only the bodies that pass the test `wanted` gives the same report as walking
+-- all bodies. The module must be a changed version of another one with the same tree. Every body
+-- that changed, and every body that had a fault before the change, must pass the test.
 abbrev pub WalkingChangedAndFaultyBodiesSuffices : Type 0
 WalkingChangedAndFaultyBodiesSuffices =
     (wanted : ℕ → Bool) (r : Resolution)

@@ -1,5 +1,5 @@
--- Laws about well-typed modules, expressions and statements: no fault of types is reported for
--- them. `N` is the type of names.
+-- Laws about well-typed modules, expressions and statements: no type fault is reported for them.
+-- `N` is the type of names.
 -- Rule: docs/LANGUAGE.md, Types 8; states laws about the faults that are reported.
 use Rattle.std.specs.Prelude.{◌≡◌, ℕ, Bool, true, false, [], List, Option, Some, None, option_and_then, is_some, slice_get}
 use Rattle.std.specs.List.{filter}
@@ -61,16 +61,16 @@ TypedTargetsHaveNoFault N =
     → is_some (assignable_type meaning (Some (label x, mapped_tree label (token_value_at p.source) path))) ≡ true
     → (report_on_assignment_target (facts_from_declarations p false) x path).faults ≡ []
 
--- Returns the ordinal of the word ARRAY or RECORD that makes a type: the number of such words
--- before it in the text. The result is None for INTEGER and BOOLEAN.
+-- Returns the ordinal of an array or record type: the number of words ARRAY and RECORD before its
+-- own in the text. The result is None for INTEGER and BOOLEAN.
 abbrev pub ordinal_of_shape : Shape → Option ℕ
 ordinal_of_shape integer_shape = None
 ordinal_of_shape boolean_shape = None
 ordinal_of_shape (array_shape k n s) = Some k
 ordinal_of_shape (record_shape k fs) = Some k
 
--- States that no two array or record shapes in the list have the same ordinal. So each shape comes
--- from a different occurrence of ARRAY or RECORD in the text.
+-- States that no two array or record shapes in the list have the same ordinal. So each comes from a
+-- different word ARRAY or RECORD of the text.
 abbrev pub HaveDistinctOrdinals : List Shape → Type 0
 HaveDistinctOrdinals shapes =
     (i j k : ℕ) (s t : Shape) → slice_get shapes i ≡ Some s → slice_get shapes j ≡ Some t
@@ -96,7 +96,8 @@ TypedModulesHaveBoundNames =
     → passes_type_check naming_by_spelling (named_tree_of r.module_read) ≡ true
     → filter is_undeclared_fault r.faults ≡ []
 
--- States that no undeclared name and no fault of types is reported for a module that passes the type check.
+-- States that no undeclared name and no type fault is reported for a module that passes the type
+-- check.
 abbrev pub TypedModulesHaveNoFault : Type 0
 TypedModulesHaveNoFault =
     (r : Resolution)

@@ -13,20 +13,22 @@ use Rattle.ob0_types_check.specs.OperandFaults.{without_fault, previous_token_in
 use Rattle.ob0_types_check.specs.KnownDeclarations.{TypeSize, KnownDeclarations, TypeWithFollowingDeclarations, KnownField, facts_from_declarations, make_composite_type, zero_size, of_elements, of_fields, size_of_known_type}
 use Rattle.ob0_types_check.specs.TypeFaults.{length_from_operand, type_named_by_token}
 
--- returns the size of an array of `n` elements that each have this size
+-- returns the size of an array of `n` elements that each have this size: `n` times the scalars, and
+-- one level more
 abbrev pub array_size : ℕ → TypeSize → TypeSize
 array_size n z = record { scalars = z.scalars * n; depth = z.depth + 1 }
 
 -- Returns the number of array and record types made so far plus `around`, the number of types that
--- enclose the next word ARRAY or RECORD. Each such word makes one type, and inner types are made
--- first. So, if nothing is reported, this sum is the ordinal of the next word: the number of such
--- words before it in the text.
+-- enclose the next word ARRAY or RECORD. Each of these words makes one type, and inner types are
+-- made first. So, if nothing is reported, this sum is the ordinal of the next word: the number of
+-- words ARRAY and RECORD before it in the text.
 abbrev pub next_type_ordinal : ℕ → KnownDeclarations → ℕ
 next_type_ordinal around p = length p.made + around
 
--- Makes an array type, given the ordinal of its word ARRAY, the operand and value of its length, and its element type.
--- If the length has a fault (None), the array's type is unknown, although its element type has been checked. The word
--- ARRAY is the token before the length.
+-- Makes an array type, given the ordinal of its word ARRAY, the operand and value of its length,
+-- and its element type. If the length has a fault (None), the result is the unknown type. If the
+-- array is too large, `TypeTooLarge` is reported at the word ARRAY, the token before the length,
+-- and the result is the unknown type.
 abbrev pub made_array_type : ℕ → Operand TypeId → Option ℕ → TypeWithFollowingDeclarations → ResultWithFaults TypeWithFollowingDeclarations
 made_array_type ordinal o None element =
     without_fault (record { of = type.Unknown; following = element.following })
@@ -69,7 +71,8 @@ abbrev pub append_field_group : KnownFields → List ℕ → TypeWithFollowingDe
 append_field_group g xs t =
     append_known_fields t.of (record { fields = g.fields; size = g.size; following = t.following }) xs
 
--- returns the size of a record, which has at least one scalar
+-- returns the size of a record whose fields together have this size: at least one scalar, and one
+-- level more
 abbrev pub record_size : TypeSize → TypeSize
 record_size z = record { scalars = max z.scalars 1; depth = z.depth + 1 }
 
@@ -78,8 +81,8 @@ abbrev pub token_of_first_name : Tree ℕ names → ℕ
 token_of_first_name (listed x rest) = x
 
 -- Returns the token before a group of fields: RECORD or a semicolon. For an empty group, this is
--- the token before `following`, which is the semicolon after the group. If neither this group nor a
--- later one has a field, `following` and the result are 0.
+-- the token before `following`, the index of the semicolon after the group. If neither this group
+-- nor a later one has a field, `following` and the result are 0.
 abbrev pub token_before_group : Tree ℕ fields → ℕ → ℕ
 token_before_group (some_fields ns t) following = previous_token_index (token_of_first_name ns)
 token_before_group no_fields following = previous_token_index following
@@ -93,8 +96,7 @@ record_keyword_token end = 0
 record_keyword_token (more (semicolon_then_fields g) rest) = token_before_group g (record_keyword_token rest)
 
 -- Makes a record type of the gathered fields `g`, or reports `TypeTooLarge` at `word`, the type's
--- token RECORD. `ordinal` is the type's number: how many words ARRAY and RECORD come before this
--- token in the text.
+-- token RECORD. `ordinal` counts the words ARRAY and RECORD before this token.
 abbrev pub made_record_type : ℕ → ℕ → KnownFields → ResultWithFaults TypeWithFollowingDeclarations
 made_record_type word ordinal g = make_composite_type g.following word ordinal (of_fields g.fields) (record_size g.size)
 

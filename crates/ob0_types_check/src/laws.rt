@@ -42,13 +42,13 @@ pub fn types_agree_with_shapes_if_table_does()
     ensures { TypesAgreeWithShapesIfTableDoes }
 {}
 
-/// Proves that a module passes the type check if no fault of types and no undeclared name is
-/// reported for it. The type check ignores duplicate declarations and wrong closing names.
+/// Proves that a module passes the type check if no type fault and no undeclared name is reported
+/// for it. The type check ignores duplicate declarations and wrong closing names.
 pub fn modules_without_fault_pass_type_check()
     ensures { ModulesWithoutFaultPassTypeCheck }
 {}
 
-/// Proves that a walk that reports nothing finds correct meanings. If no fault of types and no
+/// Proves that a walk that reports nothing finds correct meanings. If no type fault and no
 /// undeclared name is reported for a module, the walk has found the right meaning of each
 /// declaration (`KnownDeclarationsAgreeWithModule`).
 pub fn walk_without_fault_finds_correct_meanings()
@@ -95,15 +95,16 @@ pub fn typed_modules_have_bound_names()
     ensures { TypedModulesHaveBoundNames }
 {}
 
-/// Proves that no fault of types and no undeclared name is reported for a module that passes the
-/// type check.
+/// Proves that no type fault and no undeclared name is reported for a module that passes the type
+/// check.
 pub fn typed_modules_have_no_fault()
     ensures { TypedModulesHaveNoFault }
 {}
 
 /// Proves that, after a change of a module's text, a walk over only some bodies gives the same
-/// report as a walk over all bodies. The walked bodies must include every body whose tokens changed
-/// and every body that had a fault before the change.
+/// report as a walk over all bodies. The change must keep the module's tree and the number of
+/// tokens. The walked bodies must include every body whose tokens changed and every body that had a
+/// fault before the change.
 pub fn walking_changed_and_faulty_bodies_suffices()
     ensures { WalkingChangedAndFaultyBodiesSuffices }
 {}

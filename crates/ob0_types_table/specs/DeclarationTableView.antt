@@ -1,5 +1,5 @@
--- Converts the checker's table of types and declarations to the definitions: its types to shapes, and its declarations
--- to objects.
+-- Converts the checker's table of types and declarations to values of the definitions: its types to
+-- shapes, and its declarations to objects.
 -- Rule: none; used in contracts about the checker's tables.
 use Rattle.std.specs.Prelude.{◌≡◌, ℕ, ◌<◌, Bool, true, false, List, [], ◌∷◌, ◌++◌, map, length, slice_index_or, All, Some, None, Option, string_bytes}
 use Rattle.ob0_language_values.specs.Scalars.{scalar_value}
@@ -59,8 +59,8 @@ abbrev pub type_id_of_entry : code.TypeEntry → ℕ → TypeId
 type_id_of_entry (made.Array a) place = type.Array place
 type_id_of_entry (made.Record r) place = type.Record place
 
--- returns the shapes `known` of a table's first entries, followed by the shapes of the further entries in the list;
--- each entry may refer only to entries before it
+-- returns the list `known`, which has the shapes of a table's first entries, followed by the shapes
+-- of the further entries in the given list; each entry may refer only to entries before it
 abbrev pub append_shapes_of_entries : List Shape → List code.TypeEntry → List Shape
 append_shapes_of_entries known [] = known
 append_shapes_of_entries known (m ∷ ms) = append_shapes_of_entries (known ++ entry_shape known m ∷ []) ms

@@ -1,4 +1,4 @@
--- Finds the designator of a factor, term or expression that is only a designator. Converts
+-- Finds the designator of a factor, term or simple expression that is only a designator. Converts
 -- expressions to trees with labels.
 -- Rule: none; used in contracts about designators and labelled trees.
 use Rattle.std.specs.Prelude.{ℕ, List, map, Some, None, Option}

@@ -1,4 +1,4 @@
--- The values of operations in a constant expression.
+-- Defines the values of operations in constant expressions.
 -- Rule: none; used in contracts about single operations of docs/LANGUAGE.md, Types 6.
 use Rattle.std.specs.Prelude.{cond, Some, Option, option_and_then}
 use Rattle.ob0_tree.specs.declared.tree.AddOperator.{AddOperator}

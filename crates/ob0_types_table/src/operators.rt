@@ -1,6 +1,6 @@
-//! Operations on the values of constants. An operand has no value (None) if it isn't constant or
-//! its evaluation failed. If the left operand of OR or `&` already decides the result, the right
-//! operand needs no value.
+//! Computes the values that constants give to operations. An operand has no value (None) if
+//! constants don't determine it or its evaluation failed. If the left operand of OR or `&` already
+//! decides the result, the right operand needs no value.
 
 ghost use Rattle.std.specs.Prelude.{◌≡◌, Some, option_and_then, option_map};
 ghost use Rattle.ob0_language_values.specs.Scalars.{scalar_value};

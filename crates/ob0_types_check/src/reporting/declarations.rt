@@ -1,5 +1,5 @@
 //! Walks the declarations in text order and reports their faults. Records the meaning of each
-//! declaration, because it is needed to check the text after the declaration.
+//! declaration, which the check of the later text needs.
 
 ghost use Rattle.std.specs.Prelude.{◌≡◌, ◌∷◌, ◌++◌, [], map, IfOk, OnOk};
 ghost use Rattle.ob0_language_names.specs.BlockParts.{formal_parameter_sections, section_constants, section_types, section_variables};
@@ -21,8 +21,8 @@ use ob0_tree::{
 use ob0_types_table::{FormalParameter, TypeId};
 use std::alloc::AllocError;
 
-/// Appends the parameter `formal` to `formals`, once for each name in `names`. The names share one
-/// type and one mode.
+/// Appends the parameter `formal` to `formals`, once for each name in `names`. All these parameters
+/// have the same type, and all are VAR or all are value parameters.
 fn add_formal_parameters(
     names: &Names,
     formal: FormalParameter,
@@ -39,7 +39,7 @@ fn add_formal_parameters(
 }
 
 impl<'t> CheckerState<'t> {
-    /// Records each name in `names` as a variable of the type `of`.
+    /// Records that each name in `names` is a variable of the type `of`.
     fn define_listed_names(&mut self, names: &Names, of: TypeId)
         ensures { declarations_in_state self.new
             ≡ define_listed_names (declarations_in_state self.old) (a_variable of)
@@ -206,7 +206,7 @@ impl<'t> ReportingWalk<'t> {
         Ok(())
     }
 
-    /// Reports the faults of the type of one section of a heading. For each of the section's names,
+    /// Reports the faults of the type in one section of a heading. For each name in the section,
     /// appends a parameter of this type to `formals` and declares a variable.
     fn report_parameter_section(
         &mut self,

@@ -1,5 +1,5 @@
-//! Reports the faults of expressions, and finds their types and, if they are constant, their
-//! values.
+//! Reports the faults of expressions. Finds their types, and their values if constants determine
+//! them.
 
 ghost use Rattle.std.specs.Prelude.{◌≡◌, ◌++◌, [], false, true, if◌then◌else◌, IfOk, OnOk, option_map};
 ghost use Rattle.ob0_language_values.specs.Scalars.{scalar_value};
@@ -30,9 +30,11 @@ use std::alloc::AllocError;
 #[derive(Clone, Copy)]
 pub(crate) struct Operand {
     pub(crate) of: TypeId,
-    /// The value if the expression is constant, or None if it isn't constant or has a fault.
+    /// The value, or None if constants don't determine it. In `FALSE & x` they do, even if `x` is a
+    /// variable or has a fault.
     pub(crate) value: Option<Scalar>,
-    /// True if the expression is only a name with selectors, and the name isn't a constant's.
+    /// True if the expression is only a name with its selectors, if any, and the name isn't a
+    /// constant's.
     pub(crate) may_be_variable: bool,
     /// The index of the expression's first token. `last` is the index of its last token.
     pub(crate) first: usize,
@@ -62,9 +64,9 @@ fn operand_type_of_multiplication(operator: MultiplyOperator) -> TypeId
     }
 }
 
-/// Returns the type that a relation requires of both operands. For `=` and `#` this is INTEGER or
-/// BOOLEAN, depending on the left operand's type. If `left` is the unknown type, the result is
-/// also the unknown type, and nothing is required. All other relations require INTEGER.
+/// Returns the type that a relation requires of both operands. All relations except `=` and `#`
+/// require INTEGER. `=` and `#` require INTEGER or BOOLEAN, depending on the left operand's type
+/// `left`. If `left` is unknown, `=` and `#` require nothing, and the result is the unknown type.
 fn operand_type_of_relation(relation: Relation, left: TypeId) -> TypeId
     ensures { result ≡ operand_type_of_relation (type_id_representation []) relation left }
 {
@@ -114,8 +116,8 @@ pub(crate) fn is_same_type(a: TypeId, b: TypeId) -> bool
     a == b
 }
 
-/// Returns whether the two types are equal, or one of them is the unknown type. If not, an
-/// expression of the type `of` is a mismatch for the required type `wanted`.
+/// Returns whether the two types are equal or at least one of them is unknown. Only then is an
+/// expression of the type `of` accepted if the type `wanted` is required.
 fn may_be_same_type(of: TypeId, wanted: TypeId) -> bool
     ensures { result ≡ may_be_same_type (type_id_representation []) of wanted }
 {
@@ -195,8 +197,8 @@ pub(crate) fn report_fault_at_operand(
 }
 
 impl<'t> CheckerState<'t> {
-    /// Reports a mismatch if the operand's type and the required type `wanted` are both known and
-    /// differ. Returns `wanted` if the operand has this type, otherwise the unknown type.
+    /// Reports `TypeMismatch` at the operand if its type and the required type `wanted` are both
+    /// known and differ. Returns `wanted` if the operand has this type, otherwise the unknown type.
     pub(crate) fn require_type(
         &self,
         faults: &mut Vec<FaultAtTokens>,
@@ -212,9 +214,10 @@ impl<'t> CheckerState<'t> {
         Ok(required_type_or_unknown(operand.of, wanted))
     }
 
-    /// Requires the type `wanted` of both operands of an operation. Reports a mismatch at the left
-    /// operand or, if the left operand has no mismatch, at the right operand. Returns `wanted` if
-    /// both operands have this type, otherwise the unknown type.
+    /// Requires the type `wanted` of both operands of an operation. If `wanted` and an operand's
+    /// type are both known and differ, reports `TypeMismatch` at that operand; if both operands
+    /// differ, only at the left one. Returns `wanted` if both operands have this type, otherwise
+    /// the unknown type.
     fn require_type_of_both_operands(
         &self,
         faults: &mut Vec<FaultAtTokens>,
@@ -280,8 +283,8 @@ impl<'t> CheckerState<'t> {
         }
     }
 
-    /// Reports a mismatch if the operands of a relation don't have the required type, and returns
-    /// the operand for the whole comparison.
+    /// Returns the operand for the comparison of `left` and `right`. Reports `TypeMismatch` if one
+    /// of them has a known type other than the required one.
     fn check_relation(
         &self,
         faults: &mut Vec<FaultAtTokens>,
@@ -318,8 +321,8 @@ impl<'t> CheckerState<'t> {
         Ok(so_far)
     }
 
-    /// Reports a mismatch if the operands of `+`, `-` or OR don't have the required type, and
-    /// returns the operand for the whole expression.
+    /// Returns the operand for `left` and `right` joined by `+`, `-` or OR. Reports `TypeMismatch`
+    /// if one of them has a known type other than the required one.
     fn check_sum(
         &self,
         faults: &mut Vec<FaultAtTokens>,
@@ -341,8 +344,9 @@ impl<'t> CheckerState<'t> {
         Ok(left.joined_operand(right, of, value))
     }
 
-    /// Returns the operand for an expression that consists of a sign and `operand`. A sign requires
-    /// INTEGER, and a mismatch is reported. Without a sign (None), `operand` is returned unchanged.
+    /// Returns the operand for `operand` with the optional sign `sign` before it. If there is a
+    /// sign and `operand` has a known type other than INTEGER, reports `TypeMismatch`. Without a
+    /// sign (None), returns `operand` unchanged.
     fn check_sign(
         &self,
         faults: &mut Vec<FaultAtTokens>,
@@ -380,8 +384,8 @@ impl<'t> CheckerState<'t> {
         Ok(so_far)
     }
 
-    /// Reports a mismatch if the operands of `*`, DIV, MOD or `&` don't have the required type, and
-    /// returns the operand for the whole expression.
+    /// Returns the operand for `left` and `right` joined by `*`, DIV, MOD or `&`. Reports
+    /// `TypeMismatch` if one of them has a known type other than the required one.
     fn check_product(
         &self,
         faults: &mut Vec<FaultAtTokens>,
@@ -463,8 +467,8 @@ impl<'t> CheckerState<'t> {
         }
     }
 
-    /// Reports a mismatch if the operand of `~` has a known type other than BOOLEAN. Returns the
-    /// operand for the whole negation.
+    /// Returns the operand for the negation `~` of `operand`. Reports `TypeMismatch` if `operand`
+    /// has a known type other than BOOLEAN.
     fn check_negation(
         &self,
         faults: &mut Vec<FaultAtTokens>,
@@ -477,9 +481,9 @@ impl<'t> CheckerState<'t> {
         Ok(operand.prefixed_operand(of, operators::value_of_negation(operand.value)))
     }
 
-    /// Returns the operand for the name at a token. The name must be a constant's or a variable's,
-    /// and any other name is reported. If `only_constants` is true, a variable's name is also
-    /// reported. A name without a known meaning isn't reported here.
+    /// Returns the operand for the name at a token. Reports `WrongKind` if the name is a type's or
+    /// a procedure's, and `NotConstant` if it is a variable's and `only_constants` is true. In
+    /// these cases, and if the name has no known meaning, the operand's type is unknown.
     fn operand_of_name(
         &self,
         faults: &mut Vec<FaultAtTokens>,
@@ -579,9 +583,9 @@ impl<'t> CheckerState<'t> {
         Ok(base.operand_with_selector(of, self.next_token_index(index.last)))
     }
 
-    /// Returns the element type of the array type `base`, and reports `NotArray` if `base` is known
-    /// and isn't an array. The result is the unknown type if `base` isn't an array or `index_type`
-    /// isn't INTEGER.
+    /// Returns the element type of the array type `base`. Reports `NotArray` at the `[` before
+    /// `index` if `base` is known and isn't an array type. Returns the unknown type if `base` isn't
+    /// an array type or `index_type` isn't INTEGER.
     fn array_element_type(
         &self,
         faults: &mut Vec<FaultAtTokens>,
@@ -677,8 +681,8 @@ impl<'t> CheckerState<'t> {
         Ok(TypeId::Unknown)
     }
 
-    /// Reports the faults of a constant's right side. Returns the value of the right side, or None
-    /// if the right side has a fault.
+    /// Reports the faults of the right side of a constant's declaration. Returns its value, or None
+    /// if its type is unknown or its evaluation fails.
     pub(crate) fn constant_value(
         &self,
         faults: &mut Vec<FaultAtTokens>,
@@ -693,8 +697,8 @@ impl<'t> CheckerState<'t> {
     }
 
     /// Returns the value of a constant expression, given its operand. If the operand's type is
-    /// unknown, the result is None, and nothing is reported. If the type is known and there is no
-    /// value, the evaluation failed. Then the result is None, and `ConstFault` is reported.
+    /// unknown, returns None and reports nothing. If the type is known and there is no value, the
+    /// evaluation failed: returns None and reports `ConstFault`.
     fn operand_value(
         &self,
         faults: &mut Vec<FaultAtTokens>,

@@ -147,8 +147,8 @@ impl<'t> CheckerState<'t> {
     }
 
     /// Returns the type of the variable or parameter to which the assigned name at `token` refers.
-    /// If the name refers to something else, a fault is reported. If the name has no known meaning,
-    /// nothing is reported. In both cases the result is the unknown type.
+    /// Reports `NotVariable` at a constant's name, and `WrongKind` at a type's or procedure's. In
+    /// these cases, and if the name has no known meaning, returns the unknown type.
     fn target_type(
         &self,
         faults: &mut Vec<FaultAtTokens>,
@@ -192,8 +192,8 @@ impl<'t> CheckerState<'t> {
     }
 
     /// Reports the faults of a call. The arguments must fit the parameters of the called procedure.
-    /// If the called name refers to something other than a procedure, the name is reported. In this
-    /// case, and if the name has no known meaning, the arguments may have any type.
+    /// If the called name isn't a procedure's, `WrongKind` is reported at the name. In this case,
+    /// and if the name has no known meaning, the arguments may have any type.
     fn report_call(
         &self,
         faults: &mut Vec<FaultAtTokens>,
@@ -252,7 +252,7 @@ impl<'t> CheckerState<'t> {
     }
 
     /// Reports the faults of a procedure call's arguments. If the number of arguments is wrong,
-    /// that is the only fault reported.
+    /// reports only `ArgumentCount`, at the token `procedure`.
     fn report_arguments(
         &self,
         faults: &mut Vec<FaultAtTokens>,
@@ -291,10 +291,10 @@ impl<'t> CheckerState<'t> {
         Ok(())
     }
 
-    /// Reports a fault if an argument doesn't fit its formal parameter. `operand` is the result of
-    /// checking the argument. An argument for a VAR parameter must be a variable, and every
-    /// argument must have its parameter's type. Returns this type if the argument has it and
-    /// nothing is reported, otherwise the unknown type.
+    /// Reports a fault if an argument, given its operand, doesn't fit its formal parameter. Reports
+    /// `NotVariable` if a VAR parameter gets an argument that can't be a variable, otherwise
+    /// `TypeMismatch` if both types are known and differ. Returns the parameter's type if the
+    /// argument has it and nothing is reported, otherwise the unknown type.
     fn check_argument_operand(
         &self,
         faults: &mut Vec<FaultAtTokens>,

@@ -1,5 +1,5 @@
-//! Reports the faults of the types that are written in the text: type names, array types and record
-//! types. Makes the checker's representation of these types (`TypeId`).
+//! Reports the faults of written types, which are type names, array types and record types. Makes
+//! the checker's representation of each (`TypeId`).
 
 ghost use Rattle.std.specs.Prelude.{◌≡◌, ◌∷◌, ◌++◌, [], false, IfOk, OnOk, Some};
 ghost use Rattle.ob0_types_table.specs.declared.types.TypeId.TheVariants as type;
@@ -99,9 +99,8 @@ fn record_keyword_token(groups: &[OptionalFieldGroup]) -> usize
 }
 
 impl<'t> CheckerState<'t> {
-    /// Returns the type to which the name at `token` refers. If the name refers to something other
-    /// than a type, a fault is reported. If the name has no known meaning, nothing is reported. In
-    /// both cases the result is the unknown type.
+    /// Returns the type to which the name at `token` refers. Reports `WrongKind` if the name isn't
+    /// a type's. In this case, and if the name has no known meaning, returns the unknown type.
     fn type_named_by_token(
         &self,
         faults: &mut Vec<FaultAtTokens>,
@@ -134,9 +133,10 @@ impl<'t> CheckerState<'t> {
         Ok(TypeId::Unknown)
     }
 
-    /// Returns the length of an array. `operand` is the result of checking the length's expression.
-    /// A length that isn't INTEGER, has no value or isn't valid is reported. Returns None if a
-    /// fault is reported or the operand's type is unknown.
+    /// Returns the length of an array, given the operand of its length expression. Reports
+    /// `TypeMismatch` if the operand isn't INTEGER, `ConstFault` if it has no value, and
+    /// `ArrayLength` if the value isn't from 1 to 65,536. In these cases, and if the operand's type
+    /// is unknown, returns None. An unknown type isn't reported.
     fn check_array_length(
         &self,
         faults: &mut Vec<FaultAtTokens>,
@@ -213,10 +213,11 @@ impl<'t> ReportingWalk<'t> {
         self.make_array_type(ordinal, size, length, element)
     }
 
-    /// Makes an array type and returns it. `size` is the result of checking the length's
-    /// expression. If the length has a fault (`length` is None), the result is the unknown type,
-    /// although the element type has been checked. An array type that is too large is reported at
-    /// its word ARRAY, the token before the length.
+    /// Makes an array type and returns it. `size` is the operand of the length's expression.
+    /// `ordinal` counts the words ARRAY and RECORD before the type's own word ARRAY, which is the
+    /// token before the length. If the length has a fault (`length` is None), returns the unknown
+    /// type. If the type is too large, reports `TypeTooLarge` at the word ARRAY and returns the
+    /// unknown type.
     fn make_array_type(
         &mut self,
         ordinal: usize,
@@ -286,8 +287,8 @@ impl<'t> ReportingWalk<'t> {
     }
 
     /// Makes a record type of the gathered fields and returns it. `word` is the token of its word
-    /// RECORD. `ordinal` is the type's number: how many words ARRAY and RECORD come before this
-    /// token in the text. A record type that is too large is reported at `word`.
+    /// RECORD. `ordinal` counts the words ARRAY and RECORD before this token. If the type is too
+    /// large, reports `TypeTooLarge` at `word` and returns the unknown type.
     fn make_record_type(
         &mut self,
         word: usize,
