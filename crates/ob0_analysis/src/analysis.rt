@@ -38,7 +38,7 @@
 //! are asked for.
 //!
 //! If a new text has lexical faults, all results for the last text without lexical faults are kept.
-//! This is possible because a failing scan returns the old tokens (`IsRightRescanRefusal`). The
+//! This is possible because a failing scan returns the old tokens (`IsRightRescanFailure`). The
 //! next successful scan starts from these tokens, after any number of texts with lexical faults. So
 //! if a bad character is typed and removed, nothing is lost. If the previous text or an earlier one
 //! was much longer than the new one (`MAX_SPARE_BYTES`, `room`), nothing is kept.

@@ -28,7 +28,7 @@ use ob0_parse::{KeptTrees, reparse_tree};
 use ob0_parse_descent::ParseRefusal;
 use ob0_scan::laws::scan_is_unique;
 use ob0_scan::{
-    CommonPrefixAndSuffix, Fault, RescanRefusal, RescanWithComparison, Tokens, rescan_in_place,
+    CommonPrefixAndSuffix, Fault, RescanFailure, RescanWithComparison, Tokens, rescan_in_place,
 };
 use ob0_scope::laws::{bindings_depend_only_on_names, bindings_depend_only_on_spellings};
 use ob0_scope_table::Bindings;
@@ -211,7 +211,7 @@ impl ScannedTextAnalysis {
     /// text. If the reason is lexical faults, the error also has the analysis of the previous text.
     fn reanalysis_failure_after_refusal(
         _text: &str,
-        unread: RescanRefusal,
+        unread: RescanFailure,
         refusal: ParseRefusal,
         kept: KeptTrees,
         last: Option<LastModule>,
@@ -220,7 +220,7 @@ impl ScannedTextAnalysis {
         ensures { IsRightReanalysisFailure _text.now result }
     {
         match unread {
-            RescanRefusal::Faults(faults, tokens) => {
+            RescanFailure::Faults(faults, tokens) => {
                 let before = ScannedTextAnalysis {
                     parse_outcome: ParseOutcome::NoTree(UnparsableText {
                         tokens,
@@ -231,7 +231,7 @@ impl ScannedTextAnalysis {
                 };
                 ReanalysisFailure::Faults(faults, before)
             }
-            RescanRefusal::Memory => ReanalysisFailure::Memory,
+            RescanFailure::Memory => ReanalysisFailure::Memory,
         }
     }
 
@@ -309,7 +309,7 @@ impl ScannedTextAnalysis {
     /// If the reason is lexical faults, the error also has the analysis of that module.
     fn reanalysis_failure_after_module(
         _text: &str,
-        unread: RescanRefusal,
+        unread: RescanFailure,
         tree: ModuleTree,
         bindings: Bindings,
         types: CheckResult,
@@ -318,11 +318,11 @@ impl ScannedTextAnalysis {
         ensures { IsRightReanalysisFailure _text.now result }
     {
         match unread {
-            RescanRefusal::Faults(faults, tokens) => {
+            RescanFailure::Faults(faults, tokens) => {
                 let last = ModuleParts::from_parts(tokens, tree, bindings, types);
                 ReanalysisFailure::Faults(faults, ScannedTextAnalysis::from_module(last))
             }
-            RescanRefusal::Memory => ReanalysisFailure::Memory,
+            RescanFailure::Memory => ReanalysisFailure::Memory,
         }
     }
 

@@ -8,7 +8,7 @@ use Rattle.ob0_scan.specs.declared.lexeme.TokenKind.TheVariants as token
 use Rattle.ob0_scan.specs.declared.lexeme.Span.{Span}
 use Rattle.ob0_scan.specs.declared.lexeme.Token.{Token}
 use Rattle.ob0_scan.specs.TextWithTokens.{TextWithTokens}
-use Rattle.ob0_text.specs.Patches.{Cut, text_from_place_with_cuts}
+use Rattle.ob0_text.specs.Patches.{Cut, text_after_cuts_from_offset}
 use Rattle.ob0_edits_tokens.specs.WordReplacements.{WordChanges}
 use Rattle.ob0_edits_tokens.specs.Replacements.{token_at_or_empty, token_span_or_empty, replacement_cut}
 
@@ -46,4 +46,4 @@ removal_cut tokens first last =
 -- text between them are removed. Each token whose index is in `token_indexes` is replaced by `new`.
 abbrev pub text_after_removal_and_replacement : TextWithTokens → ℕ → ℕ → List ℕ → List ℕ → List ℕ
 text_after_removal_and_replacement s first last token_indexes new =
-    text_from_place_with_cuts s.text 0 (removal_cut s.tokens first last ∷ map (replacement_cut s.tokens new) token_indexes)
+    text_after_cuts_from_offset s.text 0 (removal_cut s.tokens first last ∷ map (replacement_cut s.tokens new) token_indexes)

@@ -15,7 +15,7 @@ use Rattle.ob0_text.specs.declared.edits.Edit.{Edit}
 use Rattle.ob0_text.specs.declared.position_types.Range.{Range}
 use Rattle.ob0_text.specs.declared.position_types.Unit as counting
 use Rattle.ob0_text.specs.Units.{width_of}
-use Rattle.ob0_text.specs.Patches.{Cut, text_from_place_with_cuts, patched_text}
+use Rattle.ob0_text.specs.Patches.{Cut, text_after_cuts_from_offset, patched_text}
 use Rattle.ob0_edits_tokens.specs.WordReplacements.{words_of_text}
 use Rattle.ob0_edits_tokens.specs.Ranges.{range_of}
 
@@ -48,7 +48,7 @@ replacement_cut tokens new p =
 
 -- Returns the text in which each token whose index is in `token_indexes` is replaced by `new`.
 abbrev pub text_after_replacement : TextWithTokens → List ℕ → List ℕ → List ℕ
-text_after_replacement s token_indexes new = text_from_place_with_cuts s.text 0 (map (replacement_cut s.tokens new) token_indexes)
+text_after_replacement s token_indexes new = text_after_cuts_from_offset s.text 0 (map (replacement_cut s.tokens new) token_indexes)
 
 -- States that the text of each lexeme belongs to the class of the lexeme's kind, and that the next
 -- byte never continues the lexeme. `byte` is the byte after the last lexeme.

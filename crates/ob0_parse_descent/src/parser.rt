@@ -18,7 +18,7 @@ use crate::refusal::{ExpectedSyntax, ParseRefusal};
 use ob0_scan::{ReservedWord, Symbol, Token, TokenKind};
 use ob0_tree::{
     AddOperator, Addend, Comparison, CompoundExpression, Designator, Expression, Factor,
-    Multiplier, MultiplyOperator, Names, Relation, Selector, Sign, SimpleExpression, Term,
+    IdentifierList, Multiplier, MultiplyOperator, Relation, Selector, Sign, SimpleExpression, Term,
 };
 use std::alloc::{AllocError, Global};
 
@@ -154,7 +154,7 @@ impl<'t> Parser<'t> {
     }
 
     /// Parses a list of names, `ident {"," ident}`.
-    pub(crate) fn parse_names(&self, at: usize) -> ConstructResult<Names>
+    pub(crate) fn parse_names(&self, at: usize) -> ConstructResult<IdentifierList>
         requires { at ≤ length self.now.tokens.now }
         ensures { Reads names_of 0 self.now.tokens.now at result }
     {
@@ -164,7 +164,7 @@ impl<'t> Parser<'t> {
             push_with_doubling(&mut more, name)?;
             next = end;
         }
-        Ok((Names { first, more }, next))
+        Ok((IdentifierList { first, more }, next))
     }
 
     /// Parses an expression, `simple [relation simple]`. If it is a single token, returns its tree

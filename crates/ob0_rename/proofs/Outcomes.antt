@@ -5,7 +5,7 @@ use Rattle.std.specs.Prelude.{IfErr, IfOk, IsErrOf, nat_lt}
 use Rattle.std.specs.declared.alloc.Global.{Global}
 use Rattle.ob0_scan.specs.LexemeClasses.{IsIdentifier}
 use Rattle.ob0_scan.specs.TextWithTokens.{IsScan, TextWithTokens, Word, max_text_length}
-use Rattle.ob0_text.specs.Patches.{text_from_place_with_cuts}
+use Rattle.ob0_text.specs.Patches.{text_after_cuts_from_offset}
 use Rattle.ob0_text.specs.declared.edits.Edit.{Edit}
 use Rattle.ob0_text.specs.declared.position_types.Position.{Position}
 use Rattle.ob0_text.specs.declared.position_types.Unit as counting
@@ -120,8 +120,8 @@ module _ (unit : counting.Unit) (text : List ℕ) (place : Position) (new : Name
         | inr e ↦ inl e
       ]
 
-pub whole : (text : List ℕ) → length (text_from_place_with_cuts text 0 []) ≡ length text
-unfolding text_from_place_with_cuts
+pub whole : (text : List ℕ) → length (text_after_cuts_from_offset text 0 []) ≡ length text
+unfolding text_after_cuts_from_offset
 whole text = refl
 
 -- Renaming a declaration to its present name doesn't make the text too long.

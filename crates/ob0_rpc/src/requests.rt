@@ -14,7 +14,7 @@ use crate::members::{
     bool_of_member, document_uri_in_params, position_of_member, range_of_member, text_of_member,
     unsigned_of_member,
 };
-use ob0_text::{Indent, MAX_INDENT, Position, Range};
+use ob0_text::{Indent, MAX_SPACES_PER_LEVEL, Position, Range};
 use serde_json::Value;
 use std::alloc::{AllocError, Global};
 
@@ -252,11 +252,11 @@ fn requested_indent(params: &Value) -> Option<Indent>
 }
 
 /// Returns the number of spaces for one level of indentation: the requested number `size`, but at
-/// least 1 and at most [`MAX_INDENT`].
+/// least 1 and at most [`MAX_SPACES_PER_LEVEL`].
 fn spaces_per_level(size: u64) -> u8
     ensures { result ≡ indent_spaces_for_tab_size size }
 {
-    size.min(MAX_INDENT as u64).max(1) as u8
+    size.min(MAX_SPACES_PER_LEVEL as u64).max(1) as u8
 }
 
 /// Returns the kinds of code actions that the object `context` requests in its member `only`. The

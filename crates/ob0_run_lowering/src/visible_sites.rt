@@ -13,7 +13,7 @@ ghost use Rattle.ob0_run_lowering.specs.PlacedNames.{IsSiteOfNextVariable};
 
 use crate::LoweredSite;
 use crate::lowering_context::LoweringContext;
-use ob0_tree::{Names as NameList, ParameterSection, VariableDeclaration};
+use ob0_tree::{IdentifierList, ParameterSection, VariableDeclaration};
 use std::alloc::{AllocError, Global};
 
 /// A site that a binding has hidden: the ordinal of the declaration that was bound, and the site of
@@ -74,7 +74,7 @@ impl Frame {
 
 impl VisibleSites {
     ghost use Rattle.std.specs.Prelude.{[], Some};
-    ghost use Rattle.ob0_tree.specs.View.{formals_of, items_of, parameter_section_after_semicolon_of, names_of, variable_of, variable_section_of};
+    ghost use Rattle.ob0_tree.specs.View.{formals_of, items_of, parameter_section_after_semicolon_of, names_of, variable_declaration_of, variable_section_of};
     ghost use Rattle.ob0_language_names.specs.BlockParts.{formal_parameter_sections, names_in_list, section_variables};
     ghost use Rattle.ob0_scope_table.specs.LabelledTrees.{tree_with_labels, label_at_token};
     ghost use Rattle.ob0_run_cells.specs.Activations.{add_name_to_placement};
@@ -234,7 +234,7 @@ impl VisibleSites {
         context: &LoweringContext<'_, '_, '_>,
         frame: Frame,
         by_place: bool,
-        names: &NameList,
+        names: &IdentifierList,
     ) -> Result<Frame, AllocError>
         ensures { IfOk result (AddsNamesToSitesAndFrame self.old self.new frame (add_declared_names_to_placement (variable_slot_at_depth frame.depth)
             (declared_size context.now.types.now) (mode_from_flag by_place)
@@ -255,7 +255,7 @@ impl VisibleSites {
     ) -> Result<Frame, AllocError>
         ensures { IfOk result (AddsNamesToSitesAndFrame self.old self.new frame (placed.place_variable_declarations
             (variable_slot_at_depth frame.depth) (declared_size context.now.types.now)
-            (tree_with_labels context.now.resolved.now (items_of variable_of groups.now)))) }
+            (tree_with_labels context.now.resolved.now (items_of variable_declaration_of groups.now)))) }
     {
         let mut now = frame;
         for group in groups {

@@ -29,16 +29,16 @@ token_kinds_without_values tokens = map (λ (t : Token). kind_without_value t.ki
 
 -- Returns the spelling `text` of a token if the token is an identifier, or the empty text for any
 -- other kind of token.
-abbrev pub name_or_empty : TokenKind → List ℕ → List ℕ
-name_or_empty kind.Identifier text = text
-name_or_empty (kind.Integer value) text = []
-name_or_empty (kind.ReservedWord word) text = []
-name_or_empty (kind.Symbol symbol) text = []
+abbrev pub spelling_if_identifier : TokenKind → List ℕ → List ℕ
+spelling_if_identifier kind.Identifier text = text
+spelling_if_identifier (kind.Integer value) text = []
+spelling_if_identifier (kind.ReservedWord word) text = []
+spelling_if_identifier (kind.Symbol symbol) text = []
 
 -- Returns the spellings of the identifiers among a text's tokens, in order, with an empty text for
 -- each other token.
 abbrev pub spellings_of_identifiers_in : List ℕ → List Token → List (List ℕ)
-spellings_of_identifiers_in text tokens = map (λ (t : Token). name_or_empty t.kind (text_in_span text t.span)) tokens
+spellings_of_identifiers_in text tokens = map (λ (t : Token). spelling_if_identifier t.kind (text_in_span text t.span)) tokens
 
 -- Returns the tokens of a text as words: their kinds and spellings, without their spans.
 abbrev pub words_of_tokens : List ℕ → List Token → List Word

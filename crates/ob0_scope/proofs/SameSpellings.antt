@@ -7,7 +7,7 @@ use Rattle.std.specs.List.{HoldsAt, filter, list_any}
 use Rattle.ob0_scan.specs.declared.lexeme.Token.{Token}
 use Rattle.ob0_scan.specs.declared.lexeme.TokenKind.{TokenKind}
 use Rattle.ob0_scan.specs.declared.lexeme.TokenKind.TheVariants as kind
-use Rattle.ob0_scan.specs.ReusedLexemes.{token_kinds_without_values, name_or_empty, spellings_of_identifiers_in, kind_without_value}
+use Rattle.ob0_scan.specs.ReusedLexemes.{token_kinds_without_values, spelling_if_identifier, spellings_of_identifiers_in, kind_without_value}
 use Rattle.ob0_scan.specs.TextWithTokens.{TextWithTokens, text_in_span}
 use Rattle.ob0_tree.specs.declared.tree.ModuleTree.{ModuleTree}
 use Rattle.ob0_tree.specs.declared.tree.Role.{Role}
@@ -44,10 +44,10 @@ is_identifier (kind.Integer value) e = absurd (cc)
 is_identifier (kind.ReservedWord word) e = absurd (cc)
 is_identifier (kind.Symbol symbol) e = absurd (cc)
 
-same_text : (u t : Token) (x y : List ℕ) → kind_without_value u.kind ≡ kind_without_value t.kind → t.kind ≡ kind.Identifier → name_or_empty u.kind x ≡ name_or_empty t.kind y → x ≡ y
+same_text : (u t : Token) (x y : List ℕ) → kind_without_value u.kind ≡ kind_without_value t.kind → t.kind ≡ kind.Identifier → spelling_if_identifier u.kind x ≡ spelling_if_identifier t.kind y → x ≡ y
 same_text u t x y k e n =
     let other : u.kind ≡ kind.Identifier = is_identifier u.kind (k ∙ ap kind_without_value e) in
-    sym (ap (λ z. name_or_empty z x) other) ∙ (n ∙ ap (λ z. name_or_empty z y) e)
+    sym (ap (λ z. spelling_if_identifier z x) other) ∙ (n ∙ ap (λ z. spelling_if_identifier z y) e)
 
 texts : (a b : List ℕ) (ts us : List Token) (i : ℕ) → token_kinds_without_values us ≡ token_kinds_without_values ts → spellings_of_identifiers_in b us ≡ spellings_of_identifiers_in a ts → i < length ts → HoldsAt (λ (t : Token). t.kind ≡ kind.Identifier) ts i → token_text_or_empty b (slice_get us i) ≡ token_text_or_empty a (slice_get ts i)
 texts a b [] us i k n less h = absurd (omega (arith, less))

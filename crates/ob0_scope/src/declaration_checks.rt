@@ -20,8 +20,8 @@ ghost use Rattle.ob0_scope_table.specs.DuplicatesAndEndNames.{duplicate_faults, 
 use ob0_scan::{FaultCode, Tokens};
 use ob0_scope_table::{FaultAtTokens, fault_at_token, is_duplicate_or_end_name_fault};
 use ob0_tree::{
-    Block, ConstantDeclaration, Module, Names, OptionalFieldGroup, ParameterSection, Procedure,
-    RecordType, TypeDeclaration, VariableDeclaration, WrittenType, token_text_at,
+    Block, ConstantDeclaration, IdentifierList, Module, OptionalFieldGroup, ParameterSection,
+    Procedure, RecordType, TypeDeclaration, VariableDeclaration, WrittenType, token_text_at,
 };
 use std::alloc::{AllocError, Global};
 use std::collections::BTreeSet;
@@ -114,7 +114,7 @@ fn contains_spelling(tokens: &Tokens, names: &[usize], text: &str) -> bool
 }
 
 /// Appends to `out` the tokens of the names in a list.
-fn append_names(out: &mut Vec<usize>, ns: &Names) -> Result<(), AllocError>
+fn append_names(out: &mut Vec<usize>, ns: &IdentifierList) -> Result<(), AllocError>
     ensures { OnOk result (out.new.items ≡ out.old.items ++ names_in_list (names_of ns.now)) }
 {
     out.push(ns.first)?;

@@ -28,7 +28,7 @@
 ghost use Rattle.std.specs.Prelude.{◌≡◌, ◌+◌, ◌<◌, ◌^◌, [], OnOk, IfOk, length, Some, None};
 ghost use Rattle.ob0_tree.specs.declared.tree.Role.TheVariants as roles;
 ghost use Rattle.ob0_tree.specs.ParsedModule.{tree_of};
-ghost use Rattle.ob0_tree.specs.View.{names_of, constant_of, constant_section_of, type_declaration_of, type_section_of, variable_of, variable_section_of, parameter_section_of, formals_of, procedure_of, block_of};
+ghost use Rattle.ob0_tree.specs.View.{names_of, constant_declaration_of, constant_section_of, type_declaration_of, type_section_of, variable_declaration_of, variable_section_of, parameter_section_of, formals_of, procedure_of, block_of};
 ghost use Rattle.ob0_language_names.specs.Names.{naming_by_spelling};
 ghost use Rattle.ob0_language_names.specs.BlockParts.{names_in_list};
 ghost use Rattle.ob0_scope_table.specs.Resolution.{ordinal_in};
@@ -45,8 +45,8 @@ use ob0_scan::Tokens;
 use ob0_scope_table::{OrdinalEntry, PREDECLARED_COUNT, ordinal_at};
 use ob0_tree::identifier_walk::{Visitor, walk_body, walk_expression, walk_type};
 use ob0_tree::{
-    Block, ConstantDeclaration, Module, Names, ParameterSection, Procedure, Role, TypeDeclaration,
-    VariableDeclaration, token_text_at,
+    Block, ConstantDeclaration, IdentifierList, Module, ParameterSection, Procedure, Role,
+    TypeDeclaration, VariableDeclaration, token_text_at,
 };
 use std::alloc::{AllocError, Global};
 use std::marker::Model;
@@ -347,7 +347,7 @@ impl<'t> NumberingWalk<'t> {
 
     /// Assigns the next ordinals to the names in a declaration's name list, in order. Does not make
     /// the names visible.
-    fn number_declarations(&mut self, ns: &Names) -> Result<(), AllocError>
+    fn number_declarations(&mut self, ns: &IdentifierList) -> Result<(), AllocError>
         ensures { OnOk result (self.new ≡ number_declarations (names_in_list (names_of ns.now))
             self.old) }
     {
@@ -359,7 +359,7 @@ impl<'t> NumberingWalk<'t> {
     }
 
     fn walk_constant(&mut self, c: &ConstantDeclaration) -> Result<(), AllocError>
-        ensures { OnOk result (self.new ≡ visit_constant (constant_of c.now) self.old) }
+        ensures { OnOk result (self.new ≡ visit_constant (constant_declaration_of c.now) self.old) }
     {
         let first = self.declaration_count();
         self.number_declaration(c.name)?;
@@ -377,7 +377,7 @@ impl<'t> NumberingWalk<'t> {
     }
 
     fn walk_variable_declaration(&mut self, v: &VariableDeclaration) -> Result<(), AllocError>
-        ensures { OnOk result (self.new ≡ visit_variable (variable_of v.now) self.old) }
+        ensures { OnOk result (self.new ≡ visit_variable (variable_declaration_of v.now) self.old) }
     {
         let first = self.declaration_count();
         self.number_declarations(&v.names)?;

@@ -4,7 +4,7 @@
 use Rattle.std.specs.Prelude.{◌≡◌, ◌≢◌, ◌≤◌, ◌+◌, ◌-◌, ◌^◌, ◌*◌, ◌⊎◌, ℕ, min, max, List, [], ◌++◌, Bool, true, false, Result, Ok, Err, length}
 use Rattle.std.specs.List.{flat_map}
 use Rattle.ob0_frame.specs.Frames.{frame}
-use Rattle.ob0_frame.specs.FramerState.{StreamRest, Open, Broken, FeedsStream}
+use Rattle.ob0_frame.specs.FramerState.{StreamRest, Open, Broken, PieceAdvancesStream}
 use Rattle.ob0_session_server.specs.Answers.{ServerState, start, IsConversation}
 use Rattle.ob0_session_server.specs.Steps.{HasNotEnded}
 use Rattle.ob0_session_server.specs.declared.session.Phase.TheVariants.{Ended}
@@ -21,7 +21,7 @@ pub record AnswersAllButWaiting (taken : List ℕ) (waiting : List (List ℕ)) (
     (after : ServerState) (put : List ℕ) : Type 0 where
   pub answered : List (List ℕ)
   pub sent : List (List ℕ)
-  pub feeds : FeedsStream (Open []) taken (answered ++ waiting) rest
+  pub feeds : PieceAdvancesStream (Open []) taken (answered ++ waiting) rest
   pub conversation : IsConversation start answered sent after
   pub frames : put ≡ flat_map frame sent
 
@@ -56,7 +56,7 @@ pub record AnswersPrefixOfContents (taken put : List ℕ) : Type 0 where
   pub after : ServerState
   pub answered : List (List ℕ)
   pub sent : List (List ℕ)
-  pub front : (contents : List (List ℕ)) (rest : StreamRest) → FeedsStream (Open []) taken contents rest
+  pub front : (contents : List (List ℕ)) (rest : StreamRest) → PieceAdvancesStream (Open []) taken contents rest
       → (others : List (List ℕ)) × (contents ≡ answered ++ others)
   pub conversation : IsConversation start answered sent after
   pub frames : put ≡ flat_map frame sent

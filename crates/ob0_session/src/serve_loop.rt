@@ -15,7 +15,7 @@ ghost use Rattle.std.specs.Prelude.{◌≡◌, ◌≢◌, ◌++◌, List, ℕ, [
 ghost use Rattle.std.specs.Io.KnownBytes.{Appends, Consumes, IsAtEnd, Keeps};
 ghost use Rattle.std.specs.List.{flat_map};
 ghost use Rattle.ob0_frame.specs.Frames.{frame, written_head};
-ghost use Rattle.ob0_frame.specs.FramerState.{Open, Broken, FeedsFramer};
+ghost use Rattle.ob0_frame.specs.FramerState.{Open, Broken, PieceAdvancesFramer};
 ghost use Rattle.ob0_session_server.specs.Steps.{HasNotEnded};
 ghost use Rattle.ob0_session.specs.ServeResults.{UsesAllReads, LeavesWriterFlushed, IsReadInPieces, Serves};
 ghost use Rattle.ob0_session.specs.Statuses.{status_of};
@@ -136,7 +136,7 @@ fn flush_after_fault<W: OutputDevice>(fault: ServeFault, writer: &mut W) -> Serv
 // can continue, and false if the framer has found a bad head. If an allocation fails, returns
 // `Memory`.
 fn feed_piece(framer: &mut Framer, piece: &[u8]) -> Result<bool, ServeFault>
-    ensures taken { OnOk result (FeedsFramer framer.old piece.now framer.new) }
+    ensures taken { OnOk result (PieceAdvancesFramer framer.old piece.now framer.new) }
     ensures can_continue { IfOk result (λ can_continue. can_continue ≡ true
         → framer.new.rest ≢ Broken) }
     ensures broken { IfOk result (λ can_continue. can_continue ≡ false → framer.new.rest ≡ Broken) }

@@ -9,7 +9,7 @@ use crate::rescan::RescanCase::{ChangeInLongText, ChangeInShortText};
 use crate::rescan::RescanOutcome::{Different, Refused, SameTokens, Unscanned};
 use ob0_scan::laws::new_middle_replaces_range;
 use ob0_scan::{
-    Rescan, RescanRefusal, RescanWithComparison, ScanRefusal, Tokens, rescan, rescan_in_place, scan,
+    Rescan, RescanFailure, RescanWithComparison, ScanRefusal, Tokens, rescan, rescan_in_place, scan,
 };
 use std::alloc::{AllocError, Global};
 use std::process::Abort;
@@ -62,7 +62,7 @@ fn are_same_scans(a: &Tokens, b: &Tokens) -> bool {
 /// from scratch (`scanned`). If the new text has faults, `rescan_in_place` must return tokens of
 /// the old text (`old_text`).
 fn outcome_of_scan_in_place(
-    placed: &Result<RescanWithComparison, RescanRefusal>,
+    placed: &Result<RescanWithComparison, RescanFailure>,
     scanned: &Result<Tokens, ScanRefusal>,
     old_text: &str,
 ) -> RescanOutcome {
@@ -70,7 +70,7 @@ fn outcome_of_scan_in_place(
         (Ok(found), Ok(tokens)) if are_same_scans(&found.rescan.tokens, tokens) => {
             SameTokens(found.rescan.read, found.same_kinds)
         }
-        (Err(RescanRefusal::Faults(faults, old)), Err(ScanRefusal::Faults(others)))
+        (Err(RescanFailure::Faults(faults, old)), Err(ScanRefusal::Faults(others)))
             if old.text() == old_text && faults.as_slice() == others.as_slice() => { Refused }
         _ => Different,
     }
@@ -126,7 +126,7 @@ fn rescan_both_ways(
 /// `scanned` is the result of a scan from scratch.
 fn common_outcome_of_rescans(
     beside: &Result<Rescan, ScanRefusal>,
-    placed: &Result<RescanWithComparison, RescanRefusal>,
+    placed: &Result<RescanWithComparison, RescanFailure>,
     scanned: &Result<Tokens, ScanRefusal>,
     old_text: &str,
 ) -> RescanOutcome {

@@ -20,8 +20,8 @@ ghost use Rattle.ob0_tree.specs.View.{expression_of, compound_expression_of, sim
 
 use crate::tree::{
     Assignment, Block, Call, CompoundExpression, ConstantDeclaration, Designator, Elsif,
-    Expression, Factor, If, Module, Names, OptionalFieldGroup, ParameterSection, Procedure,
-    RecordType, Role, Selector, SimpleExpression, Statement, Term, TypeDeclaration,
+    Expression, Factor, IdentifierList, If, Module, OptionalFieldGroup, ParameterSection,
+    Procedure, RecordType, Role, Selector, SimpleExpression, Statement, Term, TypeDeclaration,
     VariableDeclaration, WrittenType,
 };
 use std::alloc::AllocError;
@@ -246,7 +246,11 @@ fn walk_elsifs<V: Visitor>(visitor: &mut V, parts: &Vec<Elsif>) -> Result<(), Al
 }
 
 /// Visits each name of the list `ns`, in text order. Each of these names has the role `role`.
-fn walk_names<V: Visitor>(visitor: &mut V, role: Role, ns: &Names) -> Result<(), AllocError>
+fn walk_names<V: Visitor>(
+    visitor: &mut V,
+    role: Role,
+    ns: &IdentifierList,
+) -> Result<(), AllocError>
     ensures { OnOk result (visitor.new ≡ state_after_identifiers V.state_after_one_identifier
         (identifiers role (names_of ns.now)) visitor.old) }
 {

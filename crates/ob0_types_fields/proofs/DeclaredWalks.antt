@@ -5,7 +5,7 @@ use Rattle.ob0_tree.specs.declared.tree.ParameterSection.{ParameterSection}
 use Rattle.ob0_tree.specs.declared.tree.TypeDeclaration.{TypeDeclaration}
 use Rattle.ob0_tree.specs.declared.tree.VariableDeclaration.{VariableDeclaration}
 use Rattle.ob0_tree.specs.declared.tree.Procedure.{Procedure}
-use Rattle.ob0_tree.specs.View.{parameter_section_after_semicolon_of, items_of, procedure_of, type_declaration_of, variable_of}
+use Rattle.ob0_tree.specs.View.{parameter_section_after_semicolon_of, items_of, procedure_of, type_declaration_of, variable_declaration_of}
 use Rattle.ob0_language_types.specs.Declarations.{formals_constructor_count, procedure_list_constructor_count, types_constructor_count, variables_constructor_count}
 use Rattle.ob0_language_types.specs.Expressions.{Meanings}
 use Rattle.ob0_language_types.specs.WellTyped.{Signature}
@@ -18,8 +18,8 @@ pub record OverTypes (k : ℕ) (start : List FieldIdentifier) (xs : List TypeDec
   pub counted : next + types_constructor_count (items_of type_declaration_of (drop done xs)) ≡ k + types_constructor_count (items_of type_declaration_of xs)
 
 pub record OverVariables (k : ℕ) (start : List FieldIdentifier) (xs : List VariableDeclaration) (done : ℕ) (out : List FieldIdentifier) (next : ℕ) : Type 0 where
-  pub so_far : out ++ fields_in_variables next (items_of variable_of (drop done xs)) ≡ start ++ fields_in_variables k (items_of variable_of xs)
-  pub counted : next + variables_constructor_count (items_of variable_of (drop done xs)) ≡ k + variables_constructor_count (items_of variable_of xs)
+  pub so_far : out ++ fields_in_variables next (items_of variable_declaration_of (drop done xs)) ≡ start ++ fields_in_variables k (items_of variable_declaration_of xs)
+  pub counted : next + variables_constructor_count (items_of variable_declaration_of (drop done xs)) ≡ k + variables_constructor_count (items_of variable_declaration_of xs)
 
 pub record OverSections (k : ℕ) (start : List FieldIdentifier) (xs : List ParameterSection) (done : ℕ) (out : List FieldIdentifier) (next : ℕ) : Type 0 where
   pub so_far : out ++ fields_in_parameter_sections next (items_of parameter_section_after_semicolon_of (drop done xs)) ≡ start ++ fields_in_parameter_sections k (items_of parameter_section_after_semicolon_of xs)

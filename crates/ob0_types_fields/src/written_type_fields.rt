@@ -9,7 +9,7 @@ ghost use Rattle.ob0_types_fields.specs.IdentifierOwners.{fields_in_group, field
 
 use crate::field_identifier::{FieldIdentifier, FieldIdentifierList};
 use ob0_tree::{
-    FieldGroup, Names, OptionalFieldGroup, ParameterSection, RecordType, TypeDeclaration,
+    FieldGroup, IdentifierList, OptionalFieldGroup, ParameterSection, RecordType, TypeDeclaration,
     VariableDeclaration, WrittenType,
 };
 use std::alloc::AllocError;
@@ -20,7 +20,7 @@ use std::alloc::AllocError;
 fn add_named_fields(
     found: &mut FieldIdentifierList,
     owner: usize,
-    listed: &Names,
+    listed: &IdentifierList,
 ) -> Result<(), AllocError>
     ensures { IfOk result (λ _. found.new.items
         ≡ found.old.items ++ fields_at_tokens owner (names_in_list (names_of listed.now))) }

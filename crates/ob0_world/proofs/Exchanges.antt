@@ -3,7 +3,7 @@ use Rattle.std.proofs.Common.{◌≡◌, ◌∙◌, ℕ, zero, suc, Bool, true, 
 use Rattle.std.specs.Prelude.{⊤, ℤ, fold, All, Option, Some, None, MatchOption, Result, Ok, Err, is_some, filter_map, option_map, option_and_then, codes}
 use Rattle.std.specs.List.{cons_option}
 use Rattle.std.specs.Option.{option_to_list}
-use Rattle.std.specs.Str.{bytes_eq, is_utf8}
+use Rattle.std.specs.Str.{bytes_eq, is_utf8_unit}
 use Rattle.std.proofs.lemmas.List.{append-nil, append_assoc, map-append}
 use Rattle.std.proofs.lemmas.List.Elements.{All-head, All-tail}
 use Rattle.serde_json.specs.Data.{Data, null}
@@ -299,7 +299,7 @@ answer_published number_of requested d = go (option_and_then number_of (get (cod
 
 any_published : (number_of : Data → Option ℕ) (requested : List SentAsk) (content : List ℕ) → versioned_publications_in_message (message_to_editor_by_id_conversion number_of requested content) ≡ versioned_publications_in_message (message_to_editor_in_content [] content)
 unfolding message_to_editor_by_id_conversion
-any_published number_of requested content = go (is_utf8 content) (read content)
+any_published number_of requested content = go (is_utf8_unit content) (read content)
   where
     value : (d : Data) (b : Bool) → versioned_publications_in_message (cond b (publication_of_notification d) (answer_of_response number_of requested d)) ≡ versioned_publications_in_message (cond b (publication_of_notification d) (answer_of_response request_number_from_id [] d))
     value d true = refl

@@ -3,7 +3,7 @@
 use Rattle.std.proofs.Common.{◌≡◌, ◌∙◌, ℕ, Bool, true, false, cond, List, [], ◌∷◌, ◌++◌, Option, Some, None, refl, sym, ap, subst}
 use Rattle.std.specs.Prelude.{All, Vec, is_some, filter_map, option_map, option_and_then, codes}
 use Rattle.std.specs.List.{cons_option}
-use Rattle.std.specs.Str.{is_utf8}
+use Rattle.std.specs.Str.{is_utf8_unit}
 use Rattle.std.specs.declared.alloc.Global.{Global}
 use Rattle.std.proofs.lemmas.Option.{none-some}
 use Rattle.std.proofs.lemmas.List.{map-append}
@@ -42,7 +42,7 @@ module _ (f g : Data → Option ℕ) (requested more : List SentAsk) (grows : (d
 
   pub read_still : (content : List ℕ) (m : MessageToEditor) → message_to_editor_by_id_conversion f requested content ≡ Some m → message_to_editor_by_id_conversion g (requested ++ more) content ≡ Some m
   unfolding message_to_editor_by_id_conversion
-  read_still content m h = go (is_utf8 content) (read content) h
+  read_still content m h = go (is_utf8_unit content) (read content) h
     where
       go : (b : Bool) (o : Option Data) → cond b (option_and_then (message_to_editor_of_value f requested) o) None ≡ Some m → cond b (option_and_then (message_to_editor_of_value g (requested ++ more)) o) None ≡ Some m
       go false o h = h

@@ -6,7 +6,7 @@ use Rattle.std.specs.List.{flat_map}
 use Rattle.std.proofs.lemmas.Grind.{flat_map-append}
 use Rattle.std.proofs.lemmas.List.{append_cancel_left}
 use Rattle.ob0_frame.specs.Frames.{frame}
-use Rattle.ob0_frame.specs.FramerState.{StreamRest, Open, Broken, FeedsStream}
+use Rattle.ob0_frame.specs.FramerState.{StreamRest, Open, Broken, PieceAdvancesStream}
 use Rattle.ob0_session_server.specs.Answers.{ServerState, start, IsConversation}
 use Rattle.ob0_session.specs.ServeResults.{AnswersAllButWaiting}
 use Rattle.ob0_session.specs.declared.serve_loop.ServeFault.{ServeFault}
@@ -21,7 +21,7 @@ record Part (taken put : List ℕ) : Type 0 where
   pub answered : Contents
   pub sent : Contents
   pub after : ServerState
-  pub front : (more : List ℕ) (contents : Contents) (rest : StreamRest) → FeedsStream (Open []) (taken ++ more) contents rest → (others : Contents) × (contents ≡ answered ++ others)
+  pub front : (more : List ℕ) (contents : Contents) (rest : StreamRest) → PieceAdvancesStream (Open []) (taken ++ more) contents rest → (others : Contents) × (contents ≡ answered ++ others)
   pub conversation : IsConversation start answered sent after
   pub unwritten : List ℕ
   pub frames : flat_map frame sent ≡ put ++ unwritten

@@ -8,7 +8,7 @@ use Rattle.std.specs.List.{flat_map}
 use Rattle.std.proofs.lemmas.Grind.{flat_map-append}
 use Rattle.ob0_frame.specs.Frames.{Frames, frame}
 use Rattle.ob0_frame.specs.Head.{max_content_length}
-use Rattle.ob0_frame.specs.FramerState.{StreamRest, Open, Broken, FeedsStream}
+use Rattle.ob0_frame.specs.FramerState.{StreamRest, Open, Broken, PieceAdvancesStream}
 use Rattle.ob0_frame.proofs.InTurn.{fed_in_turn}
 use Rattle.ob0_session_server.specs.Answers.{ServerState, start, Answers, AnswersInPhase, IsConversation}
 use Rattle.ob0_session.specs.ServeResults.{AnswersAllButWaiting, AnswersAllContents, EndsByExit}
@@ -74,7 +74,7 @@ begins_other (x ∷ xs) ys (z ∷ zs) ws e =
 -- ---- the contents read are answered up to an `exit`, or all of them
 
 abbrev pub OneFeed : Type 0
-OneFeed = (from r q : StreamRest) (piece : List ℕ) (c d : Contents) → FeedsStream from piece c r → FeedsStream from piece d q → (c ≡ d) × (r ≡ q)
+OneFeed = (from r q : StreamRest) (piece : List ℕ) (c d : Contents) → PieceAdvancesStream from piece c r → PieceAdvancesStream from piece d q → (c ≡ d) × (r ≡ q)
 
 -- the ending of a conversation: a status at an `exit`, or the rest of the bytes
 pub data Ending : Type 0 where
@@ -184,14 +184,14 @@ further (at_exit status) taken more put closed f (h, ended) =
     let parts = fed_front (Open []) h.rest f.rest taken more (s.answered ++ h.waiting) f.contents s.feeds f.feeds in
     let same : f.contents ≡ s.answered ++ (h.waiting ++ parts.0) = parts.1 ∙ append_assoc s.answered h.waiting parts.0 in
     let served : AnswersAllButWaiting (taken ++ more) (h.waiting ++ parts.0) f.rest h.after put =
-    record { answered = s.answered; sent = s.sent; feeds = subst (λ cs. FeedsStream (Open []) (taken ++ more) cs f.rest) same f.feeds; conversation = s.conversation; frames = s.frames } in
+    record { answered = s.answered; sent = s.sent; feeds = subst (λ cs. PieceAdvancesStream (Open []) (taken ++ more) cs f.rest) same f.feeds; conversation = s.conversation; frames = s.frames } in
     (record { after = h.after; waiting = h.waiting ++ parts.0; rest = f.rest; served = served }, ended)
 further (with_rest Broken) taken more put closed f h =
     let s = h.served in
-    let fed : FeedsStream (Open []) (taken ++ more) ((s.answered ++ []) ++ []) Broken = fed_in_turn (Open []) Broken Broken taken more (s.answered ++ []) [] s.feeds refl in
+    let fed : PieceAdvancesStream (Open []) (taken ++ more) ((s.answered ++ []) ++ []) Broken = fed_in_turn (Open []) Broken Broken taken more (s.answered ++ []) [] s.feeds refl in
     record {
       after = h.after;
-      served = record { answered = s.answered; sent = s.sent; feeds = subst (λ cs. FeedsStream (Open []) (taken ++ more) cs Broken) (append-nil (s.answered ++ [])) fed; conversation = s.conversation; frames = s.frames };
+      served = record { answered = s.answered; sent = s.sent; feeds = subst (λ cs. PieceAdvancesStream (Open []) (taken ++ more) cs Broken) (append-nil (s.answered ++ [])) fed; conversation = s.conversation; frames = s.frames };
       not_ended = h.not_ended;
     }
 further (with_rest (Open left)) taken more put closed f h = absurd closed
@@ -232,7 +232,7 @@ result_is_determined one feeds taken more put all result end of of_too h k (inr 
 
 -- ---- the frames of a conversation
 
-module _ (one : ConversationIsDetermined) (feeds : OneFeed) (taken sent : Contents) (after : ServerState) (talk : IsConversation start taken sent after) (fed : FeedsStream (Open []) (flat_map frame taken) taken (Open [])) where
+module _ (one : ConversationIsDetermined) (feeds : OneFeed) (taken sent : Contents) (after : ServerState) (talk : IsConversation start taken sent after) (fed : PieceAdvancesStream (Open []) (flat_map frame taken) taken (Open [])) where
   frames_sent : (put : List ℕ) (e : Ending) → EndsIn e (flat_map frame taken) put → put ≡ flat_map frame sent
   frames_sent put (at_exit status) (h, ended) =
       let s = h.served in
@@ -244,7 +244,7 @@ module _ (one : ConversationIsDetermined) (feeds : OneFeed) (taken sent : Conten
       s.frames ∙ ap (flat_map frame) (one start s.answered s.sent sent h.after after s.conversation (subst (λ cs. IsConversation start cs sent after) same talk)).0
 
 -- a conversation with which a longer input begins
-module _ (one : ConversationIsDetermined) (feeds : OneFeed) (taken sent : Contents) (after : ServerState) (talk : IsConversation start taken sent after) (fed : FeedsStream (Open []) (flat_map frame taken) taken (Open [])) (more : List ℕ) where
+module _ (one : ConversationIsDetermined) (feeds : OneFeed) (taken sent : Contents) (after : ServerState) (talk : IsConversation start taken sent after) (fed : PieceAdvancesStream (Open []) (flat_map frame taken) taken (Open [])) (more : List ℕ) where
   -- The answers to more contents begin with the answers to these.
   goes_on : (mid answered said : Contents) (end : ServerState) → answered ≡ taken ++ mid → IsConversation start answered said end → (later : List ℕ) × (flat_map frame said ≡ flat_map frame sent ++ later)
   goes_on mid answered said end is h =
@@ -268,19 +268,19 @@ module _ (one : ConversationIsDetermined) (feeds : OneFeed) (taken sent : Conten
       let found = goes_on parts.0 s.answered s.sent h.after (sym (append-nil s.answered) ∙ parts.1) s.conversation in
       (found.0, s.frames ∙ found.1)
 
-pub conversation_is_served_first : ConversationIsDetermined → OneFeed → FeedsStream (Open []) [] [] (Open []) → ((contents : Contents) → All (λ content. length content ≤ max_content_length) contents → Frames (flat_map frame contents) contents []) → ServeAnswersPrefixLikeSession
+pub conversation_is_served_first : ConversationIsDetermined → OneFeed → PieceAdvancesStream (Open []) [] [] (Open []) → ((contents : Contents) → All (λ content. length content ≤ max_content_length) contents → Frames (flat_map frame contents) contents []) → ServeAnswersPrefixLikeSession
 conversation_is_served_first one feeds nothing read taken sent after small talk more put result written served =
     let e = ending_of result (flat_map frame taken ++ more) put written served in
     frames_first one feeds taken sent after talk (read taken small, nothing.1) more put e.0 e.1
 
-pub conversation_is_served : ConversationIsDetermined → OneFeed → FeedsStream (Open []) [] [] (Open []) → ((contents : Contents) → All (λ content. length content ≤ max_content_length) contents → Frames (flat_map frame contents) contents []) → ServeAnswersLikeSession
+pub conversation_is_served : ConversationIsDetermined → OneFeed → PieceAdvancesStream (Open []) [] [] (Open []) → ((contents : Contents) → All (λ content. length content ≤ max_content_length) contents → Frames (flat_map frame contents) contents []) → ServeAnswersLikeSession
 conversation_is_served one feeds nothing read taken sent after small talk put result written served =
     let e = ending_of result (flat_map frame taken) put written served in
     frames_sent one feeds taken sent after talk (read taken small, nothing.1) put e.0 e.1
 
 -- ---- the frames of a conversation that ended
 
-module _ (one : ConversationIsDetermined) (feeds : OneFeed) (taken sent : Contents) (after : ServerState) (status : ℕ) (talk : IsConversation start taken sent after) (over : after.phase ≡ Ended status) (fed : FeedsStream (Open []) (flat_map frame taken) taken (Open [])) (more : List ℕ) where
+module _ (one : ConversationIsDetermined) (feeds : OneFeed) (taken sent : Contents) (after : ServerState) (status : ℕ) (talk : IsConversation start taken sent after) (over : after.phase ≡ Ended status) (fed : PieceAdvancesStream (Open []) (flat_map frame taken) taken (Open [])) (more : List ℕ) where
   -- nothing is answered after it
   nothing_more_said : (mid answered said : Contents) (end : ServerState) → answered ≡ taken ++ mid → IsConversation start answered said end → (sent ≡ said) × (end ≡ after)
   nothing_more_said mid answered said end is h =
@@ -314,6 +314,6 @@ module _ (one : ConversationIsDetermined) (feeds : OneFeed) (taken sent : Conten
   returned put (Err Write) written served = absurd (written.1 refl)
   returned put (Err Memory) written served = absurd (written.0 refl)
 
-pub ended_conversation_is_served : ConversationIsDetermined → OneFeed → FeedsStream (Open []) [] [] (Open []) → ((contents : Contents) → All (λ content. length content ≤ max_content_length) contents → Frames (flat_map frame contents) contents []) → ServeEndsLikeSession
+pub ended_conversation_is_served : ConversationIsDetermined → OneFeed → PieceAdvancesStream (Open []) [] [] (Open []) → ((contents : Contents) → All (λ content. length content ≤ max_content_length) contents → Frames (flat_map frame contents) contents []) → ServeEndsLikeSession
 ended_conversation_is_served one feeds nothing read taken sent after status small talk over more put result written served =
     returned one feeds taken sent after status talk over (read taken small, nothing.1) more put result written served

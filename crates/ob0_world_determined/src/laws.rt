@@ -5,7 +5,7 @@ ghost use Rattle.ob0_world_determined.specs.ServeGuarantees.{ServeGuaranteesHold
 
 use ob0_analysis::laws::reported_refusal_is_unique;
 use ob0_frame::laws::{
-    empty_feed_completes_nothing, feeding_is_determined, written_frames_are_read,
+    empty_feed_completes_nothing, feeding_result_is_unique, written_frames_are_read,
 };
 use ob0_scan::laws::{reported_faults_are_unique, scan_is_unique};
 use ob0_world::laws::guarantees_hold_for_every_exchange;
@@ -59,7 +59,7 @@ pub fn output_is_determined()
     ensures { OutputIsDetermined }
 {
     conversation_is_determined();
-    feeding_is_determined();
+    feeding_result_is_unique();
 }
 
 /// Proves that two calls of `serve` with the same input return the same result. If an `exit` or a
@@ -69,7 +69,7 @@ pub fn result_is_determined()
     ensures { ResultIsDetermined }
 {
     conversation_is_determined();
-    feeding_is_determined();
+    feeding_result_is_unique();
 }
 
 /// Proves that each list of bytes can be split into complete messages and a rest that doesn't begin
@@ -87,7 +87,7 @@ pub fn serve_answers_like_session()
     ensures { ServeAnswersLikeSession }
 {
     conversation_is_determined();
-    feeding_is_determined();
+    feeding_result_is_unique();
     empty_feed_completes_nothing();
     written_frames_are_read();
 }
@@ -100,7 +100,7 @@ pub fn serve_answers_prefix_like_session()
     ensures { ServeAnswersPrefixLikeSession }
 {
     conversation_is_determined();
-    feeding_is_determined();
+    feeding_result_is_unique();
     empty_feed_completes_nothing();
     written_frames_are_read();
 }
@@ -114,7 +114,7 @@ pub fn serve_ends_like_session()
     ensures { ServeEndsLikeSession }
 {
     conversation_is_determined();
-    feeding_is_determined();
+    feeding_result_is_unique();
     empty_feed_completes_nothing();
     written_frames_are_read();
 }

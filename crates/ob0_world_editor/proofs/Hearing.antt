@@ -1,8 +1,8 @@
 -- Proves which message a content means if its JSON value is given.
 use Rattle.std.proofs.Common.{◌≡◌, ◌∙◌, ℕ, Bool, true, false, List, refl, Option, Some, None, option_and_then, option_map, cond, ap}
 use Rattle.std.specs.Prelude.{Result, Ok, Err, IfOk}
-use Rattle.std.specs.Str.{is_utf8}
-use Rattle.std.proofs.lemmas.Str.{is_utf8-from_IsUtf8, IsUtf8-from_is_utf8}
+use Rattle.std.specs.Str.{is_utf8_unit}
+use Rattle.std.proofs.lemmas.Str.{is_utf8_unit-from_IsUtf8, IsUtf8-from_is_utf8}
 use Rattle.serde_json.specs.Data.{Data}
 use Rattle.serde_json.specs.Read.{read}
 use Rattle.ob0_text.specs.OpenDocuments.{DocumentEvent, Opened, Changed, Lost, Closed}
@@ -12,8 +12,8 @@ use Rattle.ob0_world_editor.specs.MessagesToServer.{request_number_from_id, mess
 use Rattle.ob0_world_editor.specs.MessagesToEditor.{message_to_editor_in_content, message_to_editor_of_value, message_to_editor_by_id_conversion}
 
 -- A content in UTF-8 with a known JSON value is read as that value.
-pub said : {M : Type 0} (f : Data → Option M) (content : List ℕ) (d : Data) → IsJsonOfContent content (Some d) → cond (is_utf8 content) (option_and_then f (read content)) None ≡ f d
-said f content d reads = ap (λ b. cond b (option_and_then f (read content)) None) (is_utf8-from_IsUtf8 content reads.0) ∙ ap (option_and_then f) reads.1
+pub said : {M : Type 0} (f : Data → Option M) (content : List ℕ) (d : Data) → IsJsonOfContent content (Some d) → cond (is_utf8_unit content) (option_and_then f (read content)) None ≡ f d
+said f content d reads = ap (λ b. cond b (option_and_then f (read content)) None) (is_utf8_unit-from_IsUtf8 content reads.0) ∙ ap (option_and_then f) reads.1
 
 -- The editor reads a content with a known JSON value as that value.
 pub read_as : (number_of : Data → Option ℕ) (requested : List SentAsk) (content : List ℕ) (d : Data) → IsJsonOfContent content (Some d) → message_to_editor_by_id_conversion number_of requested content ≡ message_to_editor_of_value number_of requested d
@@ -25,9 +25,9 @@ understood_as requested content d reads = read_as request_number_from_id request
 
 pub not_understood : (requested : List SentAsk) (content : List ℕ) → IsJsonOfContent content None → message_to_editor_in_content requested content ≡ None
 unfolding message_to_editor_by_id_conversion
-not_understood requested content reads = go (is_utf8 content) refl
+not_understood requested content reads = go (is_utf8_unit content) refl
   where
-    go : (b : Bool) → is_utf8 content ≡ b → cond b (option_and_then (message_to_editor_of_value request_number_from_id requested) (read content)) None ≡ None
+    go : (b : Bool) → is_utf8_unit content ≡ b → cond b (option_and_then (message_to_editor_of_value request_number_from_id requested) (read content)) None ≡ None
     go true is = ap (option_and_then (message_to_editor_of_value request_number_from_id requested)) (reads (IsUtf8-from_is_utf8 content is))
     go false is = refl
 

@@ -2,7 +2,7 @@
 -- answer to an ask (request for edits). The ask decides how its answer is read.
 -- Rule: docs/PROTOCOL.md, JSON shapes 2.
 use Rattle.std.specs.Prelude.{ℕ, ℤ, List, [], ◌∷◌, Bool, true, false, Option, Some, None, is_some, option_and_then, option_map, unwrap_or, if◌then◌else◌, codes}
-use Rattle.std.specs.Str.{bytes_eq, chars, is_utf8}
+use Rattle.std.specs.Str.{bytes_eq, chars, is_utf8_unit}
 use Rattle.serde_json.specs.Data.{Data, Items, no_items, item}
 use Rattle.serde_json.specs.Find.{get, at, as_array, as_number, as_i64}
 use Rattle.serde_json.specs.Read.{read}
@@ -143,7 +143,7 @@ message_to_editor_of_value number_of requested d =
 -- an answer's id to the number of the answered request.
 unfoldable pub message_to_editor_by_id_conversion : (Data → Option ℕ) → List SentAsk → List ℕ → Option MessageToEditor
 message_to_editor_by_id_conversion number_of requested content =
-    if is_utf8 content
+    if is_utf8_unit content
     then option_and_then (message_to_editor_of_value number_of requested) (read content) else None
 
 -- Returns the message to the editor in a content, or None if the content isn't a message to the

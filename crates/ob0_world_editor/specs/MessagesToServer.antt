@@ -2,7 +2,7 @@
 -- definitions that the server also uses. The id of a request is the number of a sent request for
 -- edits.
 use Rattle.std.specs.Prelude.{◌≡◌, ⊤, ℕ, List, Option, Some, None, Ok, option_and_then, option_map, if◌then◌else◌}
-use Rattle.std.specs.Str.{is_utf8}
+use Rattle.std.specs.Str.{is_utf8_unit}
 use Rattle.serde_json.specs.Data.{Data, null, boolean, number, string, array, object, unsigned, negative, float}
 use Rattle.serde_json.specs.Find.{as_i64, of_integer}
 use Rattle.serde_json.specs.Read.{read}
@@ -59,7 +59,7 @@ message_to_server_of_meaning requested response = None
 -- model. `requested` lists the requests for edits that the editor has sent.
 unfoldable pub message_to_server_in_content : List SentAsk → List ℕ → Option MessageToServer
 message_to_server_in_content requested content =
-    if is_utf8 content
+    if is_utf8_unit content
     then option_and_then (λ d. message_to_server_of_meaning requested (meaning_of_message d)) (read content)
     else None
 

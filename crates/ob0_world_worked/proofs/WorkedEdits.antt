@@ -9,7 +9,7 @@ use Rattle.ob0_text.specs.declared.position_types.Unit.TheVariants.{Utf16}
 use Rattle.ob0_text.specs.Units.{width_of}
 use Rattle.ob0_text.specs.Texts.{text_before, line_body, ends_line, fitting_prefix, lines, offset_of, position_in_lines, position_of, starts_with_lf}
 use Rattle.ob0_text.specs.Texts as texts
-use Rattle.ob0_text.specs.Patches.{are_all_disjoint, cut_of_range, cuts_in_text_order, patched_text, text_patched_by_cuts, text_from_place_with_cuts, char_count_before_position}
+use Rattle.ob0_text.specs.Patches.{are_all_disjoint, cut_of_range, cuts_in_text_order, patched_text, text_patched_by_cuts, text_after_cuts_from_offset, char_count_before_position}
 use Rattle.ob0_edits_tokens.specs.Ranges.{range_of}
 use Rattle.ob0_edits_tokens.specs.Removals.{span_of_tokens, text_after_removal_and_replacement}
 use Rattle.ob0_edits_tokens.specs.Replacements.{replacement_at_token, range_and_text, text_after_replacement}
@@ -50,21 +50,21 @@ unfolding position_of position_in_lines lines ends_line starts_with_lf fitting_p
 inlines_parts = refl
 
 renames_made : patched_text (width_of Utf16) example_text renames ≡ Some (text_of_lexemes renamed_lexemes)
-unfolding text_patched_by_cuts cut_of_range char_count_before_position are_all_disjoint cuts_in_text_order text_from_place_with_cuts text_before fitting_prefix lines line_body ends_line starts_with_lf texts.text_of_lines chars
+unfolding text_patched_by_cuts cut_of_range char_count_before_position are_all_disjoint cuts_in_text_order text_after_cuts_from_offset text_before fitting_prefix lines line_body ends_line starts_with_lf texts.text_of_lines chars
 renames_made = refl
 
 pub renames_leave : patched_text (width_of Utf16) example_text renames ≡ Some (chars (text_of_lexemes renamed_lexemes))
 renames_leave = renames_made ∙ ap Some (sym (chars_so (text_of_lexemes renamed_lexemes) refl))
 
 inlines_made : patched_text (width_of Utf16) example_text (puts_two ∷ []) ≡ Some (text_of_lexemes inlined_lexemes)
-unfolding text_patched_by_cuts cut_of_range char_count_before_position are_all_disjoint cuts_in_text_order text_from_place_with_cuts text_before fitting_prefix lines line_body ends_line starts_with_lf texts.text_of_lines chars
+unfolding text_patched_by_cuts cut_of_range char_count_before_position are_all_disjoint cuts_in_text_order text_after_cuts_from_offset text_before fitting_prefix lines line_body ends_line starts_with_lf texts.text_of_lines chars
 inlines_made = refl
 
 pub inlines_leave : patched_text (width_of Utf16) example_text (puts_two ∷ []) ≡ Some (chars (text_of_lexemes inlined_lexemes))
 inlines_leave = inlines_made ∙ ap Some (sym (chars_so (text_of_lexemes inlined_lexemes) refl))
 
 everywhere_made : patched_text (width_of Utf16) example_text (takes_out ∷ puts_two ∷ []) ≡ Some (text_of_lexemes without_lexemes)
-unfolding text_patched_by_cuts cut_of_range char_count_before_position are_all_disjoint cuts_in_text_order text_from_place_with_cuts text_before fitting_prefix lines line_body ends_line starts_with_lf texts.text_of_lines chars
+unfolding text_patched_by_cuts cut_of_range char_count_before_position are_all_disjoint cuts_in_text_order text_after_cuts_from_offset text_before fitting_prefix lines line_body ends_line starts_with_lf texts.text_of_lines chars
 everywhere_made = refl
 
 pub everywhere_leave : patched_text (width_of Utf16) example_text (takes_out ∷ puts_two ∷ []) ≡ Some (chars (text_of_lexemes without_lexemes))
@@ -79,15 +79,15 @@ unfolding position_of position_in_lines lines ends_line starts_with_lf fitting_p
 write_is_at = refl
 
 pub renamed_length : length (text_after_replacement (scanned_of worked_lexemes) (9 ∷ 14 ∷ 20 ∷ []) (codes "y")) ≡ 77
-unfolding text_from_place_with_cuts
+unfolding text_after_cuts_from_offset
 renamed_length = refl
 
 pub inlined_length : length (text_after_replacement (scanned_of worked_lexemes) (16 ∷ []) (codes "2")) ≡ 77
-unfolding text_from_place_with_cuts
+unfolding text_after_cuts_from_offset
 inlined_length = refl
 
 pub without_length : length (text_after_removal_and_replacement (scanned_of worked_lexemes) 4 7 (16 ∷ []) (codes "2")) ≡ 71
-unfolding text_from_place_with_cuts
+unfolding text_after_cuts_from_offset
 without_length = refl
 
 pub two_text : decimal 2 ≡ codes "2"

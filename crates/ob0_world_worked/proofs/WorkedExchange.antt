@@ -3,12 +3,12 @@ use Rattle.std.proofs.Common.{◌≡◌, ◌∙◌, ℕ, pos, true, List, [], �
 use Rattle.std.specs.Prelude.{codes, nat_lt, option_and_then, option_map}
 use Rattle.std.specs.FinMap as map_of
 use Rattle.std.specs.Str.{chars}
-use Rattle.std.proofs.lemmas.Str.{is_utf8-from_IsUtf8}
+use Rattle.std.proofs.lemmas.Str.{is_utf8_unit-from_IsUtf8}
 use Rattle.serde_json.specs.Data.{Data, null, number, unsigned, depth}
 use Rattle.ob0_text.specs.declared.position_types.Unit.TheVariants.{Utf16}
 use Rattle.ob0_text.specs.Texts.{text_before, line_body, ends_line, fitting_prefix, lines, offset_of, starts_with_lf}
 use Rattle.ob0_text.specs.Texts as texts
-use Rattle.ob0_text.specs.Patches.{are_all_disjoint, cut_of_range, cuts_in_text_order, text_patched_by_cuts, text_from_place_with_cuts, char_count_before_position}
+use Rattle.ob0_text.specs.Patches.{are_all_disjoint, cut_of_range, cuts_in_text_order, text_patched_by_cuts, text_after_cuts_from_offset, char_count_before_position}
 use Rattle.ob0_text.specs.OpenDocuments.{Document, InStep, changed_text, document_at, no_open_documents, documents_after_open}
 use Rattle.ob0_rpc.specs.AppendedJson.{ReadsBack}
 use Rattle.ob0_rpc.specs.Requests.{DocumentPlace}
@@ -52,7 +52,7 @@ editor_reads : (of : Data → Option ℕ) (requested : List SentAsk) (d : Data) 
 unfolding message_to_editor_by_id_conversion
 editor_reads of requested d r shallow =
     let w = reads_so d r shallow in
-    λ i. if is_utf8-from_IsUtf8 (content_of d) w.0 i then option_and_then (message_to_editor_of_value of requested) (w.1 i) else None
+    λ i. if is_utf8_unit-from_IsUtf8 (content_of d) w.0 i then option_and_then (message_to_editor_of_value of requested) (w.1 i) else None
 
 -- ---- the states
 
@@ -327,11 +327,11 @@ turn₁₁ = ap (λ (m : Option MessageToEditor). record x₁₁ { editor = edit
 -- ---- the edits are made
 
 edits_make : text_after_edits Utf16 example_text the_edits ≡ Some inlined_text
-unfolding text_after_edits text_patched_by_cuts cut_of_range char_count_before_position are_all_disjoint cuts_in_text_order text_from_place_with_cuts text_before fitting_prefix lines line_body ends_line starts_with_lf texts.text_of_lines
+unfolding text_after_edits text_patched_by_cuts cut_of_range char_count_before_position are_all_disjoint cuts_in_text_order text_after_cuts_from_offset text_before fitting_prefix lines line_body ends_line starts_with_lf texts.text_of_lines
 edits_make = refl
 
 changes_make : text_after_changes Utf16 (Some example_text) law.example_changes ≡ Some inlined_text
-unfolding changed_text text_patched_by_cuts cut_of_range char_count_before_position are_all_disjoint cuts_in_text_order text_from_place_with_cuts text_before fitting_prefix lines line_body ends_line starts_with_lf texts.text_of_lines
+unfolding changed_text text_patched_by_cuts cut_of_range char_count_before_position are_all_disjoint cuts_in_text_order text_after_cuts_from_offset text_before fitting_prefix lines line_body ends_line starts_with_lf texts.text_of_lines
 changes_make = refl
 
 abbrev the_change : Data

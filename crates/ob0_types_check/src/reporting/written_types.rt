@@ -23,7 +23,9 @@ use crate::reporting::expressions::{Operand, is_same_type, report_fault_at_opera
 use ob0_language_values::Scalar;
 use ob0_scan::FaultCode;
 use ob0_scope_table::FaultAtTokens;
-use ob0_tree::{ArrayType, FieldGroup, Names, OptionalFieldGroup, RecordType, WrittenType};
+use ob0_tree::{
+    ArrayType, FieldGroup, IdentifierList, OptionalFieldGroup, RecordType, WrittenType,
+};
 use ob0_types_table::{ArrayShape, Field, FieldTable, MAX_SCALARS, RecordShape, TypeEntry, TypeId};
 use std::alloc::{AllocError, Global};
 
@@ -361,7 +363,7 @@ impl<'t> CheckerState<'t> {
     fn add_known_fields(
         &self,
         alloc: Global,
-        names: &Names,
+        names: &IdentifierList,
         of: TypeId,
         gathered: &mut KnownFields,
     ) -> Result<(), AllocError>

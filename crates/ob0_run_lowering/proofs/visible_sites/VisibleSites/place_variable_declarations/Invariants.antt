@@ -1,4 +1,4 @@
-use Rattle.ob0_tree.specs.View.{items_of, variable_of}
+use Rattle.ob0_tree.specs.View.{items_of, variable_declaration_of}
 use Rattle.ob0_scope_table.specs.LabelledTrees.{tree_with_labels}
 use Rattle.ob0_run_lowering.specs.PlacedNames as placed
 use Rattle.ob0_run_lowering.specs.PlacedNames.{declared_size, variable_slot_at_depth}
@@ -7,5 +7,5 @@ use Rattle.ob0_run_lowering.proofs.visible_sites.VisibleSites.place_variable_dec
 
 abbrev pub invariant-loop-group : goal.invariant-loop-group
 invariant-loop-group l = record {
-  placed : InPlaces (λ xs. placed.place_variable_declarations (variable_slot_at_depth l.fn.frame.depth) (declared_size l.context.types.now) (tree_with_labels l.context.resolved.now (items_of variable_of xs))) l.groups l.fn.self l.self l.fn.frame l.now l.group-index;
+  placed : InPlaces (λ xs. placed.place_variable_declarations (variable_slot_at_depth l.fn.frame.depth) (declared_size l.context.types.now) (tree_with_labels l.context.resolved.now (items_of variable_declaration_of xs))) l.groups l.fn.self l.self l.fn.frame l.now l.group-index;
 }

@@ -1,5 +1,5 @@
 use Rattle.ob0_parse_descent.proofs.DeclarationParts.{name_is_section, word_is_section}
-use Rattle.ob0_parse_descent.proofs.parser.Parser.has_parameter_section_start_at.Goals as goal
+use Rattle.ob0_parse_descent.proofs.parser.Parser.parameter_section_starts_at.Goals as goal
 
 pub returns-then-has_identifier_at : goal.returns-then-has_identifier_at
 returns-then-has_identifier_at c = name_is_section _ _ c.if-has_identifier_at.ensures
