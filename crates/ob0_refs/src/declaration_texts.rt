@@ -66,7 +66,7 @@ fn object_hover_text(
 {
     let text = token_text_at(names.tokens(), name.token);
     match object {
-        Object::Named(of) => Ok(Some(type_hover_text(alloc, known, text, *of)?)),
+        Object::TypeName(of) => Ok(Some(type_hover_text(alloc, known, text, *of)?)),
         Object::Constant(value) => Ok(Some(constant_text(alloc, text, *value)?)),
         Object::FaultyConstant => Ok(None),
         Object::Variable(of) => Ok(Some(variable_hover_text(alloc, known, text, *of)?)),

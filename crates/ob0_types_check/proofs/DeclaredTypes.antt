@@ -19,7 +19,7 @@ use Rattle.ob0_types_check.specs.TypesAndMeanings.{Meaning, Operand, ResultWithF
 use Rattle.ob0_types_check.specs.OperandFaults.{without_fault}
 use Rattle.ob0_types_check.specs.KnownDeclarations.{CompositeParts, TypeSize, KnownDeclarations, TypeWithFollowingDeclarations, facts_from_declarations, is_within_limits, append_composite, make_composite_type, of_elements, of_fields, size_of_known_type, report_on_too_large_type, type_id_of_parts}
 use Rattle.ob0_types_check.specs.TypeFaults.{length_from_operand, type_from_meaning}
-use Rattle.ob0_types_check.specs.WrittenTypeFaults.{KnownFields, made_array_type, array_size, append_field_group, no_known_fields, made_record_type, record_size, record_keyword_token, report_on_field_group, report_on_further_field_groups, next_type_ordinal, report_on_written_type, append_known_field, append_known_fields, token_before_group}
+use Rattle.ob0_types_check.specs.WrittenTypeFaults.{KnownFields, make_array_type, array_size, append_field_group, no_known_fields, make_record_type, record_size, record_keyword_token, report_on_field_group, report_on_further_field_groups, next_type_ordinal, report_on_written_type, append_known_field, append_known_fields, token_before_group}
 use Rattle.ob0_types_check.specs.Agreement.{PartsAgreeWithShape, IsKnownAndAgreesWithObject, TableAgreesWithShapes, shape_of_type_in}
 use Rattle.ob0_types_check.specs.WellTypedLaws.{ordinal_of_shape}
 use Rattle.ob0_types_check.proofs.MadeOnce.{Apart, apart_made, apart_same, apart_then}
@@ -80,8 +80,8 @@ made_denotes n p q before mid k l word ordinal parts size s here number own late
     }
 
 -- An array denotes a shape if the type of its elements denotes one and no fault is reported for the array.
-array_denotes : (n : ℕ) (p : KnownDeclarations) (before : List Shape) (k l ordinal count : ℕ) (o : Operand TypeId) (given : Option Shape) (u : TypeWithFollowingDeclarations) → ordinal ≡ k → Denotes n p before (suc k) l given u → (made_array_type ordinal o (Some count) u).faults ≡ []
-    → Denotes n p before k l (option_and_then (λ s. type_within_limits (array_shape k count s)) given) (made_array_type ordinal o (Some count) u).known
+array_denotes : (n : ℕ) (p : KnownDeclarations) (before : List Shape) (k l ordinal count : ℕ) (o : Operand TypeId) (given : Option Shape) (u : TypeWithFollowingDeclarations) → ordinal ≡ k → Denotes n p before (suc k) l given u → (make_array_type ordinal o (Some count) u).faults ≡ []
+    → Denotes n p before k l (option_and_then (λ s. type_within_limits (array_shape k count s)) given) (make_array_type ordinal o (Some count) u).known
 array_denotes n p before k l ordinal count o given u here d none =
     let s : Shape = array_shape k count d.shape in
     let size = array_sized (size_of_known_type u.following.made u.of) k count d.shape (size_agrees u.following.made d.after u.of d.shape d.later.table d.known) in
@@ -95,10 +95,10 @@ array_denotes n p before k l ordinal count o given u here d none =
       known = m.denotes.known;
     }
 
-sized_array : (n : ℕ) (p : KnownDeclarations) (before : List Shape) (k l ordinal : ℕ) (o : Operand TypeId) (reported : Option ℕ) (count : ℕ) (given : Option Shape) (u : TypeWithFollowingDeclarations) → reported ≡ Some count → ordinal ≡ k → Denotes n p before (suc k) l given u → (made_array_type ordinal o reported u).faults ≡ []
-    → Denotes n p before k l (option_and_then (λ s. type_within_limits (array_shape k count s)) given) (made_array_type ordinal o reported u).known
+sized_array : (n : ℕ) (p : KnownDeclarations) (before : List Shape) (k l ordinal : ℕ) (o : Operand TypeId) (reported : Option ℕ) (count : ℕ) (given : Option Shape) (u : TypeWithFollowingDeclarations) → reported ≡ Some count → ordinal ≡ k → Denotes n p before (suc k) l given u → (make_array_type ordinal o reported u).faults ≡ []
+    → Denotes n p before k l (option_and_then (λ s. type_within_limits (array_shape k count s)) given) (make_array_type ordinal o reported u).known
 sized_array n p before k l ordinal o reported count given u e here d none =
-    subst (λ z. (made_array_type ordinal o z u).faults ≡ [] → Denotes n p before k l (option_and_then (λ s. type_within_limits (array_shape k count s)) given) (made_array_type ordinal o z u).known) (sym e) (array_denotes n p before k l ordinal count o given u here d) none
+    subst (λ z. (make_array_type ordinal o z u).faults ≡ [] → Denotes n p before k l (option_and_then (λ s. type_within_limits (array_shape k count s)) given) (make_array_type ordinal o z u).known) (sym e) (array_denotes n p before k l ordinal count o given u here d) none
 
 -- holds if the fields gathered so far agree with the earlier shapes `first` followed by the shapes `own`
 pub record CodeFindsFieldsAndReports (n : ℕ) (p : KnownDeclarations) (before : List Shape) (k l : ℕ) (first : FieldShapes) (own : FieldShapes) (g : KnownFields) : Type 0 where
@@ -166,8 +166,8 @@ both_gather n p before k m l first given g h others one other = record {
 }
 
 -- A record denotes a shape if its fields have shapes and no fault is reported for the record.
-record_denotes : (n : ℕ) (p : KnownDeclarations) (before : List Shape) (k l word ordinal : ℕ) (given : Option FieldShapes) (g : KnownFields) → ordinal ≡ k → GroupsGather n p before (suc k) l no_field_shape given g → (made_record_type word ordinal g).faults ≡ []
-    → Denotes n p before k l (option_and_then (λ fs. type_within_limits (record_shape k fs)) given) (made_record_type word ordinal g).known
+record_denotes : (n : ℕ) (p : KnownDeclarations) (before : List Shape) (k l word ordinal : ℕ) (given : Option FieldShapes) (g : KnownFields) → ordinal ≡ k → GroupsGather n p before (suc k) l no_field_shape given g → (make_record_type word ordinal g).faults ≡ []
+    → Denotes n p before k l (option_and_then (λ fs. type_within_limits (record_shape k fs)) given) (make_record_type word ordinal g).known
 record_denotes n p before k l word ordinal given g here h none =
     let after = h.gathers.after in
     let s : Shape = record_shape k h.own in
@@ -216,14 +216,14 @@ module _ (w : Numbering) (fit : PartsFit) (n : ℕ) (scope : Scope Name) (env : 
         let el : ResultWithFaults TypeWithFollowingDeclarations = report_on_written_type (suc around) p u in
         let ordinal : ℕ = next_type_ordinal around p in
         let here : ordinal ≡ k = omega (arith, table_long p.made before st.table, at) in
-        let a = none-reported (report_on_expression (facts_from_declarations p true) e).faults (l.faults ++ (el.faults ++ (made_array_type ordinal o l.known el.known).faults)) h in
-        let b = none-reported l.faults (el.faults ++ (made_array_type ordinal o l.known el.known).faults) a.1 in
-        let c = none-reported el.faults (made_array_type ordinal o l.known el.known).faults b.1 in
+        let a = none-reported (report_on_expression (facts_from_declarations p true) e).faults (l.faults ++ (el.faults ++ (make_array_type ordinal o l.known el.known).faults)) h in
+        let b = none-reported l.faults (el.faults ++ (make_array_type ordinal o l.known el.known).faults) a.1 in
+        let c = none-reported el.faults (make_array_type ordinal o l.known el.known).faults b.1 in
         let long = fit.lengths p before (token_text_at w.source) (meanings naming_by_spelling env) e (agrees_where_seen w p true before n scope env st fit e parts.0) (λ i. a.0 i ++ b.0 i) in
         let given : constant_expression_value (meanings naming_by_spelling env) (tree_with_names w.source e) ≡ Some long.value = ap (λ s. constant_expression_value (meanings naming_by_spelling env) (mapped_tree (token_text_at w.source) (token_value_at s) e)) (sym st.source) ∙ long.given in
         let element = type_denotes (suc around) (suc k) u p before (omega (arith, at)) st parts.1 c.0 in
         let inner : ℕ = constructor_count (tree_with_names w.source u) in
-        subst₂ (λ j z. Denotes n p before k j z (made_array_type ordinal o l.known el.known).known) (later_constructor k inner) (sym (array_given k (constant_expression_value (meanings naming_by_spelling env) (tree_with_names w.source e)) long.value long.length (denoted_type (meanings naming_by_spelling env) (suc k) (tree_with_names w.source u)) given long.counted))
+        subst₂ (λ j z. Denotes n p before k j z (make_array_type ordinal o l.known el.known).known) (later_constructor k inner) (sym (array_given k (constant_expression_value (meanings naming_by_spelling env) (tree_with_names w.source e)) long.value long.length (denoted_type (meanings naming_by_spelling env) (suc k) (tree_with_names w.source u)) given long.counted))
         (sized_array n p before k (suc k + inner) ordinal o l.known long.length (denoted_type (meanings naming_by_spelling env) (suc k) (tree_with_names w.source u)) el.known long.known here element c.1)
     type_denotes around k (record_type g rest) p before at st seen h =
         let parts = each_part (IsSeen w scope) (occurrences g) (occurrences rest) seen in
@@ -232,14 +232,14 @@ module _ (w : Numbering) (fit : PartsFit) (n : ℕ) (scope : Scope Name) (env : 
         let here : ordinal ≡ k = omega (arith, table_long p.made before st.table, at) in
         let first : ResultWithFaults KnownFields = report_on_field_group (suc around) (no_known_fields p) g in
         let all : ResultWithFaults KnownFields = report_on_further_field_groups (suc around) first.known rest in
-        let a = none-reported first.faults (all.faults ++ (made_record_type word ordinal all.known).faults) h in
-        let b = none-reported all.faults (made_record_type word ordinal all.known).faults a.1 in
+        let a = none-reported first.faults (all.faults ++ (make_record_type word ordinal all.known).faults) h in
+        let b = none-reported all.faults (make_record_type word ordinal all.known).faults a.1 in
         let one = group_gathers (suc around) (suc k) g (no_known_fields p) before no_field_shape (omega (arith, at)) st parts.0 (nothing_agrees before p) a.0 in
         let later = holds_later w n n n p first.known.following before one.gathers.after scope env (le_refl n) (le_refl n) st one.gathers.later in
         let other = groups_gather (suc around) (suc k + group_constructor_count (tree_with_names w.source g)) rest first.known one.gathers.after one.own (omega (arith, at, one.gathers.apart.counted)) later parts.1 one.gathers.agrees b.0 in
         let c : ℕ = group_constructor_count (tree_with_names w.source g) in
         let d : ℕ = later_groups_constructor_count (tree_with_names w.source rest) in
-        subst₂ (λ j z. Denotes n p before k j z (made_record_type word ordinal all.known).known) (later_groups k c d) (grouped (denoted_further_fields (meanings naming_by_spelling env) (suc k + group_constructor_count (tree_with_names w.source g)) (tree_with_names w.source rest)) (λ ys. denoted_group_fields (meanings naming_by_spelling env) (suc k) ys (tree_with_names w.source g)) (λ fs. type_within_limits (record_shape k fs)))
+        subst₂ (λ j z. Denotes n p before k j z (make_record_type word ordinal all.known).known) (later_groups k c d) (grouped (denoted_further_fields (meanings naming_by_spelling env) (suc k + group_constructor_count (tree_with_names w.source g)) (tree_with_names w.source rest)) (λ ys. denoted_group_fields (meanings naming_by_spelling env) (suc k) ys (tree_with_names w.source g)) (λ fs. type_within_limits (record_shape k fs)))
         (record_denotes n p before k (suc k + c + d) word ordinal (option_and_then (λ ys. denoted_group_fields (meanings naming_by_spelling env) (suc k) ys (tree_with_names w.source g)) (denoted_further_fields (meanings naming_by_spelling env) (suc k + group_constructor_count (tree_with_names w.source g)) (tree_with_names w.source rest))) all.known here
         (both_gather n p before (suc k) (suc k + c) (suc k + c + d) no_field_shape (λ ys. denoted_group_fields (meanings naming_by_spelling env) (suc k) ys (tree_with_names w.source g)) first.known all.known (denoted_further_fields (meanings naming_by_spelling env) (suc k + group_constructor_count (tree_with_names w.source g)) (tree_with_names w.source rest)) one other) b.1)
 

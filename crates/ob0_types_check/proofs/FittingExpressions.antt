@@ -20,7 +20,7 @@ use Rattle.ob0_language_values.specs.Values.{Place, Shape, Value, boolean_shape,
 use Rattle.ob0_language_values.specs.Values.{apply_sign as with_sign}
 use Rattle.ob0_types_check.specs.ExpressionFaults.{report_on_addends, report_on_expression, report_on_factor, report_on_multipliers, report_on_selectors, report_on_simple_expression, report_on_term}
 use Rattle.ob0_types_check.specs.TypesAndMeanings.{Facts, Operand}
-use Rattle.ob0_types_check.specs.OperandFaults.{add_operands, negated_operand, element_operand, field_operand, multiply_operands, name_operand, relate_operands, signed_operand}
+use Rattle.ob0_types_check.specs.OperandFaults.{check_sum, check_negation, element_operand, field_operand, check_product, name_operand, check_relation, check_sign}
 use Rattle.ob0_types_check.specs.Agreement.{TypesAgreeWithShapes}
 use Rattle.ob0_types_check.proofs.Operands.{IsOf, added-fits, value_of_negation-of, complemented-fits, element-fits, field-fits, multiplied-fits, none-of, related-fits, relation-of, apply_sign-fits, some-of}
 use Rattle.ob0_types_check.proofs.Unreported.{goes-on, none-reported, then-assoc, then-itself}
@@ -78,12 +78,12 @@ module _ {T : Type 0} (facts : Facts T) where
   pub addends-apart : (x : Operand T) (rest : Tree ℕ (items addend)) → x.may_be_variable ≡ false → (report_on_addends facts x rest).known.may_be_variable ≡ false
   unfolding report_on_expression
   addends-apart x end h = h
-  addends-apart x (more (adds o t) rest) h = addends-apart (add_operands facts o x (report_on_term facts t).known).known rest refl
+  addends-apart x (more (adds o t) rest) h = addends-apart (check_sum facts o x (report_on_term facts t).known).known rest refl
 
   pub multipliers-apart : (x : Operand T) (rest : Tree ℕ (items multiplier)) → x.may_be_variable ≡ false → (report_on_multipliers facts x rest).known.may_be_variable ≡ false
   unfolding report_on_expression
   multipliers-apart x end h = h
-  multipliers-apart x (more (multiplies o f) rest) h = multipliers-apart (multiply_operands facts o x (report_on_factor facts f).known).known rest refl
+  multipliers-apart x (more (multiplies o f) rest) h = multipliers-apart (check_product facts o x (report_on_factor facts f).known).known rest refl
 
 module _ {T N P : Type 0} (facts : Facts T) (shape : T → Option Shape) (types : TypesAgreeWithShapes facts.types shape) (label : ℕ → N) (meaning : Meanings N Shape P) where
   abbrev pub tree : {s : Sort} → Tree ℕ s → Tree N s
@@ -126,7 +126,7 @@ module _ {T N P : Type 0} (facts : Facts T) (shape : T → Option Shape) (types 
 
   -- Each production fits if its parts fit.
 
-  related-whole : (r : Relation) (a b : Tree ℕ simple) → FitsSimple a → FitsSimple b → (relate_operands facts r (report_on_simple_expression facts a).known (report_on_simple_expression facts b).known).faults ≡ [] → FitsExpression (compares a (one (relates r b)))
+  related-whole : (r : Relation) (a b : Tree ℕ simple) → FitsSimple a → FitsSimple b → (check_relation facts r (report_on_simple_expression facts a).known (report_on_simple_expression facts b).known).faults ≡ [] → FitsExpression (compares a (one (relates r b)))
   unfolding report_on_expression type_of_expression evaluate
   related-whole r a b fa fb h =
       let (known, typed) = related-fits facts shape types r (report_on_simple_expression facts a).known (report_on_simple_expression facts b).known fa.of fb.of fa.known fb.known h in
@@ -140,7 +140,7 @@ module _ {T N P : Type 0} (facts : Facts T) (shape : T → Option Shape) (types 
       }
 
   addend-whole : (x : Operand T) (s : Shape) (o : AddOperator) (t : Tree ℕ term) (rest : Tree ℕ (items addend)) (ft : FitsTerm t) (w : Shape) → addition_type o s ft.of ≡ Some w
-      → FitsAddends (add_operands facts o x (report_on_term facts t).known).known w rest → FitsAddends x s (more (adds o t) rest)
+      → FitsAddends (check_sum facts o x (report_on_term facts t).known).known w rest → FitsAddends x s (more (adds o t) rest)
   unfolding report_on_expression type_of_expression evaluate
   addend-whole x s o t rest ft w typed fr = record {
     of = fr.of;
@@ -154,7 +154,7 @@ module _ {T N P : Type 0} (facts : Facts T) (shape : T → Option Shape) (types 
   }
 
   multiplier-whole : (x : Operand T) (s : Shape) (o : MultiplyOperator) (f : Tree ℕ factor) (rest : Tree ℕ (items multiplier)) (ff : FitsFactor f) (w : Shape) → multiplication_type o s ff.of ≡ Some w
-      → FitsMultipliers (multiply_operands facts o x (report_on_factor facts f).known).known w rest → FitsMultipliers x s (more (multiplies o f) rest)
+      → FitsMultipliers (check_product facts o x (report_on_factor facts f).known).known w rest → FitsMultipliers x s (more (multiplies o f) rest)
   unfolding report_on_expression type_of_expression evaluate
   multiplier-whole x s o f rest ff w typed fr = record {
     of = fr.of;
@@ -167,12 +167,12 @@ module _ {T N P : Type 0} (facts : Facts T) (shape : T → Option Shape) (types 
     scalar = fr.scalar;
   }
 
-  sign-value : (g : Option Sign) (o : Operand T) → (signed_operand facts g o).known.value ≡ option_and_then (λ x. outcome_value (with_sign g x)) o.value
+  sign-value : (g : Option Sign) (o : Operand T) → (check_sign facts g o).known.value ≡ option_and_then (λ x. outcome_value (with_sign g x)) o.value
   sign-value None o = then-itself o.value
   sign-value (Some g) o = refl
 
   simple-whole : (g : Option Sign) (t : Tree ℕ term) (rest : Tree ℕ (items addend)) (ft : FitsTerm t) (w : Shape) → signed_operand_type g ft.of ≡ Some w
-      → FitsAddends (signed_operand facts g (report_on_term facts t).known).known w rest → FitsSimple (sum g t rest)
+      → FitsAddends (check_sign facts g (report_on_term facts t).known).known w rest → FitsSimple (sum g t rest)
   unfolding report_on_expression type_of_expression evaluate
   simple-whole g t rest ft w typed fr = record {
     of = fr.of;
@@ -219,7 +219,7 @@ module _ {T N P : Type 0} (facts : Facts T) (shape : T → Option Shape) (types 
     scalar = designator-scalar x path name fs;
   }
 
-  negation-whole : (f : Tree ℕ factor) (ff : FitsFactor f) → (negated_operand facts (report_on_factor facts f).known).faults ≡ [] → FitsFactor (negation f)
+  negation-whole : (f : Tree ℕ factor) (ff : FitsFactor f) → (check_negation facts (report_on_factor facts f).known).faults ≡ [] → FitsFactor (negation f)
   unfolding report_on_expression type_of_expression evaluate
   negation-whole f ff h =
       let (known, typed) = complemented-fits facts shape types (report_on_factor facts f).known ff.of ff.known h in
@@ -291,21 +291,21 @@ module _ {T N P : Type 0} (facts : Facts T) (shape : T → Option Shape) (types 
     simple-fits (sum g t rest) k h =
         let parts = split (ids t) (ids rest) k in
         let left = none-reported (report_on_term facts t).faults _ h in
-        let right = none-reported (signed_operand facts g (report_on_term facts t).known).faults _ left.1 in
+        let right = none-reported (check_sign facts g (report_on_term facts t).known).faults _ left.1 in
         let ft : FitsTerm t = term-fits t parts.0 left.0 in
         let (w, known, typed, keeps) = apply_sign-fits facts shape types g (report_on_term facts t).known ft.of ft.known right.0 in
-        simple-whole g t rest ft w typed (addends-fit (signed_operand facts g (report_on_term facts t).known).known w rest known (keeps ft.scalar) parts.1 right.1)
+        simple-whole g t rest ft w typed (addends-fit (check_sign facts g (report_on_term facts t).known).known w rest known (keeps ft.scalar) parts.1 right.1)
 
     addends-fit : (x : Operand T) (s : Shape) (rest : Tree ℕ (items addend)) → shape x.of ≡ Some s → IsOf s x.value → All rest → (report_on_addends facts x rest).faults ≡ [] → FitsAddends x s rest
     addends-fit x s end hx scalar k h = ended-addends x s hx scalar
     addends-fit x s (more (adds o t) rest) hx scalar k h =
         let parts = split (ids t) (ids rest) k in
         let left = none-reported (report_on_term facts t).faults _ h in
-        let right = none-reported (add_operands facts o x (report_on_term facts t).known).faults _ left.1 in
+        let right = none-reported (check_sum facts o x (report_on_term facts t).known).faults _ left.1 in
         let ft : FitsTerm t = term-fits t parts.0 left.0 in
         let (w, known, typed, keeps) = added-fits facts shape types o x (report_on_term facts t).known s ft.of hx ft.known right.0 in
         addend-whole x s o t rest ft w typed
-        (addends-fit (add_operands facts o x (report_on_term facts t).known).known w rest known (keeps scalar) parts.1 right.1)
+        (addends-fit (check_sum facts o x (report_on_term facts t).known).known w rest known (keeps scalar) parts.1 right.1)
 
     pub term-fits : (t : Tree ℕ term) → All t → (report_on_term facts t).faults ≡ [] → FitsTerm t
     term-fits (product f rest) k h =
@@ -319,11 +319,11 @@ module _ {T N P : Type 0} (facts : Facts T) (shape : T → Option Shape) (types 
     multipliers-fit x s (more (multiplies o f) rest) hx scalar k h =
         let parts = split (ids f) (ids rest) k in
         let left = none-reported (report_on_factor facts f).faults _ h in
-        let right = none-reported (multiply_operands facts o x (report_on_factor facts f).known).faults _ left.1 in
+        let right = none-reported (check_product facts o x (report_on_factor facts f).known).faults _ left.1 in
         let ff : FitsFactor f = factor-fits f parts.0 left.0 in
         let (w, known, typed, keeps) = multiplied-fits facts shape types o x (report_on_factor facts f).known s ff.of hx ff.known right.0 in
         multiplier-whole x s o f rest ff w typed
-        (multipliers-fit (multiply_operands facts o x (report_on_factor facts f).known).known w rest known (keeps scalar) parts.1 right.1)
+        (multipliers-fit (check_product facts o x (report_on_factor facts f).known).known w rest known (keeps scalar) parts.1 right.1)
 
     pub factor-fits : (f : Tree ℕ factor) → All f → (report_on_factor facts f).faults ≡ [] → FitsFactor f
     factor-fits (designator x path) k h =

@@ -17,7 +17,7 @@ use Rattle.ob0_language_types.specs.Typing.{addition_type, negation_type, elemen
 use Rattle.ob0_language_values.specs.Values.{Overflow, Shape, Value, add, add_operator_short_circuits, boolean_shape, checked_division, division_outcome, ends_run_with, succeeds_with, checked_number, integer_shape, multiply, multiply_operator_short_circuits, negate, number, quotient, apply_relation, remainder, truth}
 use Rattle.ob0_language_values.specs.Values as values
 use Rattle.ob0_types_check.specs.TypesAndMeanings.{Facts, TypeForm, Operand, ResultWithFaults, a_record, a_scalar, an_array, unknown_form}
-use Rattle.ob0_types_check.specs.OperandFaults.{add_operands, require_type, require_type_of_both_operands, fault_at_operand, negated_operand, element_type_from_form, element_operand, field_type_from_form, field_operand, may_be_same_type, field_type_or_fault, multiply_operands, relate_operands, signed_operand, comparison_type, operand_type_of_addition, operand_type_of_equality, operand_type_of_multiplication, operand_type_of_relation}
+use Rattle.ob0_types_check.specs.OperandFaults.{check_sum, require_type, require_type_of_both_operands, fault_at_operand, check_negation, element_type_from_form, element_operand, field_type_from_form, field_operand, may_be_same_type, field_type_or_fault, check_product, check_relation, check_sign, comparison_type, operand_type_of_addition, operand_type_of_equality, operand_type_of_multiplication, operand_type_of_relation}
 use Rattle.ob0_types_check.specs.Agreement.{FormAgreesWithShape, TypesAgreeWithShapes}
 use Rattle.ob0_types_check.proofs.Unreported.{first-of, first-reported, none-if, none-reported, not-true, some-none, some-same}
 
@@ -186,34 +186,34 @@ module _ {T : Type 0} (facts : Facts T) (shape : T → Option Shape) (types : Ty
 
   -- An operation for which no fault is reported has the right type, and its value, when present, has that type.
 
-  pub added-fits : (o : AddOperator) (a b : Operand T) (s t : Shape) → shape a.of ≡ Some s → shape b.of ≡ Some t → (add_operands facts o a b).faults ≡ []
-      → (w : Shape) × (shape (add_operands facts o a b).known.of ≡ Some w) × (addition_type o s t ≡ Some w) × (IsOf s a.value → IsOf w (add_operands facts o a b).known.value)
+  pub added-fits : (o : AddOperator) (a b : Operand T) (s t : Shape) → shape a.of ≡ Some s → shape b.of ≡ Some t → (check_sum facts o a b).faults ≡ []
+      → (w : Shape) × (shape (check_sum facts o a b).known.of ≡ Some w) × (addition_type o s t ≡ Some w) × (IsOf s a.value → IsOf w (check_sum facts o a b).known.value)
   added-fits o a b s t hs ht h =
       let (known, left, right) = apply_to_both_options-requested (operand_type_of_addition facts.types o) a b s t (shape_added o) hs ht (add-wanted o) (none-reported _ _ h).0 in
       (shape_added o, ap shape known ∙ add-wanted o, (λ i. addition_type o (left i) (right i)) ∙ add-typed o, sum-of o a.value b.value s left)
 
-  pub multiplied-fits : (o : MultiplyOperator) (a b : Operand T) (s t : Shape) → shape a.of ≡ Some s → shape b.of ≡ Some t → (multiply_operands facts o a b).faults ≡ []
-      → (w : Shape) × (shape (multiply_operands facts o a b).known.of ≡ Some w) × (multiplication_type o s t ≡ Some w) × (IsOf s a.value → IsOf w (multiply_operands facts o a b).known.value)
+  pub multiplied-fits : (o : MultiplyOperator) (a b : Operand T) (s t : Shape) → shape a.of ≡ Some s → shape b.of ≡ Some t → (check_product facts o a b).faults ≡ []
+      → (w : Shape) × (shape (check_product facts o a b).known.of ≡ Some w) × (multiplication_type o s t ≡ Some w) × (IsOf s a.value → IsOf w (check_product facts o a b).known.value)
   multiplied-fits o a b s t hs ht h =
       let (known, left, right) = apply_to_both_options-requested (operand_type_of_multiplication facts.types o) a b s t (shape_multiplied o) hs ht (multiply-wanted o) (none-reported _ _ h).0 in
       (shape_multiplied o, ap shape known ∙ multiply-wanted o, (λ i. multiplication_type o (left i) (right i)) ∙ multiply-typed o, product-of o a.value b.value s left)
 
-  pub related-fits : (r : Relation) (a b : Operand T) (s t : Shape) → shape a.of ≡ Some s → shape b.of ≡ Some t → (relate_operands facts r a b).faults ≡ []
-      → (shape (relate_operands facts r a b).known.of ≡ Some boolean_shape) × (relation_type r s t ≡ Some boolean_shape)
+  pub related-fits : (r : Relation) (a b : Operand T) (s t : Shape) → shape a.of ≡ Some s → shape b.of ≡ Some t → (check_relation facts r a b).faults ≡ []
+      → (shape (check_relation facts r a b).known.of ≡ Some boolean_shape) × (relation_type r s t ≡ Some boolean_shape)
   related-fits r a b s t hs ht h =
       let (w, hw, typed) = relation-wanted r a.of s hs in
       let (known, left, right) = apply_to_both_options-requested (operand_type_of_relation facts.types r a.of) a b s t w hs ht hw (none-reported _ _ h).0 in
       (ap (λ u. shape (comparison_type facts.types u)) known ∙ truth-known (operand_type_of_relation facts.types r a.of) w hw, (λ i. relation_type r (left i) (right i)) ∙ typed)
 
-  pub apply_sign-fits : (g : Option Sign) (o : Operand T) (s : Shape) → shape o.of ≡ Some s → (signed_operand facts g o).faults ≡ []
-      → (w : Shape) × (shape (signed_operand facts g o).known.of ≡ Some w) × (signed_operand_type g s ≡ Some w) × (IsOf s o.value → IsOf w (signed_operand facts g o).known.value)
+  pub apply_sign-fits : (g : Option Sign) (o : Operand T) (s : Shape) → shape o.of ≡ Some s → (check_sign facts g o).faults ≡ []
+      → (w : Shape) × (shape (check_sign facts g o).known.of ≡ Some w) × (signed_operand_type g s ≡ Some w) × (IsOf s o.value → IsOf w (check_sign facts g o).known.value)
   apply_sign-fits None o s hs h = (s, hs, refl, λ has_value. has_value)
   apply_sign-fits (Some g) o s hs h =
       let (known, right) = requested-fits facts.types.integer o s integer_shape hs types.integer (none-reported _ _ h).0 in
       (integer_shape, ap shape known ∙ types.integer, ap (signed_operand_type (Some g)) right ∙ sign-typed g, λ has_value. sign-of g o.value)
 
-  pub complemented-fits : (o : Operand T) (s : Shape) → shape o.of ≡ Some s → (negated_operand facts o).faults ≡ []
-      → (shape (negated_operand facts o).known.of ≡ Some boolean_shape) × (negation_type s ≡ Some boolean_shape)
+  pub complemented-fits : (o : Operand T) (s : Shape) → shape o.of ≡ Some s → (check_negation facts o).faults ≡ []
+      → (shape (check_negation facts o).known.of ≡ Some boolean_shape) × (negation_type s ≡ Some boolean_shape)
   complemented-fits o s hs h =
       let (known, right) = requested-fits facts.types.boolean o s boolean_shape hs types.boolean (none-reported _ _ h).0 in
       (ap shape known ∙ types.boolean, ap negation_type right)

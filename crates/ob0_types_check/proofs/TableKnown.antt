@@ -115,7 +115,7 @@ procedure_there (Some (meant.a_procedure g)) signature own e = ap (λ z. Some (m
 procedure_there (Some (meant.a_standard_procedure p)) signature own e = absurd (cc)
 
 object_there : (shapes : List Shape) (m : Meaning) (o : Option (meant.Object Shape Signature)) → MeaningAgreesWithObject (shape_of_type_in shapes) (meaning_view m) o → is_standard_procedure o ≡ false → object_view shapes (table_object_of_meaning m) ≡ o
-object_there shapes (declared.Named t) o (s, there, is) own = ap (λ z. Some (meant.a_type z)) (type_there shapes t s there) ∙ sym is
+object_there shapes (declared.TypeName t) o (s, there, is) own = ap (λ z. Some (meant.a_type z)) (type_there shapes t s there) ∙ sym is
 object_there shapes (declared.Constant (Some v)) o (w, there, is, scalar) own = ap (λ z. Some (meant.a_constant z)) (some-same _ w there) ∙ sym is
 object_there shapes (declared.Constant None) o (w, there, is, scalar) own = absurd (cc)
 object_there shapes (declared.Variable t) o (s, there, is) own = ap (λ z. Some (meant.a_variable z)) (type_there shapes t s there) ∙ sym is

@@ -19,7 +19,7 @@ use Rattle.ob0_types_check.specs.OperandFaults.{without_fault}
 use Rattle.ob0_types_check.specs.KnownDeclarations.{CompositeParts, TypeSize, KnownDeclarations, facts_from_declarations, is_within_limits, append_composite, make_composite_type, of_elements, size_of_known_type, report_on_too_large_type}
 use Rattle.ob0_types_check.specs.KnownDeclarations as so_far
 use Rattle.ob0_types_check.specs.TypeFaults.{length_from_operand, type_from_meaning}
-use Rattle.ob0_types_check.specs.WrittenTypeFaults.{KnownFields, made_array_type, array_size, no_known_fields, made_record_type, record_size, record_keyword_token, report_on_field_group, report_on_further_field_groups, next_type_ordinal, report_on_written_type, token_before_group}
+use Rattle.ob0_types_check.specs.WrittenTypeFaults.{KnownFields, make_array_type, array_size, no_known_fields, make_record_type, record_size, record_keyword_token, report_on_field_group, report_on_further_field_groups, next_type_ordinal, report_on_written_type, token_before_group}
 use Rattle.ob0_types_check.specs.Agreement.{IsKnownAndAgreesWithObject, shape_of_type_in}
 use Rattle.ob0_types_check.specs.WellTypedLaws.{ConstantsWithValuesHaveNoFault, ValidLengthsHaveNoFault, WellTypedStatementsHaveNoFault}
 use Rattle.ob0_types_check.proofs.DeclaredNames.{AreSeen, IsSeen, Numbering, each_part}
@@ -78,8 +78,8 @@ meant-right p before x (Some (a_variable t)) o (u, reported, holds) s h = absurd
 meant-right p before x (Some (a_procedure fs)) o (signature, holds, formals) s h = no-type o signature s holds h
 
 -- No fault is reported for an array with a known length that isn't too large.
-array-right : (ordinal : ℕ) (o : Operand TypeId) (reported : Option ℕ) (count : ℕ) (u : so_far.TypeWithFollowingDeclarations) → reported ≡ Some count → is_within_limits (array_size count (size_of_known_type u.following.made u.of)) ≡ true → (made_array_type ordinal o reported u).faults ≡ []
-array-right ordinal o reported count u e h = ap (λ c. (made_array_type ordinal o c u).faults) e ∙ make_composite_type-right u.following _ ordinal (of_elements count u.of) (array_size count (size_of_known_type u.following.made u.of)) h
+array-right : (ordinal : ℕ) (o : Operand TypeId) (reported : Option ℕ) (count : ℕ) (u : so_far.TypeWithFollowingDeclarations) → reported ≡ Some count → is_within_limits (array_size count (size_of_known_type u.following.made u.of)) ≡ true → (make_array_type ordinal o reported u).faults ≡ []
+array-right ordinal o reported count u e h = ap (λ c. (make_array_type ordinal o c u).faults) e ∙ make_composite_type-right u.following _ ordinal (of_elements count u.of) (array_size count (size_of_known_type u.following.made u.of)) h
 
 module _ (w : Numbering) (fit : PartsFit) (fine : PartsRight) (n : ℕ) (scope : Scope Name) (env : TypeEnvironment Name) where
   abbrev here : TypeMeanings Name
@@ -116,7 +116,7 @@ module _ (w : Numbering) (fit : PartsFit) (fine : PartsRight) (n : ℕ) (scope :
         let size = array_sized (size_of_known_type el.known.following.made el.known.of) k long.length d.shape (size_agrees el.known.following.made d.after el.known.of d.shape d.later.table d.known) in
         let small = is-within (array_size long.length (size_of_known_type el.known.following.made el.known.of)) (array_shape k long.length d.shape) s size (given-again (λ s. type_within_limits (array_shape k long.length s)) given d.shape (Some s) d.given_is limited) in
         none-of-both (report_on_expression (facts_from_declarations p true) e).faults _ a.0
-        (none-of-both l.faults _ a.1 (none-of-both el.faults (made_array_type (next_type_ordinal around p) o l.known el.known).faults inner (array-right (next_type_ordinal around p) o l.known long.length el.known long.known small)))
+        (none-of-both l.faults _ a.1 (none-of-both el.faults (make_array_type (next_type_ordinal around p) o l.known el.known).faults inner (array-right (next_type_ordinal around p) o l.known long.length el.known long.known small)))
     type_right around k (record_type g rest) p before at st seen s h =
         let parts = each_part (IsSeen w scope) (occurrences g) (occurrences rest) seen in
         let c : ℕ = group_constructor_count (tree_with_names w.source g) in
@@ -136,7 +136,7 @@ module _ (w : Numbering) (fit : PartsFit) (fine : PartsRight) (n : ℕ) (scope :
         let whole = both_gather n p before (suc k) (suc k + c) (suc k + c + d) no_field_shape own first.known all.known others one other in
         let limited : type_within_limits (record_shape k whole.own) ≡ Some s = given-again (λ fs. type_within_limits (record_shape k fs)) (option_and_then own others) whole.own (Some s) whole.given_is (grouped others own (λ fs. type_within_limits (record_shape k fs)) ∙ h) in
         let small = is-within (record_size all.known.size) (record_shape k whole.own) s (record_sized whole.gathers.after all.known k whole.own whole.gathers.agrees) limited in
-        none-of-both first.faults _ none (none-of-both all.faults (made_record_type word (next_type_ordinal around p) all.known).faults rests (make_composite_type-right all.known.following word (next_type_ordinal around p) (so_far.of_fields all.known.fields) (record_size all.known.size) small))
+        none-of-both first.faults _ none (none-of-both all.faults (make_record_type word (next_type_ordinal around p) all.known).faults rests (make_composite_type-right all.known.following word (next_type_ordinal around p) (so_far.of_fields all.known.fields) (record_size all.known.size) small))
 
     group_right : (around k : ℕ) (t : Tree ℕ fields) (g : KnownFields) (before : List Shape) → length before + around ≡ k → IsKnownAt w g.following before n scope env → AreSeen w scope t → (later fs : FieldShapes) → denoted_group_fields (meanings naming_by_spelling env) k later (tree_with_names w.source t) ≡ Some fs → (report_on_field_group around g t).faults ≡ []
     group_right around k no_fields g before at st seen later fs h = refl

@@ -67,7 +67,7 @@ known_parameter_of f = record { by_place = f.by_place; of = f.of }
 
 -- converts the meaning of a declaration from the code to the definitions
 abbrev pub meaning_view : meaning.Meaning → Meaning TypeId
-meaning_view (declared.Named t) = a_type t
+meaning_view (declared.TypeName t) = a_type t
 meaning_view (declared.Constant v) = a_constant (option_map scalar_value v)
 meaning_view (declared.Variable t) = a_variable t
 meaning_view (declared.Procedure fs) = a_procedure (map known_parameter_of fs.items)
@@ -160,7 +160,7 @@ pub record CodeFindsFieldsAndReports
 -- returns the object of a declaration in the code's table; a constant without a value becomes
 -- `FaultyConstant`
 abbrev pub table_object_of_meaning : meaning.Meaning → object.Object
-table_object_of_meaning (declared.Named t) = kind.Named t
+table_object_of_meaning (declared.TypeName t) = kind.TypeName t
 table_object_of_meaning (declared.Constant (Some v)) = kind.Constant v
 table_object_of_meaning (declared.Constant None) = kind.FaultyConstant
 table_object_of_meaning (declared.Variable t) = kind.Variable t

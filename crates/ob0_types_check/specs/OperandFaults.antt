@@ -138,53 +138,53 @@ prefixed_operand of value o =
 
 -- Returns the operand for `a` and `b` joined by `+`, `-` or OR. Reports a fault if one of the two
 -- has a known type other than the required one.
-abbrev pub add_operands : {T : Type 0}
+abbrev pub check_sum : {T : Type 0}
     → Facts T
     → AddOperator
     → Operand T
     → Operand T
     → ResultWithFaults (Operand T)
-add_operands facts o a b = do
+check_sum facts o a b = do
   t ← require_type_of_both_operands facts (operand_type_of_addition facts.types o) a b
   without_fault (operand_of_operation t (option_and_then (sum_value o b.value) a.value) a b)
 
 -- Returns the operand for `a` and `b` joined by `*`, DIV, MOD or `&`. Reports a fault if one of the
 -- two has a known type other than the required one.
-abbrev pub multiply_operands : {T : Type 0}
+abbrev pub check_product : {T : Type 0}
     → Facts T
     → MultiplyOperator
     → Operand T
     → Operand T
     → ResultWithFaults (Operand T)
-multiply_operands facts o a b = do
+check_product facts o a b = do
   t ← require_type_of_both_operands facts (operand_type_of_multiplication facts.types o) a b
   without_fault (operand_of_operation t (option_and_then (product_value o b.value) a.value) a b)
 
 -- Returns the operand for the comparison of `a` and `b` by a relation. Reports a fault if one of
 -- the two has a known type other than the required one.
-abbrev pub relate_operands : {T : Type 0}
+abbrev pub check_relation : {T : Type 0}
     → Facts T
     → Relation
     → Operand T
     → Operand T
     → ResultWithFaults (Operand T)
-relate_operands facts r a b = do
+check_relation facts r a b = do
   t ← require_type_of_both_operands facts (operand_type_of_relation facts.types r a.of) a b
   without_fault (operand_of_operation (comparison_type facts.types t)
       (apply_to_both_options (λ x y. outcome_value (apply_relation r x y)) a.value b.value) a b)
 
 -- Returns the operand for an expression that consists of an optional sign and the operand `o`. If
 -- there is a sign and `o` has a known type other than INTEGER, a fault is reported.
-abbrev pub signed_operand : {T : Type 0} → Facts T → Option Sign → Operand T → ResultWithFaults (Operand T)
-signed_operand facts None o = without_fault o
-signed_operand facts (Some s) o = do
+abbrev pub check_sign : {T : Type 0} → Facts T → Option Sign → Operand T → ResultWithFaults (Operand T)
+check_sign facts None o = without_fault o
+check_sign facts (Some s) o = do
   t ← require_type facts facts.types.integer o
   without_fault (prefixed_operand t (option_and_then (λ x. outcome_value (with_sign (Some s) x)) o.value) o)
 
 -- returns the operand for the negation `~` of the operand `o`, and a fault if `o` has a known type
 -- other than BOOLEAN
-abbrev pub negated_operand : {T : Type 0} → Facts T → Operand T → ResultWithFaults (Operand T)
-negated_operand facts o = do
+abbrev pub check_negation : {T : Type 0} → Facts T → Operand T → ResultWithFaults (Operand T)
+check_negation facts o = do
   t ← require_type facts facts.types.boolean o
   without_fault (prefixed_operand t (option_and_then (λ x. outcome_value (negate x)) o.value) o)
 
@@ -212,42 +212,42 @@ operand_in_parentheses facts o =
 
 -- Returns the operand for a name that isn't a constant's, given its token. The operand has the type
 -- `of` and no value, and its `may_be_variable` is true.
-abbrev pub typed_name_operand : {T : Type 0} → T → ℕ → Operand T
-typed_name_operand of token = record { of = of; value = None; may_be_variable = true; first = token; last = token }
+abbrev pub non_constant_name_operand : {T : Type 0} → T → ℕ → Operand T
+non_constant_name_operand of token = record { of = of; value = None; may_be_variable = true; first = token; last = token }
 
 -- returns the type of a constant with this value: INTEGER or BOOLEAN; the unknown type if the value is None or isn't a
 -- scalar
-abbrev pub value_type : {T : Type 0} → Types T → Option Value → T
-value_type types None = types.unknown
-value_type types (Some (number n)) = types.integer
-value_type types (Some (truth b)) = types.boolean
-value_type types (Some (elements vs)) = types.unknown
-value_type types (Some (members k ms)) = types.unknown
+abbrev pub type_of_constant_value : {T : Type 0} → Types T → Option Value → T
+type_of_constant_value types None = types.unknown
+type_of_constant_value types (Some (number n)) = types.integer
+type_of_constant_value types (Some (truth b)) = types.boolean
+type_of_constant_value types (Some (elements vs)) = types.unknown
+type_of_constant_value types (Some (members k ms)) = types.unknown
 
 -- returns the operand for a constant's name at a token, given the constant's value; for None, the
 -- operand's type is unknown
 abbrev pub constant_name_operand : {T : Type 0} → Types T → Option Value → ℕ → Operand T
 constant_name_operand types v token =
-    record { of = value_type types v; value = v; may_be_variable = false; first = token; last = token }
+    record { of = type_of_constant_value types v; value = v; may_be_variable = false; first = token; last = token }
 
 -- Returns the operand for a name that must be a constant's or a variable's, given the name's token
 -- and meaning. Reports `WrongKind` at a type's or procedure's name, and `NotConstant` at a
 -- variable's if only constants are allowed. In these cases, and for a name without a known meaning
 -- (None), the operand's type is unknown. An undeclared name is reported elsewhere.
 abbrev pub operand_from_meaning : {T : Type 0} → Facts T → ℕ → Option (Meaning T) → ResultWithFaults (Operand T)
-operand_from_meaning facts token None = without_fault (typed_name_operand facts.types.unknown token)
+operand_from_meaning facts token None = without_fault (non_constant_name_operand facts.types.unknown token)
 operand_from_meaning facts token (Some (a_constant v)) = without_fault (constant_name_operand facts.types v token)
 operand_from_meaning facts token (Some (a_variable t)) =
     if facts.only_constants
     then record
-    { known = typed_name_operand facts.types.unknown token; faults = fault_at_token code.NotConstant token }
-    else without_fault (typed_name_operand t token)
+    { known = non_constant_name_operand facts.types.unknown token; faults = fault_at_token code.NotConstant token }
+    else without_fault (non_constant_name_operand t token)
 operand_from_meaning facts token (Some (a_type t)) =
     record
-    { known = typed_name_operand facts.types.unknown token; faults = fault_at_token code.WrongKind token }
+    { known = non_constant_name_operand facts.types.unknown token; faults = fault_at_token code.WrongKind token }
 operand_from_meaning facts token (Some (a_procedure fs)) =
     record
-    { known = typed_name_operand facts.types.unknown token; faults = fault_at_token code.WrongKind token }
+    { known = non_constant_name_operand facts.types.unknown token; faults = fault_at_token code.WrongKind token }
 
 -- returns the operand for the name at a token, and the fault, if any, that `operand_from_meaning`
 -- gives for the name's meaning

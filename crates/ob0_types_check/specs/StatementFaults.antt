@@ -8,7 +8,7 @@ use Rattle.ob0_scope_table.specs.declared.faults.FaultAtTokens.{FaultAtTokens}
 use Rattle.ob0_language_types.specs.Arguments.{call_arguments}
 use Rattle.ob0_types_check.specs.TypesAndMeanings.{Facts, KnownParameter, Meaning, Operand, ResultWithFaults, a_constant, a_procedure, a_type, a_variable}
 use Rattle.ob0_types_check.specs.ExpressionFaults.{report_on_expression, report_on_selectors}
-use Rattle.ob0_types_check.specs.OperandFaults.{typed_name_operand, require_type, fault_at_operand, fault_at_token, without_fault, ◌>>=◌}
+use Rattle.ob0_types_check.specs.OperandFaults.{non_constant_name_operand, require_type, fault_at_operand, fault_at_token, without_fault, ◌>>=◌}
 
 -- returns the faults of an expression that must have the type `wanted`
 unfoldable pub faults_of_expression_of_type : {T : Type 0} → Facts T → T → Tree ℕ expression → List FaultAtTokens
@@ -22,20 +22,20 @@ condition_faults facts e = faults_of_expression_of_type facts facts.types.boolea
 -- Returns the type of the name that is assigned to, given its token and its meaning. A constant's name is reported as
 -- `NotVariable`, and a type's or procedure's name as `WrongKind`. An undeclared name is reported elsewhere. In all
 -- these cases the type is unknown, so the right side may have any type.
-abbrev pub target_type_from_meaning : {T : Type 0} → Facts T → ℕ → Option (Meaning T) → ResultWithFaults T
-target_type_from_meaning facts token (Some (a_variable t)) = without_fault t
-target_type_from_meaning facts token (Some (a_constant v)) =
+abbrev pub check_assigned_meaning : {T : Type 0} → Facts T → ℕ → Option (Meaning T) → ResultWithFaults T
+check_assigned_meaning facts token (Some (a_variable t)) = without_fault t
+check_assigned_meaning facts token (Some (a_constant v)) =
     record { known = facts.types.unknown; faults = fault_at_token code.NotVariable token }
-target_type_from_meaning facts token (Some (a_type t)) =
+check_assigned_meaning facts token (Some (a_type t)) =
     record { known = facts.types.unknown; faults = fault_at_token code.WrongKind token }
-target_type_from_meaning facts token (Some (a_procedure fs)) =
+check_assigned_meaning facts token (Some (a_procedure fs)) =
     record { known = facts.types.unknown; faults = fault_at_token code.WrongKind token }
-target_type_from_meaning facts token None = without_fault facts.types.unknown
+check_assigned_meaning facts token None = without_fault facts.types.unknown
 
 -- Returns the type of the name at a token that is assigned to. Reports a fault if the name refers
 -- to something other than a variable or parameter.
-abbrev pub target_name_type : {T : Type 0} → Facts T → ℕ → ResultWithFaults T
-target_name_type facts token = target_type_from_meaning facts token (facts.object_for token)
+abbrev pub check_assigned_name : {T : Type 0} → Facts T → ℕ → ResultWithFaults T
+check_assigned_name facts token = check_assigned_meaning facts token (facts.object_for token)
 
 -- returns the operand (type and tokens) for an assignment's target, and the faults of the target's
 -- name and selectors
@@ -46,8 +46,8 @@ unfoldable pub report_on_assignment_target : {T : Type 0}
     → ResultWithFaults (Operand T)
 unfolding report_on_expression
 report_on_assignment_target facts x path = do
-  t ← target_name_type facts x
-  report_on_selectors facts (typed_name_operand t x) path
+  t ← check_assigned_name facts x
+  report_on_selectors facts (non_constant_name_operand t x) path
 
 -- Returns the faults of an assignment: first the faults of its target, then the faults of its right
 -- side `e`. The right side must have the target's type.

@@ -23,8 +23,8 @@ type_from_meaning facts token (Some (a_procedure fs)) =
 type_from_meaning facts token None = without_fault facts.types.unknown
 
 -- returns the type to which the name at a token refers; a name that isn't a type's is reported as `WrongKind`
-abbrev pub type_named_by_token : {T : Type 0} → Facts T → ℕ → ResultWithFaults T
-type_named_by_token facts token = type_from_meaning facts token (facts.object_for token)
+abbrev pub check_type_name : {T : Type 0} → Facts T → ℕ → ResultWithFaults T
+check_type_name facts token = type_from_meaning facts token (facts.object_for token)
 
 -- returns the given value of a constant expression unchanged; for None, reports `ConstFault` at the
 -- tokens of the expression's operand `o`
@@ -35,8 +35,8 @@ value_or_fault o (Some v) = without_fault (Some v)
 -- Returns the value of a constant expression, given its operand `o`. If the type of `o` is unknown,
 -- the result is None, and nothing is reported. If the type is known and there is no value, the
 -- result is None, and `ConstFault` is reported.
-abbrev pub operand_value : {T : Type 0} → Facts T → Operand T → ResultWithFaults (Option Value)
-operand_value facts o =
+abbrev pub require_constant_value : {T : Type 0} → Facts T → Operand T → ResultWithFaults (Option Value)
+require_constant_value facts o =
     if facts.types.same o.of facts.types.unknown then without_fault None else value_or_fault o o.value
 
 -- returns the faults and the value of a constant's right side, in which names may only refer to constants
@@ -45,7 +45,7 @@ unfoldable pub report_on_constant_expression : {T : Type 0}
     → Tree ℕ expression
     → ResultWithFaults (Option Value)
 unfolding report_on_expression
-report_on_constant_expression facts e = report_on_expression facts e >>= operand_value facts
+report_on_constant_expression facts e = report_on_expression facts e >>= require_constant_value facts
 
 -- returns the given length of an array unchanged; for None, reports `ArrayLength` at the tokens of
 -- `o`, the operand for the length's expression

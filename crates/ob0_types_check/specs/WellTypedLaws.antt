@@ -22,8 +22,8 @@ use Rattle.ob0_types_check.specs.Agreement.{FactsAgreeWithShapesAndLabels, shape
 
 -- States that no fault is reported for an expression that has a type. The types and meanings known for the names in the
 -- expression must be correct (`FactsAgreeWithShapesAndLabels`).
-abbrev pub TypedExpressionsHaveNoFault : Type 0 → Type 0
-TypedExpressionsHaveNoFault N =
+abbrev pub WellTypedExpressionsHaveNoFault : Type 0 → Type 0
+WellTypedExpressionsHaveNoFault N =
     (p : KnownDeclarations) (only_constants : Bool) (shapes : List Shape) (label : ℕ → N) (meaning : TypeMeanings N)
     (e : Tree ℕ expression)
     → FactsAgreeWithShapesAndLabels (facts_from_declarations p only_constants) (shape_of_type_in shapes) label meaning e
@@ -53,8 +53,8 @@ ValidLengthsHaveNoFault N =
 
 -- States that no fault is reported for an assignment's target that is a variable or parameter with well-typed
 -- selectors. The types and meanings known for the names in the target must be correct (`FactsAgreeWithShapesAndLabels`).
-abbrev pub TypedTargetsHaveNoFault : Type 0 → Type 0
-TypedTargetsHaveNoFault N =
+abbrev pub WellTypedTargetsHaveNoFault : Type 0 → Type 0
+WellTypedTargetsHaveNoFault N =
     (p : KnownDeclarations) (shapes : List Shape) (label : ℕ → N) (meaning : TypeMeanings N) (x : ℕ)
     (path : Tree ℕ (items selector))
     → FactsAgreeWithShapesAndLabels (facts_from_declarations p false) (shape_of_type_in shapes) label meaning (designator x path)

@@ -11,7 +11,7 @@ use Rattle.ob0_types_check.specs.ExpressionFaults.{report_on_expression}
 use Rattle.ob0_types_check.specs.TypesAndMeanings.{Operand, ResultWithFaults}
 use Rattle.ob0_types_check.specs.OperandFaults.{without_fault, previous_token_index, ◌>>=◌}
 use Rattle.ob0_types_check.specs.KnownDeclarations.{TypeSize, KnownDeclarations, TypeWithFollowingDeclarations, KnownField, facts_from_declarations, make_composite_type, zero_size, of_elements, of_fields, size_of_known_type}
-use Rattle.ob0_types_check.specs.TypeFaults.{length_from_operand, type_named_by_token}
+use Rattle.ob0_types_check.specs.TypeFaults.{length_from_operand, check_type_name}
 
 -- returns the size of an array of `n` elements that each have this size: `n` times the scalars, and
 -- one level more
@@ -29,10 +29,10 @@ next_type_ordinal around p = length p.made + around
 -- and its element type. If the length has a fault (None), the result is the unknown type. If the
 -- array is too large, `TypeTooLarge` is reported at the word ARRAY, the token before the length,
 -- and the result is the unknown type.
-abbrev pub made_array_type : ℕ → Operand TypeId → Option ℕ → TypeWithFollowingDeclarations → ResultWithFaults TypeWithFollowingDeclarations
-made_array_type ordinal o None element =
+abbrev pub make_array_type : ℕ → Operand TypeId → Option ℕ → TypeWithFollowingDeclarations → ResultWithFaults TypeWithFollowingDeclarations
+make_array_type ordinal o None element =
     without_fault (record { of = type.Unknown; following = element.following })
-made_array_type ordinal o (Some n) element =
+make_array_type ordinal o (Some n) element =
     make_composite_type element.following (previous_token_index o.first) ordinal (of_elements n element.of)
     (array_size n (size_of_known_type element.following.made element.of))
 
@@ -97,8 +97,8 @@ record_keyword_token (more (semicolon_then_fields g) rest) = token_before_group 
 
 -- Makes a record type of the gathered fields `g`, or reports `TypeTooLarge` at `word`, the type's
 -- token RECORD. `ordinal` counts the words ARRAY and RECORD before this token.
-abbrev pub made_record_type : ℕ → ℕ → KnownFields → ResultWithFaults TypeWithFollowingDeclarations
-made_record_type word ordinal g = make_composite_type g.following word ordinal (of_fields g.fields) (record_size g.size)
+abbrev pub make_record_type : ℕ → ℕ → KnownFields → ResultWithFaults TypeWithFollowingDeclarations
+make_record_type word ordinal g = make_composite_type g.following word ordinal (of_fields g.fields) (record_size g.size)
 
 -- Returns the faults of a type. `around` is the number of arrays and records that enclose the type.
 unfoldable mutual
@@ -108,17 +108,17 @@ unfoldable mutual
   -- the parts of an array or record come first.
   pub report_on_written_type : ℕ → KnownDeclarations → Tree ℕ written_type → ResultWithFaults TypeWithFollowingDeclarations
   report_on_written_type around p (named_type x) = do
-    t ← type_named_by_token (facts_from_declarations p false) x
+    t ← check_type_name (facts_from_declarations p false) x
     without_fault (record { of = t; following = p })
   report_on_written_type around p (array_type e u) = do
     o ← report_on_expression (facts_from_declarations p true) e
     n ← length_from_operand (facts_from_declarations p false) o
     element ← report_on_written_type (suc around) p u
-    made_array_type (next_type_ordinal around p) o n element
+    make_array_type (next_type_ordinal around p) o n element
   report_on_written_type around p (record_type g rest) = do
     first ← report_on_field_group (suc around) (no_known_fields p) g
     all ← report_on_further_field_groups (suc around) first rest
-    made_record_type (token_before_group g (record_keyword_token rest)) (next_type_ordinal around p) all
+    make_record_type (token_before_group g (record_keyword_token rest)) (next_type_ordinal around p) all
 
   -- returns the faults of a group of fields, and the earlier fields with the group's fields added
   pub report_on_field_group : ℕ → KnownFields → Tree ℕ fields → ResultWithFaults KnownFields

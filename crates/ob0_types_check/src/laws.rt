@@ -4,7 +4,7 @@
 ghost use Rattle.ob0_types_check.specs.ModuleLaws.{WalkWithoutFaultFindsCorrectMeanings, ModulesWithoutFaultPassTypeCheck};
 ghost use Rattle.ob0_types_check.specs.ReportLaws.{FaultlessConstantsHaveCorrectValues, FaultlessExpressionsHaveCorrectTypesAndValues, FaultlessLengthsHaveCorrectValues, FaultlessStatementsAreWellTyped, TypesAgreeWithShapesIfTableDoes};
 ghost use Rattle.ob0_types_check.specs.WalksOverSomeBodies.{WalkingChangedAndFaultyBodiesSuffices};
-ghost use Rattle.ob0_types_check.specs.WellTypedLaws.{TypedModulesHaveBoundNames, ConstantsWithValuesHaveNoFault, TypedExpressionsHaveNoFault, ValidLengthsHaveNoFault, TypedModulesHaveNoFault, WellTypedStatementsHaveNoFault, TypedTargetsHaveNoFault};
+ghost use Rattle.ob0_types_check.specs.WellTypedLaws.{TypedModulesHaveBoundNames, ConstantsWithValuesHaveNoFault, WellTypedExpressionsHaveNoFault, ValidLengthsHaveNoFault, TypedModulesHaveNoFault, WellTypedStatementsHaveNoFault, WellTypedTargetsHaveNoFault};
 ghost use Rattle.ob0_language_names.specs.Names.{Name};
 
 /// Proves that if no fault is reported for an expression, the type and value found for the
@@ -58,8 +58,8 @@ pub fn walk_without_fault_finds_correct_meanings()
 /// Proves that no fault is reported for an expression that has a type. The law assumes that the
 /// types and meanings found for the names in the expression are correct
 /// (`FactsAgreeWithShapesAndLabels`).
-pub fn typed_expressions_have_no_fault()
-    ensures { TypedExpressionsHaveNoFault Name }
+pub fn well_typed_expressions_have_no_fault()
+    ensures { WellTypedExpressionsHaveNoFault Name }
 {}
 
 /// Proves that no fault is reported for a constant expression that has a value. The law assumes
@@ -79,8 +79,8 @@ pub fn valid_lengths_have_no_fault()
 /// Proves that no fault is reported for an assignment's target if the target is a variable or
 /// parameter with well-typed selectors. The law assumes that the types and meanings found for the
 /// names in the target are correct (`FactsAgreeWithShapesAndLabels`).
-pub fn typed_targets_have_no_fault()
-    ensures { TypedTargetsHaveNoFault Name }
+pub fn well_typed_targets_have_no_fault()
+    ensures { WellTypedTargetsHaveNoFault Name }
 {}
 
 /// Proves that no fault is reported for well-typed statements. The law assumes that the types and

@@ -101,11 +101,12 @@ pub struct ModuleReport {
 }
 
 /// The bodies to walk: all bodies if `includes_every_body` is true, otherwise only the bodies in
-/// the list `these`. Each body in the list is given by the token index of its block's closing name.
+/// the list `listed_bodies`. Each body in the list is given by the token index of its block's
+/// closing name.
 #[derive(Clone, Copy)]
 struct BodiesToWalk<'b> {
     includes_every_body: bool,
-    these: &'b [usize],
+    listed_bodies: &'b [usize],
 }
 
 impl<'b> BodiesToWalk<'b> {
@@ -113,7 +114,7 @@ impl<'b> BodiesToWalk<'b> {
     fn includes_body(&self, closing: usize) -> bool
         ensures { result ≡ includes_body self.now closing }
     {
-        self.includes_every_body || self.these.contains(&closing)
+        self.includes_every_body || self.listed_bodies.contains(&closing)
     }
 }
 
@@ -129,7 +130,7 @@ pub fn module_report<'t>(
     let none = Vec::new(alloc);
     let includes_every_body = BodiesToWalk {
         includes_every_body: true,
-        these: none.as_slice(),
+        listed_bodies: none.as_slice(),
     };
     module_report_walking_wanted_bodies(alloc, resolved, &includes_every_body)
 }
@@ -150,11 +151,11 @@ pub fn module_report_walking_some_bodies<'t>(
     walking_changed_and_faulty_bodies_suffices();
     // The proof needs this call: its contract states the module's invariant.
     let _module = resolved.module();
-    let these = BodiesToWalk {
+    let wanted = BodiesToWalk {
         includes_every_body: false,
-        these: bodies,
+        listed_bodies: bodies,
     };
-    module_report_walking_wanted_bodies(alloc, resolved, &these)
+    module_report_walking_wanted_bodies(alloc, resolved, &wanted)
 }
 
 /// Returns the same report as `module_report`, but walks only the declarations and the statements
@@ -173,7 +174,7 @@ pub fn module_report_walking_one_body<'t>(
     let bodies = [closing];
     let only = BodiesToWalk {
         includes_every_body: false,
-        these: &bodies,
+        listed_bodies: &bodies,
     };
     module_report_walking_wanted_bodies(alloc, resolved, &only)
 }
@@ -239,7 +240,7 @@ impl<'t> ReportingWalk<'t> {
             (λ t. t.faults.items ≡ filter is_undeclared_fault resolved.now.faults) }
     {
         let mut meanings = predeclared_meanings(alloc)?;
-        add_unknown_meanings(&mut meanings, resolved.declaration_tokens())?;
+        add_placeholder_meanings(&mut meanings, resolved.declaration_tokens())?;
         let checker_state = CheckerState {
             resolved,
             meanings,
@@ -307,7 +308,7 @@ fn undeclared_name_faults(
 }
 
 /// Appends None (an unknown meaning) to `meanings` for each declaration in the list `declarations`.
-fn add_unknown_meanings(
+fn add_placeholder_meanings(
     meanings: &mut Vec<Option<Meaning>>,
     declarations: &[usize],
 ) -> Result<(), AllocError>

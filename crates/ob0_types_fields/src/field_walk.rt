@@ -51,7 +51,7 @@ impl<'a, 't> FieldWalk<'a, 't> {
         match self.table.object(ordinal)? {
             Object::Variable(of) => Some(*of),
             Object::Constant(value) => Some(scalar_type(*value)),
-            Object::Named(_) => None,
+            Object::TypeName(_) => None,
             Object::FaultyConstant => None,
             Object::Procedure(_) => None,
             Object::StandardProcedure(_) => None,

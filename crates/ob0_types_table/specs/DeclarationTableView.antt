@@ -114,7 +114,7 @@ standard_procedure_of standards.WriteLn = write_line_procedure
 -- converts an object of the table to an object of the definitions; returns None for a constant with
 -- a fault
 abbrev pub object_view : List Shape → declaration.Object → Option (Object Shape Signature)
-object_view shapes (kind.Named t) = Some (a_type (type_shape shapes t))
+object_view shapes (kind.TypeName t) = Some (a_type (type_shape shapes t))
 object_view shapes (kind.Constant v) = Some (a_constant (scalar_value v))
 object_view shapes kind.FaultyConstant = None
 object_view shapes (kind.Variable t) = Some (a_variable (type_shape shapes t))

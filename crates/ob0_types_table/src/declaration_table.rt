@@ -89,7 +89,7 @@ pub enum StandardProcedure {
 #[derive(Drop)]
 pub enum Object {
     /// A type's name, with the type to which the name refers.
-    Named(TypeId),
+    TypeName(TypeId),
     Constant(Scalar),
     /// A constant whose right side has a fault.
     FaultyConstant,
@@ -194,7 +194,7 @@ impl DeclarationTable {
     {
         match self.object(ordinal)? {
             Object::Constant(value) => Some(*value),
-            Object::Named(_) => None,
+            Object::TypeName(_) => None,
             Object::FaultyConstant => None,
             Object::Variable(_) => None,
             Object::Procedure(_) => None,
@@ -209,7 +209,7 @@ impl DeclarationTable {
             ≡ type_of_object (declared_object_in self.now ordinal) }
     {
         match self.object(ordinal)? {
-            Object::Named(of) => Some(*of),
+            Object::TypeName(of) => Some(*of),
             Object::Variable(of) => Some(*of),
             Object::Constant(value) => Some(scalar_type(*value)),
             Object::FaultyConstant => None,

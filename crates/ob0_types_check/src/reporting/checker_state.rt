@@ -21,7 +21,7 @@ use std::alloc::{AllocError, Global};
 #[derive(Drop)]
 pub(crate) enum Meaning {
     /// A type's name, with the type to which the name refers.
-    Named(TypeId),
+    TypeName(TypeId),
     /// A constant with this value, or with None if its right side has a fault.
     Constant(Option<Scalar>),
     Variable(TypeId),
@@ -34,8 +34,8 @@ pub(crate) fn predeclared_meanings(alloc: Global) -> Result<Vec<Option<Meaning>>
     ensures { IfOk result (λ ms. map (option_map meaning_view) ms.items ≡ predeclared_meanings) }
 {
     let mut meanings = Vec::new(alloc);
-    meanings.push(Some(Meaning::Named(TypeId::Integer)))?;
-    meanings.push(Some(Meaning::Named(TypeId::Boolean)))?;
+    meanings.push(Some(Meaning::TypeName(TypeId::Integer)))?;
+    meanings.push(Some(Meaning::TypeName(TypeId::Boolean)))?;
     meanings.push(Some(Meaning::Constant(Some(Scalar::Truth(true)))))?;
     meanings.push(Some(Meaning::Constant(Some(Scalar::Truth(false)))))?;
     meanings.push(Some(one_parameter_procedure(alloc, true)?))?;

@@ -262,7 +262,7 @@ impl<'t> ReportingWalk<'t> {
     {
         let value = self
             .checker_state
-            .constant_value(&mut self.faults, &c.value)?;
+            .check_constant_expression(&mut self.faults, &c.value)?;
         self.checker_state
             .define_name_at_token(c.name, Meaning::Constant(value));
         Ok(())
@@ -300,7 +300,7 @@ impl<'t> ReportingWalk<'t> {
     {
         let of = self.check_written_type(&d.written)?;
         self.checker_state
-            .define_name_at_token(d.name, Meaning::Named(of));
+            .define_name_at_token(d.name, Meaning::TypeName(of));
         Ok(())
     }
 

@@ -7,8 +7,8 @@ ghost use Rattle.ob0_types_table.specs.declared.types.TypeId.TheVariants as type
 ghost use Rattle.ob0_tree.specs.View.{compound_expression_of, expression_of, factor_of, selector_of, simple_expression_of, term_of};
 ghost use Rattle.ob0_language_types.specs.DesignatorSelectors.{selectors_of_designator};
 ghost use Rattle.ob0_types_check.specs.ExpressionFaults.{report_on_expression, report_on_factor, report_on_selector, report_on_selectors, report_on_simple_expression, report_on_term};
-ghost use Rattle.ob0_types_check.specs.OperandFaults.{ReturnsAndReports, constant_name_operand, number_operand, add_operands, require_type, require_type_of_both_operands, fault_at_operand, prefixed_operand, negated_operand, element_type_from_form, element_operand, operand_in_parentheses, field_type_from_form, field_operand, may_be_same_type, operand_of_operation, multiply_operands, name_operand, operand_with_selector, relate_operands, signed_operand, comparison_type, operand_type_of_addition, operand_type_of_equality, operand_type_of_multiplication, operand_type_of_relation, value_type};
-ghost use Rattle.ob0_types_check.specs.TypeFaults.{operand_value, report_on_constant_expression};
+ghost use Rattle.ob0_types_check.specs.OperandFaults.{ReturnsAndReports, constant_name_operand, number_operand, check_sum, require_type, require_type_of_both_operands, fault_at_operand, prefixed_operand, check_negation, element_type_from_form, element_operand, operand_in_parentheses, field_type_from_form, field_operand, may_be_same_type, operand_of_operation, check_product, name_operand, operand_with_selector, check_relation, check_sign, comparison_type, operand_type_of_addition, operand_type_of_equality, operand_type_of_multiplication, operand_type_of_relation, type_of_constant_value};
+ghost use Rattle.ob0_types_check.specs.TypeFaults.{require_constant_value, report_on_constant_expression};
 ghost use Rattle.ob0_types_check.specs.KnownDeclarations.{is_same_type};
 ghost use Rattle.ob0_types_check.specs.CheckerViews.{facts_in, form_of_type_in, operand_of, type_id_representation};
 
@@ -293,7 +293,7 @@ impl<'t> CheckerState<'t> {
         right: Operand,
     ) -> Result<Operand, AllocError>
         ensures { IfOk result (λ o. ReturnsAndReports faults.old.items faults.new.items (operand_of o)
-            (relate_operands (facts_in self.now false) relation (operand_of left)
+            (check_relation (facts_in self.now false) relation (operand_of left)
             (operand_of right))) }
     {
         let wanted = operand_type_of_relation(relation, left.of);
@@ -331,7 +331,7 @@ impl<'t> CheckerState<'t> {
         right: Operand,
     ) -> Result<Operand, AllocError>
         ensures { IfOk result (λ o. ReturnsAndReports faults.old.items faults.new.items (operand_of o)
-            (add_operands (facts_in self.now false) operator (operand_of left)
+            (check_sum (facts_in self.now false) operator (operand_of left)
             (operand_of right))) }
     {
         let of = self.require_type_of_both_operands(
@@ -354,7 +354,7 @@ impl<'t> CheckerState<'t> {
         operand: Operand,
     ) -> Result<Operand, AllocError>
         ensures { IfOk result (λ o. ReturnsAndReports faults.old.items faults.new.items (operand_of o)
-            (signed_operand (facts_in self.now false) sign (operand_of operand))) }
+            (check_sign (facts_in self.now false) sign (operand_of operand))) }
     {
         match sign {
             None => Ok(operand),
@@ -394,7 +394,7 @@ impl<'t> CheckerState<'t> {
         right: Operand,
     ) -> Result<Operand, AllocError>
         ensures { IfOk result (λ o. ReturnsAndReports faults.old.items faults.new.items (operand_of o)
-            (multiply_operands (facts_in self.now false) operator (operand_of left)
+            (check_product (facts_in self.now false) operator (operand_of left)
             (operand_of right))) }
     {
         let of = self.require_type_of_both_operands(
@@ -475,7 +475,7 @@ impl<'t> CheckerState<'t> {
         operand: Operand,
     ) -> Result<Operand, AllocError>
         ensures { IfOk result (λ o. ReturnsAndReports faults.old.items faults.new.items (operand_of o)
-            (negated_operand (facts_in self.now false) (operand_of operand))) }
+            (check_negation (facts_in self.now false) (operand_of operand))) }
     {
         let of = self.require_type(faults, TypeId::Boolean, operand)?;
         Ok(operand.prefixed_operand(of, operators::value_of_negation(operand.value)))
@@ -511,7 +511,7 @@ impl<'t> CheckerState<'t> {
                     }
                     Ok(unknown.operand_with_selector(*of, token))
                 }
-                Meaning::Named(_) => {
+                Meaning::TypeName(_) => {
                     report_fault_at_token(faults, FaultCode::WrongKind, token)?;
                     Ok(unknown)
                 }
@@ -683,7 +683,7 @@ impl<'t> CheckerState<'t> {
 
     /// Reports the faults of the right side of a constant's declaration. Returns its value, or None
     /// if its type is unknown or its evaluation fails.
-    pub(crate) fn constant_value(
+    pub(crate) fn check_constant_expression(
         &self,
         faults: &mut Vec<FaultAtTokens>,
         e: &Expression,
@@ -693,20 +693,20 @@ impl<'t> CheckerState<'t> {
             (report_on_constant_expression (facts_in self.now true) (expression_of e.now))) }
     {
         let constant_operand = self.check_expression(faults, e, true)?;
-        self.operand_value(faults, constant_operand)
+        self.require_constant_value(faults, constant_operand)
     }
 
     /// Returns the value of a constant expression, given its operand. If the operand's type is
     /// unknown, returns None and reports nothing. If the type is known and there is no value, the
     /// evaluation failed: returns None and reports `ConstFault`.
-    fn operand_value(
+    fn require_constant_value(
         &self,
         faults: &mut Vec<FaultAtTokens>,
         constant_operand: Operand,
     ) -> Result<Option<Scalar>, AllocError>
         ensures { IfOk result (λ v. ReturnsAndReports faults.old.items faults.new.items
             (option_map scalar_value v)
-            (operand_value (facts_in self.now false) (operand_of constant_operand))) }
+            (require_constant_value (facts_in self.now false) (operand_of constant_operand))) }
     {
         if is_same_type(constant_operand.of, TypeId::Unknown) {
             return Ok(None);
@@ -725,7 +725,7 @@ fn constant_operand(value: Option<Scalar>, token: usize) -> Operand
         ≡ constant_name_operand (type_id_representation []) (option_map scalar_value value) token }
 {
     Operand {
-        of: constant_type(value),
+        of: type_of_constant_value(value),
         value,
         may_be_variable: false,
         first: token,
@@ -734,8 +734,9 @@ fn constant_operand(value: Option<Scalar>, token: usize) -> Operand
 }
 
 /// Returns the type of a constant with this value, or the unknown type for None.
-fn constant_type(value: Option<Scalar>) -> TypeId
-    ensures { result ≡ value_type (type_id_representation []) (option_map scalar_value value) }
+fn type_of_constant_value(value: Option<Scalar>) -> TypeId
+    ensures { result ≡ type_of_constant_value (type_id_representation [])
+        (option_map scalar_value value) }
 {
     match value {
         None => TypeId::Unknown,

@@ -5,7 +5,7 @@ ghost use Rattle.ob0_scan.specs.declared.fault.FaultCode.TheVariants as code;
 ghost use Rattle.ob0_tree.specs.View.{assignment_of, call_of, elsifs_of_vec, expression_of, if_of, sequence_of_vec, statement_of};
 ghost use Rattle.ob0_types_check.specs.TypesAndMeanings.{a_procedure};
 ghost use Rattle.ob0_types_check.specs.OperandFaults.{ReturnsAndReports, fault_at_token};
-ghost use Rattle.ob0_types_check.specs.StatementFaults.{target_name_type, call_faults_from_meaning, require_type_of_argument, faults_of_argument, faults_of_expression_of_type, call_faults, condition_faults, elsif_faults, untyped_argument_faults, sequence_faults, statement_faults};
+ghost use Rattle.ob0_types_check.specs.StatementFaults.{check_assigned_name, call_faults_from_meaning, require_type_of_argument, faults_of_argument, faults_of_expression_of_type, call_faults, condition_faults, elsif_faults, untyped_argument_faults, sequence_faults, statement_faults};
 ghost use Rattle.ob0_types_check.specs.CheckerViews.{facts_in, known_parameter_of, operand_of};
 
 use crate::reporting::checker_state::{CheckerState, Meaning, report_fault_at_token};
@@ -29,14 +29,14 @@ impl<'t> CheckerState<'t> {
             ++ sequence_faults (facts_in self.now false) (sequence_of_vec statements.now)) }
     {
         for s in statements {
-            self.report_statement(faults, s)?;
+            self.report_statement_faults(faults, s)?;
         }
         Ok(())
     }
 
     /// Reports the faults of a statement, including the statements inside it.
     #[cycle(statements)]
-    fn report_statement(
+    fn report_statement_faults(
         &self,
         faults: &mut Vec<FaultAtTokens>,
         s: &Statement,
@@ -104,11 +104,11 @@ impl<'t> CheckerState<'t> {
             ≡ faults.old.items
             ++ condition_faults (facts_in self.now false) (expression_of e.now)) }
     {
-        self.check_expression_of_type(faults, TypeId::Boolean, e)
+        self.report_expression_of_type(faults, TypeId::Boolean, e)
     }
 
     /// Reports the faults of an expression that must have the type `wanted`.
-    fn check_expression_of_type(
+    fn report_expression_of_type(
         &self,
         faults: &mut Vec<FaultAtTokens>,
         wanted: TypeId,
@@ -136,26 +136,26 @@ impl<'t> CheckerState<'t> {
     {
         let token = a.target.name;
         let base = Operand {
-            of: self.target_type(faults, token)?,
+            of: self.check_assigned_name(faults, token)?,
             value: None,
             may_be_variable: true,
             first: token,
             last: token,
         };
         let target = self.check_designator_selectors(faults, base, &a.target, false)?;
-        self.check_expression_of_type(faults, target.of, &a.value)
+        self.report_expression_of_type(faults, target.of, &a.value)
     }
 
     /// Returns the type of the variable or parameter to which the assigned name at `token` refers.
     /// Reports `NotVariable` at a constant's name, and `WrongKind` at a type's or procedure's. In
     /// these cases, and if the name has no known meaning, returns the unknown type.
-    fn target_type(
+    fn check_assigned_name(
         &self,
         faults: &mut Vec<FaultAtTokens>,
         token: usize,
     ) -> Result<TypeId, AllocError>
         ensures { IfOk result (λ t. ReturnsAndReports faults.old.items faults.new.items t
-            (target_name_type (facts_in self.now false) token)) }
+            (check_assigned_name (facts_in self.now false) token)) }
     {
         match self.meaning_of_name(token) {
             None => Ok(TypeId::Unknown),
@@ -165,7 +165,7 @@ impl<'t> CheckerState<'t> {
                     report_fault_at_token(faults, FaultCode::NotVariable, token)?;
                     Ok(TypeId::Unknown)
                 }
-                Meaning::Named(_) => {
+                Meaning::TypeName(_) => {
                     report_fault_at_token(faults, FaultCode::WrongKind, token)?;
                     Ok(TypeId::Unknown)
                 }
@@ -211,7 +211,7 @@ impl<'t> CheckerState<'t> {
                 Meaning::Procedure(formals) => {
                     self.report_arguments(faults, procedure, formals.as_slice(), arguments)
                 }
-                Meaning::Named(_) => self.report_not_a_procedure(faults, procedure, arguments),
+                Meaning::TypeName(_) => self.report_not_a_procedure(faults, procedure, arguments),
                 Meaning::Constant(_) => self.report_not_a_procedure(faults, procedure, arguments),
                 Meaning::Variable(_) => self.report_not_a_procedure(faults, procedure, arguments),
             },

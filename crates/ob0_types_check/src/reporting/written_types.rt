@@ -11,8 +11,8 @@ ghost use Rattle.ob0_types_check.specs.TypesAndMeanings.{a_variable};
 ghost use Rattle.ob0_types_check.specs.OperandFaults.{ReturnsAndReports};
 ghost use Rattle.ob0_types_check.specs.KnownDeclarations.{zero_size};
 ghost use Rattle.ob0_types_check.specs.CheckerViews.{CodeFindsFieldsAndReports, CodeFieldsMatchKnownFields, facts_in, known_fields_of, operand_of, size_of, declarations_in_state};
-ghost use Rattle.ob0_types_check.specs.TypeFaults.{length_from_operand, type_from_meaning, type_named_by_token};
-ghost use Rattle.ob0_types_check.specs.WrittenTypeFaults.{made_array_type, no_known_fields, made_record_type, record_keyword_token, report_on_field_group, report_on_further_field_groups, report_on_written_type, append_known_field, append_known_fields};
+ghost use Rattle.ob0_types_check.specs.TypeFaults.{length_from_operand, type_from_meaning, check_type_name};
+ghost use Rattle.ob0_types_check.specs.WrittenTypeFaults.{make_array_type, no_known_fields, make_record_type, record_keyword_token, report_on_field_group, report_on_further_field_groups, report_on_written_type, append_known_field, append_known_fields};
 ghost use Rattle.ob0_types_check.specs.WrittenTypeFaults as spec;
 
 use crate::reporting::ReportingWalk;
@@ -103,18 +103,18 @@ fn record_keyword_token(groups: &[OptionalFieldGroup]) -> usize
 impl<'t> CheckerState<'t> {
     /// Returns the type to which the name at `token` refers. Reports `WrongKind` if the name isn't
     /// a type's. In this case, and if the name has no known meaning, returns the unknown type.
-    fn type_named_by_token(
+    fn check_type_name(
         &self,
         faults: &mut Vec<FaultAtTokens>,
         token: usize,
     ) -> Result<TypeId, AllocError>
         ensures { IfOk result (λ t. ReturnsAndReports faults.old.items faults.new.items t
-            (type_named_by_token (facts_in self.now false) token)) }
+            (check_type_name (facts_in self.now false) token)) }
     {
         match self.meaning_of_name(token) {
             None => Ok(TypeId::Unknown),
             Some(meaning) => match meaning {
-                Meaning::Named(of) => Ok(*of),
+                Meaning::TypeName(of) => Ok(*of),
                 Meaning::Constant(_) => self.report_not_a_type(faults, token),
                 Meaning::Variable(_) => self.report_not_a_type(faults, token),
                 Meaning::Procedure(_) => self.report_not_a_type(faults, token),
@@ -185,9 +185,7 @@ impl<'t> ReportingWalk<'t> {
             (type_of t.now))) }
     {
         match t {
-            WrittenType::Named(name) => self
-                .checker_state
-                .type_named_by_token(&mut self.faults, *name),
+            WrittenType::Named(name) => self.checker_state.check_type_name(&mut self.faults, *name),
             WrittenType::Array(a) => self.check_array_type(a, around),
             WrittenType::Record(r) => self.check_record_type(r, around),
         }
@@ -228,7 +226,7 @@ impl<'t> ReportingWalk<'t> {
         element: TypeId,
     ) -> Result<TypeId, AllocError>
         ensures { IfOk result (λ of. ReturnsAndReports self.old.faults.items self.new.faults.items
-            (record { of = of; following = declarations_in_state self.new.checker_state }) (made_array_type ordinal
+            (record { of = of; following = declarations_in_state self.new.checker_state }) (make_array_type ordinal
             (operand_of size) length
             (record { of = element; following = declarations_in_state self.old.checker_state }))) }
     {
@@ -301,7 +299,7 @@ impl<'t> ReportingWalk<'t> {
             → CodeFieldsMatchKnownFields g self.old.checker_state gathered
             → IfOk result (λ of. ReturnsAndReports self.old.faults.items self.new.faults.items
             (record { of = of; following = declarations_in_state self.new.checker_state })
-            (made_record_type word ordinal g)) }
+            (make_record_type word ordinal g)) }
     {
         let KnownFields { fields, size } = gathered;
         let size = size.size_of_record();

@@ -2,7 +2,7 @@ use Rattle.std.proofs.Common.{◌∷◌, [], map, option_map, None, ap, ◌∙�
 use Rattle.std.proofs.lemmas.List.{map-append}
 use Rattle.ob0_types_check.specs.CheckerViews.{meaning_view}
 use Rattle.ob0_types_check.proofs.Listed.{repeated_ends, repeated_on}
-use Rattle.ob0_types_check.proofs.reporting.add_unknown_meanings.Goals as goal
+use Rattle.ob0_types_check.proofs.reporting.add_placeholder_meanings.Goals as goal
 
 pub loop-declaration-preserved : goal.loop-declaration-preserved
 loop-declaration-preserved c =

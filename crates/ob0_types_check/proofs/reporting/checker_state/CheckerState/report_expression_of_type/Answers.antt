@@ -4,7 +4,7 @@ use Rattle.ob0_types_check.specs.OperandFaults.{require_type}
 use Rattle.ob0_types_check.specs.CheckerViews.{facts_in}
 use Rattle.ob0_types_check.proofs.Chains.{steps}
 use Rattle.ob0_types_check.proofs.ReportedStatements.{requested_reported}
-use Rattle.ob0_types_check.proofs.reporting.checker_state.CheckerState.check_expression_of_type.Goals as goal
+use Rattle.ob0_types_check.proofs.reporting.checker_state.CheckerState.report_expression_of_type.Goals as goal
 
 pub returns : goal.returns
 returns c =

@@ -1,7 +1,7 @@
 use Rattle.std.proofs.Common.{map, option_map, None}
 use Rattle.ob0_types_check.specs.CheckerViews.{meaning_view}
 use Rattle.ob0_types_check.proofs.Listed.{RepeatedSoFar}
-use Rattle.ob0_types_check.proofs.reporting.add_unknown_meanings.Given as goal
+use Rattle.ob0_types_check.proofs.reporting.add_placeholder_meanings.Given as goal
 
 abbrev pub invariant-loop-declaration : goal.invariant-loop-declaration
 invariant-loop-declaration l =
