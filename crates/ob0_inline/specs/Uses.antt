@@ -11,7 +11,7 @@ use Rattle.ob0_tree.specs.ParsedModule.{ParsedModule, named_tree_of, tree_of}
 use Rattle.ob0_tree.specs.Tree.{Tree, module_text, occurrences}
 use Rattle.ob0_edits_tokens.specs.Replacements.{replacement_at_token, range_and_text, text_after_replacement}
 use Rattle.ob0_edits_tokens.specs.Written.{truth_text}
-use Rattle.ob0_language_names.specs.Inlining.{inlined, single_occurrence}
+use Rattle.ob0_language_names.specs.Inlining.{inlined, set_of_one_occurrence}
 use Rattle.ob0_language_names.specs.Names.{Name}
 use Rattle.ob0_language_names.specs.Occurrences.{ordinal_bound_at_occurrence}
 use Rattle.ob0_language_names.specs.Scopes.{same_ordinal}
@@ -59,7 +59,7 @@ value_text_keeps_meaning m occurrence (scalar.Truth b) =
 -- Returns the tree of the module after the constant is inlined at the use `u`: the constant's value
 -- replaces that use.
 abbrev pub tree_with_inlined_use : ParsedModule → ConstantUse → Tree Name module_text
-tree_with_inlined_use m u = inlined (named_tree_of m) (single_occurrence u.occurrence) (value_factor u.value)
+tree_with_inlined_use m u = inlined (named_tree_of m) (set_of_one_occurrence u.occurrence) (value_factor u.value)
 
 -- Returns the first refusal that applies to inlining the constant at the use `u`, or None if no
 -- refusal applies.

@@ -4,7 +4,7 @@
 ghost use Rattle.std.specs.Prelude.{◌≡◌, IfOk, ◌==◌, ◌&&◌, not, length, option_and_then, slice_get};
 ghost use Rattle.std.specs.List.{list_any, range_with_len};
 ghost use Rattle.ob0_tree.specs.ParsedModule.{named_tree_of};
-ghost use Rattle.ob0_language_names.specs.Occurrences.{bindings, ordinal_bound_at_occurrence};
+ghost use Rattle.ob0_language_names.specs.Occurrences.{labels_of_occurrences, ordinal_bound_at_occurrence};
 ghost use Rattle.ob0_language_names.specs.Scopes.{same_ordinal};
 ghost use Rattle.ob0_language_names.specs.OccurrenceLookup.{resolve_name_at_occurrence};
 ghost use Rattle.ob0_inline.specs.Everywhere.{has_shadowed_use};
@@ -114,7 +114,7 @@ fn is_name_shadowed_at_some_use(
         hidden
         ≡ list_any (λ k. same_ordinal (ordinal_bound_at_occurrence (named_tree_of names.now.module_read) k) constant
         && not (same_ordinal (resolve_name_at_occurrence (named_tree_of names.now.module_read) k name.now) ordinal))
-        (range_with_len 0 (length (bindings (named_tree_of names.now.module_read))))) }
+        (range_with_len 0 (length (labels_of_occurrences (named_tree_of names.now.module_read))))) }
 {
     // The proof needs the contract of this call.
     let _module = names.module();

@@ -147,8 +147,8 @@ abbrev pub module_without_constant : ℕ → Tree Name module_text → Tree Name
 module_without_constant d (forms_module x b closing) = forms_module x (block_without_constant d predeclared_count b) closing
 
 -- returns the set that contains only the occurrence with number `occurrence`
-abbrev pub single_occurrence : ℕ → OccurrenceSet
-single_occurrence occurrence k = k == occurrence
+abbrev pub set_of_one_occurrence : ℕ → OccurrenceSet
+set_of_one_occurrence occurrence k = k == occurrence
 
 -- returns the set of the occurrences that are bound to the declaration with ordinal `d`
 abbrev pub occurrences_bound_to_ordinal : Tree Name module_text → ℕ → OccurrenceSet
@@ -156,5 +156,5 @@ occurrences_bound_to_ordinal m d k = same_ordinal (ordinal_bound_at_occurrence m
 
 -- Returns the module without the declaration of the constant with ordinal `d`. The factor `v`
 -- replaces each use of this constant that is a whole factor, that is, a name without selectors.
-abbrev pub inlined_everywhere_and_removed : Tree Name module_text → ℕ → Tree Name factor → Tree Name module_text
-inlined_everywhere_and_removed m d v = module_without_constant d (inlined m (occurrences_bound_to_ordinal m d) v)
+abbrev pub module_with_constant_inlined_everywhere : Tree Name module_text → ℕ → Tree Name factor → Tree Name module_text
+module_with_constant_inlined_everywhere m d v = module_without_constant d (inlined m (occurrences_bound_to_ordinal m d) v)

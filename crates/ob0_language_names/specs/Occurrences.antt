@@ -11,8 +11,8 @@ use Rattle.std.specs.List.{list_any}
 -- Returns the label of each occurrence of a looked-up name, in text order. The label is the ordinal
 -- of the declaration to which the occurrence is bound, or the name as written if the occurrence is
 -- unbound.
-abbrev pub bindings : Tree Name module_text → List Label
-bindings m = occurrences (numbered m)
+abbrev pub labels_of_occurrences : Tree Name module_text → List Label
+labels_of_occurrences m = occurrences (numbered m)
 
 -- returns the ordinal in a label, or None if the label is a name
 abbrev pub label_ordinal : Label → Option ℕ
@@ -23,7 +23,7 @@ label_ordinal (as_written x) = None
 -- A declaration's ordinal is its number in text order, after the predeclared names 0 to 6. Returns None if the
 -- occurrence is unbound or doesn't exist.
 abbrev pub ordinal_bound_at_occurrence : Tree Name module_text → ℕ → Option ℕ
-ordinal_bound_at_occurrence m occurrence = option_and_then label_ordinal (slice_get (bindings m) occurrence)
+ordinal_bound_at_occurrence m occurrence = option_and_then label_ordinal (slice_get (labels_of_occurrences m) occurrence)
 
 -- Returns a list that has, for each block, the names that the block declares, with their ordinals.
 -- A procedure's parameters and its own declarations count as one block.
@@ -68,7 +68,7 @@ is_duplicate_name m d new =
 -- the same block has this name, and renaming the declaration to `new` changes the binding of no
 -- occurrence.
 abbrev pub IsFreeName : Tree Name module_text → ℕ → Name → Type 0
-IsFreeName m d new = (is_duplicate_name m d new ≡ false) × (bindings (renamed m d new) ≡ bindings m)
+IsFreeName m d new = (is_duplicate_name m d new ≡ false) × (labels_of_occurrences (renamed m d new) ≡ labels_of_occurrences m)
 
 -- returns whether two labels mean the same binding: both are the same ordinal, or both are the same spelling of an
 -- unbound name
@@ -96,4 +96,4 @@ abbrev pub first_name_conflict : Tree Name module_text → ℕ → Name → Opti
 first_name_conflict m d new =
     if is_duplicate_name m d new
     then Some at_declaration
-    else option_map at_occurrence (first_binding_difference (bindings (renamed m d new)) (bindings m))
+    else option_map at_occurrence (first_binding_difference (labels_of_occurrences (renamed m d new)) (labels_of_occurrences m))

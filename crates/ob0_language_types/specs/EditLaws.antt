@@ -3,7 +3,7 @@
 use Rattle.std.specs.Prelude.{All, IsTrue, Some, codes, false, true, ℕ, ◌≡◌, ◌≢◌}
 use Rattle.ob0_tree.specs.Tree.{Tree, factor, module_text}
 use Rattle.ob0_language_names.specs.NonFactorNames.{non_factor_occurrences}
-use Rattle.ob0_language_names.specs.Inlining.{OccurrenceSet, inlined, inlined_everywhere_and_removed, module_without_constant}
+use Rattle.ob0_language_names.specs.Inlining.{OccurrenceSet, inlined, module_with_constant_inlined_everywhere, module_without_constant}
 use Rattle.ob0_language_names.specs.Names.{Name, declared}
 use Rattle.ob0_language_names.specs.Occurrences.{IsFreeName, ordinal_bound_at_occurrence}
 use Rattle.ob0_language_names.specs.Scopes.{numbered, renamed}
@@ -77,7 +77,7 @@ InliningEverywhereKeepsWellTyped =
     → IsConstantWithLiteral m d w v
     → ((k : ℕ) → ordinal_bound_at_occurrence m k ≡ Some d → TruthWordMeansPredeclared m k w)
     → WellTyped m
-    → WellTyped (inlined_everywhere_and_removed m d v)
+    → WellTyped (module_with_constant_inlined_everywhere m d v)
 
 -- States that each use of a constant in a well-typed module is a whole factor: a name without selectors in an
 -- expression. In particular, a use of a constant isn't the name of a type, a called procedure or the target of an

@@ -92,21 +92,21 @@ division_outcome (Some n) = checked_number n
 
 -- Returns the result of `+`, `-` or OR. Returns the end Overflow if a number doesn't fit in 32
 -- bits. Returns the end Stuck if the operator isn't defined for the operands.
-abbrev pub add : AddOperator → Value → Value → Outcome Value
-add add_operator.Add (number a) (number b) = checked_number (a +ℤ b)
-add add_operator.Subtract (number a) (number b) = checked_number (a -ℤ b)
-add add_operator.Or (truth a) (truth b) = succeeds_with (truth (a || b))
-add _ _ _ = ends_run_with Stuck
+abbrev pub apply_add_operator : AddOperator → Value → Value → Outcome Value
+apply_add_operator add_operator.Add (number a) (number b) = checked_number (a +ℤ b)
+apply_add_operator add_operator.Subtract (number a) (number b) = checked_number (a -ℤ b)
+apply_add_operator add_operator.Or (truth a) (truth b) = succeeds_with (truth (a || b))
+apply_add_operator _ _ _ = ends_run_with Stuck
 
 -- Returns the result of `*`, DIV, MOD or `&`. Returns the end Overflow if a number doesn't fit in
 -- 32 bits, and Divisor if the divisor of DIV or MOD is below 1. Returns Stuck if the operator isn't
 -- defined for the operands.
-abbrev pub multiply : MultiplyOperator → Value → Value → Outcome Value
-multiply multiply_operator.Multiply (number a) (number b) = checked_number (a *ℤ b)
-multiply multiply_operator.Divide (number a) (number b) = division_outcome (checked_division quotient a b)
-multiply multiply_operator.Modulo (number a) (number b) = division_outcome (checked_division remainder a b)
-multiply multiply_operator.And (truth a) (truth b) = succeeds_with (truth (a && b))
-multiply _ _ _ = ends_run_with Stuck
+abbrev pub apply_multiply_operator : MultiplyOperator → Value → Value → Outcome Value
+apply_multiply_operator multiply_operator.Multiply (number a) (number b) = checked_number (a *ℤ b)
+apply_multiply_operator multiply_operator.Divide (number a) (number b) = division_outcome (checked_division quotient a b)
+apply_multiply_operator multiply_operator.Modulo (number a) (number b) = division_outcome (checked_division remainder a b)
+apply_multiply_operator multiply_operator.And (truth a) (truth b) = succeeds_with (truth (a && b))
+apply_multiply_operator _ _ _ = ends_run_with Stuck
 
 -- returns whether the operator is OR and the left operand is TRUE; the right operand isn't evaluated then
 abbrev pub add_operator_short_circuits : AddOperator → Value → Bool
@@ -149,9 +149,9 @@ apply_sign (Some sign.Minus) (number a) = checked_number (neg_ℤ a)
 apply_sign _ _ = ends_run_with Stuck
 
 -- returns the result of `~`; the end Stuck if the value isn't a truth value
-abbrev pub negate : Value → Outcome Value
-negate (truth b) = succeeds_with (truth (not b))
-negate _ = ends_run_with Stuck
+abbrev pub apply_not : Value → Outcome Value
+apply_not (truth b) = succeeds_with (truth (not b))
+apply_not _ = ends_run_with Stuck
 
 -- a step of a path into a value: to an element of an array, or to a field of a record
 pub data PathStep : Type 0 where
@@ -231,9 +231,9 @@ write_place store p new =
     (slice_get store p.variable)
 
 -- returns the number of elements of an array
-abbrev pub count_values : Values → ℕ
-count_values no_value = 0
-count_values (next_value v rest) = suc (count_values rest)
+abbrev pub value_count : Values → ℕ
+value_count no_value = 0
+value_count (next_value v rest) = suc (value_count rest)
 
 -- returns `n` elements that all have the same value
 abbrev pub copies : ℕ → Value → Values

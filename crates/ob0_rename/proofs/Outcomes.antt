@@ -15,7 +15,7 @@ use Rattle.ob0_tree.specs.ParsedModule.{ParsedModule, named_tree_of, tree_of}
 use Rattle.ob0_tree.specs.Tree.{Tree, module_text, occurrences}
 use Rattle.ob0_language_names.specs.ConsistentNames.{has_consistent_names}
 use Rattle.ob0_language_names.specs.Names.{Name}
-use Rattle.ob0_language_names.specs.Occurrences.{IsFreeName, at_declaration, at_occurrence, bindings, first_name_conflict, first_binding_difference, is_duplicate_name}
+use Rattle.ob0_language_names.specs.Occurrences.{IsFreeName, at_declaration, at_occurrence, labels_of_occurrences, first_name_conflict, first_binding_difference, is_duplicate_name}
 use Rattle.ob0_scope.specs.Renames.{namesake_ordinal, other_declaration_in_conflict, conflict_of}
 use Rattle.ob0_scope_table.specs.Resolution.{IsResolution, Resolution}
 use Rattle.ob0_language_names.specs.Scopes.{renamed}
@@ -77,8 +77,8 @@ module _ (unit : counting.Unit) (text : List ℕ) (place : Position) (new : Name
       subst (IsFirstRefusalForDeclaration (requested r) d) (sym (duplicate other is_there.0 refl is_there.1)) (id, sym first, range)
   captured r is id (reports.Occurrence k) why first named duplicate occurrence =
       let m = r.module_read in
-      let bound = bindings (renamed (named_tree_of m) d new) in
-      let found = difference_of (is_duplicate_name (named_tree_of m) d new) (first_binding_difference bound (bindings (named_tree_of m))) k (sym first) in
+      let bound = labels_of_occurrences (renamed (named_tree_of m) d new) in
+      let found = difference_of (is_duplicate_name (named_tree_of m) d new) (first_binding_difference bound (labels_of_occurrences (named_tree_of m))) k (sym first) in
       let is_there = occurrence_is_there r bound k is found in
       subst (IsFirstRefusalForDeclaration (requested r) d) (sym (occurrence k is_there.0 refl is_there.1)) (id, (k, sym first, ap (option_map (token_range (requested r))) is_there.1))
 

@@ -7,7 +7,7 @@ use Rattle.ob0_tree.specs.declared.tree.Relation.TheVariants as relation
 use Rattle.ob0_tree.specs.declared.tree.Sign.TheVariants as sign
 use Rattle.ob0_tree.specs.declared.tree.AddOperator.TheVariants as add_operator
 use Rattle.ob0_tree.specs.declared.tree.MultiplyOperator.TheVariants as multiply_operator
-use Rattle.ob0_language_values.specs.Values.{End, Outcome, Overflow, Place, Shape, Value, add, checked_division, division_outcome, ends_run_with, fits_in_32_bits, succeeds_with, checked_number, multiply, number, result_or_stuck, quotient, apply_relation, remainder, apply_sign, truth, ◌>>=◌}
+use Rattle.ob0_language_values.specs.Values.{End, Outcome, Overflow, Place, Shape, Value, apply_add_operator, checked_division, division_outcome, ends_run_with, fits_in_32_bits, succeeds_with, checked_number, apply_multiply_operator, number, result_or_stuck, quotient, apply_relation, remainder, apply_sign, truth, ◌>>=◌}
 use Rattle.ob0_language_runs.specs.TypeAgreement.{PlaceHasType, StoreTyping}
 use Rattle.ob0_run_machine.specs.Evaluation as machine
 use Rattle.ob0_run_machine.specs.LoweredSyntax as lowered
@@ -52,19 +52,19 @@ checked_division-same (Some n) = checked_number-same n
 abbrev pub Operates : lowered.Operator → (Value → Value → Outcome Value) → Type 0
 Operates o op = (a b : ℤ) → outcome_of number (machine.apply_operator o a b) ≡ op (number a) (number b)
 
-pub sum-operates : Operates lowered.sum (add add_operator.Add)
+pub sum-operates : Operates lowered.sum (apply_add_operator add_operator.Add)
 sum-operates a b = checked_number-same (a +ℤ b)
 
-pub difference-operates : Operates lowered.difference (add add_operator.Subtract)
+pub difference-operates : Operates lowered.difference (apply_add_operator add_operator.Subtract)
 difference-operates a b = checked_number-same (a -ℤ b)
 
-pub product-operates : Operates lowered.product (multiply multiply_operator.Multiply)
+pub product-operates : Operates lowered.product (apply_multiply_operator multiply_operator.Multiply)
 product-operates a b = checked_number-same (a *ℤ b)
 
-pub quotient-operates : Operates lowered.quotient (multiply multiply_operator.Divide)
+pub quotient-operates : Operates lowered.quotient (apply_multiply_operator multiply_operator.Divide)
 quotient-operates a b = checked_division-same (checked_division quotient a b)
 
-pub remainder-operates : Operates lowered.remainder (multiply multiply_operator.Modulo)
+pub remainder-operates : Operates lowered.remainder (apply_multiply_operator multiply_operator.Modulo)
 remainder-operates a b = checked_division-same (checked_division remainder a b)
 
 -- a sign `+`, as the sum with 0

@@ -2,7 +2,7 @@
 use Rattle.std.proofs.Common.{◌≡◌, ℕ, zero, suc, ◌+◌, ◌*◌, ◌<◌, ◌≤◌, true, false, List, [], ◌∷◌, ◌++◌, length, ℤ, if◌then◌else◌, nat_lt, Some, None, option_map, option_and_then, unwrap_or, sym, refl, ap, ◌∙◌, subst, arith, length-append}
 use Rattle.ob0_language_names.specs.Names.{Name, same_name}
 use Rattle.ob0_language_types.specs.Typing.{named_field_shape}
-use Rattle.ob0_language_values.specs.Values.{FieldShapes, Members, Shape, PathStep, Value, Values, array_shape, at_field, at_index, value_at_path, boolean_shape, count_values, elements, integer_shape, members, named_member, next_field_shape, next_member, next_value, no_field_shape, no_member, no_value, nth_value, number, value_at_step, record_shape, truth, with_value_at_path, with_named_member, with_nth_value, with_value_at_step}
+use Rattle.ob0_language_values.specs.Values.{FieldShapes, Members, Shape, PathStep, Value, Values, array_shape, at_field, at_index, value_at_path, boolean_shape, value_count, elements, integer_shape, members, named_member, next_field_shape, next_member, next_value, no_field_shape, no_member, no_value, nth_value, number, value_at_step, record_shape, truth, with_value_at_path, with_named_member, with_nth_value, with_value_at_step}
 use Rattle.ob0_language_runs.specs.TypeAgreement.{EachElementHasShape, HasShape, MembersHaveShapes, shape_at_step, shape_at_path}
 use Rattle.ob0_language_types.proofs.Conditions.{of_some}
 use Rattle.ob0_language_types.proofs.TypedElsewhere.{then_some}
@@ -20,11 +20,11 @@ mutual
   cells-size (members j ms) (record_shape k fs) h = members-size ms fs h.1
   cells-size _ _ h = absurd h
 
-  pub elements-size : (vs : Values) (s : Shape) → EachElementHasShape vs s → length (element_cells vs) ≡ count_values vs * size s
+  pub elements-size : (vs : Values) (s : Shape) → EachElementHasShape vs s → length (element_cells vs) ≡ value_count vs * size s
   elements-size no_value s h = omega arith
   elements-size (next_value v rest) s h =
       let first : length (cells_of v) ≡ size s = cells-size v s h.0 in
-      let others : length (element_cells rest) ≡ count_values rest * size s = elements-size rest s h.1 in
+      let others : length (element_cells rest) ≡ value_count rest * size s = elements-size rest s h.1 in
       let both : length (cells_of v ++ element_cells rest) ≡ length (cells_of v) + length (element_cells rest) = length-append (cells_of v) (element_cells rest) in
       omega (arith, first, others, both)
 
@@ -36,7 +36,7 @@ mutual
 
 -- elements and members
 
-pub element-lies : (vs : Values) (s : Shape) (i : ℕ) → i < count_values vs → EachElementHasShape vs s
+pub element-lies : (vs : Values) (s : Shape) (i : ℕ) → i < value_count vs → EachElementHasShape vs s
     → (w : Value) × (nth_value vs i ≡ Some w) × HasShape w s × Lies element_cells vs w (with_nth_value vs i) (i * size s)
 element-lies no_value s i below h = absurd (omega (arith, below))
 element-lies (next_value v rest) s zero below h = (
@@ -78,7 +78,7 @@ pub value_at_step-lies : (v : Value) (s : Shape) (step : PathStep) (t : Shape) �
     → (w : Value) × (value_at_step v step ≡ Some w) × HasShape w t × Lies cells_of v w (with_value_at_step v step) (step_offset s step)
 value_at_step-lies (elements vs) (array_shape k n s) (at_index i) t h e =
     (elim (nat_lt i n) as (λ b. nat_lt i n ≡ b → (if b then Some s else None) ≡ Some t → (w : Value) × (nth_value vs i ≡ Some w) × HasShape w t × Lies cells_of (elements vs) w (with_value_at_step (elements vs) (at_index i)) (i * size s)) [
-      | true ↦ λ below e. (let (w, ew, hw, l) = element-lies vs s i (below_of i (count_values vs) (ap (λ m. nat_lt i m) h.0 ∙ below)) h.1 in
+      | true ↦ λ below e. (let (w, ew, hw, l) = element-lies vs s i (below_of i (value_count vs) (ap (λ m. nat_lt i m) h.0 ∙ below)) h.1 in
           (w, ew, of_some (λ t. HasShape w t) e hw, lies-as element_cells elements vs w (with_nth_value vs i) (i * size s) (λ x. refl) l))
       | false ↦ λ below e. absurd (cc)
     ]) refl e

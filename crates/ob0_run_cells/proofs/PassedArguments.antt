@@ -4,11 +4,11 @@ use Rattle.std.proofs.Common.{◌≡◌, ℕ, ◌+◌, ◌≤◌, Bool, List, []
 use Rattle.std.proofs.lemmas.Bool.{le-leb}
 use Rattle.ob0_tree.specs.Tree.{Tree, arguments, calls, expression, items, maybe, selector}
 use Rattle.ob0_language_types.specs.Arguments.{call_arguments}
-use Rattle.ob0_language_types.specs.Expressions.{Object, a_procedure, designated_place, evaluate}
+use Rattle.ob0_language_types.specs.Expressions.{Object, a_procedure, designated_place, evaluate_expression}
 use Rattle.ob0_language_types.specs.WellTyped.{FormalParameter, ParameterMode, Signature, TypeMeanings}
 use Rattle.ob0_language_values.specs.Values.{Outcome, Place, Shape, Value, ends_run_with, succeeds_with, number, result_or_stuck, read_place, truth, ◌>>=◌}
 use Rattle.ob0_language_runs.specs.TypeAgreement.{ArgumentsMatchSignature, HasShape, RunObjectAgreesWithCheckedObject, PlaceHasType, StoreTyping, signature_modes}
-use Rattle.ob0_language_runs.specs.Runs.{Argument, Progress, State, evaluate_argument, evaluate_arguments, execute, argument_modes_of, perform_call, place_argument, continue_with_result, value_argument}
+use Rattle.ob0_language_runs.specs.Runs.{Argument, Progress, State, evaluate_argument, evaluate_arguments, execute_statement, argument_modes_of, perform_call, place_argument, continue_with_result, value_argument}
 use Rattle.ob0_language_runs.proofs.SoundStatements.{first-argument}
 use Rattle.ob0_run_machine.specs.Evaluation as machine
 use Rattle.ob0_run_machine.specs.Execution as execution
@@ -95,8 +95,8 @@ module _ {N : Type 0} (checked : TypeMeanings N) (slots : N → Slot) (targets :
   argument-passed f (lowered.by_number n) e h done =
       let is = number-in checked slots targets b shown n (value_of_expression e) h.2 low s represents in
       subst (λ m. Both (λ p a. Passes b.typing (f ∷ []) done p (a ∷ [])) (execution.pass_argument b.levels low.cells (lowered.by_number n) done) (evaluate_argument b.active s.store m e)) (sym h.0)
-      (both-then (λ n v. number n ≡ v) (λ p a. Passes b.typing (f ∷ []) done p (a ∷ [])) (machine.number_value b.levels low.cells n) (evaluate b.active s.store e) (λ a. machine.gives (execution.add_passed_cells done (a ∷ []))) (λ v. succeeds_with (value_argument v))
-      (both-same number (machine.number_value b.levels low.cells n) (evaluate b.active s.store e) is)
+      (both-then (λ n v. number n ≡ v) (λ p a. Passes b.typing (f ∷ []) done p (a ∷ [])) (machine.number_value b.levels low.cells n) (evaluate_expression b.active s.store e) (λ a. machine.gives (execution.add_passed_cells done (a ∷ []))) (λ v. succeeds_with (value_argument v))
+      (both-same number (machine.number_value b.levels low.cells n) (evaluate_expression b.active s.store e) is)
       (λ a v r. record {
         arguments_match = (h.0, subst (λ v. HasShape v f.shape) r (subst (λ s. HasShape (number a) s) (sym h.1) tt), tt);
         cells_passed = ap (λ v. done.cells ++ (cells_of v ++ [])) r;
@@ -104,8 +104,8 @@ module _ {N : Type 0} (checked : TypeMeanings N) (slots : N → Slot) (targets :
       }))
   argument-passed f (lowered.by_truth t) e h done =
       subst (λ m. Both (λ p a. Passes b.typing (f ∷ []) done p (a ∷ [])) (execution.pass_argument b.levels low.cells (lowered.by_truth t) done) (evaluate_argument b.active s.store m e)) (sym h.0)
-      (both-then (λ b v. truth b ≡ v) (λ p a. Passes b.typing (f ∷ []) done p (a ∷ [])) (machine.truth_value b.levels low.cells t) (evaluate b.active s.store e) (λ a. machine.gives (execution.add_passed_cells done (machine.truth_as_cell a ∷ []))) (λ v. succeeds_with (value_argument v))
-      (both-same truth (machine.truth_value b.levels low.cells t) (evaluate b.active s.store e) (truth-in checked slots targets b shown t (value_of_expression e) h.2 low s represents))
+      (both-then (λ b v. truth b ≡ v) (λ p a. Passes b.typing (f ∷ []) done p (a ∷ [])) (machine.truth_value b.levels low.cells t) (evaluate_expression b.active s.store e) (λ a. machine.gives (execution.add_passed_cells done (machine.truth_as_cell a ∷ []))) (λ v. succeeds_with (value_argument v))
+      (both-same truth (machine.truth_value b.levels low.cells t) (evaluate_expression b.active s.store e) (truth-in checked slots targets b shown t (value_of_expression e) h.2 low s represents))
       (λ a v r. record {
         arguments_match = (h.0, subst (λ v. HasShape v f.shape) r (subst (λ s. HasShape (truth a) s) (sym h.1) tt), tt);
         cells_passed = ap (λ n. done.cells ++ n ∷ []) (truth_as_cell-same a) ∙ ap (λ v. done.cells ++ (cells_of v ++ [])) r;
@@ -114,7 +114,7 @@ module _ {N : Type 0} (checked : TypeMeanings N) (slots : N → Slot) (targets :
   argument-passed f (lowered.by_block q n) e h done =
       let (place, hq, reads_it) = h.2 in
       let here = moment_with_store b s.store in
-      let value : evaluate b.active s.store e ≡ (place here >>= (λ p. result_or_stuck (read_place s.store p))) = reads_it here (shown.is_moment s.store represents.store_fits) in
+      let value : evaluate_expression b.active s.store e ≡ (place here >>= (λ p. result_or_stuck (read_place s.store p))) = reads_it here (shown.is_moment s.store represents.store_fits) in
       subst (λ m. Both (λ p a. Passes b.typing (f ∷ []) done p (a ∷ [])) (execution.pass_argument b.levels low.cells (lowered.by_block q n) done) (evaluate_argument b.active s.store m e)) (sym h.0)
       (subst (λ w. Both (λ p a. Passes b.typing (f ∷ []) done p (a ∷ [])) (execution.pass_argument b.levels low.cells (lowered.by_block q n) done) (w >>= (λ v. succeeds_with (value_argument v)))) (sym value)
       (subst (λ w. Both (λ p a. Passes b.typing (f ∷ []) done p (a ∷ [])) (execution.pass_argument b.levels low.cells (lowered.by_block q n) done) w) (sym (grouped-then (place here) (λ p. result_or_stuck (read_place s.store p)) (λ v. succeeds_with (value_argument v))))
@@ -149,7 +149,7 @@ procedure-is typing signature _ h = absurd h
 
 pub call-means : {N : Type 0} (checked : TypeMeanings N) (slots : N → Slot) (targets : N → Target) (x : N) (es : Tree N (maybe arguments)) (signature : Signature) (cs : List lowered.LoweredArgument) → checked.object_for x ≡ Some (a_procedure signature) → CodeMeansArguments checked slots signature cs (call_arguments es)
     → CodeMeansStatement checked slots targets (lowered.calls (targets x).procedure (targets x).up cs) (calls x es)
-unfolding execution.execute execute
+unfolding execution.execute execute_statement
 call-means {N} checked slots targets x es signature cs st ha b shown t low s h =
     let is_bound : b.active.object_for x ≡ Some (a_procedure (signature_modes signature)) = procedure-is b.typing signature (b.active.object_for x) (subst (λ o. RunObjectAgreesWithCheckedObject b.typing o (b.active.object_for x)) st ((shown.is_moment s.store h.store_fits).names_fit.0 x)) in
     let enter = λ (p : execution.CallArguments). b.lowered_call_effect (targets x).procedure (execution.levels_in_call b.levels (length low.cells) (targets x).up p) (record low { cells = p.cells }) in

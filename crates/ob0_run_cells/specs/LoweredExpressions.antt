@@ -10,7 +10,7 @@ use Rattle.std.specs.Prelude.{◌≡◌, ℕ, zero, suc, ◌+◌, ◌^◌, ◌<�
 use Rattle.ob0_tree.specs.declared.tree.Relation.{Relation}
 use Rattle.ob0_tree.specs.declared.tree.Relation.TheVariants as relation
 use Rattle.ob0_tree.specs.Tree.{Tree, addend, expression, factor, items, multiplier, selector, simple, term}
-use Rattle.ob0_language_types.specs.Expressions.{Meanings, a_variable, designated_place, evaluate, evaluate_addends, evaluate_factor, evaluate_multipliers, evaluate_simple_expression, evaluate_term, evaluate_selectors}
+use Rattle.ob0_language_types.specs.Expressions.{Meanings, a_variable, designated_place, evaluate_expression, evaluate_addends, evaluate_factor, evaluate_multipliers, evaluate_simple_expression, evaluate_term, evaluate_selectors}
 use Rattle.ob0_language_types.specs.WellTyped.{ParameterMode, TypeMeanings}
 use Rattle.ob0_language_values.specs.Values.{CallBound, Divisor, Done, End, Index, InputEnd, Outcome, Overflow, Place, Shape, PathStep, Store, TurnBound, Value, ends_run_with, succeeds_with, number, result_or_stuck, read_place, truth, ◌>>=◌}
 use Rattle.ob0_language_runs.specs.TypeAgreement.{RunMeaningsAgreeWithCheckedMeanings, PlaceHasType, StoreHasTypes, StoreTyping}
@@ -156,7 +156,7 @@ PlaceHoldsValue {N} checked slots q s value =
 
 -- returns the value of an expression at the moment `m` of a run, or the end of the run
 abbrev pub value_of_expression : {N : Type 0} → Tree N expression → OutcomeByMoment N Value
-value_of_expression e m = evaluate m.active m.store e
+value_of_expression e m = evaluate_expression m.active m.store e
 
 -- returns the value of a simple expression at the moment `m` of a run, or the end of the run
 abbrev pub value_of_simple_expression : {N : Type 0} → Tree N simple → OutcomeByMoment N Value

@@ -8,7 +8,7 @@ use Rattle.ob0_language_types.specs.Typing.{lone_designator}
 use Rattle.ob0_language_types.specs.WellTyped.{FormalParameter, ParameterMode, Signature, TypeMeanings, by_place, by_value}
 use Rattle.ob0_language_values.specs.Values.{Place, Shape, Store, boolean_shape, integer_shape}
 use Rattle.ob0_language_runs.specs.TypeAgreement.{ArgumentsMatchSignature, StoreHasTypes, StoreTyping}
-use Rattle.ob0_language_runs.specs.Runs.{Argument, CallFunction, Progress, State, PrintedItem, execute, execute_sequence, execute_else, execute_elsifs, execute_further_statements, printed_line_end, printed_number, place_argument, running, stopped, value_argument}
+use Rattle.ob0_language_runs.specs.Runs.{Argument, CallFunction, Progress, State, PrintedItem, execute_statement, execute_sequence, execute_else, execute_elsifs, execute_further_statements, printed_line_end, printed_number, place_argument, running, stopped, value_argument}
 use Rattle.ob0_run_machine.specs.Evaluation.{Levels}
 use Rattle.ob0_run_machine.specs.Execution as execution
 use Rattle.ob0_run_machine.specs.LoweredSyntax as lowered
@@ -124,7 +124,7 @@ abbrev pub CodeMeansStatement : {N : Type 0}
     → Type 0
 CodeMeansStatement checked slots targets c a =
     LoweredStepRepresentsStep checked slots targets (λ b t. execution.execute b.lowered_call_effect t b.levels c)
-    (λ b t. execute b.active b.enters t a)
+    (λ b t. execute_statement b.active b.enters t a)
 
 -- states that instructions are correct code for a sequence of statements: they have its effect
 abbrev pub CodeMeansSequence : {N : Type 0}

@@ -22,7 +22,7 @@ use Rattle.ob0_scope_table.proofs.SameWords.{same_named_tree, same_texts, same_v
 use Rattle.ob0_language_names.specs.ConsistentNames.{has_consistent_names}
 use Rattle.ob0_scope_table.specs.DuplicatesAndEndNames.{declaration_faults, tree_declaration_faults}
 use Rattle.ob0_language_names.specs.Names.{Name, naming_by_spelling}
-use Rattle.ob0_language_names.specs.Occurrences.{bindings}
+use Rattle.ob0_language_names.specs.Occurrences.{labels_of_occurrences}
 use Rattle.ob0_scope_table.specs.Resolution.{AreNameFaultsOf, IsNumberingTable, IsResolution, is_duplicate_or_end_name_fault, is_undeclared_fault, ordinal_in, undeclared_faults_from_labels, undeclared_faults_from_table, ordinal_and_spelling}
 use Rattle.ob0_language_names.specs.Scopes.{Labelling, label_from_ordinal, numbered, relabel_module}
 use Rattle.ob0_scope_table.specs.declared.resolved.Bindings.{Bindings}
@@ -128,8 +128,8 @@ bindings_depend_only_on_spellings old new tree b same parsed r =
       declaring = r.declaring;
       occurring = r.occurring;
       reported = record {
-        by_kind = r.reported.by_kind ∙ (λ i. tree_declaration_faults (texts i) read ++ undeclared_faults_from_labels (occurrences read) (bindings (named i)));
+        by_kind = r.reported.by_kind ∙ (λ i. tree_declaration_faults (texts i) read ++ undeclared_faults_from_labels (occurrences read) (labels_of_occurrences (named i)));
         declared_twice = r.reported.declared_twice ∙ ap (λ t. not (has_consistent_names t)) named;
-        undeclared = r.reported.undeclared ∙ ap (λ t. undeclared_faults_from_labels (occurrences read) (bindings t)) named;
+        undeclared = r.reported.undeclared ∙ ap (λ t. undeclared_faults_from_labels (occurrences read) (labels_of_occurrences t)) named;
       };
     }

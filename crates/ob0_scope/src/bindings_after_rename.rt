@@ -2,7 +2,7 @@
 
 ghost use Rattle.std.specs.Prelude.{◌≡◌, IfOk, map};
 ghost use Rattle.ob0_tree.specs.ParsedModule.{named_tree_of};
-ghost use Rattle.ob0_language_names.specs.Occurrences.{bindings, label_ordinal};
+ghost use Rattle.ob0_language_names.specs.Occurrences.{labels_of_occurrences, label_ordinal};
 ghost use Rattle.ob0_language_names.specs.Scopes.{renamed};
 ghost use Rattle.ob0_scope.specs.Renames.{AreOrdinalsAfterRename};
 ghost use Rattle.ob0_scope_table.specs.Resolution.{IsResolution, ordinal_in};
@@ -23,7 +23,7 @@ pub fn resolve_renamed(
 ) -> Result<Vec<Option<usize>>, AllocError>
     ensures { IfOk result (λ bound. bound.items
         ≡ map label_ordinal
-        (bindings (renamed (named_tree_of names.now.module_read) declaration new.now))) }
+        (labels_of_occurrences (renamed (named_tree_of names.now.module_read) declaration new.now))) }
 {
     let ordinals = ordinals_after_rename(alloc, names, declaration, new)?;
     ordinals_at_tokens(alloc, &ordinals, names.occurrences())

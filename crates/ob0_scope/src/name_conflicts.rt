@@ -10,7 +10,7 @@ ghost use Rattle.std.specs.Prelude.{◌≡◌, ◌↔◌, IfOk, None, not, optio
 ghost use Rattle.std.specs.List.{position_from};
 ghost use Rattle.ob0_tree.specs.ParsedModule.{named_tree_of};
 ghost use Rattle.ob0_tree.specs.View.{block_of, procedure_of};
-ghost use Rattle.ob0_language_names.specs.Occurrences.{IsFreeName, bindings, first_name_conflict, first_binding_difference};
+ghost use Rattle.ob0_language_names.specs.Occurrences.{IsFreeName, labels_of_occurrences, first_name_conflict, first_binding_difference};
 ghost use Rattle.ob0_scope.specs.declared.name_conflicts.FirstConflict.TheVariants.{Occurrence};
 ghost use Rattle.ob0_scope.specs.Renames.{OccursNowhere, have_same_binding, namesake_ordinal, other_declaration_in_conflict, conflict_of};
 ghost use Rattle.ob0_scope_table.specs.Resolution.{ordinal_in};
@@ -88,8 +88,8 @@ fn first_occurrence_conflict(
 ) -> Result<Option<FirstConflict>, AllocError>
     ensures { IfOk result (λ found. found
         ≡ option_map Occurrence (first_binding_difference
-        (bindings (renamed (named_tree_of names.now.module_read) declaration new.now))
-        (bindings (named_tree_of names.now.module_read)))) }
+        (labels_of_occurrences (renamed (named_tree_of names.now.module_read) declaration new.now))
+        (labels_of_occurrences (named_tree_of names.now.module_read)))) }
 {
     let ordinals = ordinals_after_rename(alloc, names, declaration, new)?;
     match first_rebound_occurrence(names, &ordinals) {

@@ -11,7 +11,7 @@ use Rattle.ob0_language_names.specs.Scopes.{Scope}
 use Rattle.ob0_types_table.specs.declared.types.TypeId.{TypeId}
 use Rattle.ob0_language_types.specs.Environments.{meanings}
 use Rattle.ob0_language_types.specs.Expressions as meant
-use Rattle.ob0_language_types.specs.Typing.{array_length_from_value, constant_expression_value, denoted_type, denoted_group_fields, denoted_further_fields, constructor_count, group_constructor_count, later_groups_constructor_count, type_of_type_object, prepend_fields, type_within_limits}
+use Rattle.ob0_language_types.specs.Typing.{array_length_from_value, constant_expression_value, denoted_type, denoted_group_fields, denoted_further_fields, constructor_count, group_constructor_count, later_groups_constructor_count, type_of_type_object, prepend_fields, type_if_within_limits}
 use Rattle.ob0_language_types.specs.WellTyped.{Signature, TypeEnvironment}
 use Rattle.ob0_language_values.specs.Values.{FieldShapes, Shape, Value, array_shape, no_field_shape, record_shape}
 use Rattle.ob0_types_check.specs.ExpressionFaults.{report_on_expression}
@@ -50,7 +50,7 @@ named_denotes n w p before k l last token (Some (a_procedure fs)) o table alike 
 
 -- holds if an array or a record denotes a shape within the limits
 pub record MadeDenotes (n : ℕ) (p : KnownDeclarations) (before : List Shape) (k l : ℕ) (s : Shape) (u : TypeWithFollowingDeclarations) : Type 0 where
-  pub limited : type_within_limits s ≡ Some s
+  pub limited : type_if_within_limits s ≡ Some s
   pub denotes : Denotes n p before k l (Some s) u
 
 made_denotes : (n : ℕ) (p q : KnownDeclarations) (before mid : List Shape) (k l word ordinal : ℕ) (parts : CompositeParts) (size : TypeSize) (s : Shape) → ordinal ≡ k → ordinal_of_shape s ≡ Some k → Apart (suc k) l before mid → Later n p q before mid → PartsAgreeWithShape (shape_of_type_in mid) k parts s → SizeAgrees size s → shape_of_type_in (mid ++ s ∷ []) (type_id_of_parts parts (length q.made)) ≡ Some s
@@ -81,14 +81,14 @@ made_denotes n p q before mid k l word ordinal parts size s here number own late
 
 -- An array denotes a shape if the type of its elements denotes one and no fault is reported for the array.
 array_denotes : (n : ℕ) (p : KnownDeclarations) (before : List Shape) (k l ordinal count : ℕ) (o : Operand TypeId) (given : Option Shape) (u : TypeWithFollowingDeclarations) → ordinal ≡ k → Denotes n p before (suc k) l given u → (make_array_type ordinal o (Some count) u).faults ≡ []
-    → Denotes n p before k l (option_and_then (λ s. type_within_limits (array_shape k count s)) given) (make_array_type ordinal o (Some count) u).known
+    → Denotes n p before k l (option_and_then (λ s. type_if_within_limits (array_shape k count s)) given) (make_array_type ordinal o (Some count) u).known
 array_denotes n p before k l ordinal count o given u here d none =
     let s : Shape = array_shape k count d.shape in
     let size = array_sized (size_of_known_type u.following.made u.of) k count d.shape (size_agrees u.following.made d.after u.of d.shape d.later.table d.known) in
     let m = made_denotes n p u.following before d.after k l _ ordinal (of_elements count u.of) (array_size count (size_of_known_type u.following.made u.of)) s here refl d.apart d.later (d.shape, refl, d.known) size (last_array u.following.made d.after k count d.shape d.later.table) none in
     record {
       shape = m.denotes.shape;
-      given_is = ap (option_and_then (λ s. type_within_limits (array_shape k count s))) d.given_is ∙ (m.limited ∙ m.denotes.given_is);
+      given_is = ap (option_and_then (λ s. type_if_within_limits (array_shape k count s))) d.given_is ∙ (m.limited ∙ m.denotes.given_is);
       after = m.denotes.after;
       apart = m.denotes.apart;
       later = m.denotes.later;
@@ -96,9 +96,9 @@ array_denotes n p before k l ordinal count o given u here d none =
     }
 
 sized_array : (n : ℕ) (p : KnownDeclarations) (before : List Shape) (k l ordinal : ℕ) (o : Operand TypeId) (reported : Option ℕ) (count : ℕ) (given : Option Shape) (u : TypeWithFollowingDeclarations) → reported ≡ Some count → ordinal ≡ k → Denotes n p before (suc k) l given u → (make_array_type ordinal o reported u).faults ≡ []
-    → Denotes n p before k l (option_and_then (λ s. type_within_limits (array_shape k count s)) given) (make_array_type ordinal o reported u).known
+    → Denotes n p before k l (option_and_then (λ s. type_if_within_limits (array_shape k count s)) given) (make_array_type ordinal o reported u).known
 sized_array n p before k l ordinal o reported count given u e here d none =
-    subst (λ z. (make_array_type ordinal o z u).faults ≡ [] → Denotes n p before k l (option_and_then (λ s. type_within_limits (array_shape k count s)) given) (make_array_type ordinal o z u).known) (sym e) (array_denotes n p before k l ordinal count o given u here d) none
+    subst (λ z. (make_array_type ordinal o z u).faults ≡ [] → Denotes n p before k l (option_and_then (λ s. type_if_within_limits (array_shape k count s)) given) (make_array_type ordinal o z u).known) (sym e) (array_denotes n p before k l ordinal count o given u here d) none
 
 -- holds if the fields gathered so far agree with the earlier shapes `first` followed by the shapes `own`
 pub record CodeFindsFieldsAndReports (n : ℕ) (p : KnownDeclarations) (before : List Shape) (k l : ℕ) (first : FieldShapes) (own : FieldShapes) (g : KnownFields) : Type 0 where
@@ -167,14 +167,14 @@ both_gather n p before k m l first given g h others one other = record {
 
 -- A record denotes a shape if its fields have shapes and no fault is reported for the record.
 record_denotes : (n : ℕ) (p : KnownDeclarations) (before : List Shape) (k l word ordinal : ℕ) (given : Option FieldShapes) (g : KnownFields) → ordinal ≡ k → GroupsGather n p before (suc k) l no_field_shape given g → (make_record_type word ordinal g).faults ≡ []
-    → Denotes n p before k l (option_and_then (λ fs. type_within_limits (record_shape k fs)) given) (make_record_type word ordinal g).known
+    → Denotes n p before k l (option_and_then (λ fs. type_if_within_limits (record_shape k fs)) given) (make_record_type word ordinal g).known
 record_denotes n p before k l word ordinal given g here h none =
     let after = h.gathers.after in
     let s : Shape = record_shape k h.own in
     let m = made_denotes n p g.following before after k l word ordinal (of_fields g.fields) (record_size g.size) s here refl h.gathers.apart h.gathers.later (h.own, refl, h.gathers.agrees.fields) (record_sized after g k h.own h.gathers.agrees) (last_record g.following.made after k h.own h.gathers.later.table) none in
     record {
       shape = m.denotes.shape;
-      given_is = ap (option_and_then (λ fs. type_within_limits (record_shape k fs))) h.given_is ∙ (m.limited ∙ m.denotes.given_is);
+      given_is = ap (option_and_then (λ fs. type_if_within_limits (record_shape k fs))) h.given_is ∙ (m.limited ∙ m.denotes.given_is);
       after = m.denotes.after;
       apart = m.denotes.apart;
       later = m.denotes.later;
@@ -182,7 +182,7 @@ record_denotes n p before k l word ordinal given g here h none =
     }
 
 abbrev pub of_limits : ℕ → ℕ → Option Shape → Option Shape
-of_limits k count given = option_and_then (λ s. type_within_limits (array_shape k count s)) given
+of_limits k count given = option_and_then (λ s. type_if_within_limits (array_shape k count s)) given
 
 pub array_given : (k : ℕ) (value : Option Value) (v : Value) (count : ℕ) (given : Option Shape) → value ≡ Some v → array_length_from_value v ≡ Some count → option_and_then (λ v. option_and_then (λ c. of_limits k c given) (array_length_from_value v)) value ≡ of_limits k count given
 array_given k value v count given e h = ap (option_and_then (λ v. option_and_then (λ c. of_limits k c given) (array_length_from_value v))) e ∙ ap (option_and_then (λ c. of_limits k c given)) h
@@ -239,7 +239,7 @@ module _ (w : Numbering) (fit : PartsFit) (n : ℕ) (scope : Scope Name) (env : 
         let other = groups_gather (suc around) (suc k + group_constructor_count (tree_with_names w.source g)) rest first.known one.gathers.after one.own (omega (arith, at, one.gathers.apart.counted)) later parts.1 one.gathers.agrees b.0 in
         let c : ℕ = group_constructor_count (tree_with_names w.source g) in
         let d : ℕ = later_groups_constructor_count (tree_with_names w.source rest) in
-        subst₂ (λ j z. Denotes n p before k j z (make_record_type word ordinal all.known).known) (later_groups k c d) (grouped (denoted_further_fields (meanings naming_by_spelling env) (suc k + group_constructor_count (tree_with_names w.source g)) (tree_with_names w.source rest)) (λ ys. denoted_group_fields (meanings naming_by_spelling env) (suc k) ys (tree_with_names w.source g)) (λ fs. type_within_limits (record_shape k fs)))
+        subst₂ (λ j z. Denotes n p before k j z (make_record_type word ordinal all.known).known) (later_groups k c d) (grouped (denoted_further_fields (meanings naming_by_spelling env) (suc k + group_constructor_count (tree_with_names w.source g)) (tree_with_names w.source rest)) (λ ys. denoted_group_fields (meanings naming_by_spelling env) (suc k) ys (tree_with_names w.source g)) (λ fs. type_if_within_limits (record_shape k fs)))
         (record_denotes n p before k (suc k + c + d) word ordinal (option_and_then (λ ys. denoted_group_fields (meanings naming_by_spelling env) (suc k) ys (tree_with_names w.source g)) (denoted_further_fields (meanings naming_by_spelling env) (suc k + group_constructor_count (tree_with_names w.source g)) (tree_with_names w.source rest))) all.known here
         (both_gather n p before (suc k) (suc k + c) (suc k + c + d) no_field_shape (λ ys. denoted_group_fields (meanings naming_by_spelling env) (suc k) ys (tree_with_names w.source g)) first.known all.known (denoted_further_fields (meanings naming_by_spelling env) (suc k + group_constructor_count (tree_with_names w.source g)) (tree_with_names w.source rest)) one other) b.1)
 

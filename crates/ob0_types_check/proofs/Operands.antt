@@ -14,7 +14,7 @@ use Rattle.ob0_tree.specs.declared.tree.Sign.TheVariants as sign
 use Rattle.ob0_tree.specs.TokenIndexLeaves.{token_text_at}
 use Rattle.ob0_language_types.specs.DesignatorSelectors.{apply_to_both_options}
 use Rattle.ob0_language_types.specs.Typing.{addition_type, negation_type, element_type, field_type, outcome_value, multiplication_type, relation_type, named_field_shape, signed_operand_type, value_type}
-use Rattle.ob0_language_values.specs.Values.{Overflow, Shape, Value, add, add_operator_short_circuits, boolean_shape, checked_division, division_outcome, ends_run_with, succeeds_with, checked_number, integer_shape, multiply, multiply_operator_short_circuits, negate, number, quotient, apply_relation, remainder, truth}
+use Rattle.ob0_language_values.specs.Values.{Overflow, Shape, Value, apply_add_operator, add_operator_short_circuits, boolean_shape, checked_division, division_outcome, ends_run_with, succeeds_with, checked_number, integer_shape, apply_multiply_operator, multiply_operator_short_circuits, apply_not, number, quotient, apply_relation, remainder, truth}
 use Rattle.ob0_language_values.specs.Values as values
 use Rattle.ob0_types_check.specs.TypesAndMeanings.{Facts, TypeForm, Operand, ResultWithFaults, a_record, a_scalar, an_array, unknown_form}
 use Rattle.ob0_types_check.specs.OperandFaults.{check_sum, require_type, require_type_of_both_operands, fault_at_operand, check_negation, element_type_from_form, element_operand, field_type_from_form, field_operand, may_be_same_type, field_type_or_fault, check_product, check_relation, check_sign, comparison_type, operand_type_of_addition, operand_type_of_equality, operand_type_of_multiplication, operand_type_of_relation}
@@ -52,13 +52,13 @@ division_outcome-of : (result : Option ℤ) → IsOf integer_shape (outcome_valu
 division_outcome-of None = none-of integer_shape
 division_outcome-of (Some n) = checked_number-of n
 
-add-of : (o : AddOperator) (v w : Value) → IsOf (shape_added o) (outcome_value (add o v w))
+add-of : (o : AddOperator) (v w : Value) → IsOf (shape_added o) (outcome_value (apply_add_operator o v w))
 add-of add_operator.Add (number a) (number b) = checked_number-of (a +ℤ b)
 add-of add_operator.Subtract (number a) (number b) = checked_number-of (a -ℤ b)
 add-of add_operator.Or (truth a) (truth b) = some-of boolean_shape (truth (a || b)) refl
 add-of _ _ _ = none-of _
 
-multiply-of : (o : MultiplyOperator) (v w : Value) → IsOf (shape_multiplied o) (outcome_value (multiply o v w))
+multiply-of : (o : MultiplyOperator) (v w : Value) → IsOf (shape_multiplied o) (outcome_value (apply_multiply_operator o v w))
 multiply-of multiply_operator.Multiply (number a) (number b) = checked_number-of (a *ℤ b)
 multiply-of multiply_operator.Divide (number a) (number b) = division_outcome-of (checked_division quotient a b)
 multiply-of multiply_operator.Modulo (number a) (number b) = division_outcome-of (checked_division remainder a b)
@@ -76,7 +76,7 @@ apply_sign-of sign.Plus (number a) = checked_number-of a
 apply_sign-of sign.Minus (number a) = checked_number-of (neg_ℤ a)
 apply_sign-of _ _ = none-of integer_shape
 
-negate-of : (v : Value) → IsOf boolean_shape (outcome_value (negate v))
+negate-of : (v : Value) → IsOf boolean_shape (outcome_value (apply_not v))
 negate-of (truth b) = some-of boolean_shape (truth _) refl
 negate-of _ = none-of boolean_shape
 
@@ -91,14 +91,14 @@ settled-of s false x o h k = k
 sum-of : (o : AddOperator) (a b : Option Value) (s : Shape) → s ≡ shape_added o → IsOf s a → IsOf (shape_added o) (option_and_then (sum_value o b) a)
 sum-of o a b s same h =
     then-of (shape_added o) (sum_value o b) a
-    (λ x e. settled-of (shape_added o) (add_operator_short_circuits o x) x (option_and_then (λ y. outcome_value (add o x y)) b) (h x e ∙ ap (λ u. Some u) same)
-    (then-of (shape_added o) (λ y. outcome_value (add o x y)) b (λ y f. add-of o x y)))
+    (λ x e. settled-of (shape_added o) (add_operator_short_circuits o x) x (option_and_then (λ y. outcome_value (apply_add_operator o x y)) b) (h x e ∙ ap (λ u. Some u) same)
+    (then-of (shape_added o) (λ y. outcome_value (apply_add_operator o x y)) b (λ y f. add-of o x y)))
 
 product-of : (o : MultiplyOperator) (a b : Option Value) (s : Shape) → s ≡ shape_multiplied o → IsOf s a → IsOf (shape_multiplied o) (option_and_then (product_value o b) a)
 product-of o a b s same h =
     then-of (shape_multiplied o) (product_value o b) a
-    (λ x e. settled-of (shape_multiplied o) (multiply_operator_short_circuits o x) x (option_and_then (λ y. outcome_value (multiply o x y)) b) (h x e ∙ ap (λ u. Some u) same)
-    (then-of (shape_multiplied o) (λ y. outcome_value (multiply o x y)) b (λ y f. multiply-of o x y)))
+    (λ x e. settled-of (shape_multiplied o) (multiply_operator_short_circuits o x) x (option_and_then (λ y. outcome_value (apply_multiply_operator o x y)) b) (h x e ∙ ap (λ u. Some u) same)
+    (then-of (shape_multiplied o) (λ y. outcome_value (apply_multiply_operator o x y)) b (λ y f. multiply-of o x y)))
 
 pub relation-of : (r : Relation) (a b : Option Value) → IsOf boolean_shape (apply_to_both_options (λ x y. outcome_value (apply_relation r x y)) a b)
 relation-of r a b =
@@ -107,8 +107,8 @@ relation-of r a b =
 sign-of : (s : Sign) (a : Option Value) → IsOf integer_shape (option_and_then (λ x. outcome_value (values.apply_sign (Some s) x)) a)
 sign-of s a = then-of integer_shape (λ x. outcome_value (values.apply_sign (Some s) x)) a (λ x e. apply_sign-of s x)
 
-pub value_of_negation-of : (a : Option Value) → IsOf boolean_shape (option_and_then (λ x. outcome_value (negate x)) a)
-value_of_negation-of a = then-of boolean_shape (λ x. outcome_value (negate x)) a (λ x e. negate-of x)
+pub value_of_negation-of : (a : Option Value) → IsOf boolean_shape (option_and_then (λ x. outcome_value (apply_not x)) a)
+value_of_negation-of a = then-of boolean_shape (λ x. outcome_value (apply_not x)) a (λ x e. negate-of x)
 
 add-typed : (o : AddOperator) → addition_type o (shape_added o) (shape_added o) ≡ Some (shape_added o)
 add-typed add_operator.Add = refl

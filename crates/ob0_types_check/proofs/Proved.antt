@@ -3,7 +3,7 @@ use Rattle.std.proofs.Common.{◌≡◌, ℕ, Bool, true, false, [], Option, Som
 use Rattle.ob0_tree.specs.declared.tree.Role.TheVariants as role
 use Rattle.ob0_tree.specs.TokenIndexLeaves.{token_value_at}
 use Rattle.ob0_tree.specs.Tree.{Tree, expression, identifiers, mapped_tree}
-use Rattle.ob0_language_types.specs.Expressions.{Meanings, Object, a_constant, evaluate}
+use Rattle.ob0_language_types.specs.Expressions.{Meanings, Object, a_constant, evaluate_expression}
 use Rattle.ob0_language_types.specs.Typing.{array_length_from_value, value_of_constant_object, constant_expression_value, meanings_in_constant_expressions, outcome_value, type_of_expression}
 use Rattle.ob0_language_types.specs.WellTyped.{TypeMeanings}
 use Rattle.ob0_language_values.specs.Values.{Place, Shape, Value, integer_shape}
@@ -46,8 +46,8 @@ module _ {T N : Type 0} (facts : Facts T) (shape : T → Option Shape) (label : 
       record {
         of = fe.of;
         known = fe.known;
-        given = λ v is. goes-on (λ s. outcome_value (evaluate {P = Unit {0}} (meanings_in_constant_expressions meaning) [] (mapped_tree label (token_value_at facts.source) e))) (type_of_expression {P = Unit {0}} (meanings_in_constant_expressions meaning) (mapped_tree label (token_value_at facts.source) e)) fe.of (Some v) fe.typed
-            (ap (λ m. outcome_value (evaluate {P = Unit {0}} m [] (mapped_tree label (token_value_at facts.source) e))) (sym (constants-again meaning)) ∙ (sym fe.value_agrees ∙ is));
+        given = λ v is. goes-on (λ s. outcome_value (evaluate_expression {P = Unit {0}} (meanings_in_constant_expressions meaning) [] (mapped_tree label (token_value_at facts.source) e))) (type_of_expression {P = Unit {0}} (meanings_in_constant_expressions meaning) (mapped_tree label (token_value_at facts.source) e)) fe.of (Some v) fe.typed
+            (ap (λ m. outcome_value (evaluate_expression {P = Unit {0}} m [] (mapped_tree label (token_value_at facts.source) e))) (sym (constants-again meaning)) ∙ (sym fe.value_agrees ∙ is));
         scalar = fe.scalar;
       }
 

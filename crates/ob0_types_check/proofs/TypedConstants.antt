@@ -3,7 +3,7 @@ use Rattle.std.proofs.Common.{◌≡◌, ℕ, Bool, true, false, zero, suc, pos,
 use Rattle.ob0_tree.specs.declared.tree.Role.TheVariants as role
 use Rattle.ob0_tree.specs.TokenIndexLeaves.{token_value_at}
 use Rattle.ob0_tree.specs.Tree.{Tree, expression, identifiers, mapped_tree}
-use Rattle.ob0_language_types.specs.Expressions.{Meanings, evaluate}
+use Rattle.ob0_language_types.specs.Expressions.{Meanings, evaluate_expression}
 use Rattle.ob0_language_types.specs.Typing.{array_length_from_value, constant_expression_value, meanings_in_constant_expressions, outcome_value, type_of_expression, value_type}
 use Rattle.ob0_language_types.specs.WellTyped.{Signature, TypeMeanings}
 use Rattle.ob0_language_values.specs.Values.{Shape, Value, elements, integer_shape, members, number, truth}
@@ -52,11 +52,11 @@ module _ {T N : Type 0} (facts : Facts T) (shape : T → Option Shape) (apart : 
   unfolding constant_expression_value
   value-known only v h =
       let among : Meanings N Shape (Unit {0}) = meanings_in_constant_expressions {W = Shape} {Q = Unit {0}} meaning in
-      let (s, hs, given) = and-then (λ s. outcome_value (evaluate {P = Unit {0}} (meanings_in_constant_expressions meaning) [] here)) (type_of_expression {P = Unit {0}} (meanings_in_constant_expressions meaning) here) v h in
+      let (s, hs, given) = and-then (λ s. outcome_value (evaluate_expression {P = Unit {0}} (meanings_in_constant_expressions meaning) [] here)) (type_of_expression {P = Unit {0}} (meanings_in_constant_expressions meaning) here) v h in
       let none = constant-right (Unit {0}) only s hs in
       let fe : FitsExpression facts shape agrees.types label among e
       = expression-fits facts shape agrees.types label among e (only-tokens facts shape agrees.types label meaning _ only (identifiers role.DeclaringName e) agrees.tokens) none in
-      let value : (report_on_expression facts e).known.value ≡ Some v = fe.value_agrees ∙ (ap (λ m. outcome_value (evaluate {P = Unit {0}} m [] here)) (constants-again meaning) ∙ given) in
+      let value : (report_on_expression facts e).known.value ≡ Some v = fe.value_agrees ∙ (ap (λ m. outcome_value (evaluate_expression {P = Unit {0}} m [] here)) (constants-again meaning) ∙ given) in
       record { none = none; of = fe.of; known = fe.known; value = value; scalar = fe.scalar v value }
 
 require_constant_value-right : {T : Type 0} (o : Operand T) (b : Bool) (c : Option Value) (v : Value) → c ≡ Some v → (if b then without_fault None else value_or_fault o c).faults ≡ []

@@ -182,7 +182,7 @@ PartsAgreeWithShape shape k (of_fields fields) s =
 -- states that an array or record type has the parts, the number of scalars and the depth of its shape
 pub record CompositeAgreesWithShape (shape : TypeId → Option Shape) (m : CompositeType) (s : Shape) : Type 0 where
   pub parts : PartsAgreeWithShape shape m.ordinal m.parts s
-  pub scalars : m.size.scalars ≡ typing.scalars s
+  pub scalars : m.size.scalars ≡ typing.scalar_count s
   pub depth : m.size.depth ≡ typing.depth s
 
 -- States that each array or record type in the second list agrees with the shape at the same index

@@ -17,7 +17,7 @@ use Rattle.ob0_scope_table.specs.declared.faults.FaultAtTokens.{FaultAtTokens}
 use Rattle.ob0_types_table.specs.Operators.{product_value, sum_value}
 use Rattle.ob0_language_types.specs.DesignatorSelectors.{apply_to_both_options}
 use Rattle.ob0_language_types.specs.Typing.{outcome_value}
-use Rattle.ob0_language_values.specs.Values.{Value, elements, members, negate, number, apply_relation, truth}
+use Rattle.ob0_language_values.specs.Values.{Value, elements, members, apply_not, number, apply_relation, truth}
 use Rattle.ob0_language_values.specs.Values.{apply_sign as with_sign}
 use Rattle.ob0_types_check.specs.TypesAndMeanings.{Facts, TypeForm, Meaning, Operand, ResultWithFaults, Types, a_constant, a_procedure, a_record, a_scalar, a_type, a_variable, an_array, unknown_form}
 
@@ -186,7 +186,7 @@ check_sign facts (Some s) o = do
 abbrev pub check_negation : {T : Type 0} → Facts T → Operand T → ResultWithFaults (Operand T)
 check_negation facts o = do
   t ← require_type facts facts.types.boolean o
-  without_fault (prefixed_operand t (option_and_then (λ x. outcome_value (negate x)) o.value) o)
+  without_fault (prefixed_operand t (option_and_then (λ x. outcome_value (apply_not x)) o.value) o)
 
 -- returns the operand for a number at this token
 abbrev pub number_operand : {T : Type 0} → Facts T → ℕ → Operand T

@@ -4,7 +4,7 @@
 use Rattle.std.specs.Prelude.{◌≡◌, ℕ, Bool, true, false, List, [], Option, Some, is_some}
 use Rattle.ob0_tree.specs.TokenIndexLeaves.{token_value_at}
 use Rattle.ob0_tree.specs.Tree.{Tree, expression, mapped_tree, sequence}
-use Rattle.ob0_language_types.specs.Expressions.{Meanings, evaluate}
+use Rattle.ob0_language_types.specs.Expressions.{Meanings, evaluate_expression}
 use Rattle.ob0_language_types.specs.Typing.{array_length_from_value, constant_expression_value, meanings_in_constant_expressions, lone_designator, outcome_value, type_of_expression, value_type}
 use Rattle.ob0_language_types.specs.WellTyped.{TypeMeanings, sequence_is_well_typed, assignable_type}
 use Rattle.ob0_language_values.specs.Values.{Shape, Value}
@@ -31,7 +31,7 @@ pub record OperandAgreesWithExpression
   pub of : Shape
   pub known : shape o.of ≡ Some of
   pub typed : type_of_expression meaning e ≡ Some of
-  pub value_agrees : o.value ≡ outcome_value (evaluate {P = Unit {0}} (meanings_in_constant_expressions meaning) [] e)
+  pub value_agrees : o.value ≡ outcome_value (evaluate_expression {P = Unit {0}} (meanings_in_constant_expressions meaning) [] e)
   pub scalar : (v : Value) → o.value ≡ Some v → value_type v ≡ Some of
   pub placed : o.may_be_variable ≡ true → assignable_type meaning (lone_designator e) ≡ Some of
 

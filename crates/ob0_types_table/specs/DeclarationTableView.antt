@@ -16,7 +16,7 @@ use Rattle.ob0_types_table.specs.declared.declaration_table.StandardProcedure.Th
 use Rattle.ob0_types_table.specs.declared.declaration_table.Object as declaration
 use Rattle.ob0_types_table.specs.declared.declaration_table.Object.TheVariants as kind
 use Rattle.ob0_language_types.specs.Expressions.{Object, StandardProcedure, a_constant, a_procedure, a_standard_procedure, a_type, a_variable, read_procedure, write_procedure, write_line_procedure}
-use Rattle.ob0_language_types.specs.Typing.{depth, scalars}
+use Rattle.ob0_language_types.specs.Typing.{depth, scalar_count}
 use Rattle.ob0_language_types.specs.WellTyped.{FormalParameter, ParameterMode, Signature, by_place, by_value}
 
 -- Returns the shape of a faulty type: a record without fields, whose ordinal is the greatest length of a text in bytes.
@@ -79,8 +79,8 @@ PartsReferOnlyToFirstEntries n (made.Record r) = All (λ f. RefersOnlyToFirstEnt
 
 -- states that an entry has the number of scalars and the depth of the shape `s`
 abbrev pub HasSizeOfShape : code.TypeEntry → Shape → Type 0
-HasSizeOfShape (made.Array a) s = (a.scalars ≡ scalars s) × (a.depth ≡ depth s)
-HasSizeOfShape (made.Record r) s = (r.scalars ≡ scalars s) × (r.depth ≡ depth s)
+HasSizeOfShape (made.Array a) s = (a.scalars ≡ scalar_count s) × (a.depth ≡ depth s)
+HasSizeOfShape (made.Record r) s = (r.scalars ≡ scalar_count s) × (r.depth ≡ depth s)
 
 -- States that an entry refers only to the entries before it, and has the number of scalars and the depth of its shape.
 -- The entries before it have the shapes `shapes`.
