@@ -1,8 +1,8 @@
 -- Defines the lines that the commands print on standard error, in bytes of UTF-8, and states when a
--- line is printed there (`PrintsOptionalLine`). `EndsByFault`, `PrintsStoppedRun` and `RefusesName`
--- have a parameter `IsPrintedOnStderr`. The contracts pass `PrintsOptionalLine` for this parameter.
--- So each of the three can state that the line on standard error and the output are about the same
--- fault, run or refusal.
+-- line is printed there (`PrintsOptionalLine`). `EndsByFault`, `PrintsStoppedRun` and
+-- `RefusesRenaming` have a parameter `IsPrintedOnStderr`. The contracts pass `PrintsOptionalLine`
+-- for this parameter. So each of the three can state that the line on standard error and the output
+-- are about the same fault, run or refusal.
 -- Rule: docs/PROTOCOL.md, The program 2, 3, 5, 6 and 7.
 use Rattle.std.specs.Prelude.{◌≡◌, ◌++◌, ℕ, List, Option, Some, None, Bool, true, false, codes}
 use Rattle.std.specs.Io.KnownBytes.{Appends}

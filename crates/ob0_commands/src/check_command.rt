@@ -16,7 +16,7 @@ ghost use Rattle.ob0_analysis.specs.ReportedErrors.{ReportsErrorsOf, reported_di
 
 use crate::faults::{FileCommandFault, print_fault};
 use crate::tracked_input::MAX_FILE_BYTES_READ;
-use crate::tracked_output::{TrackedOutput, print};
+use crate::tracked_output::{TrackedOutput, write_and_flush};
 use ob0_analysis::{Analysis, Diagnosis};
 use ob0_text::{Lines, Position, TextStore};
 use std::alloc::{AllocError, Global};
@@ -116,7 +116,7 @@ pub fn decode_or_print_too_long_line<'f, O: TrackedOutput>(
     ensures kept { IfErr result (PrintsNothingUnlessWriteFault out.old out.new) }
 {
     if file.len() >= MAX_FILE_BYTES_READ {
-        print(out, "0:0: TooLong: text too long\n")?;
+        write_and_flush(out, "0:0: TooLong: text too long\n")?;
         return Ok(None);
     }
     match str::from_utf8(file) {
@@ -142,7 +142,7 @@ pub fn print_diagnoses<O: TrackedOutput>(
         (OutputFailureMatchesFault (O.has_failed out.old) (O.has_failed out.new)) }
     ensures kept { IfErr result (PrintsNothingUnlessWriteFault out.old out.new) }
 {
-    print(out, all_diagnosis_lines(alloc, text, reported)?.as_str())
+    write_and_flush(out, all_diagnosis_lines(alloc, text, reported)?.as_str())
 }
 
 /// Returns the lines that report the diagnostics of a text, in order.

@@ -13,7 +13,7 @@ ghost use Rattle.std.specs.Prelude.{◌≡◌, ◌≤◌, ℤ, IfOk, OnOk, IfErr
 ghost use Rattle.std.specs.List.{position_or_len};
 ghost use Rattle.ob0_scan.specs.LexemeClasses.{is_white_space};
 ghost use Rattle.ob0_commands.specs.InputReaders.{ConsumesAtMost};
-ghost use Rattle.ob0_commands.specs.InputNumbers.{IsUnusableInput, IsValidInputTextOfNumbers, IsListOfNumbers, SpellsNumber, SpellsNumberList, max_input_length};
+ghost use Rattle.ob0_commands.specs.InputNumbers.{IsUnusableInput, IsValidInputTextOfNumbers, IsListOfNumbers, SpellsNumber, SpellsNumberList, max_input_bytes};
 ghost use Rattle.ob0_commands.specs.Statuses.{IsFaultForReasonOrMemory};
 ghost use Rattle.ob0_commands.specs.declared.faults.FileCommandFault.TheVariants as faults;
 
@@ -31,7 +31,7 @@ pub fn read_numbers<R: TrackedInput>(
 ) -> Result<Vec<i32>, FileCommandFault>
     ensures numbers { IfOk result
         (λ numbers. IfSome (R.remaining input.old) (IsValidInputTextOfNumbers numbers.items)) }
-    ensures limit { ConsumesAtMost (suc max_input_length) (R.remaining input.old)
+    ensures limit { ConsumesAtMost (suc max_input_bytes) (R.remaining input.old)
         (R.remaining input.new) }
     ensures unfailed { OnOk result (R.has_failed input.new ≡ R.has_failed input.old) }
     ensures fault { IfErr result

@@ -18,7 +18,7 @@ ghost use Rattle.ob0_commands.specs.Statuses.{MemoryFaultImpliesShortFile, IsSho
 
 use crate::check_command::{analyse_without_drop, decode_or_print_too_long_line, print_diagnoses};
 use crate::faults::{FileCommandFault, print_fault};
-use crate::tracked_output::{TrackedOutput, print};
+use crate::tracked_output::{TrackedOutput, write_and_flush};
 use ob0_edits::renaming_edits;
 use ob0_text::{Edit, EditRefusal, Lines, Position, TextStore, patch};
 use std::alloc::Global;
@@ -132,7 +132,7 @@ pub fn print_rename_outcome<T: TextStore, O: TrackedOutput, E: TrackedOutput>(
     match edits {
         Ok(edits) => match patch(alloc, store, edits.as_slice()) {
             Ok(text) => {
-                print(out, text.as_str())?;
+                write_and_flush(out, text.as_str())?;
                 Ok(0)
             }
             Err(_) => Err(FileCommandFault::Memory),
@@ -142,7 +142,7 @@ pub fn print_rename_outcome<T: TextStore, O: TrackedOutput, E: TrackedOutput>(
             let text = refusal.text(alloc)?;
             let name = text.as_str();
             let line = format!(in alloc; "refused: {name}\n")?;
-            let _ = print(err, line.as_str());
+            let _ = write_and_flush(err, line.as_str());
             Ok(1)
         }
     }

@@ -25,7 +25,7 @@ use std::io::{self, Write};
 
 /// The size in bytes of two buffers. Files and inputs are read through one of them. The output of a
 /// run is collected in the other before it is written.
-pub(crate) const IO_BUFFER_SIZE: usize = 8192;
+pub(crate) const IO_BUFFER_BYTES: usize = 8192;
 
 /// A writer that remembers whether it has been flushed since the last write, and whether a call of
 /// `write_all_noting_failure` or `flush_noting_result` has failed.
@@ -149,7 +149,7 @@ pub(crate) fn write_without_flush<W: TrackedOutput>(
 }
 
 /// Writes a whole text, and flushes. If the write or the flush fails, the fault is `Write`.
-pub fn print<W: TrackedOutput>(out: &mut W, text: &str) -> Result<(), FileCommandFault>
+pub fn write_and_flush<W: TrackedOutput>(out: &mut W, text: &str) -> Result<(), FileCommandFault>
     ensures printed { OnOk result (Appends (W.contents out.old) (W.contents out.new) text.now) }
     ensures flushed { OnOk result (W.is_flushed out.new ≡ true) }
     ensures unfailed { OnOk result (W.has_failed out.new ≡ W.has_failed out.old) }

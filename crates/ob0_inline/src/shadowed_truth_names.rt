@@ -119,13 +119,13 @@ fn is_name_shadowed_at_some_use(
     // The proof needs the contract of this call.
     let _module = names.module();
     let bound = resolve_name_at_each_occurrence(alloc, names, name)?;
-    Ok(has_use_with_other_binding(names, &bound, constant, ordinal))
+    Ok(has_use_with_shadowed_name(names, &bound, constant, ordinal))
 }
 
 /// Returns whether the constant with the ordinal `constant` has a use whose item in `bound` isn't
 /// `ordinal`. `bound` has an item for each occurrence, in text order: the ordinal of a declaration,
 /// or None.
-fn has_use_with_other_binding(
+fn has_use_with_shadowed_name(
     names: &Resolved,
     bound: &[Option<usize>],
     constant: usize,
@@ -137,7 +137,7 @@ fn has_use_with_other_binding(
         (range_with_len 0 (length names.now.uses)) }
 {
     for occurrence in 0..names.occurrences().len() {
-        if is_use_with_other_binding(names, bound, occurrence, constant, ordinal) {
+        if is_use_with_shadowed_name(names, bound, occurrence, constant, ordinal) {
             return true;
         }
     }
@@ -147,7 +147,7 @@ fn has_use_with_other_binding(
 /// Returns whether the occurrence with the number `occurrence` is a use of the constant with the
 /// ordinal `constant`, and its item in `bound` isn't `ordinal`. `bound` has an item for each
 /// occurrence, in text order: the ordinal of a declaration, or None.
-fn is_use_with_other_binding(
+fn is_use_with_shadowed_name(
     names: &Resolved,
     bound: &[Option<usize>],
     occurrence: usize,

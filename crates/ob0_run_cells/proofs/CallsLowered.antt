@@ -52,7 +52,7 @@ drop_variables-represents typing now others old base _ _ e fits is h = absurd h
 
 module _ {N : Type 0} (table : RoutineTable N) where
   abbrev pub body_of : ℕ → ℕ → StoreTyping → Levels → RunEnvironment N → BodyContext N
-  body_of c t typing ls active = record { typing = typing; active = meanings_for_statements table.naming active; levels = ls; enters = call_freeing_variables table.naming c t active; lowered_call_effect = execution.call table.routines c t }
+  body_of c t typing ls active = record { typing = typing; active = meanings_for_statements table.naming active; levels = ls; call_effect = call_freeing_variables table.naming c t active; lowered_call_effect = execution.call table.routines c t }
 
   -- the facts about calls if c more may be open
   abbrev pub CallsKnown : ℕ → ℕ → Type 0

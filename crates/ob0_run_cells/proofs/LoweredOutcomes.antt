@@ -11,8 +11,8 @@ use Rattle.ob0_language_values.specs.Values.{End, Outcome, Overflow, Place, Shap
 use Rattle.ob0_language_runs.specs.TypeAgreement.{PlaceHasType, StoreTyping}
 use Rattle.ob0_run_machine.specs.Evaluation as machine
 use Rattle.ob0_run_machine.specs.LoweredSyntax as lowered
-use Rattle.ob0_run_cells.specs.Cells.{address}
-use Rattle.ob0_run_cells.specs.LoweredExpressions.{PlaceOutcomeHasType, outcome_of, relation_of}
+use Rattle.ob0_run_cells.specs.Cells.{address_of_place}
+use Rattle.ob0_run_cells.specs.LoweredExpressions.{PlaceOutcomeHasType, outcome_of, comparator_of_relation}
 
 abbrev pub followed_by : {A B : Type 0} → machine.StepResult A → (A → machine.StepResult B) → machine.StepResult B
 followed_by = machine.◌>>=◌
@@ -71,7 +71,7 @@ remainder-operates a b = checked_division-same (checked_division remainder a b)
 pub plus-same : (a : ℤ) → outcome_of number (machine.apply_operator lowered.sum a (pos 0)) ≡ apply_sign (Some sign.Plus) (number a)
 plus-same a = let same : a +ℤ pos 0 ≡ a = omega (arith, ints) in checked_number-same (a +ℤ pos 0) ∙ ap checked_number same
 
-pub compare-same : (r : Relation) (a b : ℤ) → succeeds_with (truth (machine.compare (relation_of r) a b)) ≡ apply_relation r (number a) (number b)
+pub compare-same : (r : Relation) (a b : ℤ) → succeeds_with (truth (machine.compare (comparator_of_relation r) a b)) ≡ apply_relation r (number a) (number b)
 compare-same relation.Equal a b = refl
 compare-same _ a b = refl
 
@@ -81,7 +81,7 @@ pub add_offset-same : (a offset : ℕ) → a + offset < 2 ^ 64 → machine.add_o
 add_offset-same a offset h = mod-eq_of_lt h
 
 abbrev pub addresses : StoreTyping → Outcome Place → Outcome ℕ
-addresses typing w = w >>= (λ p. succeeds_with (address typing p))
+addresses typing w = w >>= (λ p. succeeds_with (address_of_place typing p))
 
 abbrev pub same : ℕ → ℕ
 same a = a
@@ -102,9 +102,9 @@ ended-same x y e = ap (λ o. elim o [ succeeds_with a ↦ y | ends_run_with z �
 
 -- one step further from a place
 pub led-then : (typing : StoreTyping) (s t : Shape) (o : machine.StepResult ℕ) (w : Outcome Place) (k : ℕ → machine.StepResult ℕ) (j : Place → Outcome Place)
-    → Led typing s o w → ((p : Place) → PlaceHasType typing p s → Led typing t (k (address typing p)) (j p)) → Led typing t (followed_by o k) (w >>= j)
+    → Led typing s o w → ((p : Place) → PlaceHasType typing p s → Led typing t (k (address_of_place typing p)) (j p)) → Led typing t (followed_by o k) (w >>= j)
 led-then typing s t (machine.gives a) (succeeds_with p) k j h each =
-    let e : a ≡ address typing p = given-same a (address typing p) h.is_same in
+    let e : a ≡ address_of_place typing p = given-same a (address_of_place typing p) h.is_same in
     subst (λ a. Led typing t (k a) (j p)) (sym e) (each p h.is_place)
 led-then typing s t (machine.ends x) (ends_run_with y) k j h each = record { is_same = h.is_same; is_place = tt }
 led-then typing s t _ _ k j h each = let e = h.is_same in absurd (cc)

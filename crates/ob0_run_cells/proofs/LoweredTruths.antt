@@ -11,7 +11,7 @@ use Rattle.ob0_language_values.specs.Values.{Outcome, Value, apply_add_operator,
 use Rattle.ob0_run_machine.specs.Evaluation as machine
 use Rattle.ob0_run_machine.specs.LoweredSyntax as lowered
 use Rattle.ob0_run_cells.specs.Cells.{cells_of_store}
-use Rattle.ob0_run_cells.specs.LoweredExpressions.{OutcomeByMoment, Moment, NumberHasOutcome, RestOfChain, Slot, TruthStartsChain, TruthHasOutcome, outcome_of_remaining_addends, outcome_of_remaining_multipliers, outcome_of, relation_of, value_of_expression, value_of_factor, value_of_simple_expression, value_of_term}
+use Rattle.ob0_run_cells.specs.LoweredExpressions.{OutcomeByMoment, Moment, NumberHasOutcome, RestOfChain, Slot, TruthStartsChain, TruthHasOutcome, outcome_of_remaining_addends, outcome_of_remaining_multipliers, outcome_of, comparator_of_relation, value_of_expression, value_of_factor, value_of_simple_expression, value_of_term}
 use Rattle.ob0_run_cells.proofs.LoweredNumbers.{each-then}
 use Rattle.ob0_run_cells.proofs.LoweredOutcomes.{compare-same, gives-then, grouped-then, outcome-then, followed_by}
 
@@ -76,11 +76,11 @@ module _ {N : Type 0} (checked : TypeMeanings N) (slots : N → Slot) where
       outcome-then truth truth (machine.truth_value z.levels (cells_of_store z.store) t) (value_of_factor f z) (λ a. machine.gives (not a)) apply_not (ht z shown) (λ a. refl)
 
   pub related-means : (d e : Tree N simple) (r : Relation) (m n : lowered.Number) → NumberHasOutcome checked slots m (value_of_simple_expression d) → NumberHasOutcome checked slots n (value_of_simple_expression e)
-      → TruthHasOutcome checked slots (lowered.related (relation_of r) m n) (value_of_expression (compares d (one (relates r e))))
+      → TruthHasOutcome checked slots (lowered.related (comparator_of_relation r) m n) (value_of_expression (compares d (one (relates r e))))
   unfolding evaluate_expression
   related-means d e r m n hm hn z shown =
-      outcome-then number truth (machine.number_value z.levels (cells_of_store z.store) m) (value_of_simple_expression d z) (λ a. followed_by (machine.number_value z.levels (cells_of_store z.store) n) (λ b. machine.gives (machine.compare (relation_of r) a b))) (λ x. value_of_simple_expression e z >>= apply_relation r x) (hm z shown)
-      (λ a. outcome-then number truth (machine.number_value z.levels (cells_of_store z.store) n) (value_of_simple_expression e z) (λ b. machine.gives (machine.compare (relation_of r) a b)) (apply_relation r (number a)) (hn z shown) (compare-same r a))
+      outcome-then number truth (machine.number_value z.levels (cells_of_store z.store) m) (value_of_simple_expression d z) (λ a. followed_by (machine.number_value z.levels (cells_of_store z.store) n) (λ b. machine.gives (machine.compare (comparator_of_relation r) a b))) (λ x. value_of_simple_expression e z >>= apply_relation r x) (hm z shown)
+      (λ a. outcome-then number truth (machine.number_value z.levels (cells_of_store z.store) n) (value_of_simple_expression e z) (λ b. machine.gives (machine.compare (comparator_of_relation r) a b)) (apply_relation r (number a)) (hn z shown) (compare-same r a))
 
   pub same-means : (d e : Tree N simple) (t u : lowered.Truth) → TruthHasOutcome checked slots t (value_of_simple_expression d) → TruthHasOutcome checked slots u (value_of_simple_expression e)
       → TruthHasOutcome checked slots (lowered.same t u) (value_of_expression (compares d (one (relates relation.Equal e))))

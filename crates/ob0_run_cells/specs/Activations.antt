@@ -22,7 +22,7 @@ use Rattle.ob0_language_runs.specs.TypeAgreement.{PlaceHasType, StoreTyping}
 use Rattle.ob0_language_runs.specs.Runs.{RunEnvironment, ProcedureText}
 use Rattle.ob0_run_machine.specs.Evaluation.{Levels}
 use Rattle.ob0_run_machine.specs.LoweredSyntax as lowered
-use Rattle.ob0_run_cells.specs.Cells.{address, size}
+use Rattle.ob0_run_cells.specs.Cells.{address_of_place, shape_cell_count}
 use Rattle.ob0_run_cells.specs.LoweredStatements.{CodeMeansSequence, Target}
 use Rattle.ob0_run_cells.specs.LoweredExpressions.{Slot, in_activation, by_reference, in_module_activation, slot_address}
 
@@ -139,7 +139,7 @@ place_variable_declarations at size_of (more (declares_variable ns u) gs) p =
 abbrev pub place_parameters : {N : Type 0} → List (TypedParameter N) → PlacementState N → PlacementState N
 place_parameters [] p = p
 place_parameters (q ∷ ps) p =
-    place_parameters ps (add_name_to_placement (in_activation 0) q.formal.mode q.name (size q.formal.shape) p)
+    place_parameters ps (add_name_to_placement (in_activation 0) q.formal.mode q.name (shape_cell_count q.formal.shape) p)
 
 -- Adds names to a placement, each without a place in lowered code (`nowhere`). Names of constants
 -- and types, for example, have no place.
@@ -159,7 +159,7 @@ place_declarations at size_of b p =
 
 -- States that an object is a variable of `n` cells, or isn't a variable.
 abbrev pub HasSizeIfVariable : ℕ → Object Shape Signature → Type 0
-HasSizeIfVariable n (a_variable s) = n ≡ size s
+HasSizeIfVariable n (a_variable s) = n ≡ shape_cell_count s
 HasSizeIfVariable n other = Unit {0}
 
 -- States that `size_of` returns the number of cells of each variable in an environment.
@@ -304,7 +304,7 @@ abbrev pub BindingIsPlaced : {N : Type 0}
     → Object Place (ProcedureText N)
     → Type 0
 BindingIsPlaced table typing ls checked Fits x (a_variable s) (in_slot slot) (a_variable p) =
-    PlaceHasType typing p s × (slot_address ls slot ≡ address typing p)
+    PlaceHasType typing p s × (slot_address ls slot ≡ address_of_place typing p)
 BindingIsPlaced {N} table typing ls checked Fits x (a_procedure signature) (at_target t)
     (a_procedure code)
     =

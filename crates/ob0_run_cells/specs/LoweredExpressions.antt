@@ -17,7 +17,7 @@ use Rattle.ob0_language_runs.specs.TypeAgreement.{RunMeaningsAgreeWithCheckedMea
 use Rattle.ob0_run_machine.specs.Evaluation as machine
 use Rattle.ob0_run_machine.specs.Evaluation.{Levels, level_at}
 use Rattle.ob0_run_machine.specs.LoweredSyntax as lowered
-use Rattle.ob0_run_cells.specs.Cells.{address, cells_of_store, store_cell_count}
+use Rattle.ob0_run_cells.specs.Cells.{address_of_place, cells_of_store, store_cell_count}
 
 -- The slot of a variable: where running code finds the variable. A variable is at an offset in the
 -- cells of the module or of the activation `up` levels out. A VAR parameter is found by the number
@@ -65,7 +65,7 @@ pub record IsMomentOfModule {N : Type 0} (checked : TypeMeanings N) (slots : N �
   pub names_fit : RunMeaningsAgreeWithCheckedMeanings m.typing checked m.active
   pub variables_in_slots : (x : N) (p : Place)
       → m.active.object_for x ≡ Some (a_variable p)
-      → slot_address m.levels (slots x) ≡ address m.typing p
+      → slot_address m.levels (slots x) ≡ address_of_place m.typing p
   pub store_is_addressable : store_cell_count m.typing < 2 ^ 64
 
 -- converts an end of the machine's run to an end of a module's run
@@ -134,7 +134,7 @@ abbrev pub PlaceHasOutcome : {N : Type 0}
 PlaceHasOutcome {N} checked slots q s value =
     (m : Moment N) → IsMomentOfModule checked slots m
     → (outcome_of (λ a. a) (machine.place_address m.levels (cells_of_store m.store) q)
-    ≡ (value m >>= (λ p. succeeds_with (address m.typing p))))
+    ≡ (value m >>= (λ p. succeeds_with (address_of_place m.typing p))))
     × PlaceOutcomeHasType m.typing s (value m)
 
 -- States that the lowered place `q` means a place with values of the type `s` (`PlaceHasOutcome`). Also
@@ -248,10 +248,10 @@ abbrev pub TruthStartsChain : {N : Type 0}
 TruthStartsChain checked slots t = RestCompletesChain checked slots (TruthHasOutcome checked slots t)
 
 -- converts a relation of the language to the machine's comparator
-abbrev pub relation_of : Relation → lowered.Comparator
-relation_of relation.Equal = lowered.equal
-relation_of relation.NotEqual = lowered.not_equal
-relation_of relation.Less = lowered.less
-relation_of relation.LessEqual = lowered.less_equal
-relation_of relation.Greater = lowered.greater
-relation_of relation.GreaterEqual = lowered.greater_equal
+abbrev pub comparator_of_relation : Relation → lowered.Comparator
+comparator_of_relation relation.Equal = lowered.equal
+comparator_of_relation relation.NotEqual = lowered.not_equal
+comparator_of_relation relation.Less = lowered.less
+comparator_of_relation relation.LessEqual = lowered.less_equal
+comparator_of_relation relation.Greater = lowered.greater
+comparator_of_relation relation.GreaterEqual = lowered.greater_equal

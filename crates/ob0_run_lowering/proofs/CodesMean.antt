@@ -16,7 +16,7 @@ use Rattle.ob0_language_types.specs.WellTyped.{TypeMeanings}
 use Rattle.ob0_language_types.proofs.Literals.{some_inverse}
 use Rattle.ob0_language_values.specs.Values.{Outcome, Shape, Value, array_shape, boolean_shape, ends_run_with, succeeds_with, integer_shape, record_shape, ◌>>=◌}
 use Rattle.ob0_run_machine.specs.LoweredSyntax as lowered
-use Rattle.ob0_run_cells.specs.Cells.{size}
+use Rattle.ob0_run_cells.specs.Cells.{shape_cell_count}
 use Rattle.ob0_run_cells.specs.LoweredExpressions.{OutcomeByMoment, RestCompletesChain, NumberStartsChain, NumberHasOutcome, RestOfChain, Slot, TruthStartsChain, TruthHasOutcome, PlaceHoldsValue, outcome_of_remaining_addends, outcome_of_remaining_multipliers, value_of_expression, value_of_factor, value_of_simple_expression, value_of_term}
 use Rattle.ob0_run_cells.proofs.LoweredNumbers as numbers
 use Rattle.ob0_run_cells.proofs.LoweredOutcomes.{difference-operates, product-operates, quotient-operates, remainder-operates, sum-operates}
@@ -27,8 +27,8 @@ use Rattle.ob0_run_lowering.specs.OperationCodes.{ExpressionCode, CodeHasOutcome
 abbrev pub CodeLeads : TypeMeanings Label → (Label → Slot) → ExpressionCode → Shape → RestOfChain Label Value → OutcomeByMoment Label Value → Type 0
 CodeLeads checked slots (a_number n) integer_shape rest whole = NumberStartsChain checked slots n rest whole
 CodeLeads checked slots (a_truth t) boolean_shape rest whole = TruthStartsChain checked slots t rest whole
-CodeLeads checked slots (a_block q n) (array_shape k m s) rest whole = (n ≡ size (array_shape k m s)) × RestCompletesChain checked slots (PlaceHoldsValue checked slots q (array_shape k m s)) rest whole
-CodeLeads checked slots (a_block q n) (record_shape k fs) rest whole = (n ≡ size (record_shape k fs)) × RestCompletesChain checked slots (PlaceHoldsValue checked slots q (record_shape k fs)) rest whole
+CodeLeads checked slots (a_block q n) (array_shape k m s) rest whole = (n ≡ shape_cell_count (array_shape k m s)) × RestCompletesChain checked slots (PlaceHoldsValue checked slots q (array_shape k m s)) rest whole
+CodeLeads checked slots (a_block q n) (record_shape k fs) rest whole = (n ≡ shape_cell_count (record_shape k fs)) × RestCompletesChain checked slots (PlaceHoldsValue checked slots q (record_shape k fs)) rest whole
 CodeLeads checked slots _ _ rest whole = ⊥
 
 -- two codes with their variants, and a type

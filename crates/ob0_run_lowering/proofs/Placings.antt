@@ -14,7 +14,7 @@ use Rattle.ob0_language_types.proofs.Literals.{some_inverse}
 use Rattle.ob0_language_types.proofs.TypedElsewhere.{then_some}
 use Rattle.ob0_language_values.specs.Values.{Shape}
 use Rattle.ob0_run_cells.specs.Activations.{ReturnsSizesOfVariables, HasSizeIfVariable, PlacementState, Placement, BindingPlace, at_target, slot_of_first_binding, target_of_first_binding, suffix_from_latest_binding, add_names_without_place, in_slot, placement_seen_one_level_deeper, slot_seen_one_level_deeper, binding_place_seen_one_level_deeper, nowhere, place_parameters, slot_of_binding_place, slot_in_placement, target_of_binding_place, target_in_placement, add_name_to_placement}
-use Rattle.ob0_run_cells.specs.Cells.{size}
+use Rattle.ob0_run_cells.specs.Cells.{shape_cell_count}
 use Rattle.ob0_run_cells.specs.LoweredStatements.{Target}
 use Rattle.ob0_run_cells.specs.LoweredExpressions.{Slot, in_activation, by_reference}
 use Rattle.ob0_run_lowering.specs.Scenes.{SceneAgreesWithChecker, object_of_label, place_seen_from_depth, site_in_table, slot_of_label, target_of_label}
@@ -161,7 +161,7 @@ first_match b k env first placement h m =
 
 -- names of one type
 
-one_size : (t : DeclarationTableView) (x : Label) (s : Shape) → ((k : ℕ) × (x ≡ declared k) × (declared_object_in t k ≡ Some (a_variable s))) → declared_size t x ≡ size s
+one_size : (t : DeclarationTableView) (x : Label) (s : Shape) → ((k : ℕ) × (x ≡ declared k) × (declared_object_in t k ≡ Some (a_variable s))) → declared_size t x ≡ shape_cell_count s
 one_size t x s f = ap (declared_size t) f.1 ∙ ap (λ o. optional_shape_size (type_of_object o)) f.2
 
 has_size : (t : DeclarationTableView) (x : Label) (o : Object Shape Signature) → ((k : ℕ) × (x ≡ declared k) × (declared_object_in t k ≡ Some o)) → HasSizeIfVariable (declared_size t x) o
@@ -223,4 +223,4 @@ sections_placed t (more (semicolon_then_section f) fs) k env outer ps p h a =
 pub parameters_match : (ps : List (TypedParameter Label)) (env : TypeEnvironment Label) (p : PlacementState Label) → PlacementMatchesEnvironment env p.placement → PlacementMatchesEnvironment (bind_typed_parameters ps env) (place_parameters ps p).placement
 parameters_match [] env p m = m
 parameters_match (q ∷ ps) env p m =
-    parameters_match ps ((q.name, a_variable q.formal.shape) ∷ env) (add_name_to_placement (in_activation 0) q.formal.mode q.name (size q.formal.shape) p) (one_matches (in_activation 0) q.formal.mode q.name (size q.formal.shape) q.formal.shape env p m)
+    parameters_match ps ((q.name, a_variable q.formal.shape) ∷ env) (add_name_to_placement (in_activation 0) q.formal.mode q.name (shape_cell_count q.formal.shape) p) (one_matches (in_activation 0) q.formal.mode q.name (shape_cell_count q.formal.shape) q.formal.shape env p m)

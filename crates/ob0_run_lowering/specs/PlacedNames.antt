@@ -20,7 +20,7 @@ use Rattle.ob0_language_types.specs.WellTyped.{Signature, TypeEnvironment, param
 use Rattle.ob0_language_values.specs.Values.{Shape}
 use Rattle.ob0_run_cells.specs.Activations.{PlacementState, Placement, BindingPlace, at_target, suffix_from_latest_binding, in_slot, nowhere}
 pub use Rattle.ob0_run_cells.specs.Activations.{add_declared_names_to_placement, place_variable_declarations}
-use Rattle.ob0_run_cells.specs.Cells.{size}
+use Rattle.ob0_run_cells.specs.Cells.{shape_cell_count}
 use Rattle.ob0_run_cells.specs.LoweredStatements.{Target}
 use Rattle.ob0_run_cells.specs.LoweredExpressions.{Slot, in_activation, in_module_activation}
 use Rattle.ob0_run_lowering.specs.Scenes.{object_of_label, place_seen_from_depth, site_in_table}
@@ -77,7 +77,7 @@ PlacementMatchesEnvironment _ _ = ⊥
 -- returns the number of cells of a variable with this type, or 0 for None
 abbrev pub optional_shape_size : Option Shape → ℕ
 optional_shape_size None = 0
-optional_shape_size (Some s) = size s
+optional_shape_size (Some s) = shape_cell_count s
 
 -- returns the number of cells of the variable that a name declares, or 0 if the name has no type
 abbrev pub declared_size : DeclarationTableView → Label → ℕ

@@ -5,7 +5,7 @@ use Rattle.ob0_scan.specs.TextWithTokens.{TextWithTokens}
 use Rattle.ob0_language_values.specs.Scalars.{scalar_value}
 use Rattle.ob0_inline.specs.Declarations.{is_semicolon}
 use Rattle.ob0_inline.proofs.Ended.{end_known, none_some, token_known}
-use Rattle.ob0_inline.proofs.declared_constants.constant_with_tokens.Goals as goal
+use Rattle.ob0_inline.proofs.declared_constants.constant_with_declaration_tokens.Goals as goal
 
 pub returns-in-None-end_of_declaration : goal.returns-in-None-end_of_declaration
 returns-in-None-end_of_declaration c =

@@ -4,7 +4,7 @@ use Rattle.ob0_tree.specs.ParsedModule.{named_tree_of}
 use Rattle.ob0_language_names.specs.Occurrences.{ordinal_bound_at_occurrence}
 use Rattle.ob0_scope_table.specs.Resolution.{Resolution}
 use Rattle.ob0_language_names.specs.Scopes.{same_ordinal}
-use Rattle.ob0_inline.proofs.shadowed_truth_names.has_use_with_other_binding.Given as goal
+use Rattle.ob0_inline.proofs.shadowed_truth_names.has_use_with_shadowed_name.Given as goal
 
 -- true if an occurrence is bound to the constant, and the list binds the name to another
 -- declaration there
