@@ -21,7 +21,7 @@ use std::alloc::AllocError;
 /// The size in bytes of the buffer in which the text of a range is built. The range takes at most
 /// 160 bytes. The other 16 bytes are for the parts of an edit around its range: `","range":` before
 /// the range, and `}` after it.
-const RANGE_BUFFER_SIZE: usize = 176;
+const RANGE_BUFFER_BYTES: usize = 176;
 
 impl WriteJson for Position {
     ghost value = { λ p. position_value p };
@@ -62,8 +62,8 @@ fn write_range_and_end_of_edit(
         ++ (codes "\",\"range\":" ++ (compact_text (range_value start end) ++ 125 ∷ []))) }
     ensures reads { ReadsBack (range_value start end) }
 {
-    let mut buffer = [0; RANGE_BUFFER_SIZE];
-    let following = write_verbatim_ending_at(&mut buffer, RANGE_BUFFER_SIZE, b"}");
+    let mut buffer = [0; RANGE_BUFFER_BYTES];
+    let following = write_verbatim_ending_at(&mut buffer, RANGE_BUFFER_BYTES, b"}");
     let at_range = write_range_ending_at(&mut buffer, following, start, end);
     let at = write_verbatim_ending_at(&mut buffer, at_range, b"\",\"range\":");
     write_verbatim(out, &buffer[at..])
@@ -73,8 +73,8 @@ fn write_range_and_end_of_edit(
 fn write_range(out: &mut Vec<u8>, start: Position, end: Position) -> Result<(), AllocError>
     ensures { OnOk result (AppendsValue (range_value start end) out.old.items out.new.items) }
 {
-    let mut buffer = [0; RANGE_BUFFER_SIZE];
-    let at = write_range_ending_at(&mut buffer, RANGE_BUFFER_SIZE, start, end);
+    let mut buffer = [0; RANGE_BUFFER_BYTES];
+    let at = write_range_ending_at(&mut buffer, RANGE_BUFFER_BYTES, start, end);
     write_verbatim(out, &buffer[at..])
 }
 

@@ -5,7 +5,7 @@ use Rattle.std.specs.Prelude.{◌≡◌, ◌≢◌, ◌≤◌, ◌+◌, ◌-◌,
 use Rattle.std.specs.List.{flat_map}
 use Rattle.ob0_frame.specs.Frames.{frame}
 use Rattle.ob0_frame.specs.FramerState.{StreamRest, Open, Broken, PieceAdvancesStream}
-use Rattle.ob0_session_server.specs.Answers.{ServerState, start, IsConversation}
+use Rattle.ob0_session_server.specs.Answers.{ServerState, initial_server_state, IsConversation}
 use Rattle.ob0_session_server.specs.Steps.{HasNotEnded}
 use Rattle.ob0_session_server.specs.declared.session.Phase.TheVariants.{Ended}
 use Rattle.ob0_session.specs.Devices.{ReadStatistics}
@@ -22,7 +22,7 @@ pub record AnswersAllButWaiting (taken : List ℕ) (waiting : List (List ℕ)) (
   pub answered : List (List ℕ)
   pub sent : List (List ℕ)
   pub feeds : PieceAdvancesStream (Open []) taken (answered ++ waiting) rest
-  pub conversation : IsConversation start answered sent after
+  pub conversation : IsConversation initial_server_state answered sent after
   pub frames : put ≡ flat_map frame sent
 
 -- States that the server has answered all message contents in the bytes `taken`, and that the
@@ -58,13 +58,13 @@ pub record AnswersPrefixOfContents (taken put : List ℕ) : Type 0 where
   pub sent : List (List ℕ)
   pub front : (contents : List (List ℕ)) (rest : StreamRest) → PieceAdvancesStream (Open []) taken contents rest
       → (others : List (List ℕ)) × (contents ≡ answered ++ others)
-  pub conversation : IsConversation start answered sent after
+  pub conversation : IsConversation initial_server_state answered sent after
   pub frames : put ≡ flat_map frame sent
 
 -- States that neither the reader (`r`) nor the writer (`w`) has failed, and that the condition
 -- `flushed` holds.
-abbrev pub NoDeviceFailedAndFlushed : (reader_failed writer_failed : Bool) (flushed : Type 0) → Type 0
-NoDeviceFailedAndFlushed r w flushed = (r ≡ false) × (w ≡ false) × flushed
+abbrev pub NoFailureAndOutputFlushed : (reader_failed writer_failed : Bool) (flushed : Type 0) → Type 0
+NoFailureAndOutputFlushed r w flushed = (r ≡ false) × (w ≡ false) × flushed
 
 -- States that the writer is flushed if it was flushed before, or if something was written. The list
 -- `put` has the written bytes.
@@ -105,20 +105,20 @@ abbrev pub Serves : Result ℕ ServeFault
     → Type 0
 Serves (Ok status) taken put at_end all_read r w flushed =
     (EndsByExit status taken put ⊎ (AnswersAllContents taken (Open []) put × at_end × (status ≡ 1)))
-    × NoDeviceFailedAndFlushed r w flushed
+    × NoFailureAndOutputFlushed r w flushed
 -- BadHead: all complete messages are answered, and no message can begin with the bytes after them.
 Serves (Err BadHead) taken put at_end all_read r w flushed =
-    AnswersAllContents taken Broken put × NoDeviceFailedAndFlushed r w flushed
+    AnswersAllContents taken Broken put × NoFailureAndOutputFlushed r w flushed
 Serves (Err Truncated) taken put at_end all_read r w flushed =
     ((left : List ℕ) × AnswersAllContents taken (Open left) put × (left ≢ []) × at_end)
-    × NoDeviceFailedAndFlushed r w flushed
+    × NoFailureAndOutputFlushed r w flushed
 Serves (Err Read) taken put at_end all_read r w flushed =
     ((left : List ℕ) × AnswersAllContents taken (Open left) put) × (r ≡ true) × (w ≡ false) × flushed
 Serves (Err TooManyReads) taken put at_end all_read r w flushed =
     ((left : List ℕ) × AnswersAllContents taken (Open left) put × (max_reads ≤ length taken) × all_read)
-    × NoDeviceFailedAndFlushed r w flushed
+    × NoFailureAndOutputFlushed r w flushed
 -- Write: the bytes `put` are a prefix of the frames of valid answers.
 Serves (Err Write) taken put at_end all_read r w flushed =
     ((unwritten : List ℕ) × AnswersSomeContents taken (put ++ unwritten)) × (r ≡ false) × (w ≡ true)
 Serves (Err Memory) taken put at_end all_read r w flushed =
-    AnswersPrefixOfContents taken put × NoDeviceFailedAndFlushed r w flushed
+    AnswersPrefixOfContents taken put × NoFailureAndOutputFlushed r w flushed

@@ -64,8 +64,8 @@ server_capabilities client =
     else members)
 
 -- Returns the result of `initialize`, {"capabilities":{..}}.
-abbrev pub capabilities : ClientFeatures → Data
-capabilities client =
+abbrev pub initialize_result : ClientFeatures → Data
+initialize_result client =
     object (member (codes "capabilities") (server_capabilities client) no_members)
 
 -- ---- diagnostics, locations, edits and refusals
@@ -73,7 +73,7 @@ capabilities client =
 -- A diagnostic: its code, its message, and its start and end.
 pub record Diagnostic : Type 0 where
   pub code : List ℕ
-  pub said : List ℕ
+  pub message : List ℕ
   pub start : Position
   pub end : Position
 
@@ -144,7 +144,7 @@ edit_refusal_message id said = error_response_message id (negative_of 32803) sai
 abbrev pub diagnostic_value : Diagnostic → Data
 diagnostic_value d =
     object (member (codes "code") (text_value d.code)
-    (member (codes "message") (text_value d.said)
+    (member (codes "message") (text_value d.message)
     (member (codes "range") (range_value d.start d.end)
     (member (codes "severity") (number (unsigned 1)) no_members))))
 

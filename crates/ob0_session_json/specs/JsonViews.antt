@@ -19,7 +19,7 @@ code_action_view a = shapes.code_action_value (workspace_edit_view a.edit) a.tit
 abbrev pub diagnostic_view : Diagnostic → shapes.Diagnostic
 diagnostic_view d = record {
   code = d.code.now;
-  said = string_bytes d.message;
+  message = string_bytes d.message;
   start = d.range.start;
   end = d.range.end;
 }

@@ -23,7 +23,7 @@ use Rattle.ob0_session_answers.specs.Diagnostics.{AreDiagnosticsOf}
 use Rattle.ob0_session_answers.specs.FormattingAnswers.{AnswersFormattingRequest}
 use Rattle.ob0_session_answers.specs.Questions.{AnswersQuestion, NameQuestion, hover_question, definition_question, references_question, prepare_rename_question}
 use Rattle.ob0_session_answers.specs.RenamingAnswers.{VersionedRenameRequest, AnswersRenameRequest}
-use Rattle.ob0_session_json.specs.JsonShapes.{Diagnostic, capabilities, edit_refusal_message, publication}
+use Rattle.ob0_session_json.specs.JsonShapes.{Diagnostic, initialize_result, edit_refusal_message, publication}
 use Rattle.ob0_session_server.specs.declared.session.Phase.{Phase}
 use Rattle.ob0_session_server.specs.declared.session.Phase.TheVariants.{Starting, Running, ShutDown, Ended, Failed}
 
@@ -50,8 +50,8 @@ no_client_features =
 
 -- The state of a session before `initialize`: no document is open, and positions are counted in
 -- UTF-16 units.
-abbrev pub start : ServerState
-start = record { phase = Starting; client = no_client_features; held = no_open_documents Utf16 }
+abbrev pub initial_server_state : ServerState
+initial_server_state = record { phase = Starting; client = no_client_features; held = no_open_documents Utf16 }
 
 -- ---- the reply to one message
 
@@ -176,7 +176,7 @@ react_to_formatting s id uri indent =
 -- or the fault that prevented reading it (`Err`).
 abbrev pub react_to_parsed_request : ServerState → Data → Result ClientRequest RpcFault → Reaction
 react_to_parsed_request s id (Ok (initialize client)) =
-    record { after = state_after_initialize client; reply = fixed_reply (result_message id (capabilities client)) }
+    record { after = state_after_initialize client; reply = fixed_reply (result_message id (initialize_result client)) }
 react_to_parsed_request s id (Ok shutdown) = reaction_with_phase ShutDown s (fixed_reply (result_message id null))
 react_to_parsed_request s id (Ok (hover at)) = react_to_question s id at hover_question
 react_to_parsed_request s id (Ok (definition at)) = react_to_question s id at definition_question
@@ -266,8 +266,8 @@ react_to_message s (notice method params) = react_to_notification s.phase s meth
 -- States that a server in the state `before` may reply to this content (the bytes of one message)
 -- with the messages `sent`. `after` is the server's state after the reply. `AnswersInPhase` uses
 -- this definition if the session has neither ended nor failed.
-abbrev pub AnswersBeforeSessionEnd : ServerState → List ℕ → List (List ℕ) → ServerState → Type 0
-AnswersBeforeSessionEnd before content sent after =
+abbrev pub AnswersInActivePhase : ServerState → List ℕ → List (List ℕ) → ServerState → Type 0
+AnswersInActivePhase before content sent after =
     (json : Option Data) × IsJsonOfContent content json
     × (let r = react_to_message before (meaning_of_content json) in (after ≡ r.after) × AreContentsOfReply r.reply sent)
 
@@ -278,7 +278,7 @@ AnswersBeforeSessionEnd before content sent after =
 abbrev pub AnswersInPhase : Phase → ServerState → List ℕ → List (List ℕ) → ServerState → Type 0
 AnswersInPhase (Ended status) before content sent after = (sent ≡ []) × (after ≡ before)
 AnswersInPhase Failed before content sent after = ⊥
-AnswersInPhase phase before content sent after = AnswersBeforeSessionEnd before content sent after
+AnswersInPhase phase before content sent after = AnswersInActivePhase before content sent after
 
 -- States that a server in the state `before` may reply to this content (the bytes of one message)
 -- with the messages `sent`. `after` is the server's state after the reply.

@@ -86,7 +86,7 @@ impl<T: TextStore> Model for Session<T> {
 impl<T: TextStore> Session<T> {
     ghost use Rattle.serde_json.specs.View.{view};
     ghost use Rattle.std.specs.Option.{option_to_list};
-    ghost use Rattle.ob0_session_server.specs.Answers.{start, state_after_initialize, AnswersBeforeSessionEnd, AreContentsOfReply, react_to_request, react_to_actions, react_to_question, react_to_rename, react_to_allowed_request, react_to_parsed_request, react_to_exit, react_to_notification, publication_reply, react_with_error, react_with_fault, apply_notification};
+    ghost use Rattle.ob0_session_server.specs.Answers.{initial_server_state, state_after_initialize, AnswersInActivePhase, AreContentsOfReply, react_to_request, react_to_actions, react_to_question, react_to_rename, react_to_allowed_request, react_to_parsed_request, react_to_exit, react_to_notification, publication_reply, react_with_error, react_with_fault, apply_notification};
     ghost use Rattle.ob0_rpc.specs.Notifications.{opens, changes, closes, notification_by_method};
     ghost use Rattle.ob0_rpc.specs.MessageViews.{document_place_view, id_or_null, action_kinds_view, request_view, notification_view};
     ghost use Rattle.ob0_session_answers.specs.Questions.{references_question};
@@ -98,7 +98,7 @@ impl<T: TextStore> Session<T> {
     /// Returns a session that hasn't received `initialize` yet. No document is open, and positions
     /// are counted in UTF-16 units.
     pub fn new(alloc: Global) -> Session<T>
-        ensures { result ≡ start }
+        ensures { result ≡ initial_server_state }
     {
         Session {
             alloc,
@@ -168,7 +168,8 @@ impl<T: TextStore> Session<T> {
     /// one.
     fn reply_to_content_as_list(&mut self, content: &[u8]) -> Result<Vec<Vec<u8>>, AllocError>
         ensures { IfOk result
-            (λ sent. AnswersBeforeSessionEnd self.old content.now (map (λ v. v.items) sent.items) self.new) }
+            (λ sent. AnswersInActivePhase self.old content.now (map
+            (λ v. v.items) sent.items) self.new) }
     {
         let mut sent = Vec::new(self.alloc);
         if let Some(message) = self.reply_to_content(content)? {
@@ -180,7 +181,7 @@ impl<T: TextStore> Session<T> {
     /// Processes the content of one message, and returns the message to send in reply, or None if
     /// there is no reply.
     fn reply_to_content(&mut self, content: &[u8]) -> Result<Option<Vec<u8>>, AllocError>
-        ensures { IfOk result (λ sent. AnswersBeforeSessionEnd self.old content.now
+        ensures { IfOk result (λ sent. AnswersInActivePhase self.old content.now
             (option_to_list (option_map (λ v. v.items) sent)) self.new) }
     {
         match read(self.alloc, content) {
@@ -192,7 +193,7 @@ impl<T: TextStore> Session<T> {
                 params,
             ),
             Ok(Incoming::Ignored) => Ok(None),
-            Err(fault) => self.fault_message(None, fault),
+            Err(fault) => self.fault_response(None, fault),
         }
     }
 
@@ -215,7 +216,11 @@ impl<T: TextStore> Session<T> {
     /// Returns the error response that reports this fault. `id` is the id of the request, or None
     /// if the received bytes aren't a message. If the fault is `Memory`, returns the error
     /// `AllocError` instead. The result is never None.
-    fn fault_message(&self, id: Option<&Id>, fault: RpcFault) -> Result<Option<Vec<u8>>, AllocError>
+    fn fault_response(
+        &self,
+        id: Option<&Id>,
+        fault: RpcFault,
+    ) -> Result<Option<Vec<u8>>, AllocError>
         ensures { IfOk result (λ sent. (fault ≢ RpcFault.Memory) × MatchesReaction
             (react_with_fault self.now (id_or_null (option_map (λ i. i.now) id.entry)) fault) sent
             self.now) }
@@ -270,7 +275,7 @@ impl<T: TextStore> Session<T> {
     {
         match request(self.alloc, method, params) {
             Ok(call) => self.reply_to_parsed_request(id, call),
-            Err(fault) => self.fault_message(Some(id), fault),
+            Err(fault) => self.fault_response(Some(id), fault),
         }
     }
 

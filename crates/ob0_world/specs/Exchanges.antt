@@ -23,9 +23,9 @@ use Rattle.ob0_session_server.specs.Answers.{ServerState, state_after_initialize
 use Rattle.ob0_session_server.specs.declared.session.Phase.TheVariants.{Ended}
 use Rattle.ob0_session_server.specs.ClientUnits.{unit_for_client}
 use Rattle.ob0_world_editor.specs.MessagesToServer.{message_to_server_in_content, IsNotificationOfEvent, IsRequestWithId, SentRequestAsksForEdits}
-use Rattle.ob0_world_editor.specs.MessagesToEditor.{message_to_editor_in_content, message_to_editor_by_id_conversion}
+use Rattle.ob0_world_editor.specs.MessagesToEditor.{message_to_editor_in_content, message_to_editor_given_numbering}
 use Rattle.ob0_world_rules.specs.Asks.{Ask, rename, inline_here, inline_all, format}
-use Rattle.ob0_world_rules.specs.ClientAndServer.{OpenDocument, SentAsk, Editor, new_editor, editor_document_with_uri, MessageToServer, notifies, requests, MessageToEditor, publishes, answers, Applied, documents_after_message}
+use Rattle.ob0_world_rules.specs.ClientAndServer.{OpenDocument, SentAsk, Editor, new_editor, editor_document_with_uri, MessageToServer, notifies, requests, MessageToEditor, publishes, answers, AppliedEdit, documents_after_message}
 use Rattle.ob0_world_rules.specs.EditorActs.{ActResult, editor_after_message}
 use Rattle.ob0_world_rules.specs.EditorMoves.{IsAllowedMove}
 use Rattle.ob0_world_rules.specs.EveryEditor.{EditorAndServer, initial_editor_and_server, ExchangeTurn, editor_moves, editor_sends_unmodeled_message, server_takes_message, editor_takes_message, IsCourseOfTurns, GuaranteesHoldForEditorAndServer}
@@ -114,7 +114,7 @@ pub record Exchange : Type 0 where
   pub ids : List SentRequestId
   pub wire : Wire
   pub announced : List AnnouncedDocument
-  pub applied : List Applied
+  pub applied : List AppliedEdit
 
 -- States that no turn has been made in `x`: a client that counts positions in `unit` has
 -- initialized the session. No document is open and no content waits. The list of ids is empty, so
@@ -124,7 +124,7 @@ pub record IsInitialExchange (unit : Unit) (x : Exchange) : Type 0 where
   pub counts : unit_for_client client ≡ unit
   pub taken : List (List ℕ)
   pub got : List (List ℕ)
-  pub initialized : IsConversation server.start taken got (state_after_initialize client)
+  pub initialized : IsConversation server.initial_server_state taken got (state_after_initialize client)
   pub is : x
       ≡ record {
         editor = new_editor unit;
@@ -210,17 +210,17 @@ IsRequestForAsk id uri (inline_all position) content = IsCodeActionRequest id ur
 IsRequestForAsk id uri (format indent) content = IsRequestWithId id uri (format indent) content
 
 -- states that the client accepts literal code actions, which contain their edits
-abbrev pub AcceptsLiteralActions : ClientFeatures → Type 0
-AcceptsLiteralActions client = client.accepts_literal_actions ≡ true
+abbrev pub ClientAcceptsLiteralActions : ClientFeatures → Type 0
+ClientAcceptsLiteralActions client = client.accepts_literal_actions ≡ true
 
 -- States that the client accepts the edits that answer this ask (request for edits). For an
--- inlining, it must accept literal code actions (`AcceptsLiteralActions`). For any other ask there
--- is no condition.
-abbrev pub AcceptsEditsForAsk : ClientFeatures → Ask → Type 0
-AcceptsEditsForAsk client (rename position name) = ⊤
-AcceptsEditsForAsk client (inline_here position) = AcceptsLiteralActions client
-AcceptsEditsForAsk client (inline_all position) = AcceptsLiteralActions client
-AcceptsEditsForAsk client (format indent) = ⊤
+-- inlining, it must accept literal code actions (`ClientAcceptsLiteralActions`). For any other ask
+-- there is no condition.
+abbrev pub ClientAcceptsEditsForAsk : ClientFeatures → Ask → Type 0
+ClientAcceptsEditsForAsk client (rename position name) = ⊤
+ClientAcceptsEditsForAsk client (inline_here position) = ClientAcceptsLiteralActions client
+ClientAcceptsEditsForAsk client (inline_all position) = ClientAcceptsLiteralActions client
+ClientAcceptsEditsForAsk client (format indent) = ⊤
 
 -- states that the sent request with number `k` asks for these edits (`ask`) of the document with
 -- this uri, and that it has this id
@@ -230,7 +230,8 @@ pub record IsAskWithId (ids : List SentRequestId) (requested : List SentAsk) (id
   pub is : SentRequestAsksForEdits requested k uri ask
 
 -- States that the content is this message, sent to a session whose client has these features. If
--- the message is a request for edits, the client must accept the edits (`AcceptsEditsForAsk`).
+-- the message is a request for edits, the client must accept the edits
+-- (`ClientAcceptsEditsForAsk`).
 abbrev pub IsMessageToSession : ClientFeatures
     → List SentRequestId
     → List SentAsk
@@ -242,7 +243,7 @@ IsMessageToSession client ids requested (requests k uri ask) content =
     (id : Data)
     × IsRequestForAsk id uri ask content
     × IsAskWithId ids requested id k uri ask
-    × AcceptsEditsForAsk client ask
+    × ClientAcceptsEditsForAsk client ask
 
 -- States that there are as many contents as messages, and that the n-th content is the n-th
 -- message. If the n-th message is None, the n-th content is a message outside the model.
@@ -266,8 +267,8 @@ AreMessagesToSession client ids requested (None ∷ messages) [] = ⊥
 
 -- Returns the message that the editor reads in a content, or None if the content isn't a message to
 -- the editor. `ids` maps the id in an answer to the number of the request that it answers.
-abbrev pub message_to_editor_by_request_ids : List SentRequestId → List SentAsk → List ℕ → Option MessageToEditor
-message_to_editor_by_request_ids ids requested content = message_to_editor_by_id_conversion (ask_number_of_json_id ids) requested content
+abbrev pub message_to_editor_given_ids : List SentRequestId → List SentAsk → List ℕ → Option MessageToEditor
+message_to_editor_given_ids ids requested content = message_to_editor_given_numbering (ask_number_of_json_id ids) requested content
 
 -- Returns the editor after it has read this message, or the unchanged editor for None (no message).
 -- The editor stores each answer that has edits, and nothing else.
@@ -282,7 +283,7 @@ EditorReadsFirstContent [] old new = new ≡ old
 EditorReadsFirstContent (content ∷ rest) old new =
     new
     ≡ record old {
-      editor = editor_after_optional_message old.editor (message_to_editor_by_request_ids old.ids old.editor.requested content);
+      editor = editor_after_optional_message old.editor (message_to_editor_given_ids old.ids old.editor.requested content);
       wire = record old.wire { got = old.wire.got ++ content ∷ []; to_editor = rest };
     }
 
@@ -337,7 +338,7 @@ IsExchangeCourse old (turn ∷ turns) new =
 abbrev pub NeverMeansMessageToEditor : List SentRequestId → List ℕ → Type 0
 NeverMeansMessageToEditor ids content =
     (later : List SentRequestId) (requested : List SentAsk)
-    → message_to_editor_by_request_ids (ids ++ later) requested content ≡ None
+    → message_to_editor_given_ids (ids ++ later) requested content ≡ None
 
 -- States that there are as many contents as messages, and that the editor reads the n-th message in
 -- the n-th content. If the n-th message is None, the editor never reads a message in the n-th
@@ -349,7 +350,7 @@ abbrev pub AreMessagesToEditor : List SentRequestId
     → Type 0
 AreMessagesToEditor ids requested [] [] = ⊤
 AreMessagesToEditor ids requested (Some m ∷ messages) (content ∷ contents) =
-    (message_to_editor_by_request_ids ids requested content ≡ Some m) × AreMessagesToEditor ids requested messages contents
+    (message_to_editor_given_ids ids requested content ≡ Some m) × AreMessagesToEditor ids requested messages contents
 AreMessagesToEditor ids requested (None ∷ messages) (content ∷ contents) =
     NeverMeansMessageToEditor ids content × AreMessagesToEditor ids requested messages contents
 AreMessagesToEditor ids requested [] (content ∷ contents) = ⊥
@@ -372,7 +373,7 @@ pub record FollowsModel (unit : Unit) (turns : List ExchangeTurn) (x : Exchange)
   pub means : AreMessagesToEditor x.ids x.editor.requested model.to_editor x.wire.to_editor
   pub holds : GuaranteesHoldForEditorAndServer model
   -- the session has taken and sent these contents in one conversation, from the session's start
-  pub conversation : IsConversation server.start x.wire.taken (x.wire.got ++ x.wire.to_editor)
+  pub conversation : IsConversation server.initial_server_state x.wire.taken (x.wire.got ++ x.wire.to_editor)
       x.wire.session
 
 -- states that every exchange of a session and an editor that keeps ob0's rules follows the model
@@ -484,7 +485,7 @@ pub record GuaranteesHoldForExchange (begin now : Exchange) : Type 0 where
       → document_at (fold documents_after_message now.wire.session.held (notifications_in_contents now.wire.to_server)) uri
       ≡ option_map in_step_document (editor_document_with_uri now.editor uri)
   -- the session has taken and sent these contents in one conversation, from the session's start
-  pub conversation : IsConversation server.start now.wire.taken
+  pub conversation : IsConversation server.initial_server_state now.wire.taken
       (now.wire.got ++ now.wire.to_editor) now.wire.session
   -- if the session next takes `shutdown` and `exit`, it ends with status 0
   pub ends : (id : Data) (shutdown exit : List ℕ) → IsShutdownRequest id shutdown → IsExitNotification exit

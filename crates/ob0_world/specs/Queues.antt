@@ -17,14 +17,14 @@ use Rattle.ob0_world_editor.specs.MessagesToServer.{message_to_server_in_content
 use Rattle.ob0_world_editor.specs.MessagesToEditor.{message_to_editor_in_content}
 use Rattle.ob0_world_editor.specs.ModelValues.{model_applied_edit_of}
 use Rattle.ob0_world_editor.specs.declared.applied_edits.Applied as applied
-use Rattle.ob0_world_rules.specs.ClientAndServer.{OpenDocument, SentAsk, Editor, editor_document_with_uri, MessageToServer, MessageToEditor, publishes, answers, PublicationWithText, ClientAndServer, start}
+use Rattle.ob0_world_rules.specs.ClientAndServer.{OpenDocument, SentAsk, Editor, editor_document_with_uri, MessageToServer, MessageToEditor, publishes, answers, PublicationWithText, ClientAndServer, initial_client_and_server}
 use Rattle.ob0_world_rules.specs.EditorActs.{version_as_natural}
 use Rattle.ob0_world_rules.specs.Events.{Event, IsCourse}
 use Rattle.ob0_world.specs.declared.events.Seen as seen
 use Rattle.ob0_world.specs.declared.play_results.Made as made
 pub use Rattle.ob0_world.specs.ModelValues.{bytes_of_contents}
 use Rattle.ob0_world.specs.ModelValues.{model_publication_of}
-use Rattle.ob0_world.specs.Seen.{nothing, sent, model_report_of}
+use Rattle.ob0_world.specs.EventReport.{nothing, sent, model_report_of}
 use Rattle.ob0_world.specs.Worlds.{Wire, Connection}
 
 -- a list of contents, for example a queue; a content is the bytes of one message
@@ -158,9 +158,10 @@ pub record CountsAreAtMost (n : ℕ) (e : Editor) : Type 0 where
   pub asks : length e.requested ≤ n
   pub versions : (uri : List ℕ) (d : OpenDocument) → editor_document_with_uri e uri ≡ Some d → version_as_natural d.version ≤ n
 
--- states that some list of events leads from the initial state (`start`) to this state
+-- states that some list of events leads from the initial state (`initial_client_and_server`) to
+-- this state
 abbrev pub IsReachable : ClientAndServer → Type 0
-IsReachable w = (unit : Unit) × (events : List Event) × IsCourse (start unit) events w
+IsReachable w = (unit : Unit) × (events : List Event) × IsCourse (initial_client_and_server unit) events w
 
 -- ---- clauses of the functions that serve, send and take a content
 
@@ -175,9 +176,9 @@ publication_in_first_content held requested (content ∷ contents) =
 -- States that the queue `new` is the queue `old` with this content appended, and that the report
 -- `seen` is `sent`. If there is no content (None), the queue is unchanged and the report is
 -- `nothing`.
-abbrev pub QueuesContent : Contents → Option (Vec ℕ Global) → seen.Seen → Contents → Type 0
-QueuesContent old None seen new = (model_report_of seen ≡ nothing) × (new ≡ old)
-QueuesContent old (Some content) seen new = (model_report_of seen ≡ sent) × (new ≡ old ++ content ∷ [])
+abbrev pub AppendsContentToQueue : Contents → Option (Vec ℕ Global) → seen.Seen → Contents → Type 0
+AppendsContentToQueue old None seen new = (model_report_of seen ≡ nothing) × (new ≡ old)
+AppendsContentToQueue old (Some content) seen new = (model_report_of seen ≡ sent) × (new ≡ old ++ content ∷ [])
 
 -- States that the first waiting content was moved to the end of `got`, the contents that the editor
 -- has taken. If no content waits, nothing has changed. `waiting'` and `got'` are the waiting and

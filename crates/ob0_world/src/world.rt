@@ -4,7 +4,7 @@
 //! server (`ClientAndServer`), with their documents and messages. The `Wire` is the session, with
 //! the contents of all messages in each direction, taken or still waiting.
 //!
-//! `ChangesWire` states how each event changes the session and the contents, and `QueuesMatch`
+//! `EventChangesWire` states how each event changes the session and the contents, and `QueuesMatch`
 //! states that the model and the `Wire` agree. (`Connection::prove_queues_match` is called only for
 //! its contract.) The contract of `step` has two cases: the step performs its event (`WorldSteps`),
 //! or it fails (`WorldFails`).
@@ -19,7 +19,7 @@ ghost use Rattle.ob0_text.specs.declared.position_types.Unit.TheVariants.{Utf16}
 ghost use Rattle.ob0_world_rules.specs.Headline.{GuaranteesHold};
 ghost use Rattle.ob0_world_rules.specs.MirroredDocuments.{ServerWillMirrorEditor};
 ghost use Rattle.ob0_world.specs.ModelValues.{model_event_of, played_edits, played_publications};
-ghost use Rattle.ob0_world.specs.Seen.{model_report_of};
+ghost use Rattle.ob0_world.specs.EventReport.{model_report_of};
 ghost use Rattle.ob0_world.specs.Worlds.{ResultsMatchModel, ContentsMatchWire, IsNewWorld, IsResultOfPlaying, IsFaultOfPlaying, WorldSteps, WorldFails};
 ghost use Rattle.ob0_world.specs.declared.faults.WorldFault.TheVariants.{Memory};
 

@@ -8,7 +8,7 @@ use Rattle.ob0_frame.specs.Head.{max_content_length}
 use Rattle.ob0_scope_table.specs.Resolution.{Resolution, IsResolution, ordinal_in}
 use Rattle.ob0_tree.specs.ParsedModule.{ParsedModule, tree_of}
 use Rattle.ob0_analysis.specs.ReportedErrors.{ReportedDiagnosis, ReportsErrorsOf}
-use Rattle.ob0_session_server.specs.Answers.{ServerState, start, Reply, AreContentsOfReply, Answers, IsConversation}
+use Rattle.ob0_session_server.specs.Answers.{ServerState, initial_server_state, Reply, AreContentsOfReply, Answers, IsConversation}
 use Rattle.ob0_session_server.specs.declared.session.Phase.TheVariants.{Ended}
 use Rattle.ob0_session.specs.ServeResults.{EndsByExit, Serves}
 use Rattle.ob0_session.specs.declared.serve_loop.ServeFault.{ServeFault}
@@ -133,7 +133,7 @@ abbrev pub ServeAnswersLikeSession : Type 0
 ServeAnswersLikeSession =
     (taken sent : List (List ℕ)) (after : ServerState)
     → All (λ content. length content ≤ max_content_length) taken
-    → IsConversation start taken sent after
+    → IsConversation initial_server_state taken sent after
     → (put : List ℕ) (result : Result ℕ ServeFault) → AllOutputIsWritten result
     → ServeMayReturn result (flat_map frame taken) put
     → put ≡ flat_map frame sent
@@ -146,7 +146,7 @@ abbrev pub ServeAnswersPrefixLikeSession : Type 0
 ServeAnswersPrefixLikeSession =
     (taken sent : List (List ℕ)) (after : ServerState)
     → All (λ content. length content ≤ max_content_length) taken
-    → IsConversation start taken sent after
+    → IsConversation initial_server_state taken sent after
     → (more put : List ℕ) (result : Result ℕ ServeFault) → AllOutputIsWritten result
     → ServeMayReturn result (flat_map frame taken ++ more) put
     → (later : List ℕ) × (put ≡ flat_map frame sent ++ later)
@@ -160,7 +160,7 @@ abbrev pub ServeEndsLikeSession : Type 0
 ServeEndsLikeSession =
     (taken sent : List (List ℕ)) (after : ServerState) (status : ℕ)
     → All (λ content. length content ≤ max_content_length) taken
-    → IsConversation start taken sent after
+    → IsConversation initial_server_state taken sent after
     → after.phase ≡ Ended status
     → (more put : List ℕ) (result : Result ℕ ServeFault) → AllOutputIsWritten result
     → ServeMayReturn result (flat_map frame taken ++ more) put

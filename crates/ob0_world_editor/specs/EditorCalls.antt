@@ -6,7 +6,7 @@ use Rattle.std.specs.FinMap as map_of
 use Rattle.std.specs.declared.alloc.Global.{Global}
 use Rattle.ob0_text.specs.OpenDocuments.{Changed}
 use Rattle.ob0_world_rules.specs.TextEdits.{Replacement, whole_text_change}
-use Rattle.ob0_world_rules.specs.ClientAndServer.{OpenDocument, SentAsk, Applied, Editor, editor_document_with_uri, MessageToServer, notifies}
+use Rattle.ob0_world_rules.specs.ClientAndServer.{OpenDocument, SentAsk, AppliedEdit, Editor, editor_document_with_uri, MessageToServer, notifies}
 use Rattle.ob0_world_rules.specs.EditorActs.{version_as_natural, ActResult, result_of_changing_text, edits_of_answer_to_request, remove_answer_to_request}
 use Rattle.ob0_world_editor.specs.ModelValues.{model_answer_of, model_applied_edit_of}
 use Rattle.ob0_world_rules.specs.TextEdits.{replacements_of_edits}
@@ -51,7 +51,7 @@ SendsAndAppliesNothing done new = (new ≡ done.editor) × (done.sent ≡ []) ×
 abbrev pub IsApplyOutcome : ActResult → Bool → applying.ApplyOutcome → Editor → Type 0
 IsApplyOutcome done held applying.TheVariants.NoSuchAnswer new = SendsAndAppliesNothing done new × (held ≡ false)
 IsApplyOutcome done held applying.TheVariants.Dropped new = SendsAndAppliesNothing done new × (held ≡ true)
-IsApplyOutcome done held (applying.TheVariants.Made applied content) new =
+IsApplyOutcome done held (applying.TheVariants.EditsMade applied content) new =
     PerformsAct done (Some content) new × (done.applied ≡ model_applied_edit_of applied ∷ []) × (held ≡ true)
 
 -- ---- applying an answer, step by step
@@ -71,7 +71,7 @@ IsIndexOfAnswer answers k None = edits_of_answer_to_request k (map model_answer_
 -- opening number in `r`
 abbrev pub editor_with_new_text : Editor → rewritten.RewrittenDocument → Editor
 editor_with_new_text e r =
-    let a : Applied = model_applied_edit_of r.applied in
+    let a : AppliedEdit = model_applied_edit_of r.applied in
     record e {
       documents
           = map_of.insert e.documents a.uri
@@ -81,7 +81,7 @@ editor_with_new_text e r =
 -- returns the notification that gives the server the whole new text of the document of `r`
 abbrev pub new_text_notification : rewritten.RewrittenDocument → MessageToServer
 new_text_notification r =
-    let a : Applied
+    let a : AppliedEdit
     = model_applied_edit_of r.applied in notifies (Changed a.uri (pos r.version) (whole_text_change a.after ∷ []))
 
 -- States that the act with the result `done` gives the document the new text in `r`, applies the
@@ -104,7 +104,7 @@ RewritesDocumentUnlessBothNone e (Some done) (Some r) = RewritesDocument e done 
 -- None if that text is None
 abbrev pub result_of_changing_text_if_edited : Editor → List ℕ → OpenDocument → Option (List ℕ) → Option ActResult
 result_of_changing_text_if_edited e uri d text_after_edits =
-    let applied : List ℕ → Applied = λ text. record { uri = uri; before = d.text; after = text } in
+    let applied : List ℕ → AppliedEdit = λ text. record { uri = uri; before = d.text; after = text } in
     option_map (λ text. result_of_changing_text e uri d text (whole_text_change text ∷ []) (applied text ∷ [])) text_after_edits
 
 -- states that `new` is the editor with the document's new text, and that the content is the
@@ -113,12 +113,12 @@ abbrev pub StoresNewText : Editor → rewritten.RewrittenDocument → Vec ℕ Gl
 StoresNewText old r content new =
     (new ≡ editor_with_new_text old r) × IsMessageToServer new.requested (new_text_notification r) content.items
 
--- States that the outcome is `Made`, with the applied edit in `r` and the content of the
+-- States that the outcome is `EditsMade`, with the applied edit in `r` and the content of the
 -- notification of the new text. `new` is the editor with that text.
 abbrev pub IsRewriteOutcome : Editor → rewritten.RewrittenDocument → applying.ApplyOutcome → Editor → Type 0
 IsRewriteOutcome old r applying.TheVariants.NoSuchAnswer new = ⊥
 IsRewriteOutcome old r applying.TheVariants.Dropped new = ⊥
-IsRewriteOutcome old r (applying.TheVariants.Made applied content) new =
+IsRewriteOutcome old r (applying.TheVariants.EditsMade applied content) new =
     (new ≡ editor_with_new_text old r)
     × (model_applied_edit_of applied ≡ model_applied_edit_of r.applied)
     × IsMessageToServer new.requested (new_text_notification r) content.items

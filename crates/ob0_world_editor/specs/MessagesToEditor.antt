@@ -63,16 +63,16 @@ edits_of_items (item d ds) = option_and_then (λ e. option_map (λ es. e ∷ es)
 -- the member `documentChanges`, or None if the member is missing. If the member exists, the list is
 -- in its first element, whose uri is ignored. Otherwise the list is in the member `changes`, under
 -- this uri. Returns None if the list is missing.
-abbrev pub edit_items_given_document_changes : List ℕ → Data → Option Data → Option Items
-edit_items_given_document_changes uri edit (Some documents) =
+abbrev pub text_edits_given_document_changes : List ℕ → Data → Option Data → Option Items
+text_edits_given_document_changes uri edit (Some documents) =
     option_and_then as_array (option_and_then (get (codes "edits")) (at 0 documents))
-edit_items_given_document_changes uri edit None =
+text_edits_given_document_changes uri edit None =
     option_and_then as_array (option_and_then (get uri) (get (codes "changes") edit))
 
 -- Returns the JSON list of the text edits in a WorkspaceEdit, or None if the list is missing. The
 -- uri is used only if the WorkspaceEdit has no member `documentChanges`.
-abbrev pub workspace_edit_items : List ℕ → Data → Option Items
-workspace_edit_items uri edit = edit_items_given_document_changes uri edit (get (codes "documentChanges") edit)
+abbrev pub text_edits_in_workspace_edit : List ℕ → Data → Option Items
+text_edits_in_workspace_edit uri edit = text_edits_given_document_changes uri edit (get (codes "documentChanges") edit)
 
 -- Returns the first code action with this title in a JSON list, or None if no action has this
 -- title.
@@ -82,22 +82,22 @@ first_action_with_title title (item d ds) =
     if equals_optional_text title (text_member (codes "title") d) then Some d else first_action_with_title title ds
 
 -- Returns the JSON list of the text edits in the first code action with this title. `value` is the
--- JSON list of the actions. `workspace_edit_items` finds the text edits in the action's
+-- JSON list of the actions. `text_edits_in_workspace_edit` finds the text edits in the action's
 -- WorkspaceEdit. Returns None if the action or its list of text edits is missing.
-abbrev pub action_edit_items : List ℕ → List ℕ → Data → Option Items
-action_edit_items title uri value =
-    option_and_then (workspace_edit_items uri)
+abbrev pub text_edits_in_action : List ℕ → List ℕ → Data → Option Items
+text_edits_in_action title uri value =
+    option_and_then (text_edits_in_workspace_edit uri)
     (option_and_then (get (codes "edit")) (option_and_then (first_action_with_title title) (as_array value)))
 
 -- Returns the JSON list of the text edits in `value`, the result of an ask (request for edits), or
 -- None if the list is missing. The result of a rename is a WorkspaceEdit. The result of an inlining
 -- is a list of actions, of which the ask selects one by its title. The result of a formatting is
 -- the list of text edits.
-abbrev pub edit_items_in_result : List ℕ → Ask → Data → Option Items
-edit_items_in_result uri (rename position name) value = workspace_edit_items uri value
-edit_items_in_result uri (inline_here position) value = action_edit_items (codes "Inline here") uri value
-edit_items_in_result uri (inline_all position) value = action_edit_items (codes "Inline everywhere") uri value
-edit_items_in_result uri (format indent) value = as_array value
+abbrev pub text_edits_in_result : List ℕ → Ask → Data → Option Items
+text_edits_in_result uri (rename position name) value = text_edits_in_workspace_edit uri value
+text_edits_in_result uri (inline_here position) value = text_edits_in_action (codes "Inline here") uri value
+text_edits_in_result uri (inline_all position) value = text_edits_in_action (codes "Inline everywhere") uri value
+text_edits_in_result uri (format indent) value = as_array value
 
 -- Returns the edits in the answer to an ask (request for edits) about the document with this uri.
 -- The list is empty if the answer has no list of edits, for example if it is a refusal or has the
@@ -105,7 +105,7 @@ edit_items_in_result uri (format indent) value = as_array value
 abbrev pub edits_in_answer : List ℕ → Ask → Data → List Replacement
 edits_in_answer uri ask answer =
     unwrap_or
-    (option_and_then edits_of_items (option_and_then (edit_items_in_result uri ask) (get (codes "result") answer))) []
+    (option_and_then edits_of_items (option_and_then (text_edits_in_result uri ask) (get (codes "result") answer))) []
 
 -- Returns the answer to request `k`, with the edits that are read from the JSON value `answer`.
 -- Returns None if the editor has sent no request with this number.
@@ -141,12 +141,12 @@ message_to_editor_of_value number_of requested d =
 -- Returns the message to the editor in a content, or None if the content isn't a message to the
 -- editor. `requested` lists the requests for edits that the editor has sent. `number_of` converts
 -- an answer's id to the number of the answered request.
-unfoldable pub message_to_editor_by_id_conversion : (Data → Option ℕ) → List SentAsk → List ℕ → Option MessageToEditor
-message_to_editor_by_id_conversion number_of requested content =
+unfoldable pub message_to_editor_given_numbering : (Data → Option ℕ) → List SentAsk → List ℕ → Option MessageToEditor
+message_to_editor_given_numbering number_of requested content =
     if is_utf8_unit content
     then option_and_then (message_to_editor_of_value number_of requested) (read content) else None
 
 -- Returns the message to the editor in a content, or None if the content isn't a message to the
 -- editor. The id of an answer is the number of the answered request for edits.
 abbrev pub message_to_editor_in_content : List SentAsk → List ℕ → Option MessageToEditor
-message_to_editor_in_content requested content = message_to_editor_by_id_conversion request_number_from_id requested content
+message_to_editor_in_content requested content = message_to_editor_given_numbering request_number_from_id requested content

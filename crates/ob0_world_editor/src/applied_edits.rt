@@ -23,7 +23,7 @@ pub enum ApplyOutcome {
     Dropped,
     /// The edits were made. `applied` records the uri and the text before and after the edits.
     /// `content` is the content of the notification that gives the server the new text.
-    Made { applied: Applied, content: Vec<u8> },
+    EditsMade { applied: Applied, content: Vec<u8> },
 }
 
 /// Returns the record of an applied edit, with copies of the uri and of the text before the edit.

@@ -311,7 +311,7 @@ impl Editor {
         ensures err { OnErr result (self.new ≡ self.old) }
     {
         let content = self.store_new_text(&rewritten)?;
-        Ok(ApplyOutcome::Made {
+        Ok(ApplyOutcome::EditsMade {
             applied: rewritten.applied,
             content,
         })

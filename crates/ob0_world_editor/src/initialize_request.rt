@@ -6,7 +6,7 @@ ghost use Rattle.ob0_world_editor.specs.InitializeRequest.{client_capability_mem
 
 use crate::json_objects::{write_three_members, write_two_members};
 use crate::params::Request;
-use ob0_rpc::{OneMemberObject, WriteJson, content_of};
+use ob0_rpc::{OneMemberObject, WriteJson, content_of_message};
 use ob0_text::Unit;
 use std::alloc::{AllocError, Global};
 
@@ -24,7 +24,7 @@ pub fn initialize(alloc: Global, unit: Unit) -> Result<Vec<u8>, AllocError>
         value: capabilities,
     };
     let (id, method) = ("initialize", "initialize");
-    content_of(alloc, &Request { id, method, params })
+    content_of_message(alloc, &Request { id, method, params })
 }
 
 /// The capabilities of the client, as a JSON value.

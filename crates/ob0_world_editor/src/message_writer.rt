@@ -15,7 +15,7 @@ use crate::params::{
     FormattingOptions, FormattingParams, RenameParams, Request, TextDocumentItem,
     VersionedDocumentId,
 };
-use ob0_rpc::{OneMemberObject, WriteJson, content_of, notification_text};
+use ob0_rpc::{OneMemberObject, WriteJson, content_of_message, notification_text};
 use ob0_text::Change;
 use std::alloc::{AllocError, Global};
 
@@ -146,5 +146,5 @@ fn request_content<P: WriteJson>(
         → Writes (request_message number method.now (P.value params.now)) content.items) }
 {
     let id = number;
-    content_of(alloc, &Request { id, method, params })
+    content_of_message(alloc, &Request { id, method, params })
 }

@@ -12,7 +12,7 @@ use Rattle.std.proofs.lemmas.Option.{cond_some, same_Some, none-some}
 use Rattle.std.proofs.lemmas.List.Elements.{All-nil, All-head, All-tail, All-weaker, All-push}
 use Rattle.ob0_text.specs.declared.position_types.Unit.{Unit}
 use Rattle.ob0_text.specs.OpenDocuments.{TextChange}
-use Rattle.ob0_world_rules.specs.ClientAndServer.{OpenDocument, EditorDocuments, SentAsk, ReceivedAnswer, Editor, new_editor, sent_ask_with_number, editor_document_with_uri, Applied}
+use Rattle.ob0_world_rules.specs.ClientAndServer.{OpenDocument, EditorDocuments, SentAsk, ReceivedAnswer, Editor, new_editor, sent_ask_with_number, editor_document_with_uri, AppliedEdit}
 use Rattle.ob0_world_rules.specs.Asks.{Ask}
 use Rattle.ob0_world_rules.specs.EditorActs.{version_as_natural, next_version, is_same_version, result_of_opening_document, result_of_changing_text, result_of_closing_document, result_of_sending_ask, document_if_unchanged_since_ask}
 use Rattle.ob0_world_rules.proofs.UriLaws.{get_put, get_removed, same_uri}
@@ -168,7 +168,7 @@ knows_open e uri text knows =
       asks = later_asks e (result_of_opening_document e uri text).editor (later_open e uri d refl) e.requested knows.asks;
     }
 
-pub knows_rewrite : (e : Editor) (uri : List ℕ) (d : OpenDocument) (text : List ℕ) (how : List TextChange) (applied : List Applied) → editor_document_with_uri e uri ≡ Some d → Knows e → Knows (result_of_changing_text e uri d text how applied).editor
+pub knows_rewrite : (e : Editor) (uri : List ℕ) (d : OpenDocument) (text : List ℕ) (how : List TextChange) (applied : List AppliedEdit) → editor_document_with_uri e uri ≡ Some d → Knows e → Knows (result_of_changing_text e uri d text how applied).editor
 knows_rewrite e uri d text how applied was_open knows =
     let new : OpenDocument = record d { version = next_version d.version; text = text } in
     record {

@@ -84,7 +84,7 @@ pub data MessageToEditor : Type 0 where
 -- ---- records of applied edits and publications
 
 -- an edit that the editor applied: the document's uri, and its text before and after the edit
-pub record Applied : Type 0 where
+pub record AppliedEdit : Type 0 where
   pub uri : List ℕ
   pub before : List ℕ
   pub after : List ℕ
@@ -107,13 +107,13 @@ pub record ClientAndServer : Type 0 where
   -- the documents that are open in the server
   pub held : OpenDocuments
   pub to_editor : List MessageToEditor
-  pub applied : List Applied
+  pub applied : List AppliedEdit
   pub made : List PublicationWithText
 
 -- returns the state before the first event, for a client and a server that count positions in this
 -- unit
-abbrev pub start : Unit → ClientAndServer
-start unit =
+abbrev pub initial_client_and_server : Unit → ClientAndServer
+initial_client_and_server unit =
     record {
       editor = new_editor unit;
       to_server = [];

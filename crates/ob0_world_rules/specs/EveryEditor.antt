@@ -4,9 +4,9 @@
 use Rattle.std.specs.Prelude.{◌≡◌, List, [], ◌∷◌, ◌++◌, map, Option, Some, None}
 use Rattle.ob0_text.specs.declared.position_types.Unit.{Unit}
 use Rattle.ob0_text.specs.OpenDocuments.{OpenDocuments, no_open_documents}
-use Rattle.ob0_world_rules.specs.ClientAndServer.{Editor, new_editor, MessageToServer, notifies, requests, MessageToEditor, Applied, PublicationWithText, ClientAndServer, start, documents_after_message}
+use Rattle.ob0_world_rules.specs.ClientAndServer.{Editor, new_editor, MessageToServer, notifies, requests, MessageToEditor, AppliedEdit, PublicationWithText, ClientAndServer, initial_client_and_server, documents_after_message}
 use Rattle.ob0_world_rules.specs.EditorActs.{ActResult, editor_after_message}
-use Rattle.ob0_world_rules.specs.ServerReplies.{RepliesToMessage}
+use Rattle.ob0_world_rules.specs.ServerReplies.{ServerRepliesToMessage}
 use Rattle.ob0_world_rules.specs.Events.{Event, IsCourse}
 use Rattle.ob0_world_rules.specs.Headline.{GuaranteesHold, PublicationsAreUpToDate}
 use Rattle.ob0_world_rules.specs.MirroredDocuments.{ServerWillMirrorEditor}
@@ -27,7 +27,7 @@ pub record EditorAndServer : Type 0 where
   pub to_editor : List (Option MessageToEditor)
   -- the documents that the editor has announced to the server so far
   pub announced : List AnnouncedDocument
-  pub applied : List Applied
+  pub applied : List AppliedEdit
   pub made : List PublicationWithText
 
 -- returns the state before the first turn, in which editor and server count positions in this unit
@@ -104,7 +104,7 @@ ServerTakesNextMessage w (None ∷ rest) new =
 ServerTakesNextMessage w (Some message ∷ rest) new =
     (said : List MessageToEditor)
     × (made : List PublicationWithText)
-    × RepliesToMessage w.held message said made
+    × ServerRepliesToMessage w.held message said made
     × (new
     ≡ record w {
       to_server = rest;
@@ -174,7 +174,7 @@ GuaranteesHoldForEveryEditor =
 abbrev pub ModelEditorKeepsRules : Type 0
 ModelEditorKeepsRules =
     (unit : Unit) (events : List Event) (end : ClientAndServer)
-    → IsCourse (start unit) events end
+    → IsCourse (initial_client_and_server unit) events end
     → (turns : List ExchangeTurn)
     × (w : EditorAndServer)
     × IsCourseOfTurns (initial_editor_and_server unit) turns w

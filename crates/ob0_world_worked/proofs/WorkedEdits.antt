@@ -14,12 +14,12 @@ use Rattle.ob0_edits_tokens.specs.Ranges.{range_of}
 use Rattle.ob0_edits_tokens.specs.Removals.{span_of_tokens, text_after_removal_and_replacement}
 use Rattle.ob0_edits_tokens.specs.Replacements.{replacement_at_token, range_and_text, text_after_replacement}
 use Rattle.ob0_scope_table.specs.Resolution.{token_span}
-use Rattle.ob0_world_worked.specs.WorkedText.{line_position, example_text}
+use Rattle.ob0_world_worked.specs.WorkedText.{position_on_line, example_text}
 use Rattle.ob0_world_worked.proofs.WorkedValues.{string_of}
 use Rattle.ob0_world_worked.proofs.WorkedTexts.{chars_so, inlined_lexemes, renamed_lexemes, scanned_of, utf8_so, without_lexemes, worked_lexemes}
 
 abbrev pub edit : ℕ → ℕ → ℕ → (new : List ℕ) → IsUtf8 new → length new ≤ 1048576 → Edit
-edit line from to new u short = record { range = record { start = line_position line from; end = line_position line to }; text = string_of new u short }
+edit line from to new u short = record { range = record { start = position_on_line line from; end = position_on_line line to }; text = string_of new u short }
 
 abbrev pub puts_y : ℕ → ℕ → ℕ → Edit
 puts_y line from to = edit line from to (codes "y") (utf8_so (codes "y") refl) (omega (arith))
@@ -33,11 +33,11 @@ puts_two = edit 6 7 8 (codes "2") (utf8_so (codes "2") refl) (omega (arith))
 abbrev pub takes_out : Edit
 takes_out = edit 2 2 8 [] (utf8_so [] refl) (omega (arith))
 
-pub x_is_at : offset_of (width_of Utf16) example_text (line_position 4 2) ≡ 31
+pub x_is_at : offset_of (width_of Utf16) example_text (position_on_line 4 2) ≡ 31
 unfolding text_before fitting_prefix lines line_body ends_line starts_with_lf texts.text_of_lines lib.Utf8.encode
 x_is_at = refl
 
-pub n_is_at : offset_of (width_of Utf16) example_text (line_position 6 7) ≡ 56
+pub n_is_at : offset_of (width_of Utf16) example_text (position_on_line 6 7) ≡ 56
 unfolding text_before fitting_prefix lines line_body ends_line starts_with_lf texts.text_of_lines lib.Utf8.encode
 n_is_at = refl
 
@@ -74,7 +74,7 @@ pub declaration_parts : range_and_text takes_out ≡ (range_of (width_of Utf16) 
 unfolding position_of position_in_lines lines ends_line starts_with_lf fitting_prefix
 declaration_parts = refl
 
-pub write_is_at : range_of (width_of Utf16) example_text (token_span (scanned_of worked_lexemes) 18) ≡ record { start = line_position 7 2; end = line_position 7 7 }
+pub write_is_at : range_of (width_of Utf16) example_text (token_span (scanned_of worked_lexemes) 18) ≡ record { start = position_on_line 7 2; end = position_on_line 7 7 }
 unfolding position_of position_in_lines lines ends_line starts_with_lf fitting_prefix
 write_is_at = refl
 

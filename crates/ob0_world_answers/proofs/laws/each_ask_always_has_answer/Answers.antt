@@ -1,5 +1,5 @@
 use Rattle.ob0_world_answers.proofs.Answering.{each_ask_answered}
-use Rattle.ob0_world_answers.proofs.laws.each_ask_has_answers.Goals as goal
+use Rattle.ob0_world_answers.proofs.laws.each_ask_always_has_answer.Goals as goal
 
 pub returns : goal.returns
 returns c =
