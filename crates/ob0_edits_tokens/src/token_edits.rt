@@ -155,8 +155,8 @@ fn is_edited_text_too_long(
     new: &str,
 ) -> bool
     ensures { result
-        ≡ nat_lt max_text_length (removed.start + length_after_cuts_from_offset
-        (length tokens.now.text) removed.end
+        ≡ nat_lt max_text_length (removed.start
+        + length_after_cuts_from_offset (length tokens.now.text) removed.end
         (map (replacement_cut tokens.now.tokens new.now) token_indexes.now)) }
 {
     let mut length = removed.start as usize;

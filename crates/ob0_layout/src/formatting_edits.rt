@@ -65,8 +65,8 @@ fn is_formatted_text_within_limit(gap_sites: &[GapSite], len: usize, indent: Ind
     requires length { len ≤ max_text_length }
     requires within { All (GapLiesInText len) gap_sites.now }
     ensures { IsTrue result
-        ↔ length_after_cuts_from_offset len 0 (map
-        (gap_cut indent) gap_sites.now) ≤ max_text_length }
+        ↔ length_after_cuts_from_offset len 0 (map (gap_cut indent) gap_sites.now)
+        ≤ max_text_length }
 {
     let mut made = 0;
     let mut at = 0;

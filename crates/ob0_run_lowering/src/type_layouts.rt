@@ -66,8 +66,8 @@ fn cell_count_product(count: usize, cells: usize) -> Result<usize, AllocError>
 fn array_cell_count(layouts: &[CellLayout], place: usize) -> usize
     ensures { (shapes : List values.Shape)
         → AreLayoutsOfTypes shapes layouts.now
-        → result ≡ shape_cell_count (array_shape_or_faulty
-        (slice_index_or shapes place faulty_shape)) }
+        → result
+        ≡ shape_cell_count (array_shape_or_faulty (slice_index_or shapes place faulty_shape)) }
 {
     match layouts.get(place) {
         None => 0,
@@ -97,8 +97,8 @@ fn record_layout_at(layouts: &[CellLayout], place: usize) -> Option<&RecordLayou
 fn record_cell_count(layouts: &[CellLayout], place: usize) -> usize
     ensures { (shapes : List values.Shape)
         → AreLayoutsOfTypes shapes layouts.now
-        → result ≡ shape_cell_count (record_shape_or_faulty
-        (slice_index_or shapes place faulty_shape)) }
+        → result
+        ≡ shape_cell_count (record_shape_or_faulty (slice_index_or shapes place faulty_shape)) }
 {
     match record_layout_at(layouts, place) {
         None => 0,

@@ -255,7 +255,8 @@ impl VisibleSites {
     ) -> Result<Frame, AllocError>
         ensures { IfOk result (AddsNamesToSitesAndFrame self.old self.new frame (placed.place_variable_declarations
             (variable_slot_at_depth frame.depth) (declared_size context.now.types.now)
-            (tree_with_labels context.now.resolved.now (items_of variable_declaration_of groups.now)))) }
+            (tree_with_labels context.now.resolved.now
+            (items_of variable_declaration_of groups.now)))) }
     {
         let mut now = frame;
         for group in groups {

@@ -23,7 +23,8 @@ pub fn resolve_renamed(
 ) -> Result<Vec<Option<usize>>, AllocError>
     ensures { IfOk result (λ bound. bound.items
         ≡ map label_ordinal
-        (labels_of_occurrences (renamed (named_tree_of names.now.module_read) declaration new.now))) }
+        (labels_of_occurrences
+        (renamed (named_tree_of names.now.module_read) declaration new.now))) }
 {
     let ordinals = ordinals_after_rename(alloc, names, declaration, new)?;
     ordinals_at_tokens(alloc, &ordinals, names.occurrences())

@@ -20,8 +20,8 @@ pub fn initialize_answer(
     client: ClientFeatures,
 ) -> Result<Vec<u8>, AllocError>
     ensures { IfOk result
-        (λ bytes. Writes (result_message (json_of_id id.now)
-        (initialize_result client)) bytes.items) }
+        (λ bytes. Writes (result_message (json_of_id id.now) (initialize_result client))
+        bytes.items) }
 {
     let capabilities = ServerCapabilities { client };
     success_response_text(alloc, id, &InitializeResult { capabilities })

@@ -168,8 +168,8 @@ impl<T: TextStore> Session<T> {
     /// one.
     fn reply_to_content_as_list(&mut self, content: &[u8]) -> Result<Vec<Vec<u8>>, AllocError>
         ensures { IfOk result
-            (λ sent. AnswersInActivePhase self.old content.now (map
-            (λ v. v.items) sent.items) self.new) }
+            (λ sent. AnswersInActivePhase self.old content.now (map (λ v. v.items) sent.items)
+            self.new) }
     {
         let mut sent = Vec::new(self.alloc);
         if let Some(message) = self.reply_to_content(content)? {

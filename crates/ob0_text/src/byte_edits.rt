@@ -92,8 +92,8 @@ fn unsorted_byte_edits<'e, T: TextStore>(
 ) -> Result<Vec<ByteEdit<'e>>, AllocError>
     ensures { let text = T.content store.now in
         IfOk result (λ cuts. map cut_of_byte_edit cuts.items
-        ≡ map (cut_with_byte_offsets text) (cuts_of_edits (width_of
-        (T.unit_of store.now)) text edits.now)) }
+        ≡ map (cut_with_byte_offsets text)
+        (cuts_of_edits (width_of (T.unit_of store.now)) text edits.now)) }
 {
     let starts = edit_starts(alloc, edits)?;
     let from = offsets_of_positions(alloc, store, starts)?;
