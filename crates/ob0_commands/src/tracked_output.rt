@@ -2,16 +2,16 @@
 //!
 //! The commands print through the trait `TrackedOutput`: a writer that remembers whether it has
 //! been flushed since the last write, and whether it has failed. std's contracts of `Write` mention
-//! neither fact, but the contract of `print` needs both. `TrackedWriter` implements this trait for
-//! any writer, including the writer for standard error. A writer's `contents` are the bytes that it
-//! has written, or None if these bytes aren't known. For None, the contracts say nothing about the
-//! bytes.
+//! neither fact, but the contract of `write_and_flush` needs both. `TrackedWriter` implements this
+//! trait for any writer, including the writer for standard error. A writer's `contents` are the
+//! bytes that it has written, or None if these bytes aren't known. For None, the contracts say
+//! nothing about the bytes.
 //!
 //! Each command flushes its output after it has printed. If `rename` refuses a name, nothing is
 //! printed to the output, so the output may still be unflushed (`IsFlushedOrUnchanged`). `check`
-//! and `rename` print only once, so their contracts follow from one call of `print`. After a failed
-//! write, the contracts say nothing about the written bytes, because the contract of std's
-//! `write_all` says nothing about them.
+//! and `rename` print only once, so their contracts follow from one call of `write_and_flush`.
+//! After a failed write, the contracts say nothing about the written bytes, because the contract of
+//! std's `write_all` says nothing about them.
 
 ghost use Rattle.std.specs.Prelude.{◌≡◌, ◌≢◌, ◌||◌, [], Bool, Some, true, false, is_err, OnOk, OnErr, IfErr};
 ghost use Rattle.std.specs.Io.{WritesAtMost};
