@@ -139,7 +139,7 @@ fn position_at<T: TextStore>(
 fn diagnostic_with_range(diagnosis: Diagnosis, start: Position, end: Position) -> Diagnostic
     ensures { diagnostic_view result ≡ record {
       code = (reported_diagnosis_of diagnosis).code;
-      said = (reported_diagnosis_of diagnosis).message;
+      message = (reported_diagnosis_of diagnosis).message;
       start = start;
       end = end;
     } }

@@ -29,7 +29,7 @@ AllClosingNamesPass test (closing ∷ others) = (test closing ≡ true) × AllCl
 
 -- returns whether the body of the block with this closing name has to be walked
 abbrev pub includes_body : BodiesToWalk → ℕ → Bool
-includes_body w closing = w.includes_every_body || is_body_in_list w.these.now closing
+includes_body w closing = w.includes_every_body || is_body_in_list w.listed_bodies.now closing
 
 -- States that the module `r` has an older version (`old`) whose faulty bodies all pass the test
 -- `wanted`. The two versions are equal except in the statements of bodies that pass this test.
