@@ -258,7 +258,8 @@ impl<'t> ReportingWalk<'t> {
     fn report_constant_declaration(&mut self, c: &ConstantDeclaration) -> Result<(), AllocError>
         ensures { OnOk result (ReturnsAndReports self.old.faults.items self.new.faults.items
             (declarations_in_state self.new.checker_state)
-            (report_on_constant_declaration (declarations_in_state self.old.checker_state) (constant_declaration_of c.now))) }
+            (report_on_constant_declaration (declarations_in_state self.old.checker_state)
+            (constant_declaration_of c.now))) }
     {
         let value = self
             .checker_state
@@ -335,7 +336,8 @@ impl<'t> ReportingWalk<'t> {
     fn report_variable_group(&mut self, v: &VariableDeclaration) -> Result<(), AllocError>
         ensures { OnOk result (ReturnsAndReports self.old.faults.items self.new.faults.items
             (declarations_in_state self.new.checker_state)
-            (report_on_variable_group (declarations_in_state self.old.checker_state) (variable_declaration_of v.now))) }
+            (report_on_variable_group (declarations_in_state self.old.checker_state)
+            (variable_declaration_of v.now))) }
     {
         let of = self.check_written_type(&v.written)?;
         self.checker_state.define_listed_names(&v.names, of);

@@ -226,8 +226,8 @@ impl<'t> ReportingWalk<'t> {
         element: TypeId,
     ) -> Result<TypeId, AllocError>
         ensures { IfOk result (λ of. ReturnsAndReports self.old.faults.items self.new.faults.items
-            (record { of = of; following = declarations_in_state self.new.checker_state }) (make_array_type ordinal
-            (operand_of size) length
+            (record { of = of; following = declarations_in_state self.new.checker_state })
+            (make_array_type ordinal (operand_of size) length
             (record { of = element; following = declarations_in_state self.old.checker_state }))) }
     {
         match length {
