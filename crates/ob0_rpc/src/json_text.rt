@@ -206,7 +206,7 @@ pub(crate) fn write_escaped_text(out: &mut Vec<u8>, text: &[u8]) -> Result<(), A
     write_each_byte_escaped(out, text)
 }
 
-/// Returns true if the text can be written unchanged: none of its bytes needs an escape.
+/// Returns true if no byte of the text needs an escape, so that the text can be written unchanged.
 fn needs_no_escape(text: &[u8]) -> bool
     ensures plain { result ≡ true → escape text.now ≡ text.now }
 {

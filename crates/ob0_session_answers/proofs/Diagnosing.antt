@@ -1,4 +1,5 @@
--- Proves that the diagnostics of a text, given as characters, are those of its bytes in UTF-8.
+-- Proves that the errors reported for the UTF-8 bytes of a text, converted by `diagnostic_of`, are
+-- the diagnostics of the text's characters.
 use Rattle.std.proofs.Common.{◌≡◌, ℕ, List, map, refl, subst}
 use Rattle.std.specs.Str.{chars, IsUtf8}
 use Rattle.ob0_text.specs.declared.position_types.Unit.{Unit}

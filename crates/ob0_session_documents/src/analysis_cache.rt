@@ -85,7 +85,7 @@ impl AnalysisCache {
     }
 
     /// Adds the analysis of a document to the cache. If the total size is too large, the least
-    /// recently used analyses are dropped. If the size of `analysis` alone exceeds
+    /// recently used analyses are dropped. If the size of `analysis` itself exceeds
     /// [`MAX_TOTAL_ANALYSIS_BYTES`], all other analyses are dropped.
     pub fn put(&mut self, uri: &str, analysis: Analysis) -> Result<(), AllocError>
         ensures { AddsOnlyThisAnalysis self.old uri.now analysis self.new }

@@ -1,4 +1,4 @@
--- Laws about the faults reported for expressions and statements: if none is reported, they are
+-- Laws about the faults reported for expressions and statements: if no fault is reported, they are
 -- well-typed. `N` is the type of the names in a tree.
 -- Rule: none; states laws about the faults that are reported for expressions and statements.
 use Rattle.std.specs.Prelude.{◌≡◌, ℕ, Bool, true, false, List, [], Option, Some, is_some}

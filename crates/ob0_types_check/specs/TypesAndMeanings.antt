@@ -1,5 +1,5 @@
--- How the definitions of faults represent types, the meanings of names, and checked expressions. A
--- type may be unknown, as a whole or in parts.
+-- Specifies how the definitions of faults represent types, the meanings of names, and checked
+-- expressions. A type may be unknown, as a whole or in parts.
 -- Rule: docs/LANGUAGE.md, Faults of scopes and types 2.
 use Rattle.std.specs.Prelude.{ℕ, Bool, List, Option}
 use Rattle.ob0_scan.specs.TextWithTokens.{TextWithTokens}

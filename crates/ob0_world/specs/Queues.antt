@@ -4,7 +4,7 @@
 -- stores each queue as a list of contents. A content is the bytes of one message. The messages of
 -- the model are read from these contents (`messages_to_server_in_contents`,
 -- `messages_to_editor_in_contents`). By the invariant, each waiting content is a message of the
--- model. It stays the same message when the editor sends more requests (`proofs/Waiting`).
+-- model. It remains the same message when the editor sends more requests (`proofs/Waiting`).
 -- `RunsWithModelEditor` states that the session's client has two features of the model's editor. So
 -- the session writes each WorkspaceEdit with the member `documentChanges`.
 use Rattle.std.specs.Prelude.{◌≡◌, ◌≤◌, ◌⊎◌, ℕ, ℤ, List, [], ◌∷◌, ◌++◌, map, length, All, Bool, true, Option, Some, None, Vec, option_and_then, filter_map}
