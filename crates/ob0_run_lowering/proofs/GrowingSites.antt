@@ -1,4 +1,5 @@
--- Tables of sites that only grow: what is held stays held, and names are placed one after the other.
+-- Proves lemmas about tables of sites that only grow: such a table keeps the places that it has,
+-- and names are placed one after the other.
 use Rattle.std.proofs.Common.{◌≡◌, ℕ, zero, suc, ◌+◌, ◌-◌, ◌<◌, ◌≤◌, ◌==◌, Bool, true, false, List, [], ◌∷◌, ◌++◌, length, get_or, drop, take, Some, None, Option, refl, sym, ap, ◌∙◌, subst, arith, append_assoc, append-nil, length-append, eqb-true, le_refl}
 use Rattle.std.proofs.Math.Seq.{get_or-append_seam, take-length}
 use Rattle.std.proofs.lemmas.List.{drop_all, drop_more, take-append-le}
@@ -163,7 +164,10 @@ place-in_activation w v f g size_of o name s n next adds is size =
       has_no_fewer_cells = omega (arith, cells);
     }
 
--- names one after the other: what is left to place, over what is placed so far, gives what all give
+-- States that items of a list are placed in a table of sites, one after the other. Suppose that the
+-- ordinals of the result descend, and that `w` and `f` match a placement. Then `v` and `g` match a
+-- placement `now`: placing the items after the first `done` from there gives the same result as
+-- placing all.
 pub record InPlaces {A : Type 0} (fold : List A → PlacementState Label → PlacementState Label) (xs : List A) (w v : List LoweredSite) (f g : Frame) (done : ℕ) : Type 0 where
   pub on : (p : PlacementState Label) → OrdinalsDescend (fold xs p).placement → FrameMatchesPlacement w f p → (now : PlacementState Label) × FrameMatchesPlacement v g now × (fold (drop done xs) now ≡ fold xs p)
   pub sites : GrowsTo w v

@@ -1,4 +1,4 @@
--- What the code of procedures and blocks means, of what the code of their parts means.
+-- Proves what the code of procedures and blocks means, from what the code of their parts means.
 use Rattle.std.proofs.Common.{◌≡◌, ℕ, suc, ◌+◌, ◌-◌, ◌<◌, ◌≤◌, true, IsTrue, List, [], ◌∷◌, ◌++◌, map, length, drop, take, get_or, Some, Option, option_map, slice_get, zero, refl, sym, ap, ◌∙◌, subst, arith, le_refl, length-append}
 use Rattle.std.proofs.Math.Seq.{get_or-append_seam}
 use Rattle.std.proofs.lemmas.List.{drop_all}
@@ -94,7 +94,7 @@ count_ends r b xs done count after h all same =
     ∙ ap (λ ys. count_after_procedures count (tree_with_labels r (items_of tree_procedure_of ys))) same
     ∙ sym (ap (λ z. count_after_block count (tree_with_labels r z)) (block_parts b))
 
--- the routine that is added stays at its index
+-- an added routine keeps its index when the table grows
 
 get_grown : {A : Type 0} (xs extra : List A) (i : ℕ) (x : A) → slice_get xs i ≡ Some x → slice_get (xs ++ extra) i ≡ Some x
 get_grown [] extra i x h = absurd (cc)

@@ -23,7 +23,7 @@ use Rattle.ob0_run_lowering.specs.declared.scene.LoweredSite.TheVariants as site
 use Rattle.ob0_run_lowering.specs.DeclaredBindings.{BindingsAreDeclared, NewestIsBelow, ObjectByOrdinal, OrdinalsDescend}
 use Rattle.ob0_run_lowering.specs.PlacedNames.{SitesMatchPlacement, PlacementMatchesEnvironment, PlaceMatchesObject, SiteMatchesPlace, declared_size, place_of_first_binding, place_in_placement, add_declared_names_to_placement, place_variable_declarations, place_parameter_sections, optional_shape_size, depth_of_site}
 
--- what is nowhere needs no site
+-- a name whose place is `nowhere` needs no site
 holds_nowhere : (sites : List LoweredSite) (d : ℕ) (x : Label) (placement : Placement Label) → SitesMatchPlacement sites d placement → SitesMatchPlacement sites d ((x, nowhere) ∷ placement)
 holds_nowhere sites d x placement h = λ k. by k (same_ordinal_label (declared k) x)
   where
@@ -78,7 +78,7 @@ matches_found (b ∷ env) (w ∷ placement) m x o h =
     by following false e = following e
 matches_found _ _ m x o h = absurd m
 
--- the names of a placement are those of its environment
+-- if the newest ordinal of an environment is below `n`, the same holds for a matching placement
 newest_below : (n : ℕ) (env : TypeEnvironment Label) (placement : Placement Label) → NewestIsBelow n env → PlacementMatchesEnvironment env placement → NewestIsBelow n placement
 newest_below n [] [] h m = tt
 newest_below n (b ∷ env) (w ∷ placement) h m = (h.0, sym m.0 ∙ h.1, h.2)

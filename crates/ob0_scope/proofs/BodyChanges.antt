@@ -25,8 +25,8 @@ use Rattle.ob0_scope_numbering.specs.IdentifierSpellings.{Spellings, original_sp
 use Rattle.ob0_scope_numbering.proofs.Agreed.{AllFit}
 use Rattle.ob0_scope.proofs.BodyBound.{IsBoundOutside, alike_outside, body_marked, bound_by, bound_outside, in_rest, marks_fit, same_at, same_ordinals, same_scope, scope_at}
 
--- If a table fits identifiers with some spellings, and another one with others, they agree where
--- the spellings do.
+-- If two tables fit the same identifiers, each with its own spellings, they agree at every
+-- identifier that has the same spelling in both.
 fit_alike : (f g : ℕ → Option ℕ) (v w : Spellings) (scope : Scope Name) (i : ℕ) (xs : List (Role × ℕ)) → spelling_at_token v i ≡ spelling_at_token w i → AllFit f v scope xs → AllFit g w scope xs → list_any (λ j. j == i) (names_without_roles xs) ≡ true → f i ≡ g i
 fit_alike f g v w scope i [] same h k there = absurd (cc)
 fit_alike f g v w scope i ((r, j) ∷ xs) same h k there = one (fit_alike f g v w scope i xs same h.1 k.1) (j == i) refl there

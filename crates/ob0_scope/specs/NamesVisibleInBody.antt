@@ -29,7 +29,7 @@ abbrev mutual
       procedure_name p ∷ names_visible_at_path_in_procedure_list k path ps
 
   -- returns the visible names that a procedure declares, and the procedures inside it that contain
-  -- the body; the first names are those of the parameters
+  -- the body; the names of the parameters come first
   pub names_visible_at_path_in_procedure : {N : Type 0} → PathToBody → Tree N (item procedure) → List N
   names_visible_at_path_in_procedure path (declares_procedure x fs b closing) =
       formal_parameter_names (formal_parameter_sections fs) ++ names_visible_at_path_in_block path b

@@ -460,18 +460,17 @@ notifications_in_contents contents = filter_map (message_to_server_in_content []
 pub record GuaranteesHoldForExchange (begin now : Exchange) : Type 0 where
   -- each edit that the editor applied keeps the module's run
   pub applied : All PreservesRun now.applied
-  -- The list `since` has the contents that the session has sent after `begin`. The n-th list of
+  -- `since` lists the contents that the session has sent after `begin`. The n-th list of
   -- diagnostics with a version in `since` is correct for the n-th document in
-  -- `published_documents`. The list of announced documents consists of `published_documents`,
-  -- followed by `unpublished_documents`.
+  -- `published_documents`. The announced documents are `published_documents`, followed by
+  -- `unpublished_documents`.
   pub since : List (List ℕ)
   pub sent : now.wire.got ++ now.wire.to_editor ≡ begin.wire.got ++ since
   pub published_documents : List AnnouncedDocument
   pub unpublished_documents : List AnnouncedDocument
   pub announced : now.announced ≡ published_documents ++ unpublished_documents
   pub right : AreCorrectForDocuments (versioned_publications_in_contents since) published_documents
-  -- the documents in `unpublished_documents` are announced by contents that still wait for the
-  -- session
+  -- the `unpublished_documents` are announced by contents that still wait for the session
   pub unpublished_are_queued : map uri_and_version_of unpublished_documents ≡ uris_and_versions_announced_in_queue (notifications_in_contents now.wire.to_server)
   -- if no notification about a document waits for the session, the latest diagnostics of each open
   -- document are for its present version and text
@@ -479,7 +478,7 @@ pub record GuaranteesHoldForExchange (begin now : Exchange) : Type 0 where
       → editor_document_with_uri now.editor uri ≡ Some d
       → MatchOption (last_versioned_publication uri (versioned_publications_in_contents since)) ⊥
       (λ p. (p.version ≡ d.version) × NoDiagnosticsExactlyIfWellTyped d.text p.no_diagnostics)
-  -- once the session has taken the waiting contents, it has the same documents as the editor
+  -- once the session has taken the waiting contents, it has the editor's documents
   pub mirrors : (uri : List ℕ)
       → document_at (fold documents_after_message now.wire.session.held (notifications_in_contents now.wire.to_server)) uri
       ≡ option_map in_step_document (editor_document_with_uri now.editor uri)

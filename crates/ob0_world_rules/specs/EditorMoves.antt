@@ -39,10 +39,10 @@ revised_document d r = record d { version = r.version; text = r.text }
 abbrev pub editor_with_document : Editor → List ℕ → OpenDocument → Editor
 editor_with_document e uri d = record e { documents = map_of.insert e.documents uri d }
 
--- States that these revisions of the open document `uri`, made in order, lead from the editor `e`
--- to the editor `new`. The n-th document in `announced` is the document after the n-th revision.
--- The changes of each revision turn the text before the revision into the revision's text.
--- Positions are counted in the editor's unit. Any version is allowed.
+-- States that these revisions of the open document `uri`, made in order, lead from editor `e` to
+-- editor `new`. The n-th document in `announced` is the document after the n-th revision. The
+-- changes of each revision turn the previous text into the revision's text. Positions are counted
+-- in the editor's unit. Any version is allowed.
 abbrev pub RevisesDocument : Editor → List ℕ → List Revision → Editor → List AnnouncedDocument → Type 0
 RevisesDocument e uri [] new announced = (new ≡ e) × (announced ≡ [])
 RevisesDocument e uri (r ∷ more) new announced =
@@ -102,8 +102,8 @@ result_of_opening_given_document d e uri =
     result_with_message (record (editor_with_document e uri d) { openings = d.opening })
     (notifies (Opened uri d.version d.text)) []
 
--- States that a move may have this result and announce these documents to the server. The editor
--- can revise or ask about only an open document.
+-- States that a move may have this result and announce these documents to the server. Only an open
+-- document can be revised or asked about.
 abbrev pub IsAllowedMove : Editor → EditorMove → ActResult → List AnnouncedDocument → Type 0
 IsAllowedMove e (editor_opens uri version text) done announced =
     let d : OpenDocument = record { version = version; text = text; opening = e.openings + 1 } in
