@@ -153,7 +153,7 @@ fn first_identifier_at_offset(tokens: &[Token], offset: usize) -> Option<usize>
 }
 
 /// Returns the number of tokens that end before the byte offset `offset`.
-fn count_tokens_before_offset(tokens: &[Token], offset: usize) -> usize
+pub fn count_tokens_before_offset(tokens: &[Token], offset: usize) -> usize
     ensures bound { result ≤ length tokens.now }
     ensures point { IsNonDecreasingBy (λ (t : token.Token). t.span.end) tokens.now
         → IsPartitionPoint (λ (t : token.Token). nat_lt t.span.end offset ≡ true)
@@ -163,7 +163,7 @@ fn count_tokens_before_offset(tokens: &[Token], offset: usize) -> usize
 }
 
 /// Returns whether the token is an identifier that contains the byte offset `offset` or ends there.
-fn is_identifier_at_offset(token: &Token, offset: usize) -> bool
+pub fn is_identifier_at_offset(token: &Token, offset: usize) -> bool
     ensures { result ≡ is_identifier_at_offset offset token.now }
 {
     is_identifier(token.kind)

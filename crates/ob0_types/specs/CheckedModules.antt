@@ -12,7 +12,6 @@ use Rattle.ob0_types_table.specs.DeclarationTables.{DeclarationTableView}
 use Rattle.ob0_language_types.specs.WellTyped.{WellTyped}
 use Rattle.ob0_types.specs.FaultOrder.{AreFirstFaultsOfModule, AreFirstFaultsByTokens}
 use Rattle.ob0_types.specs.declared.checked_modules.CheckResult.{CheckResult}
-use Rattle.ob0_types_fields.specs.FieldLists.{AreFieldListsOfModule, FieldLists}
 
 -- a checked module: its bindings, its faults, and the table of its declarations if there is one
 pub record CheckedModule : Type 0 where
@@ -45,11 +44,6 @@ pub record HasTableIfWellTyped (names : Resolution) (known : Option DeclarationT
   pub holds : IfSome known (TableHasDeclaredObjects (named_tree_of names.module_read))
   pub kept : WellTyped (named_tree_of names.module_read) → is_some known ≡ true
 
--- states that the lists `fields` have the module's fields if the module is well-typed
-abbrev pub AreFieldListsIfWellTyped : Resolution → FieldLists → Type 0
-AreFieldListsIfWellTyped names fields =
-    WellTyped (named_tree_of names.module_read) → AreFieldListsOfModule names fields
-
 -- States that `types` is the result of checking a module. It has the module's first 100 faults, and no fault exactly if
 -- the module is well-typed. Each body with a fault of types is listed in `types.bodies_with_faults`.
 pub record IsCheckResultOfModule (names : Resolution) (types : CheckResult) : Type 0 where
@@ -57,7 +51,6 @@ pub record IsCheckResultOfModule (names : Resolution) (types : CheckResult) : Ty
   pub reported : (types.faults.items ≡ []) ↔ WellTyped (named_tree_of names.module_read)
   pub first : AreFirstFaultsByTokens names types.faults.items
   pub table : HasTableIfWellTyped names types.known
-  pub fields : AreFieldListsIfWellTyped names types.fields
   pub bodies_with_faults : AllClosingNamesPass (is_body_in_list types.bodies_with_faults.items) (faulty_bodies names)
 
 -- states that `names` has the right bindings of its module (`IsResolution`), and that this module is well-typed
@@ -65,9 +58,7 @@ pub record IsWellTyped (names : Resolution) : Type 0 where
   pub resolved : IsResolution names
   pub well_typed : WellTyped (named_tree_of names.module_read)
 
--- states that the module is well-typed, that the table `known` has its declarations, and that the lists `fields` have
--- its fields
-pub record IsWellTypedWithTableAndFields (names : Resolution) (known : DeclarationTableView) (fields : FieldLists) : Type 0 where
+-- states that the module is well-typed, and that the table `known` has its declarations
+pub record IsWellTypedWithTable (names : Resolution) (known : DeclarationTableView) : Type 0 where
   pub well_typed : IsWellTyped names
   pub declarations : TableHasDeclaredObjects (named_tree_of names.module_read) known
-  pub fields_are : AreFieldListsOfModule names fields
