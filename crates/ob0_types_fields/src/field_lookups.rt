@@ -1,7 +1,7 @@
 //! Finds fields by walks over the tree: the field at a token, the place where a record declares a
 //! field, and all tokens of a field. Only `tokens_of_field` allocates memory.
 
-ghost use Rattle.std.specs.Prelude.{◌≡◌, IfOk, OnOk, option_map};
+ghost use Rattle.std.specs.Prelude.{◌≡◌, ◌<◌, ◌^◌, IfOk, OnOk, length, option_map};
 ghost use Rattle.ob0_tree.specs.ParsedModule.{tree_of};
 ghost use Rattle.ob0_tree.specs.View.{body_of};
 ghost use Rattle.ob0_types_table.specs.DeclarationTables.{declared_object_in};
@@ -105,15 +105,17 @@ pub fn tokens_of_field<'a, 't>(
     Ok(collector.into_tokens())
 }
 
-/// Visits the identifiers that declare the fields of a module, in text order.
+/// Visits the identifiers that declare the fields of a module, in text order. There are fewer than
+/// 2^64.
 fn visit_declared_fields<V: FieldVisitor>(
     visitor: &mut V,
     resolved: &Resolved<'_>,
 ) -> Result<(), V::Error>
-    ensures { OnOk result (visitor.new ≡ state_after_fields V.state_after_one_field
+    ensures visited { OnOk result (visitor.new ≡ state_after_fields V.state_after_one_field
         (declared_fields resolved.now.module_read) visitor.old) }
+    ensures few { OnOk result (length (declared_fields resolved.now.module_read) < 2 ^ 64) }
 {
-    // The proof needs this call: the words ARRAY and RECORD are fewer than the tokens.
+    // The proof needs this call: there are no more fields, or words ARRAY and RECORD, than tokens.
     let _count = resolved.tokens().tokens().len();
     let mut word_count = 0;
     visit_fields_declared_in_block(visitor, &mut word_count, resolved.module().block())

@@ -10,6 +10,8 @@
 //! treated as that factor. The type of a designator without selectors isn't looked up. The name of
 //! a selected field is looked up once, which gives the field's type.
 
+#![tactic(auto, using(std::proofs::lemmas::Grind::common_steps, crate::proofs::FieldVisits::visited_append))]
+
 ghost use Rattle.std.specs.Prelude.{◌≡◌, IfOk, OnOk, Some, option_and_then, option_map};
 ghost use Rattle.ob0_tree.specs.ParsedModule.{tree_of};
 ghost use Rattle.ob0_tree.specs.View.{expression_of, compound_expression_of, simple_expression_of, term_of, factor_of, designator_of, selector_of, assignment_of, call_of, arguments_of_vec, statement_of, if_of, elsifs_of_vec, sequence_of_vec, body_of, block_of, procedure_of};
@@ -429,7 +431,7 @@ impl<'a, 't> FieldWalk<'a, 't> {
             (fields_in_module (field_walk_meanings self.now)
             (tree_of self.now.resolved.now.module_read)) visitor.old) }
     {
-        // The proof needs this call: the words ARRAY and RECORD are fewer than the tokens.
+        // The proof needs this call: there are no more words ARRAY and RECORD than tokens.
         let _count = self.resolved.tokens().tokens().len();
         let mut word_count = 0;
         self.visit_block_fields(visitor, &mut word_count, self.resolved.module().block())
