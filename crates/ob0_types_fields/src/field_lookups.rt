@@ -62,7 +62,7 @@ pub fn declared_field(resolved: &Resolved<'_>, owner: usize, name: &str) -> Opti
     ensures index { option_map declared_index result
         ≡ field_index_in_record resolved.now.module_read owner name.now }
 {
-    let mut search = DeclaredFieldSearch {
+    let mut sought = DeclaredFieldSearch {
         field: NamedField {
             tokens: resolved.tokens(),
             owner,
@@ -71,8 +71,8 @@ pub fn declared_field(resolved: &Resolved<'_>, owner: usize, name: &str) -> Opti
         index: 0,
         found: None,
     };
-    match visit_declared_fields(&mut search, resolved) {
-        Ok(()) => search.found,
+    match visit_declared_fields(&mut sought, resolved) {
+        Ok(()) => sought.found,
         Err(never) => match never {},
     }
 }
