@@ -218,12 +218,6 @@ module _ (old new : TextWithTokens) (os ns : List (Option ℕ)) (P : ℕ → Typ
 abbrev pub closing_of : Tree ℕ module_text → ℕ
 closing_of (forms_module x b closing) = closing
 
--- holds if the final states in both texts come from one value
-pub record IsKnownAlike (old new : Resolution) : Type 0 where
-  pub value : KnownDeclarations
-  pub before : (report_on_module includes_every_body old).known.so_far ≡ so_over old.module_read.source old.ordinals value
-  pub after : (report_on_module includes_every_body new).known.so_far ≡ so_over new.module_read.source new.ordinals value
-
 module _ (wanted : ℕ → Bool) (r : Resolution) (is : IsResolution r) (w : IncludesChangedAndFaultyBodies wanted r) where
   abbrev old : Resolution
   old = w.old
@@ -251,13 +245,6 @@ module _ (wanted : ℕ → Bool) (r : Resolution) (is : IsResolution r) (w : Inc
       let first : known_declarations_at_module_start r ≡ so_over r.module_read.source r.ordinals (known_declarations_at_module_start old) = ap (λ (ds : List ℕ). record { source = r.module_read.source; ordinals = r.ordinals; declared = predeclared_meanings ++ map (λ token. None) ds; made = [] }) declared in
       let own : r.module_read.closing ≡ old.module_read.closing = ap closing_of tree in
       λ i. report_on_block test (own i) (record { so_far = first i; bodies_with_faults = [] }) (module_block (tree i))
-
-  pub known_alike : IsKnownAlike old r
-  known_alike = record {
-    value = one.value.so;
-    before = ap (λ (v : WalkProgress). v.so_far) one.before;
-    after = ap (λ (t : ResultWithFaults WalkProgress). t.known.so_far) (as_read includes_every_body) ∙ ap (λ (v : WalkProgress). v.so_far) one.after;
-  }
 
 pub walking_changed_and_faulty_bodies_suffices : WalkingChangedAndFaultyBodiesSuffices
 walking_changed_and_faulty_bodies_suffices wanted r is w = as_read wanted r is w wanted ∙ (sym (one wanted r is w).same ∙ sym (as_read wanted r is w includes_every_body))
