@@ -1,7 +1,8 @@
-use Rattle.std.proofs.Common.{◌≡◌, ℕ, ◌≤◌, Bool, true, false, ◌&&◌, if◌then◌else◌, Option, Some, None, get_or, length, refl, sym, ap, ◌∙◌, subst}
+use Rattle.std.proofs.Common.{◌≡◌, ℕ, zero, suc, ◌≤◌, List, [], ◌∷◌, arith, Bool, true, false, ◌&&◌, if◌then◌else◌, Option, Some, None, get_or, length, refl, sym, ap, ◌∙◌, subst}
 use Rattle.std.specs.Prelude.{slice_get}
-use Rattle.std.proofs.lemmas.Option.{slice_get-get_or, slice_get_past}
 use Rattle.ob0_scan.specs.declared.lexeme.Token.{Token}
+use Rattle.ob0_tree.specs.ParsedModule.{TreeMatchesText}
+use Rattle.ob0_language_types.proofs.Literals.{some_inverse}
 use Rattle.ob0_scope.specs.BoundTokens.{is_identifier, is_identifier_at_offset}
 use Rattle.ob0_scope_table.specs.Resolution.{Resolution}
 use Rattle.ob0_scope_table.specs.Spans.{is_in_span_or_at_end, span_or_empty}
@@ -22,6 +23,11 @@ read : (ts : List Token) (j : ℕ) (t : Token) → slice_get ts j ≡ Some t →
 read [] j t e = absurd (cc)
 read (x ∷ ts) zero t e = λ d. some_inverse e
 read (x ∷ ts) (suc j) t e = read ts j t e
+
+slice_get_outside : (ts : List Token) (j : ℕ) → slice_get ts j ≡ None → length ts ≤ j
+slice_get_outside [] j e = omega arith
+slice_get_outside (x ∷ ts) zero e = absurd (cc)
+slice_get_outside (x ∷ ts) (suc j) e = let later = slice_get_outside ts j e in omega (arith, later)
 
 module _ (r : Resolution) (token offset : ℕ) (t : Token) (there : slice_get r.module_read.source.tokens token ≡ Some t) (is : TreeMatchesText r.module_read) where
   value : (if is_identifier_at_offset offset t then field_at_token token (field_identifiers r) else None)
