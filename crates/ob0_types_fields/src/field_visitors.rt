@@ -141,10 +141,10 @@ impl<'s> Model for FieldTokenCollector<'s> {
     ghost Value = { FieldTokenCollection };
 
     ghost view = { λ c. record {
-        source = c.field.tokens.now;
-        owner = c.field.owner;
-        name = c.field.name.now;
-        collected = c.collected.items;
+      source = c.field.tokens.now;
+      owner = c.field.owner;
+      name = c.field.name.now;
+      collected = c.collected.items;
     } };
 }
 

@@ -82,7 +82,9 @@ impl<'a, 't> FieldWalk<'a, 't> {
             return Ok(None);
         };
         match self.table.parts(base) {
-            TypeWithParts::Record(shape) => self.visit_field_selected_in_record(visitor, shape, name),
+            TypeWithParts::Record(shape) => self.visit_field_selected_in_record(
+                visitor, shape, name,
+            ),
             TypeWithParts::Integer => Ok(None),
             TypeWithParts::Boolean => Ok(None),
             TypeWithParts::Array(_) => Ok(None),
