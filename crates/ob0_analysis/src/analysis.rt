@@ -23,12 +23,13 @@
 //! - All tokens have the same kinds as before, and the parser refused the old text: the refusal is
 //!   kept (`refusal_stays`). The parser reads only the kinds of tokens, so it would stop at the
 //!   same token. This saves the parsing for half of the keystrokes in an unfinished statement.
-//! - A kind has changed: the text is parsed, but unchanged procedures of the module's own block and
-//!   an unchanged module body are reused (`reparse_tree`). If the tokens that differ lie in one
-//!   body of both modules, after its first identifier, all results outside the body are kept. Their
-//!   token indexes are adapted (`replaced_body.rt`). The two modules are equal outside this body
-//!   (`body_replaced` in `proofs/NewBody.antt`). Between the two modules there may be texts that
-//!   the parser refuses. Meanwhile the results for the earlier module are kept (`last_module.rt`).
+//! - A kind has changed: the text is parsed, but unchanged procedures of the module's own block are
+//!   reused. So is an unchanged module body if the module has procedures (`reparse_tree`). If the
+//!   tokens that differ lie in one body of both modules, after its first identifier, all results
+//!   outside the body are kept. Their token indexes are adapted (`replaced_body.rt`). The two
+//!   modules are equal outside this body (`body_replaced` in `proofs/NewBody.antt`). Between the
+//!   two modules there may be texts that the parser refuses. Meanwhile the results for the earlier
+//!   module are kept (`last_module.rt`).
 //!
 //! If all tokens have the same spelling (`words_of_tokens`), for example after a change of blanks,
 //! line endings or comments, everything is kept. The tree has the same names and numbers, and the

@@ -14,7 +14,6 @@
 //! Pitfalls in the proofs:
 //! - No `ghost` clause can depend on a `&str` parameter. So the greatest value of an option is a
 //!   function of the option's name (`max_option_value`).
-//! - A local variable `run` of the code is called `run'` in the files `Answers.antt`.
 //! - In a `where` block, each argument `_` has to be written out.
 //!
 //! Help texts are constants, one for each command. A test checks that their lines have at most 80

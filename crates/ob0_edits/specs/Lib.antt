@@ -4,4 +4,4 @@ pub mod Renamings
 pub use Rattle.ob0_analysis.specs.AnalysisAnswers
 pub use Rattle.ob0_analysis.specs.ReportedErrors
 pub use Rattle.ob0_analysis.specs.SameRuns
-pub use Rattle.ob0_analysis.specs.Texts
+pub use Rattle.ob0_analysis.specs.TextBytes

@@ -37,7 +37,7 @@ use Rattle.ob0_inline.proofs.ModuleTexts.{leaves_module}
 use Rattle.ob0_edits.specs.declared.inline_question.InliningKind.TheVariants.{Everywhere}
 use Rattle.ob0_edits.specs.InliningEdits.{InlinesInText, IsInliningRefusedInText}
 use Rattle.ob0_world_rules.specs.Answers.{position_offset}
-use Rattle.ob0_world_rules.specs.TextEdits.{replacements}
+use Rattle.ob0_world_rules.specs.TextEdits.{replacements_of_edits}
 use Rattle.ob0_world_rules.specs.WellTypedTexts.{WellTypedText}
 use Rattle.ob0_inline_answers.specs.InlineAnswers.{InliningEverywhereAlwaysHasAnswer}
 use Rattle.ob0_inline_answers.proofs.ModuleNames.{named_module}
@@ -158,5 +158,5 @@ inlining_everywhere_always_has_answer alone keeps each position unit text none =
         let found = named_module (utf8 text) read.0 read.1 in
         let offset = position_offset unit text position in
         at_name alone keeps unit text found.0 found.1 offset (λ refused. none [] (inr (inl refused, refl)))
-        (λ edits inlines. none (replacements edits.items) (inl (edits.items, (edits, inlines, refl), refl)))
+        (λ edits inlines. none (replacements_of_edits edits.items) (inl (edits.items, (edits, inlines, refl), refl)))
         (name_at_offset found.0.module_read offset) refl

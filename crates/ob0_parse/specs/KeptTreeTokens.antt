@@ -73,8 +73,8 @@ pub record TokensContainProcedures (ts : List Token) (ps : List Procedure) : Typ
   pub shallow : nesting (items_of procedure_of ps) ≤ max_nesting
   pub within : next ≤ length ts
 
--- States that `ts` has the tokens of the last parts of a module. These parts are the procedures
--- `ps`, the body `statements`, END, and the closing name with the token index `closing`.
+-- States that `ts` has the tokens of the procedures `ps` and then of the body `statements`. One
+-- token follows the body, and `closing` is the index after it.
 pub record ModuleEndsWithParts
     (ts : List Token) (ps : List Procedure) (statements : Option (Vec Statement Global)) (closing : ℕ)
     : Type 0 where

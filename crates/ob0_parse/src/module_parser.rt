@@ -42,7 +42,7 @@ pub fn parse_tree(alloc: Global, tokens: &Tokens) -> Result<ModuleTree, ParseRef
 /// Returns the tree of the module that the tokens spell. Returns a refusal if the tokens spell no
 /// module or an allocation fails. Reuses the procedures and the body that `kept` has from earlier
 /// parses. The tokens in the range of each kept tree must have the kinds that the tree spells
-/// (`KeptTreesMatchTokens`). If the result is a refusal, `kept` then also has the procedures that
+/// (`KeptTreesMatchTokens`). If the result is a refusal, `kept` may then also have procedures that
 /// this parse made or reused.
 pub fn reparse_tree(
     alloc: Global,

@@ -44,7 +44,7 @@ use Rattle.ob0_edits.specs.Renamings.{IsOptionalRenameResult}
 use Rattle.ob0_edits.proofs.Renamings.{new_name_found, settled}
 use Rattle.ob0_world_rules.specs.Asks.{rename}
 use Rattle.ob0_world_rules.specs.Answers.{IsAnswerForText}
-use Rattle.ob0_world_rules.specs.TextEdits.{Replacement, replacements}
+use Rattle.ob0_world_rules.specs.TextEdits.{Replacement, replacements_of_edits}
 use Rattle.ob0_world_rules.specs.WellTypedTexts.{WellTypedText}
 use Rattle.ob0_world_rules.specs.Laws.{AlwaysHasAnswer}
 use Rattle.ob0_rename_answers.specs.RenameAnswers.{WellTypedTextsCanBeResolved}
@@ -99,7 +99,7 @@ module _ (keeps : RenamingToFreeNameKeepsTypingAndRuns) (field_keeps : RenamingF
         (names, record { scan = record { of = refl; scan = read.scan.scan }; well_typed = read.well_typed }, settled asked result result h refl other)
 
     finish : (result : Result (Vec Edit Global) EditRefusal) → NoMemory result → RenameAnswers asked result → ⊥
-    finish (Ok edits) other h = none (replacements edits.items) (inl (edits.items, found (Ok edits) other h, refl))
+    finish (Ok edits) other h = none (replacements_of_edits edits.items) (inl (edits.items, found (Ok edits) other h, refl))
     finish (Err why) other h = none [] (inr (inl (why, found (Err why) other h), refl))
 
     -- ---- a declaration

@@ -6,7 +6,7 @@ use Rattle.ob0_run_machine.specs.declared.code.Variable.{Variable}
 use Rattle.ob0_run_machine.specs.declared.code.Variable.TheVariants as variable
 use Rattle.ob0_run_machine.specs.declared.code.Chain.{out-Chain}
 use Rattle.ob0_run_machine.specs.declared.code.Number.{Chain, Row_of-ChainLink, end_of-ChainLink, more_of-ChainLink, items-the_row-ChainLink, items_hidden-the_row-ChainLink-0}
-use Rattle.ob0_run_machine.specs.declared.code.FirstOperand.TheBlock.{hidden-the_row-ChainLink-0}
+use Rattle.ob0_run_machine.specs.declared.code.ChainLink.TheBlock.{hidden-the_row-ChainLink-0}
 use Rattle.ob0_run_machine.specs.Evaluation.{Levels, StepResult, ends, gives, number_value, ◌>>=◌}
 use Rattle.ob0_run_machine.specs.LoweredSyntax as lowered
 use Rattle.ob0_run_machine.specs.StepOutcomes.{outcome_of_applied_link}

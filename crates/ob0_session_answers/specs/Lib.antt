@@ -3,5 +3,5 @@ pub mod Diagnostics
 pub mod FormattingAnswers
 pub mod RenamingAnswers
 pub use Rattle.ob0_analysis.specs.ReportedErrors
-pub use Rattle.ob0_analysis.specs.Texts
+pub use Rattle.ob0_analysis.specs.TextBytes
 pub mod Questions

@@ -15,12 +15,14 @@ use lru::LruCache;
 use ob0_analysis::Analysis;
 use std::alloc::{AllocError, Global};
 
-/// The greatest total size in bytes of the kept analyses. About four analyses of the longest texts
-/// fit into it. A larger analysis is also kept, but then it is the only one.
+/// The greatest sum of the sizes of the kept analyses (`size_in_cache`). A size counts bytes of text
+/// and not all memory. About four analyses of the longest texts fit. A larger analysis is also kept,
+/// but then it is the only one.
 const MAX_TOTAL_ANALYSIS_BYTES: usize = 4_198_400;
 
-/// The number of bytes that are counted for each analysis in addition to its uri and its data.
-/// Because of this number, the number of kept analyses is limited even if their texts are empty.
+/// The number of bytes that are counted for each analysis in addition to its uri and its
+/// `size_in_bytes`. Because of this number, the number of kept analyses is limited even if their
+/// texts are empty.
 const OVERHEAD_BYTES_PER_ANALYSIS: usize = 1_024;
 
 /// A cache of analyses, which are found by the uris of their documents. Adding an analysis may drop

@@ -6,7 +6,7 @@ use Rattle.ob0_text.specs.declared.position_types.Unit.{Unit}
 use Rattle.ob0_text.specs.Units.{width_of}
 use Rattle.ob0_text.specs.Patches.{patched_text}
 use Rattle.ob0_edits.specs.SameRuns.{RunsAsBefore}
-use Rattle.ob0_edits.specs.Texts.{utf8}
+use Rattle.ob0_edits.specs.TextBytes.{utf8}
 use Rattle.ob0_world_rules.specs.TextEdits.{Replacement, replacements_of_edits}
 use Rattle.ob0_world_rules.proofs.EditedTexts.{edited_as_patched}
 use Rattle.ob0_world_rules.specs.Asks.{Ask, rename, inline_here, inline_all, format}

@@ -12,7 +12,7 @@ use Rattle.ob0_tree.specs.Tree.{Tree, module_text}
 use Rattle.ob0_language_names.specs.Names.{Name}
 use Rattle.ob0_layout.proofs.Named.{named_lexeme, text_words}
 use Rattle.ob0_edits.specs.ReportedErrors.{IsTextOfTree, IsWellTypedModule}
-use Rattle.ob0_edits.specs.Texts.{utf8}
+use Rattle.ob0_edits.specs.TextBytes.{utf8}
 use Rattle.ob0_world_rules.specs.WellTypedTexts.{terminals_of_lexeme, IsModuleText, WellTypedText}
 use Rattle.ob0_world_rules.specs.Laws.{ModuleTextDefinitionsAgree}
 

@@ -39,7 +39,7 @@ use Rattle.ob0_inline.proofs.UsesAreIdentifiers.{one_place}
 use Rattle.ob0_edits.specs.InliningEdits.{InlinesInText, IsInliningRefusedInText}
 use Rattle.ob0_edits.specs.declared.inline_question.InliningKind.{InliningKind}
 use Rattle.ob0_edits.specs.declared.inline_question.InliningKind.TheVariants.{OneUse, Everywhere}
-use Rattle.ob0_edits.specs.Texts.{utf8}
+use Rattle.ob0_edits.specs.TextBytes.{utf8}
 use Rattle.ob0_world_rules.specs.TextEdits.{replacements_of_edits}
 use Rattle.ob0_world_rules.proofs.OneModule.{Same, same_module, one_named_tree, one_name, same_parts}
 
@@ -170,7 +170,7 @@ module _ {m n : ParsedModule} (e : Same m n) (unit : Unit) (text : List ℕ) (of
 -- ---- in a text
 
 module _ (unit : Unit) (text : List ℕ) (offset : ℕ) (xs : Vec Edit Global) where
-  -- Two inline_question at one place in a text have equal parts: ranges, and bytes of the new texts.
+  -- Two inlinings at one place in a text have equal parts: ranges, and bytes of the new texts.
   pub inlines_parts : (how : InliningKind) (ys : Vec Edit Global) → InlinesInText how unit text offset xs → InlinesInText how unit text offset ys → map range_and_text xs.items ≡ map range_and_text ys.items
   inlines_parts OneUse ys h k =
       here_one (same_module (utf8 text) h.module_read k.module_read h.read.scan h.read.parsed k.read.scan k.read.parsed) k.read.parsed unit text offset xs ys h.inlines k.inlines

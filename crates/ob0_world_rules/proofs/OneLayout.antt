@@ -17,7 +17,7 @@ use Rattle.ob0_layout.specs.Layout.{formatted_text}
 use Rattle.ob0_layout.specs.Gaps.{changed_gaps, all_gaps}
 use Rattle.ob0_layout.specs.LineRoles.{line_roles}
 use Rattle.ob0_edits.specs.ReportedErrors.{IsTextOfTree, IsWellTypedModule}
-use Rattle.ob0_edits.specs.Texts.{utf8}
+use Rattle.ob0_edits.specs.TextBytes.{utf8}
 use Rattle.ob0_edits.specs.FormattingEdits.{FormatsText, FormattedTextIsTooLong, edits_of_changed_gaps, formatted_text_of_module}
 use Rattle.ob0_world_rules.specs.TextEdits.{replacements_of_edits}
 use Rattle.ob0_world_rules.proofs.OneModule.{same_parts}

@@ -29,7 +29,7 @@ use Rattle.ob0_edits_tokens.specs.Ranges.{range_of}
 use Rattle.ob0_language_fields.specs.SingleFieldRenaming.{is_duplicate_field_name}
 use Rattle.ob0_types_fields.specs.FieldIdentifiers.{fields_declared_in_block, field_identifiers, field_at_offset, first_token, tokens_of_field}
 use Rattle.ob0_edits.specs.AnalysisAnswers.{IsResolvedWellTypedModule}
-use Rattle.ob0_edits.specs.Texts.{utf8}
+use Rattle.ob0_edits.specs.TextBytes.{utf8}
 use Rattle.ob0_rename.specs.Renaming.{Renaming, RenameTarget, declaration, record_field, field_tokens_to_rename, renaming_target, target_of_name_or_field, nothing, occurrence_range, conflicting_field_range, conflicting_declaration_range, predeclared, renaming_at_place, text_after_renaming, tokens_to_rename}
 use Rattle.ob0_rename.specs.Answers.{AreRenameEdits, IsRenameRefusal, IsFirstRefusalForDeclaration, IsFirstRefusalForField, IsFirstRefusalForTarget, RenamesDeclaration, RenamesField, WritesNewName}
 use Rattle.ob0_edits.specs.Renamings.{IsRenameRefusedInText, RenamesInText}

@@ -9,7 +9,7 @@ use Rattle.ob0_language_runs.specs.EditLaws.{HaveSameRuns}
 use Rattle.ob0_parse_descent.proofs.Unique.{same}
 use Rattle.ob0_edits.specs.ReportedErrors.{IsTextOfTree}
 use Rattle.ob0_edits.specs.SameRuns.{RunsAsBefore}
-use Rattle.ob0_edits.specs.Texts.{utf8}
+use Rattle.ob0_edits.specs.TextBytes.{utf8}
 use Rattle.ob0_world_rules.specs.WellTypedTexts.{SameRun}
 use Rattle.ob0_world_rules.proofs.ModuleTexts.{text_of_module}
 

@@ -15,8 +15,8 @@ pub record Revision : Type 0 where
   pub text : List ℕ
   pub sent_changes : List TextChange
 
--- A move of an editor. It differs from an act of the model's editor (`EditorAct`) in two ways. A
--- document may get any version, and changes are given as a list of revisions.
+-- A move of an editor. Unlike an act of the model's editor (`EditorAct`), a move may give a document
+-- any version, and its changes are a list of revisions.
 pub data EditorMove : Type 0 where
   -- the uri, the version and the text
   editor_opens : List ℕ → ℤ → List ℕ → EditorMove

@@ -16,8 +16,8 @@ use Rattle.ob0_world_rules.specs.EditorMoves.{EditorMove, IsAllowedMove}
 -- ---- an editor and the server
 
 -- An editor and the server. Their queues may contain messages outside the model (`None`). These are
--- requests that change nothing, such as a hover request, the answers to such requests, and
--- notifications that the server ignores.
+-- read-only requests such as hover requests, their answers, other responses, notifications that the
+-- server ignores, and JSON that isn't a message.
 pub record EditorAndServer : Type 0 where
   pub editor : Editor
   pub to_server : List (Option MessageToServer)

@@ -13,7 +13,7 @@ use Rattle.ob0_tree.specs.Tree.{Tree, module_text, spell, nesting}
 use Rattle.ob0_language_names.specs.Names.{Name}
 use Rattle.ob0_language_types.specs.WellTyped.{WellTyped}
 use Rattle.ob0_language_runs.specs.EditLaws.{HaveSameRuns}
-use Rattle.ob0_edits.specs.Texts.{utf8}
+use Rattle.ob0_edits.specs.TextBytes.{utf8}
 
 -- returns the leaves of a syntax tree that stand for a lexeme: one for a token, none for white
 -- space or a comment

@@ -13,7 +13,7 @@ use Rattle.ob0_tree.specs.Module.{IsModuleWithTree}
 use Rattle.ob0_tree.specs.Tree.{Tree, module_text}
 use Rattle.ob0_layout.specs.Layout.{formatted_lexemes, formatted_text}
 use Rattle.ob0_edits.specs.ReportedErrors.{IsTextOfTree, IsWellTypedModule}
-use Rattle.ob0_edits.specs.Texts.{utf8}
+use Rattle.ob0_edits.specs.TextBytes.{utf8}
 use Rattle.ob0_edits.specs.FormattingEdits.{FormatsText, formatted_text_of_module}
 use Rattle.ob0_world_rules.specs.Asks.{format, clamped_indent}
 use Rattle.ob0_world_rules.specs.TextEdits.{replacements_of_edits}

@@ -38,4 +38,4 @@ pub returns-in-NoCode : goal.returns-in-NoCode
 returns-in-NoCode c =
     let a = c.args.a.now in
     let P : LoweredExpression → Type 0 = λ l. LowersExpression c.args.scene.now (expression_of a.value) l in
-    nothing_assigned c.args.scene.now a.target.name (items_of selector_of a.target.selectors.items) a.value c.in_ok-target.target _ (subst P c.in-Nothing.is c.in_ok-n.ensures.lowers)
+    nothing_assigned c.args.scene.now a.target.name (items_of selector_of a.target.selectors.items) a.value c.in_ok-target.target _ (subst P c.in-NoCode.is c.in_ok-n.ensures.lowers)

@@ -16,4 +16,4 @@ returns c =
     let cs = map argument_of c.in_ok-arguments.arguments.items in
     let P : List (Tree Label expression) → Type 0 = λ es. LowersArguments scene (signature_in scene c.args.formals.now) cs es in
     let args = subst P (sym (given_listed r lower_call_statement.arguments)) c.in_ok-arguments.ensures in
-    λ declared. called scene (label_at_token r lower_call_statement.procedure) (tree_with_labels r (arguments_of lower_call_statement.arguments)) (signature_in scene c.args.formals.now) cs c.target-target.result.procedure c.target-target.result.up declared args c.target-target.ensures
+    λ declared. called scene (label_at_token r lower_call_statement.procedure) (tree_with_labels r (arguments_of lower_call_statement.arguments)) (signature_in scene c.args.formals.now) cs c.call_target_at_token-target.result.procedure c.call_target_at_token-target.result.up declared args c.call_target_at_token-target.ensures

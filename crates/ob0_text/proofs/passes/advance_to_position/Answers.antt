@@ -45,7 +45,7 @@ returns-then-position-character-clause-place c = sought_dropped (width_of c.args
 pub returns-then-position-character-clause-offset : goal.returns-then-position-character-clause-offset
 returns-then-position-character-clause-offset c =
     let width = width_of c.args.unit in
-    let full : c.args.position.character - c.loop-c.character < width c.in-Some.c = subst (λ k. c.args.position.character - c.loop-c.character < k) c.width-units.ensures c.if-position-character.true in
+    let full : c.args.position.character - c.loop-c.character < width c.in-Some.c = subst (λ k. c.args.position.character - c.loop-c.character < k) c.character_width-units.ensures c.if-position-character.true in
     sought_at_full width _ _ _ _ _ _ c.loop-c.invariant.sought c.in-Some.c (chars_rest c.next.new.self) c.in-Some.ensures.steps.0 c.if-line-position.false (sym c.is_line_break.ensures ∙ c.if-is_line_break.false) full
 
 pub returns-in_default-clause-place : goal.returns-in_default-clause-place

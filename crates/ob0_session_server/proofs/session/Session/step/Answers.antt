@@ -13,7 +13,7 @@ returns-in-Ok-clause-ok g c =
     let before : ServerState = c.args.self.now in
     let works : before.phase ≢ Failed = λ failed.
     let alike = rw (ap (λ s. s.phase) c.self.view_is ∙ failed) at c.eq.ensures in let both : true ≡ false = sym alike ∙ c.if-eq.false in cc in
-    record { answers = going_on before.phase before c.args.content.now _ c.reply_to_content_as_list.new.self (sym c.next_in_phase.ensures ∙ c.in-Continue.is) works c.in-Ok.ensures; next = c.next-in-Ok.ensures }
+    record { answers = going_on before.phase before c.args.content.now _ c.reply_to_content_as_list.new.self (sym c.next_in_phase.ensures ∙ c.in-Continue.is) works c.in-Ok.ensures; next = c.next_in_phase-in-Ok.ensures }
 
 pub returns-in-Err-clause-err : goal.returns-in-Err-clause-err
 returns-in-Err-clause-err g c = (
