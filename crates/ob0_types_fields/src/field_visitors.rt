@@ -166,7 +166,7 @@ impl<'s> FieldVisitor for FieldTokenCollector<'s> {
 impl<'s> FieldTokenCollector<'s> {
     /// Returns the collected tokens.
     pub(crate) fn into_tokens(self) -> Vec<usize>
-        ensures { result.items ≡ self.collected }
+        ensures { result.items ≡ self.entry.collected }
     {
         let FieldTokenCollector {
             field: _,
