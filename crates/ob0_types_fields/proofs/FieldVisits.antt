@@ -150,11 +150,11 @@ pub record OverDeclarations {S A : Type 0} {g : GrammarItem} (step : FieldIdenti
 
 -- `one` gives the fields of the next declaration, and `c` is the number of its words.
 pub declaration_visited : {S A : Type 0} {g : GrammarItem} {step : FieldIdentifier → S → S} (f : A → Tree ℕ (item g)) (fields : ℕ → Tree ℕ (items g) → List FieldIdentifier) (count : Tree ℕ (items g) → ℕ) {k : ℕ} {start : S} {xs : List A} {done j : ℕ} {now : S}
-    (x : A) (one : ℕ → List FieldIdentifier) (c : ℕ) {next : ℕ} {then : S}
+    (x : A) (one : ℕ → List FieldIdentifier) (c : ℕ) {next : ℕ} {last : S}
     → ((n : ℕ) (rest : Tree ℕ (items g)) → fields n (more (f x) rest) ≡ one n ++ fields (n + c) rest) → ((rest : Tree ℕ (items g)) → count (more (f x) rest) ≡ c + count rest)
-    → OverDeclarations step f fields count k start xs done j now → done < length xs → x ≡ get_or xs done x → VisitsDeclarations step (one j) c j next now then
-    → OverDeclarations step f fields count k start xs (done + 1) next then
-declaration_visited {step = step} f fields count {k = k} {xs = xs} {done = done} {j = j} {now = now} x one c {next = next} {then = then} parts counts w less here v =
+    → OverDeclarations step f fields count k start xs done j now → done < length xs → x ≡ get_or xs done x → VisitsDeclarations step (one j) c j next now last
+    → OverDeclarations step f fields count k start xs (done + 1) next last
+declaration_visited {step = step} f fields count {k = k} {xs = xs} {done = done} {j = j} {now = now} x one c {next = next} {last = last} parts counts w less here v =
     let rest = items_of f (drop (done + 1) xs) in
     let split : items_of f (drop done xs) ≡ more (f x) rest = ap (items_of f) (drop_more xs done x less ∙ ap (λ y. y ∷ drop (done + 1) xs) (sym here)) in
     let whole : count (items_of f (drop done xs)) ≡ c + count rest = ap count split ∙ counts rest in
