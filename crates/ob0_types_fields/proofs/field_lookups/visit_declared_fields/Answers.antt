@@ -12,7 +12,7 @@ pub returns-clause-few : goal.returns-clause-few
 returns-clause-few g c =
     let r = c.args.resolved.now in
     let few = declared_are_few r c.module.ensures.resolved.parsed in
-    on_ok c.visit_fields_declared_in_block.result (λ v. omega (arith, few, c.len-_count.ensures, c.tokens-2.ensures)) c.visit_fields_declared_in_block.ensures
+    on_ok c.visit_fields_declared_in_block.result (λ v. omega (arith, few, c.len-count.ensures, c.tokens-2.ensures)) c.visit_fields_declared_in_block.ensures
 
 pub returns-clause-visited : goal.returns-clause-visited
 returns-clause-visited g c =
@@ -21,5 +21,5 @@ returns-clause-visited g c =
     let few = words_are_tokens r.module_read c.module.ensures.resolved.parsed in
     on_ok c.visit_fields_declared_in_block.result
     (λ v. (visits_as (ap (λ b. fields_declared_in_block 0 (block_of b)) read) (ap (λ b. block_constructor_count (block_of b)) read) v).visited
-    (omega (arith, few, c.len-_count.ensures, c.tokens-2.ensures)))
+    (omega (arith, few, c.len-count.ensures, c.tokens-2.ensures)))
     c.visit_fields_declared_in_block.ensures

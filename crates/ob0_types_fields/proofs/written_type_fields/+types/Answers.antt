@@ -30,8 +30,10 @@ pub visit_type_fields-returns-in-Array : goal.visit_type_fields-returns-in-Array
 visit_type_fields-returns-in-Array g t c =
     let k = c.args.word_count.now in
     let array = sym (ap type_of c.in-Array.is) in
+    let inside = ap type_of c.deref.ensures in
     on_ok c.visit_type_fields.result
-    (λ v. visits_as (ap (fields_in_type k) array) (ap constructor_count array) (visits_word (λ n. fields_in_type n (type_of c.in-Array.a.element.value)) c.take_next_ordinal-_array.ensures.word_count v))
+    (λ v. visits_as (ap (fields_in_type (suc k)) inside ∙ ap (fields_in_type k) array) (ap (λ t. suc (constructor_count t)) inside ∙ ap constructor_count array)
+    (visits_word (λ n. fields_in_type n (type_of c.deref.result.now)) c.take_next_ordinal-array.ensures.word_count v))
     c.visit_type_fields.ensures
 
 pub visit_type_fields-returns-in-Record : goal.visit_type_fields-returns-in-Record

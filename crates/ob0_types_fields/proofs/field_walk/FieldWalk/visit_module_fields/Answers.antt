@@ -16,5 +16,5 @@ returns g c =
     let few = words_are_tokens r.module_read c.module.ensures.resolved.parsed in
     on_ok c.visit_block_fields.result
     (λ v. (visits_as (ap (λ b. fields_in_block m 0 (block_of b)) read) (ap (λ b. block_constructor_count (block_of b)) read) v).visited
-    (omega (arith, few, c.len-_count.ensures, c.tokens-2.ensures)))
+    (omega (arith, few, c.len-count.ensures, c.tokens-2.ensures)))
     c.visit_block_fields.ensures
