@@ -35,7 +35,7 @@ use crate::operators::{
 use crate::places::{number_at_place, place_of_element, shifted_place};
 use crate::scene::Scene;
 use ob0_language_values::Scalar;
-use ob0_run_machine::code::{Number, Truth};
+use ob0_run_machine::code::{Number, Operand, Truth};
 use ob0_tree::{
     Comparison, CompoundExpression, Designator, Expression, Factor, Selector, SimpleExpression,
     Term, token_text_at,
@@ -48,7 +48,9 @@ fn lower_constant(value: Scalar) -> LoweredExpression
     ensures flat { IsNotNestedOnLeft result }
 {
     match value {
-        Scalar::Number(number) => LoweredExpression::Number(Number::Literal(number)),
+        Scalar::Number(number) => LoweredExpression::Number(Number::Operand(Operand::Literal(
+            number,
+        ))),
         Scalar::Truth(truth) => LoweredExpression::Truth(Truth::Constant(truth)),
     }
 }
@@ -325,9 +327,9 @@ impl<'s, 'k, 't> Scene<'s, 'k, 't> {
     {
         match f {
             Factor::Designator(d) => self.lower_designator(alloc, d),
-            Factor::Integer(token) => Ok(LoweredExpression::Number(Number::Literal(
+            Factor::Integer(token) => Ok(LoweredExpression::Number(Number::Operand(Operand::Literal(
                 self.literal_at_token(*token),
-            ))),
+            )))),
             Factor::Parenthesised(e) => self.lower_expression(alloc, e),
             Factor::Not(f) => {
                 let operand = self.lower_factor(alloc, f)?;

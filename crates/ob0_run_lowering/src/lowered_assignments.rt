@@ -2,46 +2,61 @@
 //! right side has no code, the assignment is lowered to `WriteLine`, since some instruction has to
 //! be returned.
 
-ghost use Rattle.std.specs.Prelude.{◌≡◌, IfOk};
+ghost use Rattle.std.specs.Prelude.{◌≡◌, IfOk, true};
 ghost use Rattle.ob0_tree.specs.View.{assignment_of};
 ghost use Rattle.ob0_scope_table.specs.LabelledTrees.{tree_with_labels};
 ghost use Rattle.ob0_run_machine.specs.LoweredSyntax as machine;
-ghost use Rattle.ob0_run_machine.specs.LoweredCodeViews.{operation_with_link, number_of, operation_of, place_of, statement_of, truth_of, variable_of};
+ghost use Rattle.ob0_run_machine.specs.LoweredCodeViews.{operation_with_link, chain_of, number_of, place_of, statement_of, truth_of, variable_of};
+ghost use Rattle.ob0_run_machine.specs.declared.code.Chain.{out-Chain};
 ghost use Rattle.ob0_run_lowering.specs.LoweredBodies.{LowersStatement};
 
 use crate::{LoweredExpression, Scene};
 use ob0_run_machine::code::{
-    ChainLink, FirstOperand, Instruction, Number, Operation, Place, Truth, Variable,
+    Chain, ChainLink, Instruction, Number, Operand, Place, Truth, Variable,
 };
 use ob0_tree::Assignment;
 use std::alloc::{AllocError, Global};
 
 /// Returns the code that assigns a number to a place.
-fn number_assignment(alloc: Global, place: Place, n: Number) -> Result<Instruction, AllocError>
-    ensures { IfOk result
-        (λ made. statement_of made ≡ machine.stores_number (place_of place) (number_of n)) }
+fn number_assignment(place: Place, n: Number) -> Instruction
+    ensures { statement_of result ≡ machine.stores_number (place_of place) (number_of n) }
 {
     match place {
-        Place::Variable(variable) => variable_assignment(alloc, variable, n),
-        other => Ok(Instruction::StoreNumber(other, n)),
+        Place::Variable(variable) => match n {
+            Number::Operand(operand) => Instruction::StoreOperand(variable, operand),
+            Number::Chain(chain) => chain_assignment(variable, chain),
+        },
+        other => Instruction::StoreNumber(other, n),
     }
 }
 
-/// Returns the code that assigns a number to a variable.
-fn variable_assignment(
-    alloc: Global,
-    variable: Variable,
-    n: Number,
-) -> Result<Instruction, AllocError>
-    ensures { IfOk result
-        (λ made. statement_of made ≡ machine.stores_number (variable_of variable) (number_of n)) }
+/// Returns the code that assigns the result of a chain to a variable. If the chain is one operation
+/// on the same variable, the code is an `Increase` or an `Update`.
+fn chain_assignment(variable: Variable, chain: Box<Chain>) -> Instruction
+    ensures { statement_of result ≡ machine.stores_number (variable_of variable)
+        (chain_of chain.value) }
 {
-    match n {
-        Number::Operation(operation) => {
-            operation_assignment(alloc, variable, Box::into_inner(operation))
-        }
-        Number::Chain(chain) => Ok(Instruction::StoreChain(variable, chain)),
-        other => Ok(Instruction::StoreNumberInVariable(variable, other)),
+    if !is_operation_on_variable(&chain, variable) {
+        return Instruction::StoreChain(variable, chain);
+    }
+    let Chain {
+        first: _first,
+        link,
+        rest: _rest,
+    } = Box::into_inner(chain);
+    update_assignment(variable, link)
+}
+
+/// Returns whether a chain is one operation whose first operand is the variable.
+fn is_operation_on_variable(chain: &Chain, variable: Variable) -> bool
+    ensures { result ≡ true → chain_of chain.now
+        ≡ operation_with_link (out-Chain chain.now).link (machine.cell (variable_of variable)) }
+{
+    let rest = chain.rest.as_slice();
+    let count = rest.len();
+    match &chain.first {
+        Operand::Variable(first) => *first == variable && count == 0,
+        _ => false,
     }
 }
 
@@ -54,36 +69,6 @@ fn update_assignment(variable: Variable, link: ChainLink) -> Instruction
     match link {
         ChainLink::SumWithLiteral(n) => Instruction::Increase(variable, n),
         link => Instruction::Update(variable, link),
-    }
-}
-
-/// Returns the code that assigns the result of an operation to a variable. If the first operand is
-/// the same variable, the code is an `Update` or an `Increase`.
-fn operation_assignment(
-    alloc: Global,
-    variable: Variable,
-    operation: Operation,
-) -> Result<Instruction, AllocError>
-    ensures { IfOk result (λ made. statement_of made
-        ≡ machine.stores_number (variable_of variable) (operation_of operation)) }
-{
-    let Operation { first, link } = operation;
-    match first {
-        FirstOperand::Variable(left) => {
-            if left == variable {
-                return Ok(update_assignment(variable, link));
-            }
-            let operation = Operation {
-                first: FirstOperand::Variable(left),
-                link,
-            };
-            let n = Number::Operation(Box::new(alloc, operation)?);
-            Ok(Instruction::StoreNumberInVariable(variable, n))
-        }
-        first => {
-            let n = Number::Operation(Box::new(alloc, Operation { first, link })?);
-            Ok(Instruction::StoreNumberInVariable(variable, n))
-        }
     }
 }
 
@@ -120,7 +105,7 @@ pub(crate) fn lower_assignment(
 {
     let target = scene.lower_to_place(alloc, &a.target)?;
     match scene.lower_to_code(alloc, &a.value)? {
-        LoweredExpression::Number(n) => number_assignment(alloc, target.place, n),
+        LoweredExpression::Number(n) => Ok(number_assignment(target.place, n)),
         LoweredExpression::Truth(t) => Ok(truth_assignment(target.place, t)),
         LoweredExpression::Block(from, cells) => Ok(Instruction::Copy(target.place, from, cells)),
         LoweredExpression::NoCode => Ok(Instruction::WriteLine),

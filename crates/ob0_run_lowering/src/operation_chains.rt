@@ -1,7 +1,7 @@
-//! Makes chains of operations. A second operation on the result of the first makes a `Chain`. A
-//! third operand of `&` makes an `All`, a third operand of OR an `Any`.
+//! Makes chains of operations. An operation on the result of a chain becomes the last link of this
+//! chain. A third operand of `&` makes an `All`, a third operand of OR an `Any`.
 //!
-//! In `v + i * j` the sum becomes the last operation of the chain that begins with `i * j`.
+//! In `v + i * j` the sum becomes the last link of the chain that begins with `i * j`.
 //! According to `LoweredCodeViews`, these nodes have the same meaning as nested pairs, so no other module has
 //! to distinguish chains from nested pairs. The same holds for the forms of places, negations and
 //! assignments that the machine evaluates in fewer steps.
@@ -16,148 +16,120 @@
 
 ghost use Rattle.std.specs.Prelude.{◌≡◌, ◌≤◌, IfOk, IfSome, max, suc};
 ghost use Rattle.ob0_run_machine.specs.LoweredSyntax as machine;
-ghost use Rattle.ob0_run_machine.specs.LoweredCodeViews.{conjunction_of, disjunction_of, operation_with_link, chain_of, first_operand_of, number_of, operation_of, operator_of, truth_of, variable_of};
+ghost use Rattle.ob0_run_machine.specs.LoweredCodeViews.{conjunction_of, disjunction_of, operation_with_link, chain_of, number_of, operand_of, operator_of, truth_of, variable_of};
 ghost use Rattle.ob0_run_lowering.specs.TruthDepths.{conjunction_depth, disjunction_depth};
 ghost use Rattle.ob0_run_machine.specs.declared.code.TruthList.{out-TruthList};
 
 use ob0_run_machine::code::{
-    Chain, ChainLink, FirstOperand, Number, Operation, Operator, Truth, TruthList, TruthPair,
-    Variable,
+    Chain, ChainLink, Number, Operand, Operator, Truth, TruthList, TruthPair, Variable,
 };
 use std::alloc::{AllocError, Global};
 
-/// Returns the link that applies an operator to the result so far, with the number `right` as the
-/// right operand.
-fn link_with_right_operand(operator: Operator, right: Number) -> ChainLink
+/// Returns the link that applies an operator to the result so far, with a literal as the right
+/// operand.
+fn link_with_literal(operator: Operator, n: i32) -> ChainLink
     ensures { (left : machine.Number)
-        → operation_with_link result left ≡ machine.operation (operator_of operator) left (number_of right) }
+        → operation_with_link result left ≡ machine.operation (operator_of operator) left (machine.literal n) }
 {
     match operator {
-        Operator::Sum => match right {
-            Number::Literal(n) => ChainLink::SumWithLiteral(n),
-            Number::Variable(v) => ChainLink::SumWithVariable(v),
-            other => ChainLink::Other(Operator::Sum, other),
-        },
-        Operator::Difference => match right {
-            Number::Literal(n) => ChainLink::DifferenceWithLiteral(n),
-            Number::Variable(v) => ChainLink::DifferenceWithVariable(v),
-            other => ChainLink::Other(Operator::Difference, other),
-        },
-        Operator::Product => match right {
-            Number::Literal(n) => ChainLink::ProductWithLiteral(n),
-            Number::Variable(v) => ChainLink::ProductWithVariable(v),
-            other => ChainLink::Other(Operator::Product, other),
-        },
-        Operator::Quotient => match right {
-            Number::Literal(n) => ChainLink::QuotientWithLiteral(n),
-            Number::Variable(v) => ChainLink::QuotientWithVariable(v),
-            other => ChainLink::Other(Operator::Quotient, other),
-        },
-        Operator::Remainder => match right {
-            Number::Literal(n) => ChainLink::RemainderWithLiteral(n),
-            Number::Variable(v) => ChainLink::RemainderWithVariable(v),
-            other => ChainLink::Other(Operator::Remainder, other),
-        },
+        Operator::Sum => ChainLink::SumWithLiteral(n),
+        Operator::Difference => ChainLink::DifferenceWithLiteral(n),
+        Operator::Product => ChainLink::ProductWithLiteral(n),
+        Operator::Quotient => ChainLink::QuotientWithLiteral(n),
+        Operator::Remainder => ChainLink::RemainderWithLiteral(n),
+    }
+}
+
+/// Returns the link that applies an operator to the result so far, with a variable as the right
+/// operand.
+fn link_with_variable(operator: Operator, v: Variable) -> ChainLink
+    ensures { (left : machine.Number) → operation_with_link result left
+        ≡ machine.operation (operator_of operator) left (machine.cell (variable_of v)) }
+{
+    match operator {
+        Operator::Sum => ChainLink::SumWithVariable(v),
+        Operator::Difference => ChainLink::DifferenceWithVariable(v),
+        Operator::Product => ChainLink::ProductWithVariable(v),
+        Operator::Quotient => ChainLink::QuotientWithVariable(v),
+        Operator::Remainder => ChainLink::RemainderWithVariable(v),
+    }
+}
+
+/// Returns the link that applies an operator to the result so far, with `right` as the right
+/// operand.
+fn link_with_right_operand(operator: Operator, right: Operand) -> ChainLink
+    ensures { (left : machine.Number)
+        → operation_with_link result left ≡ machine.operation (operator_of operator) left (operand_of right) }
+{
+    match right {
+        Operand::Literal(n) => link_with_literal(operator, n),
+        Operand::Variable(v) => link_with_variable(operator, v),
+        other => ChainLink::Other(operator, Number::Operand(other)),
     }
 }
 
 /// Returns the link that applies an operator with a variable as the left operand and the result so
 /// far as the right operand. Returns None for a quotient or a remainder, which have no such link.
-fn link_with_left_variable(operator: Operator, variable: Variable) -> Option<ChainLink>
+/// The variable has the same value before and after the right operand is evaluated, since this
+/// evaluation changes no variable.
+fn link_with_left_variable(operator: Operator, v: Variable) -> Option<ChainLink>
     ensures { IfSome result (λ l. (right : machine.Number) → operation_with_link l right
-        ≡ machine.operation (operator_of operator) (machine.cell (variable_of variable)) right) }
+        ≡ machine.operation (operator_of operator) (machine.cell (variable_of v)) right) }
 {
     match operator {
-        Operator::Sum => Some(ChainLink::SumWithLeftVariable(variable)),
-        Operator::Difference => Some(ChainLink::DifferenceWithLeftVariable(variable)),
-        Operator::Product => Some(ChainLink::ProductWithLeftVariable(variable)),
+        Operator::Sum => Some(ChainLink::SumWithLeftVariable(v)),
+        Operator::Difference => Some(ChainLink::DifferenceWithLeftVariable(v)),
+        Operator::Product => Some(ChainLink::ProductWithLeftVariable(v)),
         Operator::Quotient => None,
         Operator::Remainder => None,
     }
 }
 
-/// Returns the number that is a single operation: the link applied to the first operand.
-fn single_operation(
-    alloc: Global,
-    first: FirstOperand,
-    link: ChainLink,
-) -> Result<Number, AllocError>
-    ensures { IfOk result (λ n. number_of n ≡ operation_with_link link (first_operand_of first)) }
+/// Returns the link that applies an operator with `left` as the left operand and the result so far
+/// as the right operand. Returns None if there is no such link. Only a variable has one.
+fn link_with_left_number(operator: Operator, left: &Number) -> Option<ChainLink>
+    ensures { IfSome result (λ l. (right : machine.Number) → operation_with_link l right
+        ≡ machine.operation (operator_of operator) (number_of left.now) right) }
 {
-    Ok(Number::Operation(Box::new(alloc, Operation { first, link })?))
-}
-
-/// Returns the chain that applies a second link, `next`, to the result of an operation.
-fn chain_of_two_operations(
-    alloc: Global,
-    operation: Operation,
-    next: ChainLink,
-) -> Result<Number, AllocError>
-    ensures { IfOk result (λ n. number_of n ≡ operation_with_link next (operation_of operation)) }
-{
-    let Operation { first, link } = operation;
-    let mut rest = Vec::new(alloc);
-    rest.push(link)?;
-    rest.push(next)?;
-    Ok(Number::Chain(Box::new(alloc, Chain { first, rest })?))
-}
-
-/// Returns a chain with one more link at its end.
-fn extended_chain(alloc: Global, chain: Chain, link: ChainLink) -> Result<Number, AllocError>
-    ensures { IfOk result (λ n. number_of n ≡ operation_with_link link (chain_of chain)) }
-{
-    let Chain { first, mut rest } = chain;
-    rest.push(link)?;
-    Ok(Number::Chain(Box::new(alloc, Chain { first, rest })?))
-}
-
-/// Returns the operation with a variable as the left operand and the number `right` as the right
-/// operand. The result is a single operation, even if `right` is a chain.
-fn single_operation_on_variable(
-    alloc: Global,
-    operator: Operator,
-    variable: Variable,
-    right: Number,
-) -> Result<Number, AllocError>
-    ensures { IfOk result (λ n. number_of n ≡ machine.operation (operator_of operator)
-        (machine.cell (variable_of variable)) (number_of right)) }
-{
-    single_operation(
-        alloc,
-        FirstOperand::Variable(variable),
-        link_with_right_operand(operator, right),
-    )
-}
-
-/// Returns the operation with a variable as the left operand and the number `right` as the right
-/// operand. A sum, a difference or a product becomes one chain if `right` is an operation or a
-/// chain. This chain evaluates the variable last. The variable has the same value then, since the
-/// evaluation of `right` changes no variable. In all other cases, the result is a single operation.
-fn operation_on_variable(
-    alloc: Global,
-    operator: Operator,
-    variable: Variable,
-    right: Number,
-) -> Result<Number, AllocError>
-    ensures { IfOk result (λ n. number_of n ≡ machine.operation (operator_of operator)
-        (machine.cell (variable_of variable)) (number_of right)) }
-{
-    let Some(link) = link_with_left_variable(operator, variable) else {
-        return single_operation_on_variable(alloc, operator, variable, right);
-    };
-    match right {
-        Number::Chain(chain) => extended_chain(alloc, Box::into_inner(chain), link),
-        Number::Operation(operation) => chain_of_two_operations(
-            alloc,
-            Box::into_inner(operation),
-            link,
-        ),
-        other => single_operation_on_variable(alloc, operator, variable, other),
+    match left {
+        Number::Operand(operand) => match operand {
+            Operand::Variable(v) => link_with_left_variable(operator, *v),
+            _ => None,
+        },
+        Number::Chain(_) => None,
     }
 }
 
-/// Returns the operation on two numbers. If the left number is an operation or a chain, the result
-/// is one chain. If the left number is a variable, the result is made by `operation_on_variable`.
+/// Returns the chain that applies a link to a number. If the number is a chain, the link is added
+/// at its end.
+fn number_with_link(alloc: Global, number: Number, link: ChainLink) -> Result<Number, AllocError>
+    ensures { IfOk result (λ n. number_of n ≡ operation_with_link link (number_of number)) }
+{
+    match number {
+        Number::Operand(first) => {
+            let rest = Vec::new(alloc);
+            Ok(Number::Chain(Box::new(alloc, Chain { first, link, rest })?))
+        }
+        Number::Chain(chain) => extended_chain(chain, link),
+    }
+}
+
+fn extended_chain(mut chain: Box<Chain>, link: ChainLink) -> Result<Number, AllocError>
+    ensures { IfOk result (λ n. number_of n ≡ operation_with_link link (chain_of chain.value)) }
+{
+    chain.rest.push(link)?;
+    Ok(Number::Chain(chain))
+}
+
+/// Returns a number with the sign `-`.
+pub(crate) fn negative_number(alloc: Global, number: Number) -> Result<Number, AllocError>
+    ensures { IfOk result (λ n. number_of n ≡ machine.negative (number_of number)) }
+{
+    number_with_link(alloc, number, ChainLink::Negation)
+}
+
+/// Returns the operation on two numbers. It becomes the last link of the right number if this is a
+/// chain and the left number is a variable, otherwise the last link of the left number.
 pub(crate) fn operation_on_numbers(
     alloc: Global,
     operator: Operator,
@@ -167,37 +139,18 @@ pub(crate) fn operation_on_numbers(
     ensures { IfOk result (λ n. number_of n
         ≡ machine.operation (operator_of operator) (number_of left) (number_of right)) }
 {
-    match left {
-        Number::Variable(v) => operation_on_variable(alloc, operator, v, right),
-        Number::Chain(chain) => extended_chain(
-            alloc,
-            Box::into_inner(chain),
-            link_with_right_operand(operator, right),
-        ),
-        Number::Operation(operation) => {
-            chain_of_two_operations(
-                alloc,
-                Box::into_inner(operation),
-                link_with_right_operand(operator, right),
-            )
+    match right {
+        Number::Operand(right) => {
+            number_with_link(alloc, left, link_with_right_operand(operator, right))
         }
-        Number::Literal(n) => single_operation(
-            alloc,
-            FirstOperand::Literal(n),
-            link_with_right_operand(operator, right),
-        ),
-        Number::Cell(place) => single_operation(
-            alloc,
-            FirstOperand::Cell(place),
-            link_with_right_operand(operator, right),
-        ),
-        Number::Negative(number) => {
-            single_operation(
+        Number::Chain(right) => match link_with_left_number(operator, &left) {
+            Some(link) => extended_chain(right, link),
+            None => number_with_link(
                 alloc,
-                FirstOperand::Negative(number),
-                link_with_right_operand(operator, right),
-            )
-        }
+                left,
+                ChainLink::Other(operator, Number::Chain(right)),
+            ),
+        },
     }
 }
 

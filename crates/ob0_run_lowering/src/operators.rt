@@ -3,7 +3,7 @@
 ghost use Rattle.std.specs.Prelude.{◌≡◌, IfOk, Some};
 ghost use Rattle.ob0_tree.specs.declared.tree.Sign.TheVariants as signs;
 ghost use Rattle.ob0_run_machine.specs.LoweredSyntax as machine;
-ghost use Rattle.ob0_run_machine.specs.LoweredCodeViews.{number_of, operator_of, truth_of};
+ghost use Rattle.ob0_run_machine.specs.LoweredCodeViews.{number_of, operand_of, operator_of, truth_of};
 ghost use Rattle.ob0_run_cells.specs.LoweredExpressions.{relation_of};
 ghost use Rattle.ob0_run_machine.specs.LoweredCodeViews as view;
 ghost use Rattle.ob0_run_lowering.specs.OperationCodes as codes;
@@ -13,11 +13,12 @@ ghost use Rattle.ob0_run_lowering.specs.TreeCodes.{expression_code_of};
 
 use crate::lowered_expression::LoweredExpression;
 use crate::operation_chains::{
-    conjunction_of_two_truths, disjunction_of_two_truths, negation, operation_on_numbers,
+    conjunction_of_two_truths, disjunction_of_two_truths, negation, negative_number,
+    operation_on_numbers,
 };
 use ob0_run_machine::code;
 use ob0_run_machine::code::{
-    Number, NumberPair, Operator, Place, Truth, TruthPair, Variable, VariableElement,
+    Number, NumberPair, Operand, Operator, Place, Truth, TruthPair, Variable,
 };
 use ob0_tree::{AddOperator, MultiplyOperator, Relation, Sign};
 use std::alloc::{AllocError, Global};
@@ -149,7 +150,7 @@ fn lower_unary_minus(
 {
     match operand {
         LoweredExpression::Number(number) => {
-            Ok(LoweredExpression::Number(Number::Negative(Box::new(alloc, number)?)))
+            Ok(LoweredExpression::Number(negative_number(alloc, number)?))
         }
         LoweredExpression::Truth(_) => Ok(LoweredExpression::NoCode),
         LoweredExpression::Block(_, _) => Ok(LoweredExpression::NoCode),
@@ -171,7 +172,7 @@ fn lower_unary_plus(
         alloc,
         Operator::Sum,
         operand,
-        LoweredExpression::Number(Number::Literal(0)),
+        LoweredExpression::Number(Number::Operand(Operand::Literal(0))),
     )
 }
 
@@ -236,73 +237,101 @@ fn lower_literal_comparison(relation: code::Comparator, variable: Variable, n: i
     }
 }
 
-/// Returns the code of a comparison of a variable with a number. If the number is a literal or
+/// Returns the code of a comparison of a variable with an operand. If the operand is a literal or
 /// another variable, the code is one node.
 fn lower_variable_comparison(
     alloc: Global,
     relation: code::Comparator,
     variable: Variable,
-    right: Number,
+    right: Operand,
 ) -> Result<Truth, AllocError>
     ensures code { IfOk result
-        (λ t. truth_of t ≡ view.variable_comparison relation variable (number_of right)) }
+        (λ t. truth_of t ≡ view.variable_comparison relation variable (operand_of right)) }
     ensures flat { IfOk result (λ t. (conjunction_depth t ≡ 0) × (disjunction_depth t ≡ 0)) }
 {
     match right {
-        Number::Literal(n) => Ok(lower_literal_comparison(relation, variable, n)),
-        Number::Variable(other) => Ok(Truth::VariableComparedToVariable(relation, variable, other)),
-        right => {
-            let left = Number::Variable(variable);
-            let operands = Box::new(alloc, NumberPair { left, right })?;
-            Ok(Truth::NumberComparison(relation, operands))
-        }
+        Operand::Literal(n) => Ok(lower_literal_comparison(relation, variable, n)),
+        Operand::Variable(other) => Ok(Truth::VariableComparedToVariable(
+            relation, variable, other,
+        )),
+        right => general_comparison(
+            alloc,
+            relation,
+            Number::Operand(Operand::Variable(variable)),
+            Number::Operand(right),
+        ),
     }
 }
 
-/// Returns the code of a comparison of the number at a place with the number `right`. The code is
-/// one node if the place is an element whose array and index are variables, and `right` is a
-/// variable.
+/// Returns the code of a comparison of the number at a place with an operand. The code is one node
+/// if the place is an element whose array and index are variables, and the operand is a variable.
 fn lower_cell_comparison(
     alloc: Global,
     relation: code::Comparator,
     place: Place,
-    right: Number,
+    right: Operand,
 ) -> Result<Truth, AllocError>
     ensures code { IfOk result (λ t. truth_of t ≡ machine.related (view.relation_of relation)
-        (machine.cell (view.place_of place)) (number_of right)) }
+        (machine.cell (view.place_of place)) (operand_of right)) }
     ensures flat { IfOk result (λ t. (conjunction_depth t ≡ 0) × (disjunction_depth t ≡ 0)) }
 {
     match place {
-        Place::VariableElement(row) => lower_element_comparison(alloc, relation, *row, right),
-        place => {
-            let left = Number::Cell(place);
-            let operands = Box::new(alloc, NumberPair { left, right })?;
-            Ok(Truth::NumberComparison(relation, operands))
-        }
+        Place::VariableElement(row) => match right {
+            Operand::Variable(variable) => {
+                Ok(Truth::ElementComparedToVariable(relation, row, variable))
+            }
+            right => general_comparison(
+                alloc,
+                relation,
+                Number::Operand(Operand::Cell(Place::VariableElement(row))),
+                Number::Operand(right),
+            ),
+        },
+        place => general_comparison(
+            alloc,
+            relation,
+            Number::Operand(Operand::Cell(place)),
+            Number::Operand(right),
+        ),
     }
 }
 
-fn lower_element_comparison(
+/// Returns the code of a comparison of two operands.
+fn lower_operand_comparison(
     alloc: Global,
     relation: code::Comparator,
-    row: VariableElement,
-    right: Number,
+    left: Operand,
+    right: Operand,
 ) -> Result<Truth, AllocError>
-    ensures code { IfOk result (λ t. truth_of t ≡ machine.related (view.relation_of relation)
-        (machine.cell (view.variable_element_of row)) (number_of right)) }
+    ensures code { IfOk result (λ t. truth_of t
+        ≡ machine.related (view.relation_of relation) (operand_of left) (operand_of right)) }
     ensures flat { IfOk result (λ t. (conjunction_depth t ≡ 0) × (disjunction_depth t ≡ 0)) }
 {
-    match right {
-        Number::Variable(variable) => {
-            let row = Box::new(alloc, row)?;
-            Ok(Truth::ElementComparedToVariable(relation, row, variable))
-        }
-        right => {
-            let left = Number::Cell(Place::VariableElement(Box::new(alloc, row)?));
-            let operands = Box::new(alloc, NumberPair { left, right })?;
-            Ok(Truth::NumberComparison(relation, operands))
-        }
+    match left {
+        Operand::Variable(variable) => lower_variable_comparison(alloc, relation, variable, right),
+        Operand::Cell(place) => lower_cell_comparison(alloc, relation, place, right),
+        left => general_comparison(
+            alloc,
+            relation,
+            Number::Operand(left),
+            Number::Operand(right),
+        ),
     }
+}
+
+/// Returns the code of a comparison of two numbers of any form.
+fn general_comparison(
+    alloc: Global,
+    relation: code::Comparator,
+    left: Number,
+    right: Number,
+) -> Result<Truth, AllocError>
+    ensures code { IfOk result (λ t. truth_of t
+        ≡ machine.related (view.relation_of relation) (number_of left) (number_of right)) }
+    ensures flat { IfOk result (λ t. (conjunction_depth t ≡ 0) × (disjunction_depth t ≡ 0)) }
+{
+    let operands = Box::new(alloc, NumberPair { left, right })?;
+    Ok(Truth::NumberComparison(relation, operands))
 }
 
 /// Returns the code of a comparison of two numbers.
@@ -318,12 +347,11 @@ fn lower_number_comparison(
 {
     let relation = comparator_of(relation);
     match left {
-        Number::Variable(variable) => lower_variable_comparison(alloc, relation, variable, right),
-        Number::Cell(place) => lower_cell_comparison(alloc, relation, place, right),
-        left => {
-            let operands = Box::new(alloc, NumberPair { left, right })?;
-            Ok(Truth::NumberComparison(relation, operands))
-        }
+        Number::Operand(left) => match right {
+            Number::Operand(right) => lower_operand_comparison(alloc, relation, left, right),
+            right => general_comparison(alloc, relation, Number::Operand(left), right),
+        },
+        left => general_comparison(alloc, relation, left, right),
     }
 }
 

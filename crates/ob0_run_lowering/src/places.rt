@@ -8,15 +8,14 @@
 //! (`proofs/PartsFound`). So the machine takes one step for a field of a variable, as for the
 //! variable itself.
 
-ghost use Rattle.std.specs.Prelude.{◌≡◌, IfOk, length};
+ghost use Rattle.std.specs.Prelude.{◌≡◌, IfOk};
 ghost use Rattle.ob0_run_machine.specs.LoweredSyntax as machine;
-ghost use Rattle.ob0_run_machine.specs.LoweredCodeViews.{chain_of, element_of, first_operand_of, number_of, place_of, variable_element_of, variable_of};
-ghost use Rattle.ob0_run_machine.specs.declared.code.Chain.{out-Chain};
+ghost use Rattle.ob0_run_machine.specs.LoweredCodeViews.{element_of, number_of, operand_of, place_of, variable_element_of, variable_of};
 ghost use Rattle.ob0_run_cells.specs.LoweredExpressions.{place_at_offset};
 ghost use Rattle.ob0_run_lowering.specs.OperationCodes.{place_of_element, known_element_offset};
 
 use ob0_run_machine::code::{
-    Chain, Element, FirstOperand, Number, Place, VarParameterPlace, Variable, VariableElement,
+    Element, Number, Operand, Place, VarParameterPlace, Variable, VariableElement,
 };
 use std::alloc::{AllocError, Global};
 
@@ -25,8 +24,8 @@ pub(crate) fn number_at_place(place: Place) -> Number
     ensures { number_of result ≡ machine.cell (place_of place) }
 {
     match place {
-        Place::Variable(variable) => Number::Variable(variable),
-        other => Number::Cell(other),
+        Place::Variable(variable) => Number::Operand(Operand::Variable(variable)),
+        other => Number::Operand(Operand::Cell(other)),
     }
 }
 
@@ -146,35 +145,14 @@ fn literal_element_offset(index: i32, length: usize, stride: usize) -> Option<us
     }
 }
 
-fn first_operand_element_offset(first: &FirstOperand, length: usize, stride: usize) -> Option<usize>
-    ensures { result ≡ known_element_offset (first_operand_of first.now) length stride }
+fn operand_element_offset(index: &Operand, length: usize, stride: usize) -> Option<usize>
+    ensures { result ≡ known_element_offset (operand_of index.now) length stride }
 {
-    match first {
-        FirstOperand::Literal(index) => literal_element_offset(*index, length, stride),
-        FirstOperand::Variable(_variable) => None,
-        FirstOperand::Cell(_place) => None,
-        FirstOperand::Negative(_number) => None,
+    match index {
+        Operand::Literal(index) => literal_element_offset(*index, length, stride),
+        Operand::Variable(_variable) => None,
+        Operand::Cell(_place) => None,
     }
-}
-
-/// Returns the number of operations in a chain.
-fn count_links(chain: &Chain) -> usize
-    ensures { result ≡ length (out-Chain chain.now).rest.items }
-{
-    chain.rest.len()
-}
-
-/// Returns the offset of an array's element whose index is a chain, in cells from the start of the
-/// array. The offset is known only if the chain has no operations, and its first operand is a
-/// literal below the array's length. Otherwise returns None.
-fn chain_element_offset(chain: &Chain, length: usize, stride: usize) -> Option<usize>
-    ensures { result ≡ known_element_offset (chain_of chain.now) length stride }
-{
-    let count = count_links(chain);
-    if count == 0 {
-        return first_operand_element_offset(&chain.first, length, stride);
-    }
-    None
 }
 
 /// Returns the offset of an array's element, in cells from the start of the array, if the index is
@@ -183,12 +161,8 @@ fn known_element_offset(index: &Number, length: usize, stride: usize) -> Option<
     ensures { result ≡ known_element_offset (number_of index.now) length stride }
 {
     match index {
-        Number::Literal(index) => literal_element_offset(*index, length, stride),
-        Number::Variable(_variable) => None,
-        Number::Cell(_place) => None,
-        Number::Negative(_number) => None,
-        Number::Operation(_operation) => None,
-        Number::Chain(chain) => chain_element_offset(chain, length, stride),
+        Number::Operand(index) => operand_element_offset(index, length, stride),
+        Number::Chain(_chain) => None,
     }
 }
 
@@ -221,9 +195,12 @@ fn element_at_computed_index(
     ensures { IfOk result
         (λ p. place_of p ≡ machine.element (place_of array) (number_of index) length stride 0) }
 {
-    match array {
-        Place::Variable(array) => variable_element(alloc, array, index, length, stride),
-        array => general_element_place(alloc, array, index, length, stride),
+    match index {
+        Number::Operand(index) => match array {
+            Place::Variable(array) => variable_element(alloc, array, index, length, stride),
+            array => general_element_place(alloc, array, Number::Operand(index), length, stride),
+        },
+        index => general_element_place(alloc, array, index, length, stride),
     }
 }
 
@@ -232,15 +209,15 @@ fn element_at_computed_index(
 fn variable_element(
     alloc: Global,
     array: Variable,
-    index: Number,
+    index: Operand,
     length: usize,
     stride: usize,
 ) -> Result<Place, AllocError>
     ensures { IfOk result
-        (λ p. place_of p ≡ machine.element (variable_of array) (number_of index) length stride 0) }
+        (λ p. place_of p ≡ machine.element (variable_of array) (operand_of index) length stride 0) }
 {
     match index {
-        Number::Variable(index) => {
+        Operand::Variable(index) => {
             let row = VariableElement {
                 array,
                 index,
@@ -250,7 +227,13 @@ fn variable_element(
             };
             Ok(Place::VariableElement(Box::new(alloc, row)?))
         }
-        index => general_element_place(alloc, Place::Variable(array), index, length, stride),
+        index => general_element_place(
+            alloc,
+            Place::Variable(array),
+            Number::Operand(index),
+            length,
+            stride,
+        ),
     }
 }
 

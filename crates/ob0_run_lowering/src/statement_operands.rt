@@ -12,7 +12,7 @@ ghost use Rattle.ob0_run_lowering.specs.declared.lowered_expression.LoweredExpre
 
 use crate::lowered_expression::{LoweredExpression, TypedPlace};
 use crate::scene::Scene;
-use ob0_run_machine::code::{Argument, Number, Place, Truth, Variable};
+use ob0_run_machine::code::{Argument, Number, Operand, Place, Truth, Variable};
 use ob0_tree::{Designator, Expression};
 use ob0_types_table::lone_designators::lone_designator;
 use ob0_types_table::{FormalParameter, TypeId};
@@ -24,9 +24,9 @@ fn number_or_zero(lowered: LoweredExpression) -> Number
 {
     match lowered {
         LoweredExpression::Number(number) => number,
-        LoweredExpression::Truth(_) => Number::Literal(0),
-        LoweredExpression::Block(_, _) => Number::Literal(0),
-        LoweredExpression::NoCode => Number::Literal(0),
+        LoweredExpression::Truth(_) => Number::Operand(Operand::Literal(0)),
+        LoweredExpression::Block(_, _) => Number::Operand(Operand::Literal(0)),
+        LoweredExpression::NoCode => Number::Operand(Operand::Literal(0)),
     }
 }
 

@@ -1,16 +1,16 @@
 -- Chains: operations in a row, from left to right.
-use Rattle.std.proofs.Common.{◌≡◌, ℕ, ℤ, List, [], ◌∷◌, drop, refl, sym, ap, ◌∙◌}
+use Rattle.std.proofs.Common.{◌≡◌, ◌≤◌, ℕ, ℤ, arith, List, [], ◌∷◌, drop, length, refl, sym, ap, ◌∙◌}
 use Rattle.ob0_run_machine.specs.declared.code.ChainLink.{ChainLink}
 use Rattle.ob0_run_machine.specs.declared.code.ChainLink as link
 use Rattle.ob0_run_machine.specs.declared.code.Variable.{Variable}
 use Rattle.ob0_run_machine.specs.declared.code.Variable.TheVariants as variable
 use Rattle.ob0_run_machine.specs.declared.code.Chain.{out-Chain}
 use Rattle.ob0_run_machine.specs.declared.code.Number.{Chain, Row_of-ChainLink, end_of-ChainLink, more_of-ChainLink, items-the_row-ChainLink, items_hidden-the_row-ChainLink-0}
-use Rattle.ob0_run_machine.specs.declared.code.FirstOperand.TheBlock.{hidden-the_row-ChainLink-0}
+use Rattle.ob0_run_machine.specs.declared.code.Operand.TheBlock.{hidden-the_row-ChainLink-0}
 use Rattle.ob0_run_machine.specs.Evaluation.{Levels, StepResult, ends, gives, number_value, ◌>>=◌}
 use Rattle.ob0_run_machine.specs.LoweredSyntax as lowered
 use Rattle.ob0_run_machine.specs.StepOutcomes.{outcome_of_applied_link}
-use Rattle.ob0_run_machine.specs.LoweredCodeViews.{operation_with_link, operation_with_row_of_links, operation_with_links, chain_of, first_operand_of, number_of, variable_of}
+use Rattle.ob0_run_machine.specs.LoweredCodeViews.{operation_with_link, operation_with_row_of_links, operation_with_links, chain_of, number_of, operand_of, variable_of}
 
 pub bind_gives : {A : Type 0} (o : StepResult A) → (o >>= (λ a. gives a)) ≡ o
 bind_gives (gives a) = refl
@@ -38,6 +38,15 @@ applied_to ls cells left (link.DifferenceWithLeftVariable v) = after_variable ls
 applied_to ls cells left (link.ProductWithLeftVariable v) = after_variable ls cells lowered.product v left
 applied_to ls cells left _ = refl
 
+-- an operation on a number, if the number's outcome is known
+pub applied_after : (ls : Levels) (cells : List ℤ) (left : lowered.Number) (l : ChainLink) (o : StepResult ℤ) → o ≡ number_value ls cells left → (o >>= outcome_of_applied_link ls cells l) ≡ number_value ls cells (operation_with_link l left)
+applied_after ls cells left l o h = ap (λ z. z >>= outcome_of_applied_link ls cells l) h ∙ sym (applied_to ls cells left l)
+
+-- a number to which no further link is applied
+pub alone : (left : lowered.Number) (links : List ChainLink) → length links ≤ 0 → operation_with_links left links ≡ left
+alone left [] none = refl
+alone left (l ∷ links) none = absurd (omega (arith, none))
+
 pub chained : (ls : Levels) (cells : List ℤ) (left : lowered.Number) (links : List ChainLink) → number_value ls cells (operation_with_links left links) ≡ (number_value ls cells left >>= continued ls cells links)
 chained ls cells left [] = sym (bind_gives (number_value ls cells left))
 chained ls cells left (l ∷ rest) = chained ls cells (operation_with_link l left) rest
@@ -59,5 +68,7 @@ chained_listed _ end_of-ChainLink left = refl
 chained_listed _ (more_of-ChainLink l row) left = chained_listed _ row (operation_with_link l left)
 
 pub chain_made : (c : _) → number_of (Chain c) ≡ chain_of c.value
-chain_made c = chained_listed _ (hidden-the_row-ChainLink-0 (out-Chain c.value).rest) (first_operand_of (out-Chain c.value).first)
-    ∙ ap (operation_with_links (first_operand_of (out-Chain c.value).first)) (items_hidden-the_row-ChainLink-0 (out-Chain c.value).rest)
+chain_made c =
+    let x = out-Chain c.value in
+    let begin = operation_with_link x.link (operand_of x.first) in
+    chained_listed _ (hidden-the_row-ChainLink-0 x.rest) begin ∙ ap (operation_with_links begin) (items_hidden-the_row-ChainLink-0 x.rest)

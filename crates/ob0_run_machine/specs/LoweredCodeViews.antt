@@ -8,8 +8,8 @@ use Rattle.ob0_run_machine.specs.declared.code.Place as place
 use Rattle.ob0_run_machine.specs.declared.code.Place.{Place}
 use Rattle.ob0_run_machine.specs.declared.code.Number as number
 use Rattle.ob0_run_machine.specs.declared.code.Number.{Number}
-use Rattle.ob0_run_machine.specs.declared.code.FirstOperand as first
-use Rattle.ob0_run_machine.specs.declared.code.FirstOperand.{FirstOperand}
+use Rattle.ob0_run_machine.specs.declared.code.Operand as operand
+use Rattle.ob0_run_machine.specs.declared.code.Operand.{Operand}
 use Rattle.ob0_run_machine.specs.declared.code.Chain as chain
 use Rattle.ob0_run_machine.specs.declared.code.Variable.{Variable}
 use Rattle.ob0_run_machine.specs.declared.code.Variable.TheVariants as variable
@@ -17,7 +17,6 @@ use Rattle.ob0_run_machine.specs.declared.code.VarParameterPlace.{VarParameterPl
 use Rattle.ob0_run_machine.specs.declared.code.VariableElement.{VariableElement}
 use Rattle.ob0_run_machine.specs.declared.code.Operator.{Operator}
 use Rattle.ob0_run_machine.specs.declared.code.Operator.TheVariants as operator
-use Rattle.ob0_run_machine.specs.declared.code.Operation.{Operation, out-Operation}
 use Rattle.ob0_run_machine.specs.declared.code.ChainLink as link
 use Rattle.ob0_run_machine.specs.declared.code.Element.{Element, out-Element}
 use Rattle.ob0_run_machine.specs.declared.code.ChainLink.{ChainLink}
@@ -78,22 +77,18 @@ abbrev mutual
 
   -- converts a `Number` to a lowered number
   pub number_of : Number → lowered.Number
-  number_of (number.Literal n) = lowered.literal n
-  number_of (number.Variable v) = lowered.cell (variable_of v)
-  number_of (number.Cell p) = lowered.cell (place_of p)
-  number_of (number.Negative' pointer n) = lowered.negative (number_of n)
-  number_of (number.Operation' pointer begin l) = operation_with_link l (first_operand_of begin)
-  number_of (number.Chain' pointer begin shape row) = operation_with_row_of_links row (first_operand_of begin)
+  number_of (number.Operand n) = operand_of n
+  number_of (number.Chain' pointer first l shape row) =
+      operation_with_row_of_links row (operation_with_link l (operand_of first))
 
-  -- converts the first operand of an operation or a chain to a lowered number
-  pub first_operand_of : FirstOperand → lowered.Number
-  first_operand_of (first.Literal n) = lowered.literal n
-  first_operand_of (first.Variable v) = lowered.cell (variable_of v)
-  first_operand_of (first.Cell p) = lowered.cell (place_of p)
-  first_operand_of (first.Negative' pointer n) = lowered.negative (number_of n)
+  -- converts an operand to a lowered number
+  pub operand_of : Operand → lowered.Number
+  operand_of (operand.Literal n) = lowered.literal n
+  operand_of (operand.Variable v) = lowered.cell (variable_of v)
+  operand_of (operand.Cell p) = lowered.cell (place_of p)
 
-  -- Returns the lowered operation that applies a link to a number. A link is a binary operator with
-  -- one of its operands, and the number is the other operand.
+  -- Returns the lowered operation that applies a link to a number. A link is the sign `-`, or a
+  -- binary operator with one of its operands. The number is the other operand.
   pub operation_with_link : ChainLink → lowered.Number → lowered.Number
   operation_with_link (link.SumWithLiteral n) left = lowered.operation lowered.sum left (lowered.literal n)
   operation_with_link (link.SumWithVariable v) left =
@@ -119,10 +114,10 @@ abbrev mutual
       lowered.operation lowered.difference (lowered.cell (variable_of v)) right
   operation_with_link (link.ProductWithLeftVariable v) right =
       lowered.operation lowered.product (lowered.cell (variable_of v)) right
+  operation_with_link link.Negation left = lowered.negative left
   operation_with_link (link.Other o n) left = lowered.operation (operator_of o) left (number_of n)
 
-  -- Returns the lowered operations that apply a row of links to the number `left`, in order. A link
-  -- is a binary operator with one of its operands.
+  -- returns the lowered operations that apply a row of links to the number `left`, in order
   pub operation_with_row_of_links : {n : _} → number.Row_of-ChainLink n → lowered.Number → lowered.Number
   operation_with_row_of_links number.end_of-ChainLink left = left
   operation_with_row_of_links (number.more_of-ChainLink l row) left = operation_with_row_of_links row (operation_with_link l left)
@@ -133,19 +128,16 @@ element_of e =
     lowered.element (place_of (out-Element e).array) (number_of (out-Element e).index)
     (out-Element e).length (out-Element e).stride (out-Element e).offset
 
--- converts an `Operation` to a lowered number
-abbrev pub operation_of : Operation → lowered.Number
-operation_of o = operation_with_link (out-Operation o).link (first_operand_of (out-Operation o).first)
-
--- Returns the lowered operations that apply a list of links to the number `left`, in order. A link
--- is a binary operator with one of its operands.
+-- returns the lowered operations that apply a list of links to the number `left`, in order
 abbrev pub operation_with_links : lowered.Number → List ChainLink → lowered.Number
 operation_with_links left [] = left
 operation_with_links left (l ∷ ls) = operation_with_links (operation_with_link l left) ls
 
 -- converts a `Chain` to a lowered number
 abbrev pub chain_of : chain.Chain → lowered.Number
-chain_of c = operation_with_links (first_operand_of (chain.out-Chain c).first) (chain.out-Chain c).rest.items
+chain_of c =
+    operation_with_links (operation_with_link (chain.out-Chain c).link (operand_of (chain.out-Chain c).first))
+    (chain.out-Chain c).rest.items
 
 -- converts a `Comparator` to a lowered relation
 abbrev pub relation_of : Comparator → lowered.Comparator
@@ -240,7 +232,7 @@ abbrev mutual
   -- converts an `Instruction` to a lowered statement
   pub statement_of : Instruction → lowered.Instruction
   statement_of (statement.StoreNumber p n) = lowered.stores_number (place_of p) (number_of n)
-  statement_of (statement.StoreNumberInVariable v n) = lowered.stores_number (variable_of v) (number_of n)
+  statement_of (statement.StoreOperand v n) = lowered.stores_number (variable_of v) (operand_of n)
   statement_of (statement.StoreChain v c) = lowered.stores_number (variable_of v) (chain_of c.value)
   statement_of (statement.Increase v n) = variable_increase v n
   statement_of (statement.Update v l) =

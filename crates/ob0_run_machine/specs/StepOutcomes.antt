@@ -52,6 +52,7 @@ number_or_overflow None = ends evaluation.Overflow
 number_or_overflow (Some n) = gives n
 
 -- Returns the outcome of applying a link to the number `left`, given the activations and the cells.
--- A link is a binary operator with one of its operands, and `left` is the other operand.
+-- A link is the sign `-`, or a binary operator with one of its operands. `left` is the other
+-- operand.
 abbrev pub outcome_of_applied_link : Levels → List ℤ → ChainLink → ℤ → StepResult ℤ
 outcome_of_applied_link ls cells l left = number_value ls cells (operation_with_link l (literal left))

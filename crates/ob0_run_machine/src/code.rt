@@ -11,12 +11,12 @@
 //!   running activation, or a place at an offset from the address of a VAR parameter. A `Variable`
 //!   occurs as a place, a number, an operand of a link or a comparison, and the target of an
 //!   assignment. It also occurs as the array or the index of a `VariableElement`.
-//! - The operations of a chain are links, which are applied to the result so far. A `ChainLink` has the
+//! - Operations are links of a chain, which are applied to the result so far. A `ChainLink` has the
 //!   operator and the kind of its operand, a literal or a variable, in one tag. Any other right
-//!   operand is evaluated by a called function (`apply_operator_to_expression`). `v + i * j` is also a chain
+//!   operand is evaluated by a called function (`apply_operator_to_expression`). `v + i * j` is one chain
 //!   (`SumWithLeftVariable`), since `v` has the same value before and after the product is evaluated.
-//! - `x := x + k` is an `Increase`, `x := x * y` an `Update`. The assignment of a chain to a
-//!   variable is a `StoreChain`.
+//! - `x := x + k` is an `Increase`, `x := x * y` an `Update`. The assignment of any other chain to
+//!   a variable is a `StoreChain`, the assignment of an operand a `StoreOperand`.
 //! - A variable compared with a literal or a variable is one node (`VariableLessThanLiteral`,
 //!   `VariableComparedToLiteral`, `VariableComparedToVariable`). The same holds for an element compared with a
 //!   variable (`ElementComparedToVariable`), and for `~flag` (`NegatedFlag`). It also holds for the assignment of
@@ -25,10 +25,10 @@
 //!   and comparisons of elements (`evaluate_flag`, `compare_element`). A large function evaluates
 //!   all other conditions (`evaluate_truth_as_flat_outcome`).
 //!
-//! A long sum is a `Chain`, a long conjunction an `All`, and a long disjunction an `Any`. Each has
-//! the meaning of pairs that are nested on the left. A loop evaluates the operands, so a longer
-//! chain needs no more stack. A chain begins with a `FirstOperand`, which can't be an operation. So
-//! the first operand of a chain is never a chain.
+//! A sum is a `Chain`, a long conjunction an `All`, and a long disjunction an `Any`. Each has the
+//! meaning of pairs that are nested on the left. A loop evaluates the operands, so a longer chain
+//! needs no more stack. A chain begins with an `Operand`, which can't be an operation. So the first
+//! operand of a chain is never a chain.
 
 /// An arithmetic operator on two numbers.
 #[derive(Clone, Copy, PartialEq, Eq, Debug)]
@@ -107,48 +107,34 @@ pub struct Element {
 #[cycle(numbers)]
 #[derive(Drop)]
 pub enum Number {
+    Operand(Operand),
+    Chain(Box<Chain>),
+}
+
+/// A number that isn't the result of an operation.
+#[cycle(numbers)]
+#[derive(Drop)]
+pub enum Operand {
     Literal(i32),
     Variable(Variable),
     /// The number in the cell at a place that isn't just a variable.
     Cell(Place),
-    Negative(Box<Number>),
-    /// A single operation on two numbers.
-    Operation(Box<Operation>),
-    /// Two or more operations in order. Each operation except the first has the result of the
-    /// operation before it as an operand.
-    Chain(Box<Chain>),
 }
 
-/// The first operand of an operation or a chain: a number that isn't an operation.
-#[cycle(numbers)]
-#[derive(Drop)]
-pub enum FirstOperand {
-    Literal(i32),
-    Variable(Variable),
-    Cell(Place),
-    Negative(Box<Number>),
-}
-
-/// An operation: a first operand, and the operator with its other operand.
-#[cycle(numbers)]
-#[derive(Drop)]
-pub struct Operation {
-    pub first: FirstOperand,
-    pub link: ChainLink,
-}
-
-/// A chain of operations: a first operand, and the links that are applied to it in order, each to
-/// the result so far.
+/// One or more operations in order: a first operand, and the links that are applied to it, each to
+/// the result so far. `link` is the first one. `rest` has the others, so most chains have no list.
 #[cycle(numbers)]
 #[derive(Drop)]
 pub struct Chain {
-    pub first: FirstOperand,
+    pub first: Operand,
+    pub link: ChainLink,
     pub rest: Vec<ChainLink>,
 }
 
 /// A binary operator with one of its two operands: a literal, a variable or another number. The
 /// other operand is the result so far. It is the left operand, except in `SumWithLeftVariable`,
 /// `DifferenceWithLeftVariable` and `ProductWithLeftVariable`. In these cases it is the right operand.
+/// `Negation` is the sign `-`, whose only operand is the result so far.
 #[cycle(numbers)]
 #[derive(Drop)]
 pub enum ChainLink {
@@ -165,6 +151,7 @@ pub enum ChainLink {
     SumWithLeftVariable(Variable),
     DifferenceWithLeftVariable(Variable),
     ProductWithLeftVariable(Variable),
+    Negation,
     Other(Operator, Number),
 }
 
@@ -245,8 +232,8 @@ pub enum Argument {
 #[derive(Drop)]
 pub enum Instruction {
     StoreNumber(Place, Number),
-    /// Assigns a number to a variable.
-    StoreNumberInVariable(Variable, Number),
+    /// Assigns to a variable a number that isn't an operation.
+    StoreOperand(Variable, Operand),
     /// Assigns the result of a chain of operations to a variable.
     StoreChain(Variable, Box<Chain>),
     /// Assigns to a variable the result of an operation on this variable, as in `x := x * 2`.

@@ -8,11 +8,11 @@ ghost use Rattle.ob0_run_machine.specs.Evaluation.{place_address, cell_at, gives
 ghost use Rattle.ob0_run_machine.specs.declared.code.TruthPair.{out-TruthPair};
 ghost use Rattle.ob0_run_machine.specs.LoweredSyntax as lowered;
 ghost use Rattle.ob0_run_machine.specs.Levels.{levels_of};
-ghost use Rattle.ob0_run_machine.specs.LoweredCodeViews.{conjunction_of, disjunction_of, operation_with_link, chain_of, variable_comparison, element_of, first_operand_of, number_of, operation_of, operator_of, place_of, operands_comparison, element_comparison, variable_element_of, truth_of, variable_of};
+ghost use Rattle.ob0_run_machine.specs.LoweredCodeViews.{operation_with_link, conjunction_of, disjunction_of, chain_of, variable_comparison, element_of, operand_of, number_of, operator_of, place_of, operands_comparison, element_comparison, variable_element_of, truth_of, variable_of};
 
 use crate::code::{
-    Chain, ChainLink, Comparator, Element, FirstOperand, Number, NumberPair, Operation, Operator,
-    Place, Truth, TruthList, TruthPair, Variable, VariableElement,
+    Chain, ChainLink, Comparator, Element, Number, NumberPair, Operand, Operator, Place, Truth,
+    TruthList, TruthPair, Variable, VariableElement,
 };
 use crate::flat_outcome::{FlatOutcome, into_flat_outcome, into_result};
 use crate::level::{
@@ -141,98 +141,69 @@ pub(crate) fn evaluate_number(
         (number_of n.now) }
 {
     match n {
-        Number::Literal(n) => Ok(*n),
-        Number::Variable(variable) => Ok(variable_value(*variable, level, cells)),
-        Number::Cell(place) => {
-            let a = locate_place(place, level, cells)?;
-            Ok(cell_at(cells, a))
-        }
-        Number::Negative(operand) => into_result(evaluate_unary_minus(operand, level, cells)),
-        Number::Operation(o) => into_result(evaluate_operation(o, level, cells)),
-        Number::Chain(c) => into_result(evaluate_chain_as_flat_outcome(c, level, cells)),
+        Number::Operand(operand) => evaluate_operand(operand, level, cells),
+        Number::Chain(c) => into_result(evaluate_chain(c, level, cells)),
     }
 }
 
-/// Returns the value of the first operand of an operation or a chain, or the fault that ends its
-/// evaluation.
+/// Returns the value of an operand, or the fault that ends its evaluation.
 #[inline(always)]
 #[cycle(evaluation)]
-fn evaluate_first_operand(
-    n: &FirstOperand,
+pub(crate) fn evaluate_operand(
+    n: &Operand,
     level: &Level<'_>,
     cells: &[i32],
 ) -> Result<i32, EvaluationFault>
     ensures { outcome_of_result result ≡ number_value (levels_of level.now) cells.now
-        (first_operand_of n.now) }
+        (operand_of n.now) }
 {
     match n {
-        FirstOperand::Literal(n) => Ok(*n),
-        FirstOperand::Variable(variable) => Ok(variable_value(*variable, level, cells)),
-        FirstOperand::Cell(place) => {
+        Operand::Literal(n) => Ok(*n),
+        Operand::Variable(variable) => Ok(variable_value(*variable, level, cells)),
+        Operand::Cell(place) => {
             let a = locate_place(place, level, cells)?;
             Ok(cell_at(cells, a))
         }
-        FirstOperand::Negative(operand) => into_result(evaluate_unary_minus(operand, level, cells)),
     }
 }
 
+/// Returns the value of a chain of operations, or the first fault that occurs. This function
+/// handles the most frequent case, one operation on a variable. It leaves all other cases to
+/// `evaluate_general_chain`, so it has no registers to save.
 #[inline(never)]
 #[cycle(evaluation)]
-fn evaluate_unary_minus(operand: &Number, level: &Level<'_>, cells: &[i32]) -> FlatOutcome<i32>
-    ensures { outcome_of result
-        ≡ number_value (levels_of level.now) cells.now (lowered.negative (number_of operand.now)) }
+fn evaluate_chain(c: &Chain, level: &Level<'_>, cells: &[i32]) -> FlatOutcome<i32>
+    ensures { outcome_of result ≡ number_value (levels_of level.now) cells.now (chain_of c.now) }
 {
-    match evaluate_number(operand, level, cells) {
-        Ok(a) => into_flat_outcome(negate(a)),
-        Err(ending) => into_flat_outcome(Err(ending)),
+    let rest = c.rest.as_slice();
+    let count = rest.len();
+    if count > 0 {
+        return evaluate_general_chain(c, level, cells);
     }
-}
-
-/// Returns the value of an operation, or the fault that ends its evaluation. This function handles
-/// the most frequent case, in which the first operand is a variable. It leaves all other cases to
-/// `evaluate_general_operation`, so it has no registers to save.
-#[inline(never)]
-#[cycle(evaluation)]
-fn evaluate_operation(o: &Operation, level: &Level<'_>, cells: &[i32]) -> FlatOutcome<i32>
-    ensures { outcome_of result ≡ number_value (levels_of level.now) cells.now
-        (operation_of o.now) }
-{
-    match &o.first {
-        FirstOperand::Variable(v) => into_flat_outcome(apply_link(
-            &o.link,
+    match &c.first {
+        Operand::Variable(v) => into_flat_outcome(apply_link(
+            &c.link,
             variable_value(*v, level, cells),
             level,
             cells,
         )),
-        _ => evaluate_general_operation(o, level, cells),
+        _ => evaluate_general_chain(c, level, cells),
     }
 }
 
 #[inline(never)]
 #[cycle(evaluation)]
-fn evaluate_general_operation(o: &Operation, level: &Level<'_>, cells: &[i32]) -> FlatOutcome<i32>
-    ensures { outcome_of result ≡ number_value (levels_of level.now) cells.now
-        (operation_of o.now) }
-{
-    match evaluate_first_operand(&o.first, level, cells) {
-        Ok(left) => into_flat_outcome(apply_link(&o.link, left, level, cells)),
-        Err(ending) => into_flat_outcome(Err(ending)),
-    }
-}
-
-#[inline(never)]
-#[cycle(evaluation)]
-fn evaluate_chain_as_flat_outcome(c: &Chain, level: &Level<'_>, cells: &[i32]) -> FlatOutcome<i32>
+fn evaluate_general_chain(c: &Chain, level: &Level<'_>, cells: &[i32]) -> FlatOutcome<i32>
     ensures { outcome_of result ≡ number_value (levels_of level.now) cells.now (chain_of c.now) }
 {
-    into_flat_outcome(evaluate_chain(c, level, cells))
+    into_flat_outcome(evaluate_chain_inline(c, level, cells))
 }
 
 /// Returns the value of a chain of operations, or the first fault that occurs. The links are
 /// applied in order, each to the result so far.
 #[inline(always)]
 #[cycle(evaluation)]
-pub(crate) fn evaluate_chain(
+pub(crate) fn evaluate_chain_inline(
     c: &Chain,
     level: &Level<'_>,
     cells: &[i32],
@@ -240,7 +211,8 @@ pub(crate) fn evaluate_chain(
     ensures { outcome_of_result result ≡ number_value (levels_of level.now) cells.now
         (chain_of c.now) }
 {
-    let mut left = evaluate_first_operand(&c.first, level, cells)?;
+    let first = evaluate_operand(&c.first, level, cells)?;
+    let mut left = apply_link(&c.link, first, level, cells)?;
     for link in &c.rest {
         left = apply_link(link, left, level, cells)?;
     }
@@ -278,6 +250,7 @@ fn apply_link(
             left,
         ),
         ChainLink::ProductWithLeftVariable(v) => multiply(variable_value(*v, level, cells), left),
+        ChainLink::Negation => negate(left),
         ChainLink::Other(o, n) => into_result(apply_operator_to_expression(
             *o, left, n, level, cells,
         )),

@@ -2,7 +2,7 @@
 //!
 //! A `Result` with a number or an address is returned through memory. A `FlatOutcome` has a payload
 //! in only one case, and is therefore returned in registers. The functions of the evaluator that
-//! are marked `#[inline(never)]` (`evaluate_operation`, `evaluate_truth_as_flat_outcome`, ..) return a
+//! are marked `#[inline(never)]` (`evaluate_chain`, `evaluate_truth_as_flat_outcome`, ..) return a
 //! `FlatOutcome`. The inlined functions that can fail return a `Result` and use `?`.
 //! `into_flat_outcome` and `into_result` convert between the two types.
 //!

@@ -11,17 +11,17 @@ ghost use Rattle.ob0_run_machine.specs.Execution.{CallEffect, execute};
 ghost use Rattle.ob0_run_machine.specs.Levels.{levels_of};
 ghost use Rattle.ob0_run_machine.specs.LoweredSyntax as lowered;
 ghost use Rattle.ob0_run_machine.specs.Machines.{StepHasEffect, IsProgressAfterStep, procedure_entry_effect, statement_effect, sequence_effect, elsifs_effect, progress_after_step, state_of};
-ghost use Rattle.ob0_run_machine.specs.LoweredCodeViews.{operation_with_link, conditional_of, call_of, chain_of, variable_comparison, variable_increase, number_of, elsif_branches, else_statements, place_of, repeat_of, variable_element_of, sequence_of, statement_of, truth_of, variable_of, while_of};
+ghost use Rattle.ob0_run_machine.specs.LoweredCodeViews.{operation_with_link, conditional_of, call_of, chain_of, variable_comparison, variable_increase, number_of, operand_of, elsif_branches, else_statements, place_of, repeat_of, variable_element_of, sequence_of, statement_of, truth_of, variable_of, while_of};
 
 use crate::addresses::VarParameterAddresses;
 use crate::call_arguments::pass_arguments;
 use crate::code::{
-    Chain, ChainLink, Comparator, Conditional, Instruction, Number, Place, ProcedureCall,
+    Chain, ChainLink, Comparator, Conditional, Instruction, Number, Operand, Place, ProcedureCall,
     RepeatLoop, Truth, Variable, VariableElement, WhileLoop,
 };
 use crate::evaluator::{
-    cell_at, evaluate_chain, evaluate_number, evaluate_truth, evaluate_update, locate_place,
-    variable_address, variable_element_address,
+    cell_at, evaluate_chain_inline, evaluate_number, evaluate_operand, evaluate_truth,
+    evaluate_update, locate_place, variable_address, variable_element_address,
 };
 use crate::level::{Level, enclosing_level};
 use crate::machine::{Item, Machine, copy_existing_cells, store_in_cell};
@@ -50,21 +50,21 @@ fn store_number(
     Ok(())
 }
 
-/// Assigns the value of `n` to a variable. Returns a fault if the evaluation of `n` has one.
+/// Assigns the operand `n` to a variable. Returns a fault if the evaluation of `n` has one.
 #[tactic(auto, unfolding(crate::specs::Execution::execute))]
 #[inline(always)]
-fn store_number_in_variable(
+fn store_operand(
     variable: Variable,
-    n: &Number,
+    n: &Operand,
     level: &Level<'_>,
     machine: &mut Machine<'_>,
 ) -> Result<(), EvaluationFault>
     ensures { (enters : CallEffect) (t : ℕ)
         → progress_after_step result machine.new
         ≡ execute enters t (levels_of level.now)
-        (lowered.stores_number (variable_of variable) (number_of n.now)) (state_of machine.old) }
+        (lowered.stores_number (variable_of variable) (operand_of n.now)) (state_of machine.old) }
 {
-    let v = evaluate_number(n, level, machine.cells.as_slice())?;
+    let v = evaluate_operand(n, level, machine.cells.as_slice())?;
     store_in_cell(&mut machine.cells, variable_address(variable, level), v);
     Ok(())
 }
@@ -84,7 +84,7 @@ fn store_chain(
         ≡ execute enters t (levels_of level.now)
         (lowered.stores_number (variable_of variable) (chain_of c.now)) (state_of machine.old) }
 {
-    let v = evaluate_chain(c, level, machine.cells.as_slice())?;
+    let v = evaluate_chain_inline(c, level, machine.cells.as_slice())?;
     store_in_cell(&mut machine.cells, variable_address(variable, level), v);
     Ok(())
 }
@@ -327,9 +327,7 @@ fn run_statement<F: Fn(&mut Machine<'_>, usize, &Level<'_>) -> Result<(), StopRe
 {
     match s {
         Instruction::StoreNumber(place, n) => Ok(store_number(place, n, level, machine)?),
-        Instruction::StoreNumberInVariable(variable, n) => Ok(store_number_in_variable(
-            *variable, n, level, machine,
-        )?),
+        Instruction::StoreOperand(variable, n) => Ok(store_operand(*variable, n, level, machine)?),
         Instruction::StoreChain(variable, c) => Ok(store_chain(*variable, c, level, machine)?),
         Instruction::Update(variable, link) => Ok(update_variable(
             *variable, link, level, machine,

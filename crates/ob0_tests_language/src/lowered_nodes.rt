@@ -5,14 +5,14 @@
 use crate::test_questions::TestQuestion::NodeNames;
 use crate::test_questions::{CheckMode, QuestionCase, first_failing_row, rows};
 use ob0_run::lower;
-use ob0_run_machine::code::{Instruction, Number, Truth};
+use ob0_run_machine::code::{Instruction, Number, Operand, Truth};
 use ob0_types::WellTyped;
 use std::alloc::{AllocError, Global};
 use std::process::Abort;
 
 /// Appends the names of nodes in the lowered body of a module, each preceded by a blank. These are
-/// the nodes of the statements. After a `StoreNumber`, `StoreNumberInVariable` or `StoreTruth` comes
-/// the outermost node of the stored value. After an `If` or a `While` come the outermost node of its
+/// the nodes of the statements. After a `StoreNumber`, `StoreOperand` or `StoreTruth` comes the
+/// outermost node of the stored value. After an `If` or a `While` come the outermost node of its
 /// condition, and the nodes of the statements directly in it.
 pub fn push_names_of_nodes(
     alloc: Global,
@@ -35,10 +35,7 @@ fn push_names_of_statement_nodes(out: &mut String, s: &Instruction) -> Result<()
     push_blank_and_name(out, name_of_statement(s))?;
     match s {
         Instruction::StoreNumber(_, n) => push_blank_and_name(out, name_of_number_node(n)),
-        Instruction::StoreNumberInVariable(_, n) => push_blank_and_name(
-            out,
-            name_of_number_node(n),
-        ),
+        Instruction::StoreOperand(_, n) => push_blank_and_name(out, name_of_operand_node(n)),
         Instruction::StoreTruth(_, t) => push_blank_and_name(out, name_of_truth_node(t)),
         Instruction::If(i) => {
             push_blank_and_name(out, name_of_truth_node(&i.condition))?;
@@ -65,7 +62,7 @@ fn push_names_of_inner_statements(
 fn name_of_statement(s: &Instruction) -> &'static str {
     match s {
         Instruction::StoreNumber(_, _) => "StoreNumber",
-        Instruction::StoreNumberInVariable(_, _) => "StoreNumberInVariable",
+        Instruction::StoreOperand(_, _) => "StoreOperand",
         Instruction::StoreChain(_, _) => "StoreChain",
         Instruction::Update(_, _) => "Update",
         Instruction::Increase(_, _) => "Increase",
@@ -79,12 +76,16 @@ fn name_of_statement(s: &Instruction) -> &'static str {
 
 fn name_of_number_node(n: &Number) -> &'static str {
     match n {
-        Number::Literal(_) => "Literal",
-        Number::Variable(_) => "Variable",
-        Number::Cell(_) => "Cell",
-        Number::Negative(_) => "Negative",
-        Number::Operation(_) => "Operation",
+        Number::Operand(operand) => name_of_operand_node(operand),
         Number::Chain(_) => "Chain",
+    }
+}
+
+fn name_of_operand_node(n: &Operand) -> &'static str {
+    match n {
+        Operand::Literal(_) => "Literal",
+        Operand::Variable(_) => "Variable",
+        Operand::Cell(_) => "Cell",
     }
 }
 
@@ -115,10 +116,10 @@ const AND_OR_CHAINS: &str = "MODULE M;\nVAR a, b, c: BOOLEAN;\n\
     BEGIN IF a & b & c THEN a := b END; IF a OR b OR c THEN WriteLn END; a := a & ~b & c END M.";
 
 static NODE_NAME_CASES: &[QuestionCase] = rows![
-    WHILE_LOOPS, NodeNames => " While VariableLessThanLiteral Increase While VariableComparedToVariable StoreNumberInVariable Increase \
+    WHILE_LOOPS, NodeNames => " While VariableLessThanLiteral Increase While VariableComparedToVariable StoreOperand Increase \
         While VariableComparedToLiteral Increase";
-    ARRAY_ELEMENTS, NodeNames => " StoreConstantInElement If ElementComparedToVariable StoreNumberInVariable If NegatedFlag StoreNumber";
-    FIELD_ASSIGNMENTS, NodeNames => " Update StoreNumberInVariable Variable StoreChain StoreNumberInVariable Operation";
+    ARRAY_ELEMENTS, NodeNames => " StoreConstantInElement If ElementComparedToVariable StoreOperand If NegatedFlag StoreNumber";
+    FIELD_ASSIGNMENTS, NodeNames => " Update StoreOperand Variable StoreChain StoreChain";
     AND_OR_CHAINS, NodeNames => " If All StoreTruth If Any other StoreTruth All";
 ];
 

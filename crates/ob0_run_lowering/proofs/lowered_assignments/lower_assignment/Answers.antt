@@ -1,9 +1,7 @@
-use Rattle.std.proofs.Common.{◌≡◌, subst, sym}
-use Rattle.std.proofs.lemmas.Result.{IfOk-weaker}
+use Rattle.std.proofs.Common.{subst, sym}
 use Rattle.ob0_tree.specs.View.{assignment_of, expression_of, items_of, selector_of}
 use Rattle.ob0_scope_table.specs.LabelledTrees.{tree_with_labels}
 use Rattle.ob0_run_machine.specs.LoweredSyntax as lowered
-use Rattle.ob0_run_machine.specs.LoweredCodeViews.{number_of, place_of, statement_of}
 use Rattle.ob0_run_lowering.specs.LoweredBodies.{LowersStatement}
 use Rattle.ob0_run_lowering.specs.LoweredExpressionMeans.{LowersExpression}
 use Rattle.ob0_run_lowering.specs.declared.lowered_expression.LoweredExpression.{LoweredExpression}
@@ -14,11 +12,9 @@ pub returns-in-Number : goal.returns-in-Number
 returns-in-Number c =
     let a = c.args.a.now in
     let P : LoweredExpression → Type 0 = λ l. LowersExpression c.args.scene.now (expression_of a.value) l in
-    let tree = tree_with_labels c.args.scene.now.resolved.now (assignment_of a) in
-    let code = lowered.stores_number (place_of c.in_ok-target.target.place) (number_of c.in-Number.n) in
-    let means : LowersStatement c.args.scene.now code tree = number_assigned c.args.scene.now a.target.name (items_of selector_of a.target.selectors.items) a.value c.in_ok-target.target c.in-Number.n c.in_ok-target.ensures (subst P c.in-Number.is c.in_ok-n.ensures.lowers) in
-    IfOk-weaker c.number_assignment.result (λ made. statement_of made ≡ code) (λ made. LowersStatement c.args.scene.now (statement_of made) tree)
-    (λ made same. subst (λ k. LowersStatement c.args.scene.now k tree) (sym same) means) c.number_assignment.ensures
+    let Q : lowered.Instruction → Type 0 = λ k. LowersStatement c.args.scene.now k (tree_with_labels c.args.scene.now.resolved.now (assignment_of a)) in
+    subst Q (sym c.number_assignment.ensures)
+    (number_assigned c.args.scene.now a.target.name (items_of selector_of a.target.selectors.items) a.value c.in_ok-target.target c.in-Number.n c.in_ok-target.ensures (subst P c.in-Number.is c.in_ok-n.ensures.lowers))
 
 pub returns-in-Truth : goal.returns-in-Truth
 returns-in-Truth c =
