@@ -6,7 +6,6 @@ pub mod LaidOut
 pub mod CodeChains
 pub mod Lowerings
 pub mod Longer
-pub mod TruthDepths
 pub mod HoldsIfWellTypedInScene
 pub mod Made
 pub mod Assigned

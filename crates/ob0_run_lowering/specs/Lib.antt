@@ -1,7 +1,6 @@
 pub mod Layouts
 pub mod Scenes
 pub mod OperationCodes
-pub mod TruthDepths
 pub mod TreeCodes
 pub mod LoweredExpressionMeans
 pub mod CodeParts

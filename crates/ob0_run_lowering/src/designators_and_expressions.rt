@@ -23,7 +23,6 @@ ghost use Rattle.ob0_language_types.specs.DesignatorSelectors.{selectors_of_desi
 ghost use Rattle.ob0_language_types.specs.Typing.{value_of_constant_object};
 ghost use Rattle.ob0_language_values.specs.Scalars.{scalar_value};
 ghost use Rattle.ob0_run_machine.specs.LoweredCodeViews.{number_of};
-ghost use Rattle.ob0_run_lowering.specs.TruthDepths.{IsNotNestedOnLeft};
 ghost use Rattle.ob0_run_lowering.specs.OperationCodes.{a_number, constant_code, element_place_with_shape, element_of_optional_place, record_field_place, code_of_value_at_place, code_of_value_at_optional_place};
 ghost use Rattle.ob0_run_lowering.specs.Scenes.{object_of_label};
 ghost use Rattle.ob0_run_lowering.specs.TreeCodes.{variable_place_of_label, expression_code_of, expression_code, factor_code, place_with_shape_of, place_after_selector, selected_place, simple_expression_code, term_code};
@@ -44,8 +43,7 @@ use ob0_types_table::{Object, TypeId, TypeWithParts, integer_value_at_token};
 use std::alloc::{AllocError, Global};
 
 fn lower_constant(value: Scalar) -> LoweredExpression
-    ensures code { expression_code_of result ≡ constant_code (scalar_value value) }
-    ensures flat { IsNotNestedOnLeft result }
+    ensures { expression_code_of result ≡ constant_code (scalar_value value) }
 {
     match value {
         Scalar::Number(number) => LoweredExpression::Number(Number::Operand(Operand::Literal(
@@ -128,10 +126,9 @@ impl<'s, 'k, 't> Scene<'s, 'k, 't> {
     /// Returns the code of the value at a place: a number, a truth, or the cells of an array or a
     /// record.
     fn code_of_value_at_place(&self, at: TypedPlace) -> LoweredExpression
-        ensures code { expression_code_of result
+        ensures { expression_code_of result
             ≡ code_of_value_at_place (place_with_shape_of (shapes_of self.now.types.now) at).place
             (place_with_shape_of (shapes_of self.now.types.now) at).shape }
-        ensures flat { IsNotNestedOnLeft result }
     {
         let TypedPlace { place, type_id } = at;
         match type_id {
@@ -144,9 +141,8 @@ impl<'s, 'k, 't> Scene<'s, 'k, 't> {
     }
 
     fn code_of_value_at_optional_place(&self, at: Option<TypedPlace>) -> LoweredExpression
-        ensures code { expression_code_of result
+        ensures { expression_code_of result
             ≡ code_of_value_at_optional_place (option_map (place_with_shape_of (shapes_of self.now.types.now)) at) }
-        ensures flat { IsNotNestedOnLeft result }
     {
         match at {
             None => LoweredExpression::NoCode,
@@ -255,9 +251,8 @@ impl<'s, 'k, 't> Scene<'s, 'k, 't> {
         alloc: Global,
         e: &Expression,
     ) -> Result<LoweredExpression, AllocError>
-        ensures code { IfOk result (λ l. expression_code_of l
+        ensures { IfOk result (λ l. expression_code_of l
             ≡ expression_code self.now (tree_with_labels self.now.resolved.now (expression_of e.now))) }
-        ensures flat { IfOk result IsNotNestedOnLeft }
     {
         match e {
             Expression::Factor(f) => self.lower_factor(alloc, f),
@@ -271,9 +266,8 @@ impl<'s, 'k, 't> Scene<'s, 'k, 't> {
         alloc: Global,
         c: &CompoundExpression,
     ) -> Result<LoweredExpression, AllocError>
-        ensures code { IfOk result (λ l. expression_code_of l
+        ensures { IfOk result (λ l. expression_code_of l
             ≡ expression_code self.now (tree_with_labels self.now.resolved.now (compound_expression_of c.now))) }
-        ensures flat { IfOk result IsNotNestedOnLeft }
     {
         let left = self.lower_simple_expression(alloc, &c.left)?;
         match &c.compared {
@@ -292,9 +286,8 @@ impl<'s, 'k, 't> Scene<'s, 'k, 't> {
         alloc: Global,
         s: &SimpleExpression,
     ) -> Result<LoweredExpression, AllocError>
-        ensures code { IfOk result (λ l. expression_code_of l
+        ensures { IfOk result (λ l. expression_code_of l
             ≡ simple_expression_code self.now (tree_with_labels self.now.resolved.now (simple_expression_of s.now))) }
-        ensures flat { IfOk result IsNotNestedOnLeft }
     {
         let first = self.lower_term(alloc, &s.first)?;
         let mut so_far = lower_signed_term(alloc, s.sign, first)?;
@@ -307,9 +300,8 @@ impl<'s, 'k, 't> Scene<'s, 'k, 't> {
 
     #[cycle(lowering)]
     fn lower_term(&self, alloc: Global, t: &Term) -> Result<LoweredExpression, AllocError>
-        ensures code { IfOk result (λ l. expression_code_of l
+        ensures { IfOk result (λ l. expression_code_of l
             ≡ term_code self.now (tree_with_labels self.now.resolved.now (term_of t.now))) }
-        ensures flat { IfOk result IsNotNestedOnLeft }
     {
         let mut so_far = self.lower_factor(alloc, &t.first)?;
         for multiplier in &t.more {
@@ -321,9 +313,8 @@ impl<'s, 'k, 't> Scene<'s, 'k, 't> {
 
     #[cycle(lowering)]
     fn lower_factor(&self, alloc: Global, f: &Factor) -> Result<LoweredExpression, AllocError>
-        ensures code { IfOk result (λ l. expression_code_of l
+        ensures { IfOk result (λ l. expression_code_of l
             ≡ factor_code self.now (tree_with_labels self.now.resolved.now (factor_of f.now))) }
-        ensures flat { IfOk result IsNotNestedOnLeft }
     {
         match f {
             Factor::Designator(d) => self.lower_designator(alloc, d),
@@ -346,9 +337,8 @@ impl<'s, 'k, 't> Scene<'s, 'k, 't> {
         alloc: Global,
         d: &Designator,
     ) -> Result<LoweredExpression, AllocError>
-        ensures code { IfOk result (λ l. expression_code_of l
+        ensures { IfOk result (λ l. expression_code_of l
             ≡ factor_code self.now (tree_with_labels self.now.resolved.now (designator_of d.now))) }
-        ensures flat { IfOk result IsNotNestedOnLeft }
     {
         match self.constant_at_token(d.name) {
             Some(value) => Ok(lower_constant(value)),

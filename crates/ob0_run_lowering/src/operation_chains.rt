@@ -1,27 +1,19 @@
 //! Makes chains of operations. An operation on the result of a chain becomes the last link of this
-//! chain. A third operand of `&` makes an `All`, a third operand of OR an `Any`.
+//! chain. In `v + i * j` the sum becomes the last link of the chain that begins with `i * j`. In
+//! the same way, a further operand of `&` or OR is added to the list of the operands before it.
 //!
-//! In `v + i * j` the sum becomes the last link of the chain that begins with `i * j`.
-//! According to `LoweredCodeViews`, these nodes have the same meaning as nested pairs, so no other module has
-//! to distinguish chains from nested pairs. The same holds for the forms of places, negations and
-//! assignments that the machine evaluates in fewer steps.
-//!
-//! Clauses about meaning don't tell chains from nested pairs. So separate clauses bound how deep
-//! conjunctions and disjunctions are nested in left operands (`specs/TruthDepths`). Adding an
-//! operand makes a conjunction no deeper (`WholeIsNoDeeperThanLeft`). If the left operand isn't a
-//! conjunction, the result has depth 1. So the first operand of a conjunction is never a
-//! conjunction (`IsNotNestedOnLeft`). The same holds for disjunctions. `conjunction_of_two_truths` and
-//! `disjunction_of_two_truths` list each case of the left operand, since a proof knows nothing about an
-//! operand in a wildcard arm.
+//! According to `LoweredCodeViews`, these nodes have the same meaning as nested pairs, so no other
+//! module has to distinguish chains from nested pairs. The same holds for the forms of places,
+//! negations and assignments that the machine evaluates in fewer steps.
 
-ghost use Rattle.std.specs.Prelude.{◌≡◌, ◌≤◌, IfOk, IfSome, max, suc};
+ghost use Rattle.std.specs.Prelude.{◌≡◌, IfOk, IfSome};
 ghost use Rattle.ob0_run_machine.specs.LoweredSyntax as machine;
-ghost use Rattle.ob0_run_machine.specs.LoweredCodeViews.{conjunction_of, disjunction_of, operation_with_link, chain_of, number_of, operand_of, operator_of, truth_of, variable_of};
-ghost use Rattle.ob0_run_lowering.specs.TruthDepths.{conjunction_depth, disjunction_depth};
+ghost use Rattle.ob0_run_machine.specs.LoweredCodeViews.{operation_with_link, chain_of, joined_by, number_of, operand_of, operator_of, truth_list_of, truth_of, variable_of};
 ghost use Rattle.ob0_run_machine.specs.declared.code.TruthList.{out-TruthList};
 
 use ob0_run_machine::code::{
-    Chain, ChainLink, Number, Operand, Operator, Truth, TruthList, TruthPair, Variable,
+    Chain, ChainLink, CompoundTruth, Connective, Number, Operand, Operator, Truth, TruthList,
+    Variable,
 };
 use std::alloc::{AllocError, Global};
 
@@ -154,216 +146,65 @@ pub(crate) fn operation_on_numbers(
     }
 }
 
-/// Returns the conjunction of several truths, with the truth `right` added at the end.
-fn extended_conjunction(
-    alloc: Global,
-    several: TruthList,
-    right: Truth,
-) -> Result<Truth, AllocError>
-    ensures meaning { IfOk result
-        (λ t. truth_of t ≡ machine.both (conjunction_of several) (truth_of right)) }
-    ensures depth { IfOk result (λ t. conjunction_depth t
-        ≡ suc (conjunction_depth (out-TruthList several).first)) }
-    ensures other { IfOk result (λ t. disjunction_depth t ≡ 0) }
-{
-    let TruthList { first, mut rest } = several;
-    rest.push(right)?;
-    let several = Box::new(alloc, TruthList { first, rest })?;
-    Ok(Truth::All(several))
-}
-
-/// Returns the disjunction of several truths, with the truth `right` added at the end.
-fn extended_disjunction(
-    alloc: Global,
-    several: TruthList,
-    right: Truth,
-) -> Result<Truth, AllocError>
-    ensures meaning { IfOk result
-        (λ t. truth_of t ≡ machine.either (disjunction_of several) (truth_of right)) }
-    ensures depth { IfOk result (λ t. disjunction_depth t
-        ≡ suc (disjunction_depth (out-TruthList several).first)) }
-    ensures other { IfOk result (λ t. conjunction_depth t ≡ 0) }
-{
-    let TruthList { first, mut rest } = several;
-    rest.push(right)?;
-    let several = Box::new(alloc, TruthList { first, rest })?;
-    Ok(Truth::Any(several))
-}
-
-/// Returns a conjunction of three truths.
-fn conjunction_of_three_truths(
-    alloc: Global,
-    first: Truth,
-    second: Truth,
-    third: Truth,
-) -> Result<Truth, AllocError>
-    ensures meaning { IfOk result (λ t. truth_of t
-        ≡ machine.both (machine.both (truth_of first) (truth_of second)) (truth_of third)) }
-    ensures depth { IfOk result (λ t. conjunction_depth t ≡ suc (conjunction_depth first)) }
-    ensures other { IfOk result (λ t. disjunction_depth t ≡ 0) }
-{
-    let mut rest = Vec::new(alloc);
-    rest.push(second)?;
-    extended_conjunction(alloc, TruthList { first, rest }, third)
-}
-
-/// Returns a disjunction of three truths.
-fn disjunction_of_three_truths(
-    alloc: Global,
-    first: Truth,
-    second: Truth,
-    third: Truth,
-) -> Result<Truth, AllocError>
-    ensures meaning { IfOk result (λ t. truth_of t
-        ≡ machine.either (machine.either (truth_of first) (truth_of second)) (truth_of third)) }
-    ensures depth { IfOk result (λ t. disjunction_depth t ≡ suc (disjunction_depth first)) }
-    ensures other { IfOk result (λ t. conjunction_depth t ≡ 0) }
-{
-    let mut rest = Vec::new(alloc);
-    rest.push(second)?;
-    extended_disjunction(alloc, TruthList { first, rest }, third)
-}
-
 /// Returns the negation of a truth. If the truth is a flag, the negation is a single node
 /// (`NegatedFlag`).
 pub(crate) fn negation(alloc: Global, truth: Truth) -> Result<Truth, AllocError>
-    ensures meaning { IfOk result (λ t. truth_of t ≡ machine.negation (truth_of truth)) }
-    ensures flat { IfOk result (λ t. (conjunction_depth t ≡ 0) × (disjunction_depth t ≡ 0)) }
+    ensures { IfOk result (λ t. truth_of t ≡ machine.negation (truth_of truth)) }
 {
     match truth {
         Truth::Flag(place) => Ok(Truth::NegatedFlag(place)),
-        other => Ok(Truth::Negation(Box::new(alloc, other)?)),
+        other => Ok(Truth::Compound(Box::new(alloc, CompoundTruth::Negation(other))?)),
     }
 }
 
-fn conjunction_pair(alloc: Global, left: Truth, right: Truth) -> Result<Truth, AllocError>
-    ensures meaning { IfOk result
-        (λ t. truth_of t ≡ machine.both (truth_of left) (truth_of right)) }
-    ensures depth { IfOk result (λ t. conjunction_depth t ≡ suc (conjunction_depth left)) }
-    ensures other { IfOk result (λ t. disjunction_depth t ≡ 0) }
+/// Returns a list of truths with one more truth at its end.
+fn extended_list(mut list: Box<TruthList>, right: Truth) -> Result<Truth, AllocError>
+    ensures { IfOk result (λ t. truth_of t ≡ joined_by (out-TruthList list.value).connective
+        (truth_list_of list.value) (truth_of right)) }
 {
-    Ok(Truth::Both(Box::new(alloc, TruthPair { left, right })?))
+    list.rest.push(right)?;
+    Ok(Truth::Joined(list))
 }
 
-fn disjunction_pair(alloc: Global, left: Truth, right: Truth) -> Result<Truth, AllocError>
-    ensures meaning { IfOk result
-        (λ t. truth_of t ≡ machine.either (truth_of left) (truth_of right)) }
-    ensures depth { IfOk result (λ t. disjunction_depth t ≡ suc (disjunction_depth left)) }
-    ensures other { IfOk result (λ t. conjunction_depth t ≡ 0) }
-{
-    Ok(Truth::Either(Box::new(alloc, TruthPair { left, right })?))
-}
-
-/// Returns the conjunction of two truths. If the left truth is a conjunction, the right truth is
-/// added at its end.
-pub(crate) fn conjunction_of_two_truths(
+/// Returns the list of two truths.
+fn list_of_two_truths(
     alloc: Global,
+    connective: Connective,
+    first: Truth,
+    second: Truth,
+) -> Result<Truth, AllocError>
+    ensures { IfOk result
+        (λ t. truth_of t ≡ joined_by connective (truth_of first) (truth_of second)) }
+{
+    let mut rest = Vec::new(alloc);
+    rest.push(second)?;
+    let list = TruthList {
+        connective,
+        first,
+        rest,
+    };
+    Ok(Truth::Joined(Box::new(alloc, list)?))
+}
+
+/// Returns the conjunction or the disjunction of two truths. If the left truth is a list with the
+/// same operator, the right truth is added at its end.
+pub(crate) fn joined_truths(
+    alloc: Global,
+    connective: Connective,
     left: Truth,
     right: Truth,
 ) -> Result<Truth, AllocError>
-    ensures meaning { IfOk result
-        (λ t. truth_of t ≡ machine.both (truth_of left) (truth_of right)) }
-    ensures flat { IfOk result (λ t. conjunction_depth t ≤ max 1 (conjunction_depth left)) }
-    ensures other { IfOk result (λ t. disjunction_depth t ≡ 0) }
+    ensures { IfOk result
+        (λ t. truth_of t ≡ joined_by connective (truth_of left) (truth_of right)) }
 {
     match left {
-        Truth::All(several) => extended_conjunction(alloc, Box::into_inner(several), right),
-        Truth::Both(truths) => {
-            let TruthPair {
-                left,
-                right: second,
-            } = Box::into_inner(truths);
-            conjunction_of_three_truths(alloc, left, second, right)
+        Truth::Joined(list) => {
+            if list.connective == connective {
+                extended_list(list, right)
+            } else {
+                list_of_two_truths(alloc, connective, Truth::Joined(list), right)
+            }
         }
-        Truth::Constant(b) => conjunction_pair(alloc, Truth::Constant(b), right),
-        Truth::Flag(place) => conjunction_pair(alloc, Truth::Flag(place), right),
-        Truth::NegatedFlag(place) => conjunction_pair(alloc, Truth::NegatedFlag(place), right),
-        Truth::Negation(truth) => conjunction_pair(alloc, Truth::Negation(truth), right),
-        Truth::Either(truths) => conjunction_pair(alloc, Truth::Either(truths), right),
-        Truth::Any(several) => conjunction_pair(alloc, Truth::Any(several), right),
-        Truth::NumberComparison(relation, operands) => conjunction_pair(
-            alloc,
-            Truth::NumberComparison(relation, operands),
-            right,
-        ),
-        Truth::VariableLessThanLiteral(variable, n) => conjunction_pair(
-            alloc,
-            Truth::VariableLessThanLiteral(variable, n),
-            right,
-        ),
-        Truth::VariableComparedToLiteral(relation, variable, n) => conjunction_pair(
-            alloc,
-            Truth::VariableComparedToLiteral(relation, variable, n),
-            right,
-        ),
-        Truth::VariableComparedToVariable(relation, variable, other) => conjunction_pair(
-            alloc,
-            Truth::VariableComparedToVariable(relation, variable, other),
-            right,
-        ),
-        Truth::ElementComparedToVariable(relation, row, variable) => conjunction_pair(
-            alloc,
-            Truth::ElementComparedToVariable(relation, row, variable),
-            right,
-        ),
-        Truth::Same(truths) => conjunction_pair(alloc, Truth::Same(truths), right),
-        Truth::Different(truths) => conjunction_pair(alloc, Truth::Different(truths), right),
-    }
-}
-
-/// Returns the disjunction of two truths. If the left truth is a disjunction, the right truth is
-/// added at its end.
-pub(crate) fn disjunction_of_two_truths(
-    alloc: Global,
-    left: Truth,
-    right: Truth,
-) -> Result<Truth, AllocError>
-    ensures meaning { IfOk result
-        (λ t. truth_of t ≡ machine.either (truth_of left) (truth_of right)) }
-    ensures flat { IfOk result (λ t. disjunction_depth t ≤ max 1 (disjunction_depth left)) }
-    ensures other { IfOk result (λ t. conjunction_depth t ≡ 0) }
-{
-    match left {
-        Truth::Any(several) => extended_disjunction(alloc, Box::into_inner(several), right),
-        Truth::Either(truths) => {
-            let TruthPair {
-                left,
-                right: second,
-            } = Box::into_inner(truths);
-            disjunction_of_three_truths(alloc, left, second, right)
-        }
-        Truth::Constant(b) => disjunction_pair(alloc, Truth::Constant(b), right),
-        Truth::Flag(place) => disjunction_pair(alloc, Truth::Flag(place), right),
-        Truth::NegatedFlag(place) => disjunction_pair(alloc, Truth::NegatedFlag(place), right),
-        Truth::Negation(truth) => disjunction_pair(alloc, Truth::Negation(truth), right),
-        Truth::Both(truths) => disjunction_pair(alloc, Truth::Both(truths), right),
-        Truth::All(several) => disjunction_pair(alloc, Truth::All(several), right),
-        Truth::NumberComparison(relation, operands) => disjunction_pair(
-            alloc,
-            Truth::NumberComparison(relation, operands),
-            right,
-        ),
-        Truth::VariableLessThanLiteral(variable, n) => disjunction_pair(
-            alloc,
-            Truth::VariableLessThanLiteral(variable, n),
-            right,
-        ),
-        Truth::VariableComparedToLiteral(relation, variable, n) => disjunction_pair(
-            alloc,
-            Truth::VariableComparedToLiteral(relation, variable, n),
-            right,
-        ),
-        Truth::VariableComparedToVariable(relation, variable, other) => disjunction_pair(
-            alloc,
-            Truth::VariableComparedToVariable(relation, variable, other),
-            right,
-        ),
-        Truth::ElementComparedToVariable(relation, row, variable) => disjunction_pair(
-            alloc,
-            Truth::ElementComparedToVariable(relation, row, variable),
-            right,
-        ),
-        Truth::Same(truths) => disjunction_pair(alloc, Truth::Same(truths), right),
-        Truth::Different(truths) => disjunction_pair(alloc, Truth::Different(truths), right),
+        left => list_of_two_truths(alloc, connective, left, right),
     }
 }

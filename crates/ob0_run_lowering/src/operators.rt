@@ -8,17 +8,13 @@ ghost use Rattle.ob0_run_cells.specs.LoweredExpressions.{relation_of};
 ghost use Rattle.ob0_run_machine.specs.LoweredCodeViews as view;
 ghost use Rattle.ob0_run_lowering.specs.OperationCodes as codes;
 ghost use Rattle.ob0_run_lowering.specs.CodeParts.{number_in_code, truth_in_code};
-ghost use Rattle.ob0_run_lowering.specs.TruthDepths.{WholeIsNoDeeperThanLeft, IsNotNestedOnLeft, conjunction_depth, disjunction_depth};
 ghost use Rattle.ob0_run_lowering.specs.TreeCodes.{expression_code_of};
 
 use crate::lowered_expression::LoweredExpression;
-use crate::operation_chains::{
-    conjunction_of_two_truths, disjunction_of_two_truths, negation, negative_number,
-    operation_on_numbers,
-};
+use crate::operation_chains::{joined_truths, negation, negative_number, operation_on_numbers};
 use ob0_run_machine::code;
 use ob0_run_machine::code::{
-    Number, NumberPair, Operand, Operator, Place, Truth, TruthPair, Variable,
+    CompoundTruth, Connective, Number, Operand, Operator, Place, Truth, Variable,
 };
 use ob0_tree::{AddOperator, MultiplyOperator, Relation, Sign};
 use std::alloc::{AllocError, Global};
@@ -53,9 +49,8 @@ fn lower_number_operation(
     left: LoweredExpression,
     right: LoweredExpression,
 ) -> Result<LoweredExpression, AllocError>
-    ensures code { IfOk result
+    ensures { IfOk result
         (λ l. expression_code_of l ≡ codes.number_operation_code (operator_of operator) (expression_code_of left) (expression_code_of right)) }
-    ensures flat { IfOk result (WholeIsNoDeeperThanLeft left) }
 {
     let Some(first) = number_in_code(left) else {
         return Ok(LoweredExpression::NoCode);
@@ -67,14 +62,14 @@ fn lower_number_operation(
     Ok(LoweredExpression::Number(number))
 }
 
-fn lower_conjunction(
+fn lower_joined_truths(
     alloc: Global,
+    connective: Connective,
     left: LoweredExpression,
     right: LoweredExpression,
 ) -> Result<LoweredExpression, AllocError>
-    ensures code { IfOk result
-        (λ l. expression_code_of l ≡ codes.truth_operation_code machine.both (expression_code_of left) (expression_code_of right)) }
-    ensures flat { IfOk result (WholeIsNoDeeperThanLeft left) }
+    ensures { IfOk result (λ l. expression_code_of l ≡ codes.truth_operation_code
+        (view.joined_by connective) (expression_code_of left) (expression_code_of right)) }
 {
     let Some(first) = truth_in_code(left) else {
         return Ok(LoweredExpression::NoCode);
@@ -82,26 +77,7 @@ fn lower_conjunction(
     let Some(second) = truth_in_code(right) else {
         return Ok(LoweredExpression::NoCode);
     };
-    let truth = conjunction_of_two_truths(alloc, first, second)?;
-    Ok(LoweredExpression::Truth(truth))
-}
-
-fn lower_disjunction(
-    alloc: Global,
-    left: LoweredExpression,
-    right: LoweredExpression,
-) -> Result<LoweredExpression, AllocError>
-    ensures code { IfOk result
-        (λ l. expression_code_of l ≡ codes.truth_operation_code machine.either (expression_code_of left) (expression_code_of right)) }
-    ensures flat { IfOk result (WholeIsNoDeeperThanLeft left) }
-{
-    let Some(first) = truth_in_code(left) else {
-        return Ok(LoweredExpression::NoCode);
-    };
-    let Some(second) = truth_in_code(right) else {
-        return Ok(LoweredExpression::NoCode);
-    };
-    let truth = disjunction_of_two_truths(alloc, first, second)?;
+    let truth = joined_truths(alloc, connective, first, second)?;
     Ok(LoweredExpression::Truth(truth))
 }
 
@@ -111,14 +87,13 @@ pub(crate) fn lower_addition(
     left: LoweredExpression,
     right: LoweredExpression,
 ) -> Result<LoweredExpression, AllocError>
-    ensures code { IfOk result
+    ensures { IfOk result
         (λ l. expression_code_of l ≡ codes.addition_code operator (expression_code_of left) (expression_code_of right)) }
-    ensures flat { IfOk result (WholeIsNoDeeperThanLeft left) }
 {
     match operator {
         AddOperator::Add => lower_number_operation(alloc, Operator::Sum, left, right),
         AddOperator::Subtract => lower_number_operation(alloc, Operator::Difference, left, right),
-        AddOperator::Or => lower_disjunction(alloc, left, right),
+        AddOperator::Or => lower_joined_truths(alloc, Connective::Or, left, right),
     }
 }
 
@@ -128,15 +103,14 @@ pub(crate) fn lower_multiplication(
     left: LoweredExpression,
     right: LoweredExpression,
 ) -> Result<LoweredExpression, AllocError>
-    ensures code { IfOk result
+    ensures { IfOk result
         (λ l. expression_code_of l ≡ codes.multiplication_code operator (expression_code_of left) (expression_code_of right)) }
-    ensures flat { IfOk result (WholeIsNoDeeperThanLeft left) }
 {
     match operator {
         MultiplyOperator::Multiply => lower_number_operation(alloc, Operator::Product, left, right),
         MultiplyOperator::Divide => lower_number_operation(alloc, Operator::Quotient, left, right),
         MultiplyOperator::Modulo => lower_number_operation(alloc, Operator::Remainder, left, right),
-        MultiplyOperator::And => lower_conjunction(alloc, left, right),
+        MultiplyOperator::And => lower_joined_truths(alloc, Connective::And, left, right),
     }
 }
 
@@ -144,9 +118,8 @@ fn lower_unary_minus(
     alloc: Global,
     operand: LoweredExpression,
 ) -> Result<LoweredExpression, AllocError>
-    ensures code { IfOk result
+    ensures { IfOk result
         (λ l. expression_code_of l ≡ codes.signed_term_code (Some signs.Minus) (expression_code_of operand)) }
-    ensures flat { IfOk result (WholeIsNoDeeperThanLeft operand) }
 {
     match operand {
         LoweredExpression::Number(number) => {
@@ -164,9 +137,8 @@ fn lower_unary_plus(
     alloc: Global,
     operand: LoweredExpression,
 ) -> Result<LoweredExpression, AllocError>
-    ensures code { IfOk result
+    ensures { IfOk result
         (λ l. expression_code_of l ≡ codes.signed_term_code (Some signs.Plus) (expression_code_of operand)) }
-    ensures flat { IfOk result (WholeIsNoDeeperThanLeft operand) }
 {
     lower_number_operation(
         alloc,
@@ -183,9 +155,8 @@ pub(crate) fn lower_signed_term(
     sign: Option<Sign>,
     operand: LoweredExpression,
 ) -> Result<LoweredExpression, AllocError>
-    ensures code { IfOk result (λ l. expression_code_of l
+    ensures { IfOk result (λ l. expression_code_of l
         ≡ codes.signed_term_code sign (expression_code_of operand)) }
-    ensures flat { IfOk result (WholeIsNoDeeperThanLeft operand) }
 {
     match sign {
         None => Ok(operand),
@@ -200,9 +171,8 @@ pub(crate) fn lower_negation(
     alloc: Global,
     operand: LoweredExpression,
 ) -> Result<LoweredExpression, AllocError>
-    ensures code { IfOk result (λ l. expression_code_of l
+    ensures { IfOk result (λ l. expression_code_of l
         ≡ codes.negation_code (expression_code_of operand)) }
-    ensures flat { IfOk result IsNotNestedOnLeft }
 {
     match operand {
         LoweredExpression::Truth(truth) => Ok(LoweredExpression::Truth(negation(alloc, truth)?)),
@@ -227,9 +197,8 @@ fn comparator_of(relation: Relation) -> code::Comparator
 
 /// Returns the code of a comparison of a variable with a literal.
 fn lower_literal_comparison(relation: code::Comparator, variable: Variable, n: i32) -> Truth
-    ensures code { truth_of result ≡ view.variable_comparison relation variable
+    ensures { truth_of result ≡ view.variable_comparison relation variable
         (machine.literal n) }
-    ensures flat { (conjunction_depth result ≡ 0) × (disjunction_depth result ≡ 0) }
 {
     match relation {
         code::Comparator::Less => Truth::VariableLessThanLiteral(variable, n),
@@ -245,9 +214,8 @@ fn lower_variable_comparison(
     variable: Variable,
     right: Operand,
 ) -> Result<Truth, AllocError>
-    ensures code { IfOk result
+    ensures { IfOk result
         (λ t. truth_of t ≡ view.variable_comparison relation variable (operand_of right)) }
-    ensures flat { IfOk result (λ t. (conjunction_depth t ≡ 0) × (disjunction_depth t ≡ 0)) }
 {
     match right {
         Operand::Literal(n) => Ok(lower_literal_comparison(relation, variable, n)),
@@ -271,9 +239,8 @@ fn lower_cell_comparison(
     place: Place,
     right: Operand,
 ) -> Result<Truth, AllocError>
-    ensures code { IfOk result (λ t. truth_of t ≡ machine.related (view.relation_of relation)
+    ensures { IfOk result (λ t. truth_of t ≡ machine.related (view.relation_of relation)
         (machine.cell (view.place_of place)) (operand_of right)) }
-    ensures flat { IfOk result (λ t. (conjunction_depth t ≡ 0) × (disjunction_depth t ≡ 0)) }
 {
     match place {
         Place::VariableElement(row) => match right {
@@ -303,9 +270,8 @@ fn lower_operand_comparison(
     left: Operand,
     right: Operand,
 ) -> Result<Truth, AllocError>
-    ensures code { IfOk result (λ t. truth_of t
+    ensures { IfOk result (λ t. truth_of t
         ≡ machine.related (view.relation_of relation) (operand_of left) (operand_of right)) }
-    ensures flat { IfOk result (λ t. (conjunction_depth t ≡ 0) × (disjunction_depth t ≡ 0)) }
 {
     match left {
         Operand::Variable(variable) => lower_variable_comparison(alloc, relation, variable, right),
@@ -326,12 +292,11 @@ fn general_comparison(
     left: Number,
     right: Number,
 ) -> Result<Truth, AllocError>
-    ensures code { IfOk result (λ t. truth_of t
+    ensures { IfOk result (λ t. truth_of t
         ≡ machine.related (view.relation_of relation) (number_of left) (number_of right)) }
-    ensures flat { IfOk result (λ t. (conjunction_depth t ≡ 0) × (disjunction_depth t ≡ 0)) }
 {
-    let operands = Box::new(alloc, NumberPair { left, right })?;
-    Ok(Truth::NumberComparison(relation, operands))
+    let comparison = CompoundTruth::NumberComparison(relation, left, right);
+    Ok(Truth::Compound(Box::new(alloc, comparison)?))
 }
 
 /// Returns the code of a comparison of two numbers.
@@ -341,9 +306,8 @@ fn lower_number_comparison(
     left: Number,
     right: Number,
 ) -> Result<Truth, AllocError>
-    ensures code { IfOk result (λ t. truth_of t
+    ensures { IfOk result (λ t. truth_of t
         ≡ machine.related (relation_of relation) (number_of left) (number_of right)) }
-    ensures flat { IfOk result (λ t. (conjunction_depth t ≡ 0) × (disjunction_depth t ≡ 0)) }
 {
     let relation = comparator_of(relation);
     match left {
@@ -362,19 +326,17 @@ fn lower_truth_comparison(
     left: Truth,
     right: Truth,
 ) -> Result<LoweredExpression, AllocError>
-    ensures code { IfOk result (λ l. expression_code_of l
+    ensures { IfOk result (λ l. expression_code_of l
         ≡ codes.relation_code relation (codes.a_truth (truth_of left)) (codes.a_truth (truth_of right))) }
-    ensures flat { IfOk result IsNotNestedOnLeft }
 {
-    let truths = TruthPair { left, right };
     match relation {
         Relation::Equal => {
-            let sides = Box::new(alloc, truths)?;
-            Ok(LoweredExpression::Truth(Truth::Same(sides)))
+            let comparison = Box::new(alloc, CompoundTruth::Same(left, right))?;
+            Ok(LoweredExpression::Truth(Truth::Compound(comparison)))
         }
         Relation::NotEqual => {
-            let sides = Box::new(alloc, truths)?;
-            Ok(LoweredExpression::Truth(Truth::Different(sides)))
+            let comparison = Box::new(alloc, CompoundTruth::Different(left, right))?;
+            Ok(LoweredExpression::Truth(Truth::Compound(comparison)))
         }
         Relation::Less => Ok(LoweredExpression::NoCode),
         Relation::LessEqual => Ok(LoweredExpression::NoCode),
@@ -391,9 +353,8 @@ fn lower_number_relation(
     left: Number,
     right: LoweredExpression,
 ) -> Result<LoweredExpression, AllocError>
-    ensures code { IfOk result (λ l. expression_code_of l
+    ensures { IfOk result (λ l. expression_code_of l
         ≡ codes.relation_code relation (codes.a_number (number_of left)) (expression_code_of right)) }
-    ensures flat { IfOk result IsNotNestedOnLeft }
 {
     let Some(second) = number_in_code(right) else {
         return Ok(LoweredExpression::NoCode);
@@ -410,9 +371,8 @@ fn lower_truth_relation(
     left: Truth,
     right: LoweredExpression,
 ) -> Result<LoweredExpression, AllocError>
-    ensures code { IfOk result
+    ensures { IfOk result
         (λ l. expression_code_of l ≡ codes.relation_code relation (codes.a_truth (truth_of left)) (expression_code_of right)) }
-    ensures flat { IfOk result IsNotNestedOnLeft }
 {
     let Some(second) = truth_in_code(right) else {
         return Ok(LoweredExpression::NoCode);
@@ -426,9 +386,8 @@ pub(crate) fn lower_relation(
     left: LoweredExpression,
     right: LoweredExpression,
 ) -> Result<LoweredExpression, AllocError>
-    ensures code { IfOk result
+    ensures { IfOk result
         (λ l. expression_code_of l ≡ codes.relation_code relation (expression_code_of left) (expression_code_of right)) }
-    ensures flat { IfOk result IsNotNestedOnLeft }
 {
     match left {
         LoweredExpression::Number(number) => lower_number_relation(alloc, relation, number, right),

@@ -7,8 +7,6 @@ ghost use Rattle.ob0_tree.specs.declared.tree.Designator.{out-Designator};
 ghost use Rattle.ob0_language_types.specs.DesignatorSelectors.{selectors_of_designator};
 ghost use Rattle.ob0_run_lowering.specs.LoweredExpressionMeans.{LocatesDesignator, LocatesLoneDesignator, LowersExpression, LowersArgument, LowersNumber, LowersTruth};
 ghost use Rattle.ob0_run_lowering.specs.CodeParts.{IsNumberInCode, IsFoundPlace, IsTruthInCode, ArgumentPassesCode};
-ghost use Rattle.ob0_run_lowering.specs.TruthDepths.{IsNotNestedOnLeft};
-ghost use Rattle.ob0_run_lowering.specs.declared.lowered_expression.LoweredExpression.TheVariants as code;
 
 use crate::lowered_expression::{LoweredExpression, TypedPlace};
 use crate::scene::Scene;
@@ -32,8 +30,7 @@ fn number_or_zero(lowered: LoweredExpression) -> Number
 
 /// Returns an expression's code if this code is a truth, otherwise the constant FALSE.
 fn truth_or_false(lowered: LoweredExpression) -> Truth
-    ensures taken { IsTruthInCode lowered result }
-    ensures flat { IsNotNestedOnLeft lowered → IsNotNestedOnLeft (code.Truth result) }
+    ensures { IsTruthInCode lowered result }
 {
     match lowered {
         LoweredExpression::Truth(truth) => truth,
@@ -85,8 +82,7 @@ impl<'s, 'k, 't> Scene<'s, 'k, 't> {
         alloc: Global,
         e: &Expression,
     ) -> Result<LoweredExpression, AllocError>
-        ensures lowers { IfOk result (LowersExpression self.now (expression_of e.now)) }
-        ensures flat { IfOk result IsNotNestedOnLeft }
+        ensures { IfOk result (LowersExpression self.now (expression_of e.now)) }
     {
         self.lower_expression(alloc, e)
     }
@@ -103,8 +99,7 @@ impl<'s, 'k, 't> Scene<'s, 'k, 't> {
     /// Returns the code of an expression of type BOOLEAN. If the code isn't a truth, returns the
     /// constant FALSE.
     pub fn lower_to_truth(&self, alloc: Global, e: &Expression) -> Result<Truth, AllocError>
-        ensures lowers { IfOk result (LowersTruth self.now (expression_of e.now)) }
-        ensures flat { IfOk result (λ t. IsNotNestedOnLeft (code.Truth t)) }
+        ensures { IfOk result (LowersTruth self.now (expression_of e.now)) }
     {
         let lowered = self.lower_to_code(alloc, e)?;
         Ok(truth_or_false(lowered))

@@ -20,12 +20,15 @@ use Rattle.ob0_run_machine.specs.declared.code.Operator.TheVariants as operator
 use Rattle.ob0_run_machine.specs.declared.code.ChainLink as link
 use Rattle.ob0_run_machine.specs.declared.code.Element.{Element, out-Element}
 use Rattle.ob0_run_machine.specs.declared.code.ChainLink.{ChainLink}
-use Rattle.ob0_run_machine.specs.declared.code.NumberPair.{NumberPair}
 use Rattle.ob0_run_machine.specs.declared.code.Comparator.{Comparator}
 use Rattle.ob0_run_machine.specs.declared.code.Comparator.TheVariants as relation
 use Rattle.ob0_run_machine.specs.declared.code.Truth as truth
 use Rattle.ob0_run_machine.specs.declared.code.Truth.{Truth}
 use Rattle.ob0_run_machine.specs.declared.code.TruthList.{TruthList, out-TruthList}
+use Rattle.ob0_run_machine.specs.declared.code.CompoundTruth as compound
+use Rattle.ob0_run_machine.specs.declared.code.CompoundTruth.{CompoundTruth}
+use Rattle.ob0_run_machine.specs.declared.code.Connective.{Connective}
+use Rattle.ob0_run_machine.specs.declared.code.Connective.TheVariants as connective
 use Rattle.ob0_run_machine.specs.declared.code.Argument as argument_type
 use Rattle.ob0_run_machine.specs.declared.code.Argument.TheVariants as argument
 use Rattle.ob0_run_machine.specs.declared.code.Instruction as statement
@@ -148,10 +151,6 @@ relation_of relation.LessEqual = lowered.less_equal
 relation_of relation.Greater = lowered.greater
 relation_of relation.GreaterEqual = lowered.greater_equal
 
--- returns the lowered comparison of two operands
-abbrev pub operands_comparison : Comparator → NumberPair → lowered.Truth
-operands_comparison r o = lowered.related (relation_of r) (number_of o.left) (number_of o.right)
-
 -- returns the lowered comparison of a variable with a lowered number
 abbrev pub variable_comparison : Comparator → Variable → lowered.Number → lowered.Truth
 variable_comparison r v n = lowered.related (relation_of r) (lowered.cell (variable_of v)) n
@@ -161,55 +160,49 @@ abbrev pub element_comparison : Comparator → VariableElement → Variable → 
 element_comparison r q v =
     lowered.related (relation_of r) (lowered.cell (variable_element_of q)) (lowered.cell (variable_of v))
 
+-- returns the lowered conjunction or disjunction of two lowered truths
+abbrev pub joined_by : Connective → lowered.Truth → lowered.Truth → lowered.Truth
+joined_by connective.And = lowered.both
+joined_by connective.Or = lowered.either
+
 abbrev mutual
   -- converts a `Truth` to a lowered truth
   pub truth_of : Truth → lowered.Truth
   truth_of (truth.Constant b) = lowered.constant b
   truth_of (truth.Flag p) = lowered.flag (place_of p)
   truth_of (truth.NegatedFlag p) = lowered.negation (lowered.flag (place_of p))
-  truth_of (truth.Negation' pointer t) = lowered.negation (truth_of t)
-  truth_of (truth.Both' pointer left right) = lowered.both (truth_of left) (truth_of right)
-  truth_of (truth.Either' pointer left right) = lowered.either (truth_of left) (truth_of right)
-  truth_of (truth.All' pointer first shape row) = conjunction_with_row row (truth_of first)
-  truth_of (truth.Any' pointer first shape row) = disjunction_with_row row (truth_of first)
-  truth_of (truth.NumberComparison r o) = operands_comparison r o.value
   truth_of (truth.VariableLessThanLiteral v n) = variable_comparison relation.Less v (lowered.literal n)
   truth_of (truth.VariableComparedToLiteral r v n) = variable_comparison r v (lowered.literal n)
   truth_of (truth.VariableComparedToVariable r v w) = variable_comparison r v (lowered.cell (variable_of w))
   truth_of (truth.ElementComparedToVariable r q v) = element_comparison r q.value v
-  truth_of (truth.Same' pointer left right) = lowered.same (truth_of left) (truth_of right)
-  truth_of (truth.Different' pointer left right) =
-      lowered.different (truth_of left) (truth_of right)
+  truth_of (truth.Joined' pointer c first shape row) = joined_with_row c row (truth_of first)
+  truth_of (truth.Compound' pointer c) = compound_truth_of c
 
-  -- returns the conjunction of the truth `left` and the truths of a row (a list inside a recursive
-  -- type), nested on the left
-  pub conjunction_with_row : {n : _} → truth.Row_of-Truth n → lowered.Truth → lowered.Truth
-  conjunction_with_row truth.end_of-Truth left = left
-  conjunction_with_row (truth.more_of-Truth t row) left = conjunction_with_row row (lowered.both left (truth_of t))
+  -- converts a `CompoundTruth` to a lowered truth
+  pub compound_truth_of : CompoundTruth → lowered.Truth
+  compound_truth_of (compound.Negation t) = lowered.negation (truth_of t)
+  compound_truth_of (compound.NumberComparison r m n) =
+      lowered.related (relation_of r) (number_of m) (number_of n)
+  compound_truth_of (compound.Same t u) = lowered.same (truth_of t) (truth_of u)
+  compound_truth_of (compound.Different t u) = lowered.different (truth_of t) (truth_of u)
 
-  -- returns the disjunction of the truth `left` and the truths of a row (a list inside a recursive
-  -- type), nested on the left
-  pub disjunction_with_row : {n : _} → truth.Row_of-Truth n → lowered.Truth → lowered.Truth
-  disjunction_with_row truth.end_of-Truth left = left
-  disjunction_with_row (truth.more_of-Truth t row) left = disjunction_with_row row (lowered.either left (truth_of t))
+  -- returns the truth `left` and the truths of a row (a list inside a recursive type), joined by
+  -- the same operator and nested on the left
+  pub joined_with_row : {n : _} → Connective → truth.Row_of-Truth n → lowered.Truth → lowered.Truth
+  joined_with_row c truth.end_of-Truth left = left
+  joined_with_row c (truth.more_of-Truth t row) left = joined_with_row c row (joined_by c left (truth_of t))
 
--- returns the conjunction of the truth `left` and the truths of a list, nested on the left
-abbrev pub conjunction_with_list : lowered.Truth → List Truth → lowered.Truth
-conjunction_with_list left [] = left
-conjunction_with_list left (t ∷ ts) = conjunction_with_list (lowered.both left (truth_of t)) ts
+-- returns the truth `left` and the truths of a list, joined by the same operator and nested on the
+-- left
+abbrev pub joined_with_list : Connective → lowered.Truth → List Truth → lowered.Truth
+joined_with_list c left [] = left
+joined_with_list c left (t ∷ ts) = joined_with_list c (joined_by c left (truth_of t)) ts
 
--- returns the disjunction of the truth `left` and the truths of a list, nested on the left
-abbrev pub disjunction_with_list : lowered.Truth → List Truth → lowered.Truth
-disjunction_with_list left [] = left
-disjunction_with_list left (t ∷ ts) = disjunction_with_list (lowered.either left (truth_of t)) ts
-
--- returns the conjunction of the truths of a `TruthList`
-abbrev pub conjunction_of : TruthList → lowered.Truth
-conjunction_of s = conjunction_with_list (truth_of (out-TruthList s).first) (out-TruthList s).rest.items
-
--- returns the disjunction of the truths of a `TruthList`
-abbrev pub disjunction_of : TruthList → lowered.Truth
-disjunction_of s = disjunction_with_list (truth_of (out-TruthList s).first) (out-TruthList s).rest.items
+-- converts a `TruthList` to a lowered truth
+abbrev pub truth_list_of : TruthList → lowered.Truth
+truth_list_of s =
+    joined_with_list (out-TruthList s).connective (truth_of (out-TruthList s).first)
+    (out-TruthList s).rest.items
 
 -- converts an `Argument` to a lowered argument
 abbrev pub argument_of : argument_type.Argument → lowered.LoweredArgument

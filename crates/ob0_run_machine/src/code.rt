@@ -21,14 +21,15 @@
 //!   `VariableComparedToLiteral`, `VariableComparedToVariable`). The same holds for an element compared with a
 //!   variable (`ElementComparedToVariable`), and for `~flag` (`NegatedFlag`). It also holds for the assignment of
 //!   TRUE or FALSE to an element (`StoreConstantInElement`).
-//! - Constants and comparisons of variables are evaluated inline. Small functions evaluate flags
-//!   and comparisons of elements (`evaluate_flag`, `compare_element`). A large function evaluates
-//!   all other conditions (`evaluate_truth_as_flat_outcome`).
+//! - Constants and comparisons of variables are evaluated inline. Called functions evaluate flags,
+//!   comparisons of elements (`evaluate_flag`, `compare_element`) and all other truths
+//!   (`evaluate_truth_list`, `evaluate_compound_truth`).
 //!
-//! A sum is a `Chain`, a long conjunction an `All`, and a long disjunction an `Any`. Each has the
-//! meaning of pairs that are nested on the left. A loop evaluates the operands, so a longer chain
-//! needs no more stack. A chain begins with an `Operand`, which can't be an operation. So the first
-//! operand of a chain is never a chain.
+//! A sum is a `Chain`, a conjunction or a disjunction a `TruthList`. Both have the meaning of pairs
+//! that are nested on the left. A loop evaluates the operands, so a longer chain needs no more
+//! stack. A chain begins with an `Operand`, which can't be an operation. So the first operand of a
+//! chain is never a chain. Lowering adds each further operand to a list as long as the operator
+//! stays the same, so the first operand of a conjunction is never a conjunction.
 
 /// An arithmetic operator on two numbers.
 #[derive(Clone, Copy, PartialEq, Eq, Debug)]
@@ -166,13 +167,6 @@ pub enum Comparator {
     GreaterEqual,
 }
 
-/// The two numbers that a relation compares.
-#[derive(Drop)]
-pub struct NumberPair {
-    pub left: Number,
-    pub right: Number,
-}
-
 /// Code of an expression of type BOOLEAN. Its value is a truth value.
 #[cycle(truths)]
 #[derive(Drop)]
@@ -181,14 +175,6 @@ pub enum Truth {
     Flag(Place),
     /// The negation of a flag (`~flag`), which is evaluated in one step.
     NegatedFlag(Place),
-    Negation(Box<Truth>),
-    Both(Box<TruthPair>),
-    Either(Box<TruthPair>),
-    /// A conjunction (`&`) of several truths, which a loop evaluates.
-    All(Box<TruthList>),
-    /// A disjunction (OR) of several truths, which a loop evaluates.
-    Any(Box<TruthList>),
-    NumberComparison(Comparator, Box<NumberPair>),
     /// The relation that a variable is less than a literal. This case and the next three are
     /// special forms of `NumberComparison`, which are evaluated in one step.
     VariableLessThanLiteral(Variable, i32),
@@ -197,24 +183,36 @@ pub enum Truth {
     VariableComparedToVariable(Comparator, Variable, Variable),
     /// A comparison of an array's element with a variable. The array and the index are variables.
     ElementComparedToVariable(Comparator, Box<VariableElement>, Variable),
-    Same(Box<TruthPair>),
-    Different(Box<TruthPair>),
+    /// A conjunction or a disjunction.
+    Joined(Box<TruthList>),
+    /// A truth of any other form.
+    Compound(Box<CompoundTruth>),
 }
 
-/// The two operands of `&`, of OR, or of a comparison of truth values.
-#[cycle(truths)]
-#[derive(Drop)]
-pub struct TruthPair {
-    pub left: Truth,
-    pub right: Truth,
+/// An operator between truths: `&` or OR.
+#[derive(Clone, Copy, PartialEq, Eq, Debug)]
+pub enum Connective {
+    And,
+    Or,
 }
 
-/// Truths that are joined by `&` or by OR, from left to right.
+/// Two or more truths that are joined by the same operator, from left to right.
 #[cycle(truths)]
 #[derive(Drop)]
 pub struct TruthList {
+    pub connective: Connective,
     pub first: Truth,
     pub rest: Vec<Truth>,
+}
+
+/// A negation, or a comparison of two numbers or two truths.
+#[cycle(truths)]
+#[derive(Drop)]
+pub enum CompoundTruth {
+    Negation(Truth),
+    NumberComparison(Comparator, Number, Number),
+    Same(Truth, Truth),
+    Different(Truth, Truth),
 }
 
 /// An argument of a call: a place for a VAR parameter, a value for any other parameter.

@@ -1,18 +1,17 @@
 //! Evaluates places, numbers and truth values, given the running activation and the cells. A
-//! function that is marked `#[inline(never)]` returns a `FlatOutcome`, in registers. The other
-//! functions that can fail return a `Result`.
+//! function that is marked `#[inline(never)]` returns a number or an address as a `FlatOutcome`, in
+//! registers. The other functions that can fail return a `Result`.
 
-ghost use Rattle.std.specs.Prelude.{◌≡◌, List, ℤ, false, if◌then◌else◌, true};
+ghost use Rattle.std.specs.Prelude.{◌≡◌, List, ℤ};
 ghost use Rattle.ob0_run_machine.specs.StepOutcomes.{outcome_of_applied_link, outcome_of, outcome_of_result};
 ghost use Rattle.ob0_run_machine.specs.Evaluation.{place_address, cell_at, gives, number_value, truth_value};
-ghost use Rattle.ob0_run_machine.specs.declared.code.TruthPair.{out-TruthPair};
 ghost use Rattle.ob0_run_machine.specs.LoweredSyntax as lowered;
 ghost use Rattle.ob0_run_machine.specs.Levels.{levels_of};
-ghost use Rattle.ob0_run_machine.specs.LoweredCodeViews.{operation_with_link, conjunction_of, disjunction_of, chain_of, variable_comparison, element_of, operand_of, number_of, operator_of, place_of, operands_comparison, element_comparison, variable_element_of, truth_of, variable_of};
+ghost use Rattle.ob0_run_machine.specs.LoweredCodeViews.{operation_with_link, chain_of, compound_truth_of, joined_by, truth_list_of, variable_comparison, element_of, operand_of, number_of, operator_of, place_of, element_comparison, variable_element_of, truth_of, variable_of};
 
 use crate::code::{
-    Chain, ChainLink, Comparator, Element, Number, NumberPair, Operand, Operator, Place, Truth,
-    TruthList, TruthPair, Variable, VariableElement,
+    Chain, ChainLink, Comparator, CompoundTruth, Connective, Element, Number, Operand, Operator,
+    Place, Truth, TruthList, Variable, VariableElement,
 };
 use crate::flat_outcome::{FlatOutcome, into_flat_outcome, into_result};
 use crate::level::{
@@ -297,14 +296,12 @@ pub(crate) fn evaluate_update(
 
 /// Returns whether the cell at a place is TRUE, or the fault that ends the evaluation of the place.
 #[inline(never)]
-fn evaluate_flag(place: &Place, level: &Level<'_>, cells: &[i32]) -> FlatOutcome<bool>
-    ensures { outcome_of result
+fn evaluate_flag(place: &Place, level: &Level<'_>, cells: &[i32]) -> Result<bool, EvaluationFault>
+    ensures { outcome_of_result result
         ≡ truth_value (levels_of level.now) cells.now (lowered.flag (place_of place.now)) }
 {
-    match locate_place(place, level, cells) {
-        Ok(a) => FlatOutcome::Value(is_cell_true(cell_at(cells, a))),
-        Err(ending) => into_flat_outcome(Err(ending)),
-    }
+    let a = locate_place(place, level, cells)?;
+    Ok(is_cell_true(cell_at(cells, a)))
 }
 
 /// Returns whether the cell at a place is FALSE, or the fault that ends the evaluation of the
@@ -319,14 +316,15 @@ fn evaluate_negated_flag(
         ≡ truth_value (levels_of level.now) cells.now
         (lowered.negation (lowered.flag (place_of place.now))) }
 {
-    let a = into_result(evaluate_flag(place, level, cells))?;
+    let a = evaluate_flag(place, level, cells)?;
     Ok(!a)
 }
 
 /// Returns the value of an expression of type BOOLEAN, or the fault that ends its evaluation.
-/// Constants and comparisons of variables are evaluated inline. Flags and comparisons of elements
-/// are evaluated by small functions, and all other forms by `evaluate_truth_out_of_line`.
+/// Constants and comparisons of variables are evaluated inline, all other forms by called
+/// functions.
 #[inline(always)]
+#[cycle(truths)]
 pub(crate) fn evaluate_truth(
     t: &Truth,
     level: &Level<'_>,
@@ -337,7 +335,7 @@ pub(crate) fn evaluate_truth(
 {
     match t {
         Truth::Constant(b) => Ok(*b),
-        Truth::Flag(place) => into_result(evaluate_flag(place, level, cells)),
+        Truth::Flag(place) => evaluate_flag(place, level, cells),
         Truth::NegatedFlag(place) => evaluate_negated_flag(place, level, cells),
         Truth::VariableLessThanLiteral(v, n) => {
             Ok(compare_variable(Comparator::Less, *v, *n, level, cells))
@@ -347,14 +345,14 @@ pub(crate) fn evaluate_truth(
             let right = variable_value(*w, level, cells);
             Ok(compare_variable(*r, *v, right, level, cells))
         }
-        Truth::ElementComparedToVariable(r, q, v) => into_result(compare_element(
-            *r, q, *v, level, cells,
-        )),
-        _ => evaluate_truth_out_of_line(t, level, cells),
+        Truth::ElementComparedToVariable(r, q, v) => compare_element(*r, q, *v, level, cells),
+        Truth::Joined(list) => evaluate_truth_list(list, level, cells),
+        Truth::Compound(compound) => evaluate_compound_truth(compound, level, cells),
     }
 }
 
-#[inline(always)]
+/// Does the same as `evaluate_truth`, but isn't inlined.
+#[inline(never)]
 #[cycle(truths)]
 fn evaluate_truth_out_of_line(
     t: &Truth,
@@ -364,56 +362,7 @@ fn evaluate_truth_out_of_line(
     ensures { outcome_of_result result ≡ truth_value (levels_of level.now) cells.now
         (truth_of t.now) }
 {
-    into_result(evaluate_truth_as_flat_outcome(t, level, cells))
-}
-
-#[inline(never)]
-#[cycle(truths)]
-fn evaluate_truth_as_flat_outcome(t: &Truth, level: &Level<'_>, cells: &[i32]) -> FlatOutcome<bool>
-    ensures { outcome_of result ≡ truth_value (levels_of level.now) cells.now (truth_of t.now) }
-{
-    into_flat_outcome(evaluate_general_truth(t, level, cells))
-}
-
-#[inline(always)]
-#[cycle(truths)]
-fn evaluate_general_truth(
-    t: &Truth,
-    level: &Level<'_>,
-    cells: &[i32],
-) -> Result<bool, EvaluationFault>
-    ensures { outcome_of_result result ≡ truth_value (levels_of level.now) cells.now
-        (truth_of t.now) }
-{
-    match t {
-        Truth::Constant(b) => Ok(*b),
-        Truth::Flag(place) => into_result(evaluate_flag(place, level, cells)),
-        Truth::NegatedFlag(place) => evaluate_negated_flag(place, level, cells),
-        Truth::Negation(operand) => {
-            let a = evaluate_truth_out_of_line(operand, level, cells)?;
-            Ok(!a)
-        }
-        Truth::Both(operands) => evaluate_conjunction_pair(operands, level, cells),
-        Truth::Either(operands) => evaluate_disjunction_pair(operands, level, cells),
-        Truth::All(several) => evaluate_conjunction_list(several, level, cells),
-        Truth::Any(several) => evaluate_disjunction_list(several, level, cells),
-        Truth::NumberComparison(relation, operands) => compare_operands(
-            *relation, operands, level, cells,
-        ),
-        Truth::VariableLessThanLiteral(v, n) => {
-            Ok(compare_variable(Comparator::Less, *v, *n, level, cells))
-        }
-        Truth::VariableComparedToLiteral(r, v, n) => Ok(compare_variable(*r, *v, *n, level, cells)),
-        Truth::VariableComparedToVariable(r, v, w) => {
-            let right = variable_value(*w, level, cells);
-            Ok(compare_variable(*r, *v, right, level, cells))
-        }
-        Truth::ElementComparedToVariable(r, q, v) => into_result(compare_element(
-            *r, q, *v, level, cells,
-        )),
-        Truth::Same(operands) => evaluate_truth_equality(operands, level, cells),
-        Truth::Different(operands) => evaluate_truth_inequality(operands, level, cells),
-    }
+    evaluate_truth(t, level, cells)
 }
 
 /// Returns whether a relation holds between the value of a variable and a number.
@@ -440,168 +389,97 @@ fn compare_element(
     right: Variable,
     level: &Level<'_>,
     cells: &[i32],
-) -> FlatOutcome<bool>
-    ensures { outcome_of result
+) -> Result<bool, EvaluationFault>
+    ensures { outcome_of_result result
         ≡ truth_value (levels_of level.now) cells.now (element_comparison relation left.now right) }
 {
-    match variable_element_address(left, level, cells) {
-        Ok(a) => {
-            let right = variable_value(right, level, cells);
-            FlatOutcome::Value(compare(relation, cell_at(cells, a), right))
+    let a = variable_element_address(left, level, cells)?;
+    let right = variable_value(right, level, cells);
+    Ok(compare(relation, cell_at(cells, a), right))
+}
+
+/// Returns the value of a negation or a comparison, or the first fault that occurs.
+#[inline(never)]
+#[cycle(truths)]
+fn evaluate_compound_truth(
+    c: &CompoundTruth,
+    level: &Level<'_>,
+    cells: &[i32],
+) -> Result<bool, EvaluationFault>
+    ensures { outcome_of_result result ≡ truth_value (levels_of level.now) cells.now
+        (compound_truth_of c.now) }
+{
+    match c {
+        CompoundTruth::Negation(operand) => {
+            let a = evaluate_truth_out_of_line(operand, level, cells)?;
+            Ok(!a)
         }
-        Err(ending) => into_flat_outcome(Err(ending)),
+        CompoundTruth::NumberComparison(relation, left, right) => {
+            let left = evaluate_number(left, level, cells)?;
+            let right = evaluate_number(right, level, cells)?;
+            Ok(compare(*relation, left, right))
+        }
+        CompoundTruth::Same(left, right) => {
+            let left = evaluate_truth_out_of_line(left, level, cells)?;
+            let right = evaluate_truth_out_of_line(right, level, cells)?;
+            Ok(are_truths_equal(left, right))
+        }
+        CompoundTruth::Different(left, right) => {
+            let left = evaluate_truth_out_of_line(left, level, cells)?;
+            let right = evaluate_truth_out_of_line(right, level, cells)?;
+            Ok(!are_truths_equal(left, right))
+        }
     }
 }
 
-/// Returns whether a relation holds between the values of two expressions, or the first fault that
-/// occurs.
-#[inline(always)]
-fn compare_operands(
-    relation: Comparator,
-    operands: &NumberPair,
-    level: &Level<'_>,
-    cells: &[i32],
-) -> Result<bool, EvaluationFault>
-    ensures { outcome_of_result result
-        ≡ truth_value (levels_of level.now) cells.now (operands_comparison relation operands.now) }
-{
-    let left = evaluate_number(&operands.left, level, cells)?;
-    let right = evaluate_number(&operands.right, level, cells)?;
-    Ok(compare(relation, left, right))
-}
-
+/// Returns the conjunction or the disjunction of several truth values, or the first fault that
+/// occurs. The values are evaluated from left to right. Nothing more is evaluated after the first
+/// FALSE of a conjunction, or the first TRUE of a disjunction.
+#[inline(never)]
 #[cycle(truths)]
-fn evaluate_conjunction_pair(
-    operands: &TruthPair,
+fn evaluate_truth_list(
+    list: &TruthList,
     level: &Level<'_>,
     cells: &[i32],
 ) -> Result<bool, EvaluationFault>
-    ensures { outcome_of_result result
-        ≡ truth_value (levels_of level.now) cells.now (lowered.both
-        (truth_of (out-TruthPair operands.now).left) (truth_of (out-TruthPair operands.now).right)) }
+    ensures { outcome_of_result result ≡ truth_value (levels_of level.now) cells.now
+        (truth_list_of list.now) }
 {
-    if evaluate_truth_out_of_line(&operands.left, level, cells)? {
-        evaluate_truth_out_of_line(&operands.right, level, cells)
-    } else {
-        Ok(false)
-    }
-}
-
-#[cycle(truths)]
-fn evaluate_disjunction_pair(
-    operands: &TruthPair,
-    level: &Level<'_>,
-    cells: &[i32],
-) -> Result<bool, EvaluationFault>
-    ensures { outcome_of_result result
-        ≡ truth_value (levels_of level.now) cells.now (lowered.either
-        (truth_of (out-TruthPair operands.now).left) (truth_of (out-TruthPair operands.now).right)) }
-{
-    if evaluate_truth_out_of_line(&operands.left, level, cells)? {
-        Ok(true)
-    } else {
-        evaluate_truth_out_of_line(&operands.right, level, cells)
-    }
-}
-
-#[cycle(truths)]
-fn evaluate_truth_equality(
-    operands: &TruthPair,
-    level: &Level<'_>,
-    cells: &[i32],
-) -> Result<bool, EvaluationFault>
-    ensures { outcome_of_result result
-        ≡ truth_value (levels_of level.now) cells.now (lowered.same
-        (truth_of (out-TruthPair operands.now).left) (truth_of (out-TruthPair operands.now).right)) }
-{
-    let left = evaluate_truth_out_of_line(&operands.left, level, cells)?;
-    let right = evaluate_truth_out_of_line(&operands.right, level, cells)?;
-    Ok(are_truths_equal(left, right))
-}
-
-#[cycle(truths)]
-fn evaluate_truth_inequality(
-    operands: &TruthPair,
-    level: &Level<'_>,
-    cells: &[i32],
-) -> Result<bool, EvaluationFault>
-    ensures { outcome_of_result result
-        ≡ truth_value (levels_of level.now) cells.now (lowered.different
-        (truth_of (out-TruthPair operands.now).left) (truth_of (out-TruthPair operands.now).right)) }
-{
-    let left = evaluate_truth_out_of_line(&operands.left, level, cells)?;
-    let right = evaluate_truth_out_of_line(&operands.right, level, cells)?;
-    Ok(!are_truths_equal(left, right))
-}
-
-/// Returns the conjunction of several truth values, or the first fault that occurs. The values are
-/// evaluated from left to right. After the first FALSE nothing more is evaluated.
-#[cycle(truths)]
-fn evaluate_conjunction_list(
-    several: &TruthList,
-    level: &Level<'_>,
-    cells: &[i32],
-) -> Result<bool, EvaluationFault>
-    ensures { outcome_of_result result
-        ≡ truth_value (levels_of level.now) cells.now (conjunction_of several.now) }
-{
-    let mut left = evaluate_truth_out_of_line(&several.first, level, cells)?;
-    for t in &several.rest {
-        left = evaluate_and_with_left_value(left, t, level, cells)?;
+    let mut left = evaluate_truth_out_of_line(&list.first, level, cells)?;
+    for t in &list.rest {
+        left = join_with_value(list.connective, left, t, level, cells)?;
     }
     Ok(left)
 }
 
+/// Returns the conjunction or the disjunction of a truth value and a truth. The truth isn't
+/// evaluated if the truth value decides the result.
 #[inline(always)]
 #[cycle(truths)]
-fn evaluate_and_with_left_value(
+fn join_with_value(
+    connective: Connective,
     left: bool,
     t: &Truth,
     level: &Level<'_>,
     cells: &[i32],
 ) -> Result<bool, EvaluationFault>
-    ensures { outcome_of_result result
-        ≡ (if left then truth_value (levels_of level.now) cells.now (truth_of t.now) else gives false) }
+    ensures { outcome_of_result result ≡ truth_value (levels_of level.now) cells.now
+        (joined_by connective (lowered.constant left) (truth_of t.now)) }
 {
-    if left {
-        evaluate_truth_out_of_line(t, level, cells)
-    } else {
-        Ok(false)
-    }
-}
-
-/// Returns the disjunction of several truth values, or the first fault that occurs. The values are
-/// evaluated from left to right. After the first TRUE nothing more is evaluated.
-#[cycle(truths)]
-fn evaluate_disjunction_list(
-    several: &TruthList,
-    level: &Level<'_>,
-    cells: &[i32],
-) -> Result<bool, EvaluationFault>
-    ensures { outcome_of_result result
-        ≡ truth_value (levels_of level.now) cells.now (disjunction_of several.now) }
-{
-    let mut left = evaluate_truth_out_of_line(&several.first, level, cells)?;
-    for t in &several.rest {
-        left = evaluate_or_with_left_value(left, t, level, cells)?;
-    }
-    Ok(left)
-}
-
-#[inline(always)]
-#[cycle(truths)]
-fn evaluate_or_with_left_value(
-    left: bool,
-    t: &Truth,
-    level: &Level<'_>,
-    cells: &[i32],
-) -> Result<bool, EvaluationFault>
-    ensures { outcome_of_result result
-        ≡ (if left then gives true else truth_value (levels_of level.now) cells.now (truth_of t.now)) }
-{
-    if left {
-        Ok(true)
-    } else {
-        evaluate_truth_out_of_line(t, level, cells)
+    match connective {
+        Connective::And => {
+            if left {
+                evaluate_truth_out_of_line(t, level, cells)
+            } else {
+                Ok(false)
+            }
+        }
+        Connective::Or => {
+            if left {
+                Ok(true)
+            } else {
+                evaluate_truth_out_of_line(t, level, cells)
+            }
+        }
     }
 }

@@ -2,12 +2,14 @@
 //!
 //! A `Result` with a number or an address is returned through memory. A `FlatOutcome` has a payload
 //! in only one case, and is therefore returned in registers. The functions of the evaluator that
-//! are marked `#[inline(never)]` (`evaluate_chain`, `evaluate_truth_as_flat_outcome`, ..) return a
-//! `FlatOutcome`. The inlined functions that can fail return a `Result` and use `?`.
-//! `into_flat_outcome` and `into_result` convert between the two types.
+//! are marked `#[inline(never)]` and return a number or an address (`evaluate_chain`,
+//! `locate_element_as_flat_outcome`, ..) return a `FlatOutcome`. The inlined functions that can
+//! fail return a `Result` and use `?`. `into_flat_outcome` and `into_result` convert between the
+//! two types.
 //!
-//! The functions that run statements return a `Result<(), StopReason>`. A `StopReason` has no
-//! payload, so this result is also returned in registers. `end_of_stop_reason` gives the end of the
+//! A `Result` with a truth value has one byte beside its tag, and is returned in registers. The
+//! functions that run statements return a `Result<(), StopReason>`. A `StopReason` has no payload,
+//! so this result is also returned in registers. `end_of_stop_reason` gives the end of the
 //! run for a `StopReason`, or None if an allocation failed.
 
 ghost use Rattle.std.specs.Prelude.{◌≡◌};

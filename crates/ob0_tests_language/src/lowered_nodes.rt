@@ -5,7 +5,7 @@
 use crate::test_questions::TestQuestion::NodeNames;
 use crate::test_questions::{CheckMode, QuestionCase, first_failing_row, rows};
 use ob0_run::lower;
-use ob0_run_machine::code::{Instruction, Number, Operand, Truth};
+use ob0_run_machine::code::{Connective, Instruction, Number, Operand, Truth, TruthList};
 use ob0_types::WellTyped;
 use std::alloc::{AllocError, Global};
 use std::process::Abort;
@@ -91,14 +91,34 @@ fn name_of_operand_node(n: &Operand) -> &'static str {
 
 fn name_of_truth_node(t: &Truth) -> &'static str {
     match t {
+        Truth::Constant(_) => "Constant",
+        Truth::Flag(_) => "Flag",
         Truth::NegatedFlag(_) => "NegatedFlag",
-        Truth::All(_) => "All",
-        Truth::Any(_) => "Any",
         Truth::VariableLessThanLiteral(_, _) => "VariableLessThanLiteral",
         Truth::VariableComparedToLiteral(_, _, _) => "VariableComparedToLiteral",
         Truth::VariableComparedToVariable(_, _, _) => "VariableComparedToVariable",
         Truth::ElementComparedToVariable(_, _, _) => "ElementComparedToVariable",
-        _ => "other",
+        Truth::Joined(list) => name_of_truth_list(list),
+        Truth::Compound(_) => "Compound",
+    }
+}
+
+/// Returns the operator of a list of truths, or `Nested` if its first truth is a list with the same
+/// operator.
+fn name_of_truth_list(list: &TruthList) -> &'static str {
+    if is_joined_by(list.connective, &list.first) {
+        return "Nested";
+    }
+    match list.connective {
+        Connective::And => "And",
+        Connective::Or => "Or",
+    }
+}
+
+fn is_joined_by(connective: Connective, t: &Truth) -> bool {
+    match t {
+        Truth::Joined(list) => list.connective == connective,
+        _ => false,
     }
 }
 
@@ -120,7 +140,7 @@ static NODE_NAME_CASES: &[QuestionCase] = rows![
         While VariableComparedToLiteral Increase";
     ARRAY_ELEMENTS, NodeNames => " StoreConstantInElement If ElementComparedToVariable StoreOperand If NegatedFlag StoreNumber";
     FIELD_ASSIGNMENTS, NodeNames => " Update StoreOperand Variable StoreChain StoreChain";
-    AND_OR_CHAINS, NodeNames => " If All StoreTruth If Any other StoreTruth All";
+    AND_OR_CHAINS, NodeNames => " If And StoreTruth If Or other StoreTruth And";
 ];
 
 fn all_node_name_cases() -> &'static [QuestionCase] {

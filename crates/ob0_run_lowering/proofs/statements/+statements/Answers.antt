@@ -30,7 +30,7 @@ lower_if-loop-part-init t c =
     let a = tree_with_labels r (sequence_of_list i.then.items) in
     let b : Branch = record { condition = c.in_ok-first.first; body = c.in_ok-then.then } in
     let P : List Branch → Type 0 = λ others. BranchesMade scene r e a c.deref-part-items.result.now 0 (b ∷ others) in
-    subst P (sym c.new-others.ensures.items) (branches_begin scene r e a c.deref-part-items.result.now b (condition-lowers scene i.condition c.in_ok-first.first c.in_ok-first.ensures.lowers) c.in_ok-then.ensures)
+    subst P (sym c.new-others.ensures.items) (branches_begin scene r e a c.deref-part-items.result.now b (condition-lowers scene i.condition c.in_ok-first.first c.in_ok-first.ensures) c.in_ok-then.ensures)
 
 pub lower_if-loop-part-preserved : goal.lower_if-loop-part-preserved
 lower_if-loop-part-preserved t c =
@@ -40,7 +40,7 @@ lower_if-loop-part-preserved t c =
     let first : Branch = record { condition = c.loop-part.first-1; body = c.in_ok-then.then } in
     let b : Branch = record { condition = c.in_ok-condition.condition; body = c.in_ok-body.body } in
     let P : List Branch → Type 0 = λ others. BranchesMade scene r (tree_with_labels r (expression_of i.condition)) (tree_with_labels r (sequence_of_list i.then.items)) c.deref-part-items.result.now (c.loop-part.part-index + 1) (first ∷ others) in
-    let step = branches_go_on c.part-item.result b c.loop-part.invariant c.loop-part-test.true c.part-item.is (condition-lowers scene c.part-item.result.condition c.in_ok-condition.condition c.in_ok-condition.ensures.lowers) c.in_ok-body.ensures in
+    let step = branches_go_on c.part-item.result b c.loop-part.invariant c.loop-part-test.true c.part-item.is (condition-lowers scene c.part-item.result.condition c.in_ok-condition.condition c.in_ok-condition.ensures) c.in_ok-body.ensures in
     subst P (sym c.in_ok-push.ensures.items) step
 
 pub lower_if-returns-in-None : goal.lower_if-returns-in-None
@@ -116,7 +116,7 @@ lower_statement-returns-in_ok-body-in-While t c =
     let body = c.deref-in-While-2.result.now.body.items in
     let tree_is = tree.while_read c.in-While.w c.deref-in-While.ensures c.deref-in-While-2.ensures in
     let made : WhileLoop = record { condition = c.in_ok-condition-in-While.condition; body = c.in_ok-body-in-While.body } in
-    let whole = while-lowers scene (tree_with_labels r (expression_of condition)) (tree_with_labels r (sequence_of_list body)) (truth_of made.condition) (sequence_of made.body.items) (condition-lowers scene condition made.condition c.in_ok-condition-in-While.ensures.lowers) c.in_ok-body-in-While.ensures in
+    let whole = while-lowers scene (tree_with_labels r (expression_of condition)) (tree_with_labels r (sequence_of_list body)) (truth_of made.condition) (sequence_of made.body.items) (condition-lowers scene condition made.condition c.in_ok-condition-in-While.ensures) c.in_ok-body-in-While.ensures in
     let P : Tree Label sort.statement → Type 0 = λ a. LowersStatement scene (lowered.while_loop (truth_of made.condition) (sequence_of made.body.items)) a in
     let R : lowered.Instruction → Type 0 = λ code. LowersStatement scene code (tree_with_labels r (statement_of c.args.s.now)) in
     subst R (sym (while_made made)) (subst P (sym (ap (λ s. tree_with_labels r (statement_of s)) c.in-While.is ∙ ap (tree_with_labels r) tree_is)) whole)
@@ -129,7 +129,7 @@ lower_statement-returns-in_ok-condition-in-Repeat t c =
     let condition = c.deref-in-Repeat-2.result.now.condition in
     let tree_is = tree.repeat_read c.in-Repeat.r c.deref-in-Repeat.ensures c.deref-in-Repeat-2.ensures in
     let made : RepeatLoop = record { body = c.in_ok-body-in-Repeat.body; condition = c.in_ok-condition-in-Repeat.condition } in
-    let whole = repeat-lowers scene (tree_with_labels r (expression_of condition)) (tree_with_labels r (sequence_of_list body)) (truth_of made.condition) (sequence_of made.body.items) (condition-lowers scene condition made.condition c.in_ok-condition-in-Repeat.ensures.lowers) c.in_ok-body-in-Repeat.ensures in
+    let whole = repeat-lowers scene (tree_with_labels r (expression_of condition)) (tree_with_labels r (sequence_of_list body)) (truth_of made.condition) (sequence_of made.body.items) (condition-lowers scene condition made.condition c.in_ok-condition-in-Repeat.ensures) c.in_ok-body-in-Repeat.ensures in
     let P : Tree Label sort.statement → Type 0 = λ a. LowersStatement scene (lowered.repeat_loop (sequence_of made.body.items) (truth_of made.condition)) a in
     let R : lowered.Instruction → Type 0 = λ code. LowersStatement scene code (tree_with_labels r (statement_of c.args.s.now)) in
     subst R (sym (repeat_made made)) (subst P (sym (ap (λ s. tree_with_labels r (statement_of s)) c.in-Repeat.is ∙ ap (tree_with_labels r) tree_is)) whole)

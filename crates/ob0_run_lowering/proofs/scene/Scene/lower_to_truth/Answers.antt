@@ -2,5 +2,5 @@ use Rattle.ob0_tree.specs.View.{expression_of}
 use Rattle.ob0_run_lowering.proofs.Lowerings.{truth-by}
 use Rattle.ob0_run_lowering.proofs.scene.Scene.lower_to_truth.Goals as goal
 
-pub returns-clause-lowers : goal.returns-clause-lowers
-returns-clause-lowers c = truth-by c.args.self.now (expression_of c.args.e.now) c.in_ok-lowered.lowered c.truth_or_false.result c.truth_or_false.ensures.taken c.in_ok-lowered.ensures.lowers
+pub returns : goal.returns
+returns c = truth-by c.args.self.now (expression_of c.args.e.now) c.in_ok-lowered.lowered c.truth_or_false.result c.truth_or_false.ensures c.in_ok-lowered.ensures
